@@ -1,0 +1,5 @@
+pub mod Moves
+pub mod Tables
+pub mod Views
+pub mod Start
+pub mod Threads

@@ -1,0 +1,83 @@
+-- What contracts see of an arena: the waiters on its lists, and, for who shows the table of nodes, how the nodes are
+-- linked. (Own.)
+use Rattle.std.specs.Prelude.{◌≡◌, ◌≢◌, ◌↔◌, ℕ, ◌-◌, ◌<◌, List, [], ◌∷◌, length, Option, None, Some, slice_get, slice_set, slice_index_or}
+use Rattle.std.specs.List.{sum_by}
+use Rattle.im_types.specs.declared.TheConstants.{NONE}
+use Rattle.im_types.specs.declared.operations.Waiter.{Waiter}
+use Rattle.im_arena.specs.declared.table.NodeRecord.{NodeRecord}
+use Rattle.im_arena.specs.declared.table.Ends.{Ends}
+use Rattle.im_arena.specs.Chain.{place_from}
+
+-- how many nodes there are, and the waiters on each list
+pub record Lists : Type 0 where
+  pub nodes : ℕ
+  pub lists : List (List Waiter)
+
+-- the record of each node, and the ends of each list (None: of an empty one)
+pub record Links : Type 0 where
+  pub records : List NodeRecord
+  pub ends : List (Option Ends)
+
+-- an arena as contracts see it: the waiters of its lists, and the links that lead through them
+pub record Shown : Type 0 where
+  pub held : Lists
+  pub links : Links
+
+-- the waiters on a list, in order
+abbrev pub list_at : Lists → ℕ → List Waiter
+list_at held list = slice_index_or held.lists list []
+
+-- the lists with other waiters on this one
+abbrev pub with_list : Lists → ℕ → List Waiter → Lists
+with_list held list waiters = record { nodes = held.nodes; lists = slice_set held.lists list waiters }
+
+-- how many nodes hold no waiter
+abbrev pub free : Lists → ℕ
+free held = held.nodes - sum_by length held.lists
+
+-- how a free node reads
+abbrev pub free_record : NodeRecord
+free_record = record { next = NONE; waiter = None }
+
+-- from the node `at` on, the links lead through nodes with these waiters, in their order, and then to NONE; the
+-- last of these nodes is `last`. The node `before` is the one that led here.
+abbrev pub Threads : List NodeRecord → ℕ → ℕ → ℕ → List Waiter → Type 0
+Threads records before at last [] = (at ≡ NONE) × (before ≡ last)
+Threads records before at last (w ∷ ws) = (next : ℕ) × (slice_get records at ≡ Some (record { next = next; waiter = Some w })) × Threads records at next last ws
+
+-- the first node of a list
+abbrev pub first_in : Option Ends → ℕ
+first_in None = NONE
+first_in (Some e) = e.first
+
+-- the last node of ends, or none
+abbrev pub last_in : Option Ends → ℕ
+last_in None = NONE
+last_in (Some e) = e.last
+
+-- the ends of a list
+abbrev pub ends_at : Links → ℕ → Option Ends
+ends_at links list = slice_index_or links.ends list None
+
+-- the link of a node
+abbrev pub next_in : Links → ℕ → ℕ
+next_in links n = (slice_index_or links.records n free_record).next
+
+-- the node at a place of a list
+abbrev pub node_at : Links → ℕ → ℕ → ℕ
+node_at links list place = place_from (next_in links) (first_in (ends_at links list)) place
+
+-- the links from the first node of each list lead through its waiters to its last node, whose link is NONE; no node
+-- is on two lists or twice on one; and a node that is on none is free
+pub record IsThreaded (shown : Shown) : Type 0 where
+  pub node_count : length shown.links.records ≡ shown.held.nodes
+  pub list_count : length shown.links.ends ≡ length shown.held.lists
+  pub empty : (list : ℕ) → list < length shown.held.lists → (ends_at shown.links list ≡ None) ↔ (list_at shown.held list ≡ [])
+  pub threads : (list : ℕ) → list < length shown.held.lists
+      → Threads shown.links.records NONE (first_in (ends_at shown.links list)) (last_in (ends_at shown.links list)) (list_at shown.held list)
+  pub once : (a b i j : ℕ) → a < length shown.held.lists → b < length shown.held.lists
+      → i < length (list_at shown.held a) → j < length (list_at shown.held b)
+      → node_at shown.links a i ≡ node_at shown.links b j → (a ≡ b) × (i ≡ j)
+  pub unreached : (n : ℕ) → n < shown.held.nodes
+      → ((a i : ℕ) → a < length shown.held.lists → i < length (list_at shown.held a) → node_at shown.links a i ≢ n)
+      → slice_get shown.links.records n ≡ Some free_record

@@ -1,0 +1,208 @@
+//! Lists of waiters, all in one table of nodes.
+#![tactic(auto)]
+
+ghost use Rattle.std.specs.Prelude.{◌≡◌, ◌+◌, ◌∷◌, ◌++◌, ◌<◌, ◌↔◌, [], length, drop, slice_get, IsTrue, IfOk, IfNone, IsOkUnless, replicate, false};
+ghost use Rattle.std.specs.List.{sum_by};
+ghost use Rattle.im_arena.specs.Lists.{list_at, with_list, free, IsThreaded};
+ghost use Rattle.im_arena.specs.Table.{AreFree, start_rows};
+ghost use Rattle.im_types.specs.declared.refusals.Refusal.TheVariants.{NoMemory};
+
+mod table;
+
+use im_types::{NONE, Refusal, Waiter};
+use std::alloc::{AllocError, Global};
+use std::marker::Model;
+pub use table::{Ends, NodeRecord};
+use table::{Node, Row, transfer};
+
+/// Lists of waiters over one table of nodes. A waiter on a list takes one node, and no memory is taken once the arena
+/// is made. Lists are numbered from 0 up to [`Arena::list_count`], and nodes up to [`Arena::node_count`].
+#[derive(Drop)]
+pub struct Arena {
+    nodes: Vec<Node>,
+    // The row of each list, and then that of the free nodes.
+    rows: Vec<Row>,
+    lists: u32,
+}
+
+impl Model for Arena {
+    ghost use Rattle.im_arena.specs.Lists.{Shown};
+
+    ghost Value = { Shown };
+
+    ghost use Rattle.im_arena.specs.Table.{shown, IsArena};
+
+    ghost view = { λ a. shown a.nodes.items a.rows.items a.lists };
+
+    ghost invariant = { λ a. IsArena a.nodes.items a.rows.items a.lists };
+}
+
+impl Arena {
+    /// An arena with so many nodes, all free, and so many empty lists: 16 bytes for each node, and 12 for each list.
+    /// `NoMemory` where that memory is refused.
+    pub fn new(alloc: Global, nodes: u32, lists: u32) -> Result<Arena, Refusal>
+        ensures nodes { IfOk result (λ a. a.held.nodes ≡ nodes) }
+        ensures empty { IfOk result (λ a. a.held.lists ≡ replicate lists []) }
+        ensures refused { IsOkUnless result NoMemory }
+    {
+        Arena::make(alloc, nodes, lists).map_err(|_| Refusal::NoMemory)
+    }
+
+    fn make(alloc: Global, nodes: u32, lists: u32) -> Result<Arena, AllocError>
+        ensures nodes { IfOk result (λ a. a.held.nodes ≡ nodes) }
+        ensures empty { IfOk result (λ a. a.held.lists ≡ replicate lists []) }
+    {
+        Ok(Arena {
+            nodes: free_nodes(alloc, nodes)?,
+            rows: rows_of(alloc, nodes, lists)?,
+            lists,
+        })
+    }
+
+    /// How many lists there are.
+    pub fn list_count(&self) -> u32
+        ensures { result ≡ length self.now.held.lists }
+    {
+        self.lists
+    }
+
+    /// How many nodes there are.
+    pub fn node_count(&self) -> u32
+        ensures { result ≡ self.now.held.nodes }
+    {
+        self.nodes.len() as u32
+    }
+
+    /// How many nodes hold no waiter.
+    pub fn free_count(&self) -> u32
+        ensures free { result ≡ free self.now.held }
+        ensures sum { result + sum_by length self.now.held.lists ≡ self.now.held.nodes }
+    {
+        self.rows[self.lists as usize].count
+    }
+
+    /// Whether no node is free.
+    pub fn is_full(&self) -> bool
+        ensures { IsTrue result ↔ (free self.now.held ≡ 0) }
+    {
+        self.free_count() == 0
+    }
+
+    /// How many waiters a list has.
+    pub fn len(&self, list: u32) -> u32
+        requires { list < length self.now.held.lists }
+        ensures { result ≡ length (list_at self.now.held list) }
+    {
+        self.rows[list as usize].count
+    }
+
+    /// The waiter at a place of a list, counted from 0; `None` past its end. It takes as many steps as the place.
+    pub fn at(&self, list: u32, place: u32) -> Option<Waiter>
+        requires { list < length self.now.held.lists }
+        ensures { result ≡ slice_get (list_at self.now.held list) place }
+    {
+        let row = self.rows[list as usize];
+        if place >= row.count {
+            return None;
+        }
+        let mut node = row.first;
+        for _step in 0..place {
+            node = self.nodes[node as usize].next;
+        }
+        Some(self.nodes[node as usize].waiter())
+    }
+
+    /// The first waiter of a list; `None` where it is empty.
+    pub fn front(&self, list: u32) -> Option<Waiter>
+        requires { list < length self.now.held.lists }
+        ensures { result ≡ slice_get (list_at self.now.held list) 0 }
+    {
+        self.at(list, 0)
+    }
+
+    /// Puts a waiter at the end of a list, unless no node is free: it then changes nothing, and returns `false`.
+    pub fn push_back(&mut self, list: u32, waiter: Waiter) -> bool
+        requires { list < length self.old.held.lists }
+        ensures room { IsTrue result ↔ 0 < free self.old.held }
+        ensures pushed { IsTrue result → self.new.held ≡ with_list self.old.held list (list_at self.old.held list ++ waiter ∷ []) }
+        ensures full { result ≡ false → self.new ≡ self.old }
+    {
+        let free = self.lists as usize;
+        if self.rows[free].count == 0 {
+            return false;
+        }
+        let _ = transfer(
+            self.nodes.as_mut_slice(),
+            self.rows.as_mut_slice(),
+            free,
+            list as usize,
+            Node::with(waiter),
+        );
+        true
+    }
+
+    /// Takes the first waiter off a list, and frees its node; `None` where the list is empty.
+    pub fn pop_front(&mut self, list: u32) -> Option<Waiter>
+        requires { list < length self.old.held.lists }
+        ensures first { result ≡ slice_get (list_at self.old.held list) 0 }
+        ensures rest { self.new.held ≡ with_list self.old.held list (drop 1 (list_at self.old.held list)) }
+        ensures none { IfNone result (self.new ≡ self.old) }
+    {
+        let free = self.lists as usize;
+        if self.rows[list as usize].count == 0 {
+            return None;
+        }
+        Some(transfer(
+            self.nodes.as_mut_slice(),
+            self.rows.as_mut_slice(),
+            list as usize,
+            free,
+            Node::free(),
+        ))
+    }
+
+    /// The first and the last node of a list; `None` where it is empty.
+    pub fn ends(&self, list: u32) -> Option<Ends>
+        requires { list < length self.now.held.lists }
+        ensures ends { Some result ≡ slice_get self.now.links.ends list }
+        ensures threaded { IsThreaded self.now }
+    {
+        self.rows[list as usize].ends()
+    }
+
+    /// What is shown of a node, by its index.
+    pub fn node(&self, index: u32) -> NodeRecord
+        requires { index < self.now.held.nodes }
+        ensures record_at { Some result ≡ slice_get self.now.links.records index }
+        ensures threaded { IsThreaded self.now }
+    {
+        self.nodes[index as usize].record()
+    }
+}
+
+// So many nodes, all free, each linked to the next one.
+fn free_nodes(alloc: Global, count: u32) -> Result<Vec<Node>, AllocError>
+    ensures { IfOk result (λ v. AreFree v.items count) }
+{
+    let mut nodes = Vec::with_capacity(alloc, count as usize)?;
+    for node in 0..count {
+        let next = if node + 1 == count { NONE } else { node + 1 };
+        nodes.push(Node {
+            next,
+            ..Node::free()
+        })?;
+    }
+    Ok(nodes)
+}
+
+// So many empty rows, and then one of all nodes.
+fn rows_of(alloc: Global, nodes: u32, lists: u32) -> Result<Vec<Row>, AllocError>
+    ensures { IfOk result (λ v. v.items ≡ start_rows nodes lists) }
+{
+    let mut rows = vec![in alloc; Row::empty(); lists as usize + 1]?;
+    rows[lists as usize] = Row::full(nodes);
+    Ok(rows)
+}
+
+#[cfg(test)]
+mod tests;

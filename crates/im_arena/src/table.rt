@@ -1,0 +1,188 @@
+// The table of nodes, and the rows of nodes in it.
+ghost use Rattle.std.specs.Prelude.{◌≡◌, ◌≢◌, ◌+◌, ◌-◌, ◌<◌, ◌^◌, length, nat_lt};
+ghost use Rattle.im_arena.specs.Table.{Sound, Attached, Detached, Transferred, count_of, used_node, free_node, waiter_in, record_of, ends_of, empty_row, full_row};
+
+use im_types::{NONE, Waiter};
+
+/// What is shown of a node: the node after it on its list, [`NONE`] at the last one, and the waiter that it holds.
+/// A free node holds none, and reads as one that links to [`NONE`].
+#[derive(Clone, Copy, Debug, PartialEq, Eq)]
+pub struct NodeRecord {
+    /// The next node's index, or [`NONE`].
+    pub next: u32,
+    /// The waiter; `None` in a free node.
+    pub waiter: Option<Waiter>,
+}
+
+/// The ends of a list that isn't empty.
+#[derive(Clone, Copy, Debug, PartialEq, Eq)]
+pub struct Ends {
+    /// The index of its first node.
+    pub first: u32,
+    /// The index of its last node.
+    pub last: u32,
+}
+
+/// A place for one waiter, in 16 bytes. A free node is marked so, and is blank.
+#[derive(Clone, Copy)]
+pub(crate) struct Node {
+    // The node after it on its row, NONE at the last.
+    pub(crate) next: u32,
+    pub(crate) element: u16,
+    pub(crate) used: bool,
+    pub(crate) number: u64,
+}
+
+/// Where a row of nodes begins and ends, both NONE where it is empty, and how long it is.
+#[derive(Clone, Copy)]
+pub(crate) struct Row {
+    pub(crate) first: u32,
+    pub(crate) last: u32,
+    pub(crate) count: u32,
+}
+
+impl Node {
+    pub(crate) fn with(waiter: Waiter) -> Node
+        ensures { result ≡ used_node waiter }
+    {
+        Node {
+            next: NONE,
+            element: waiter.element,
+            used: true,
+            number: waiter.number,
+        }
+    }
+
+    pub(crate) fn free() -> Node
+        ensures { result ≡ free_node }
+    {
+        Node {
+            next: NONE,
+            element: 0,
+            used: false,
+            number: 0,
+        }
+    }
+
+    pub(crate) fn waiter(&self) -> Waiter
+        ensures { result ≡ waiter_in self.now }
+    {
+        Waiter {
+            element: self.element,
+            number: self.number,
+        }
+    }
+
+    pub(crate) fn record(&self) -> NodeRecord
+        ensures { result ≡ record_of self.now }
+    {
+        if self.used {
+            NodeRecord {
+                next: self.next,
+                waiter: Some(self.waiter()),
+            }
+        } else {
+            NodeRecord {
+                next: NONE,
+                waiter: None,
+            }
+        }
+    }
+}
+
+impl Row {
+    pub(crate) fn empty() -> Row
+        ensures { result ≡ empty_row }
+    {
+        Row {
+            first: NONE,
+            last: NONE,
+            count: 0,
+        }
+    }
+
+    // A row of all nodes, in their order.
+    pub(crate) fn full(nodes: u32) -> Row
+        ensures { result ≡ full_row nodes }
+    {
+        if nodes == 0 {
+            return Row::empty();
+        }
+        Row {
+            first: 0,
+            last: nodes - 1,
+            count: nodes,
+        }
+    }
+
+    pub(crate) fn ends(&self) -> Option<Ends>
+        ensures { result ≡ ends_of self.now }
+    {
+        if self.count == 0 {
+            None
+        } else {
+            Some(Ends {
+                first: self.first,
+                last: self.last,
+            })
+        }
+    }
+
+    // The row without its first node, which led to `next`.
+    fn without_first(self, next: u32) -> Row
+        requires { 0 < self.count }
+        ensures { Detached self next result }
+    {
+        Row {
+            first: next,
+            last: if self.count == 1 { NONE } else { self.last },
+            count: self.count - 1,
+        }
+    }
+}
+
+// Links a node behind the last one of a row.
+fn attach(nodes: &mut [Node], row: Row, node: u32) -> Row
+    requires last { row.last ≢ NONE → row.last < length nodes.old }
+    requires room { row.count + 1 < 2 ^ 32 }
+    ensures { Attached nodes.old nodes.new row node result }
+{
+    let first = if row.last == NONE {
+        node
+    } else {
+        nodes[row.last as usize].next = node;
+        row.first
+    };
+    Row {
+        first,
+        last: node,
+        count: row.count + 1,
+    }
+}
+
+// Moves the first node of one row to the end of another, where it holds `content`, and returns the waiter that it held.
+pub(crate) fn transfer(
+    nodes: &mut [Node],
+    rows: &mut [Row],
+    from: usize,
+    to: usize,
+    content: Node,
+) -> Waiter
+    requires sound { Sound nodes.old rows.old }
+    requires from { from < length rows.old }
+    requires to { to < length rows.old }
+    requires apart { from ≢ to }
+    requires some { 0 < count_of rows.old from }
+    requires link { content.next ≡ NONE }
+    requires mark { content.used ≡ nat_lt (to + 1) (length rows.old) }
+    ensures { Transferred nodes.old nodes.new rows.old rows.new from to content result }
+{
+    let giver = rows[from];
+    let node = giver.first;
+    let held = nodes[node as usize];
+    nodes[node as usize] = content;
+    let taker = attach(nodes, rows[to], node);
+    rows[from] = giver.without_first(held.next);
+    rows[to] = taker;
+    held.waiter()
+}

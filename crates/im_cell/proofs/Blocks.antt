@@ -1,0 +1,135 @@
+-- Blocks stay whole.
+use Rattle.std.proofs.Common.{◌≡◌, inl, inr, ⊎_elim, ℕ, zero, suc, ◌+◌, ◌<◌, ◌≤◌, List, length, get_or, set, replicate, Some, None, false, refl, sym, ap, ◌∙◌, arith, length-set}
+use Rattle.std.specs.Prelude.{Option}
+use Rattle.std.proofs.lemmas.Bool.{cases_lt, cases_eq}
+use Rattle.std.proofs.lemmas.List.{get_or-set_same, get_or-set_other, get_or_past}
+use Rattle.im_types.specs.declared.operations.Block.{Block}
+use Rattle.im_types.specs.declared.operations.Kind.{Kind}
+use Rattle.im_types.specs.Place.{place, fill}
+use Rattle.im_laws.proofs.PlaceLemmas.{get_or-fill, place-free}
+use Rattle.im_laws.proofs.BlockLemmas.{get_or-fill_in, place-fits}
+use Rattle.im_cell.specs.declared.slots.Cell.{Cell}
+use Rattle.im_cell.specs.declared.slots.Slot.{Slot}
+use Rattle.im_cell.specs.Slots.{slot_at, block_in, block_at, new_slot, empty_slot, HasBlocks}
+use Rattle.im_cell.specs.Holes.{free_at}
+use Rattle.im_cell.proofs.Places.{length-fill, free_at-Some}
+
+some_none : {X : Type 0} (x : X) → Some x ≡ None → ⊥
+some_none x e = cc
+
+some_same : (b c : Block) → Some b ≡ Some c → b ≡ c
+some_same b c e = cc
+
+get_or-nothing : (n a : ℕ) → get_or {A = Option Slot} (replicate n None) a None ≡ None
+get_or-nothing zero zero = refl
+get_or-nothing zero (suc a) = refl
+get_or-nothing (suc n) zero = refl
+get_or-nothing (suc n) (suc a) = get_or-nothing n a
+
+-- where all is free there is no block
+pub HasBlocks-free : (n : ℕ) → HasBlocks (replicate n None)
+HasBlocks-free n = record {
+  within = λ a block is. absurd (some_none block (sym is ∙ ap block_in (get_or-nothing n a)));
+  whole = λ a block is. absurd (some_none block (sym is ∙ ap block_in (get_or-nothing n a)));
+}
+
+-- another cell in the same block
+pub HasBlocks-set : (slots : List (Option Slot)) (a : ℕ) (slot : Slot) (cell : Cell) → slot_at slots a ≡ Some slot → HasBlocks slots → HasBlocks (set slots a (new_slot slot.block cell))
+HasBlocks-set slots a slot cell at blocks = record {
+  within = λ b block is. let w = blocks.within b block (sym (same b) ∙ is) in (w.0, w.1, omega (arith, length-set slots a (new_slot slot.block cell)));
+  whole = λ b block is c lo hi. same c ∙ blocks.whole b block (sym (same b) ∙ is) c lo hi;
+}
+  where
+    within : a < length slots
+    within = elim (cases_lt a (length slots)) [ inl less ↦ less | inr past ↦ absurd (some_none slot (sym at ∙ get_or_past slots a None past)) ]
+
+    same : (b : ℕ) → block_at (set slots a (new_slot slot.block cell)) b ≡ block_at slots b
+    same b = elim (cases_eq b a) [
+      | inl e ↦
+          ap (λ i. block_at (set slots a (new_slot slot.block cell)) i) e ∙ ap block_in (get_or-set_same slots a (new_slot slot.block cell) None within)
+          ∙ sym (ap block_in at) ∙ sym (ap (block_at slots) e)
+      | inr ne ↦ ap block_in (get_or-set_other slots a b (new_slot slot.block cell) None ne)
+    ]
+
+-- a new block, where there was none
+pub HasBlocks-placed : (slots : List (Option Slot)) (base n : ℕ) (kind : Kind) → place n slots ≡ Some base → HasBlocks slots → HasBlocks (fill slots base n (empty_slot base n kind))
+HasBlocks-placed slots base n kind e blocks = record {
+  within = λ a b is. ⊎_elim
+      (λ same. let w = blocks.within a b (sym (ap block_in same) ∙ is) in (w.0, w.1, omega (arith, long)))
+      (λ h. let mine : block ≡ b = some_same block b (sym (ap block_in h.2) ∙ is) in
+      let p = ap (λ (b : Block). b.base) mine in let q = ap (λ (b : Block). b.length) mine in (omega arith, omega arith, omega (arith, long, fits)))
+      (get_or-fill slots base n new a);
+  whole = λ a b is c lo hi. ⊎_elim
+      (λ same. ⊎_elim
+      (λ same_c. ap block_in same_c ∙ blocks.whole a b (sym (ap block_in same) ∙ is) c lo hi)
+      (λ h. absurd (some_none b (sym (blocks.whole a b (sym (ap block_in same) ∙ is) c lo hi) ∙ ap block_in (place-free n slots base e c h.0 h.1))))
+      (get_or-fill slots base n new c))
+      (λ h. let mine : block ≡ b = some_same block b (sym (ap block_in h.2) ∙ is) in
+      let p = ap (λ (b : Block). b.base) mine in let q = ap (λ (b : Block). b.length) mine in
+      ap block_in (get_or-fill_in slots base n new c (omega arith) (omega arith) (omega (arith, fits))) ∙ ap Some mine)
+      (get_or-fill slots base n new a);
+}
+  where
+    block : Block
+    block = record { base = base; length = n; kind = kind }
+
+    new : Option Slot
+    new = empty_slot base n kind
+
+    long : length (fill slots base n new) ≡ length slots
+    long = length-fill slots base n new
+
+    fits : base + n ≤ length slots
+    fits = place-fits n slots base e
+
+-- a block is gone
+pub HasBlocks-released : (slots : List (Option Slot)) (block : Block) → block_at slots block.base ≡ Some block → HasBlocks slots → HasBlocks (fill slots block.base block.length None)
+HasBlocks-released slots block at blocks = record {
+  within = λ a b is. ⊎_elim
+      (λ same. let w = blocks.within a b (sym (ap block_in same) ∙ is) in (w.0, w.1, omega (arith, length-fill slots block.base block.length None)))
+      (λ h. absurd (some_none b (sym is ∙ ap block_in h.2)))
+      (get_or-fill slots block.base block.length None a);
+  whole = λ a b is c lo hi. ⊎_elim
+      (λ same. ⊎_elim
+      (λ same_c. ap block_in same_c ∙ blocks.whole a b (sym (ap block_in same) ∙ is) c lo hi)
+      (λ h.
+      let was = sym (ap block_in same) ∙ is in
+      let mine : b ≡ block = some_same b block (sym (blocks.whole a b was c lo hi) ∙ blocks.whole block.base block at c h.0 h.1) in
+      let p = ap (λ (b : Block). b.base) mine in
+      let q = ap (λ (b : Block). b.length) mine in
+      let w = blocks.within a b was in
+      absurd (some_none b (sym is ∙ ap block_in (get_or-fill_in slots block.base block.length None a (omega arith) (omega arith) (omega arith)))))
+      (get_or-fill slots block.base block.length None c))
+      (λ h. absurd (some_none b (sym is ∙ ap block_in h.2)))
+      (get_or-fill slots block.base block.length None a);
+}
+
+-- no cell of a block is free
+pub free_at-in_block : (slots : List (Option Slot)) (a : ℕ) (block : Block) → block_at slots a ≡ Some block → free_at slots a ≡ false
+free_at-in_block slots a block is = by_slot (slot_at slots a) refl
+  where
+    by_slot : (o : Option Slot) → slot_at slots a ≡ o → free_at slots a ≡ false
+    by_slot None at = absurd (some_none block (sym is ∙ ap block_in at))
+    by_slot (Some slot) at = free_at-Some slots a slot at
+
+-- what is known of the block whose base is this address
+pub record IsBlock (slots : List (Option Slot)) (block : Block) : Type 0 where
+  pub here : block_at slots block.base ≡ Some block
+  pub some : 0 < block.length
+  pub inside : block.base + block.length ≤ length slots
+  pub used : (a : ℕ) → block.base ≤ a → a < block.base + block.length → free_at slots a ≡ false
+
+pub IsBlock-base : (slots : List (Option Slot)) (a : ℕ) (slot : Slot) → slot_at slots a ≡ Some slot → slot.block.base ≡ a → HasBlocks slots → IsBlock slots slot.block
+IsBlock-base slots a slot at base blocks =
+    let here : block_at slots slot.block.base ≡ Some slot.block = ap (block_at slots) base ∙ ap block_in at in
+    let w = blocks.within slot.block.base slot.block here in
+    record {
+      here = here;
+      some = omega (arith, w.1);
+      inside = w.2;
+      used = λ b low high. free_at-in_block slots b slot.block (blocks.whole slot.block.base slot.block here b low high);
+    }
+
+-- the same, where a look-up at an address of the table found it
+pub IsBlock-found : (slots value : List (Option Slot)) (a : ℕ) (found : Option Slot) (slot : Slot) → slots ≡ value → found ≡ slot_at value a → found ≡ Some slot → slot.block.base ≡ a → HasBlocks slots → IsBlock slots slot.block
+IsBlock-found slots value a found slot same look is base blocks = IsBlock-base slots a slot (ap (λ s. slot_at s a) same ∙ sym look ∙ is) base blocks

@@ -1,0 +1,10 @@
+pub mod Thread
+pub mod Taking
+pub mod Giving
+pub mod Places
+pub mod Walk
+pub mod Tables
+pub mod Taken
+pub mod Returned
+pub mod Blocks
+pub mod Start

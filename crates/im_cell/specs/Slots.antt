@@ -1,0 +1,83 @@
+-- What a contract sees of a table of cells: a slot for each address, None for a free cell. (Own.)
+use Rattle.std.specs.Prelude.{◌≡◌, ℕ, ◌+◌, ◌<◌, ◌≤◌, List, length, Bool, true, false, not, Option, None, Some, slice_index_or, take, drop, if◌then◌else◌, ◌==◌}
+use Rattle.std.specs.List.{list_any}
+use Rattle.im_types.specs.declared.operations.Block.{Block}
+use Rattle.im_types.specs.declared.operations.Kind.{Kind}
+use Rattle.im_cell.specs.declared.slots.Cell.{Cell}
+use Rattle.im_cell.specs.declared.slots.Cell.TheVariants.{Empty, Waiting, Full, Clashed}
+use Rattle.im_cell.specs.declared.slots.Slot.{Slot}
+
+-- the slot at an address; None in no block, which includes each address past the last cell
+abbrev pub slot_at : List (Option Slot) → ℕ → Option Slot
+slot_at slots a = slice_index_or slots a None
+
+-- the block of a slot
+abbrev pub block_in : Option Slot → Option Block
+block_in None = None
+block_in (Some slot) = Some slot.block
+
+-- the cell of a slot
+abbrev pub cell_in : Option Slot → Option Cell
+cell_in None = None
+cell_in (Some slot) = Some slot.cell
+
+-- the block that an address lies in
+abbrev pub block_at : List (Option Slot) → ℕ → Option Block
+block_at slots a = block_in (slot_at slots a)
+
+-- the cell at an address
+abbrev pub cell_at : List (Option Slot) → ℕ → Option Cell
+cell_at slots a = cell_in (slot_at slots a)
+
+-- the slot of a cell of this block
+abbrev pub new_slot : Block → Cell → Option Slot
+new_slot block cell = Some (record { block = block; cell = cell })
+
+-- the slot of each cell of a new block of so many cells
+abbrev pub empty_slot : ℕ → ℕ → Kind → Option Slot
+empty_slot base n kind = new_slot (record { base = base; length = n; kind = kind }) Empty
+
+-- a slot with another cell, in the same block
+abbrev pub with_cell : Cell → Option Slot → Option Slot
+with_cell cell None = None
+with_cell cell (Some slot) = new_slot slot.block cell
+
+-- each block lies below the cell count, and all its cells are its own
+pub record HasBlocks (slots : List (Option Slot)) : Type 0 where
+  pub within : (a : ℕ) (block : Block) → block_at slots a ≡ Some block → (block.base ≤ a) × (a < block.base + block.length) × (block.base + block.length ≤ length slots)
+  pub whole : (a : ℕ) (block : Block) → block_at slots a ≡ Some block → (b : ℕ) → block.base ≤ b → b < block.base + block.length → block_at slots b ≡ Some block
+
+-- whether a cell is waited for
+abbrev pub is_waiting_cell : Cell → Bool
+is_waiting_cell Empty = false
+is_waiting_cell Waiting = true
+is_waiting_cell (Full v) = false
+is_waiting_cell (Clashed v) = false
+
+-- whether the cell of a slot is waited for
+abbrev pub is_waiting : Option Slot → Bool
+is_waiting None = false
+is_waiting (Some slot) = is_waiting_cell slot.cell
+
+-- the block whose base is this address
+abbrev pub block_with_base : ℕ → Option Block → Option Block
+block_with_base a None = None
+block_with_base a (Some block) = if block.base == a then Some block else None
+
+-- there is a block, and none of its cells, which begin at this address, is waiting
+abbrev pub is_quiet_block : List (Option Slot) → ℕ → Option Block → Bool
+is_quiet_block slots a None = false
+is_quiet_block slots a (Some block) = not (list_any is_waiting (take block.length (drop a slots)))
+
+-- there is a block with this base, and none of its cells is waiting
+abbrev pub is_releasable : List (Option Slot) → ℕ → Bool
+is_releasable slots a = is_quiet_block slots a (block_with_base a (block_at slots a))
+
+-- the length of a block
+abbrev pub length_of : Option Block → ℕ
+length_of None = 0
+length_of (Some block) = block.length
+
+-- how many cells the block at an address has
+abbrev pub length_at : List (Option Slot) → ℕ → ℕ
+length_at slots a = length_of (block_at slots a)

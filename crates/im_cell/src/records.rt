@@ -1,0 +1,81 @@
+//! How a cell is kept: one record for each, of 24 bytes.
+ghost use Rattle.std.specs.Prelude.{◌≡◌, Some};
+ghost use Rattle.im_cell.specs.Slots.{is_waiting};
+ghost use Rattle.im_cell.specs.Records.{slot_of, hole_of};
+
+use crate::slots::{Cell, Slot};
+use im_types::{Block, NONE};
+
+/// A run of free cells, as its first cell knows it.
+#[derive(Clone, Copy, Debug, PartialEq, Eq)]
+pub(crate) struct Hole {
+    /// How many cells it has.
+    pub(crate) length: u32,
+    /// The first cell of the hole after it, or `NONE`.
+    pub(crate) next: u32,
+}
+
+/// What is kept for a cell. A free cell that is not the first of its hole may hold any hole.
+#[derive(Clone, Copy, Debug, PartialEq, Eq)]
+pub(crate) enum Record {
+    /// A cell of this block without a value.
+    Empty(Block),
+    /// A cell of this block that somebody waits for.
+    Waiting(Block),
+    /// A cell of this block with this value.
+    Full(Block, u64),
+    /// A cell of this block that was written while it had this value.
+    Clashed(Block, u64),
+    /// A free cell, and its hole.
+    Free(Hole),
+}
+
+const _: () = prove!(size_of::<Record>() <= 24);
+
+impl Record {
+    /// The record of a cell in a block.
+    pub(crate) fn new(block: Block, cell: Cell) -> Record
+        ensures { slot_of result ≡ Some (record { block = block; cell = cell }) }
+    {
+        match cell {
+            Cell::Empty => Record::Empty(block),
+            Cell::Waiting => Record::Waiting(block),
+            Cell::Full(value) => Record::Full(block, value),
+            Cell::Clashed(value) => Record::Clashed(block, value),
+        }
+    }
+
+    /// The cell and its block, unless it is free.
+    pub(crate) fn slot(self) -> Option<Slot>
+        ensures { result ≡ slot_of self }
+    {
+        let (block, cell) = match self {
+            Record::Empty(block) => (block, Cell::Empty),
+            Record::Waiting(block) => (block, Cell::Waiting),
+            Record::Full(block, value) => (block, Cell::Full(value)),
+            Record::Clashed(block, value) => (block, Cell::Clashed(value)),
+            Record::Free(_) => return None,
+        };
+        Some(Slot { block, cell })
+    }
+
+    /// The hole that a free cell names; an empty one at a cell of a block.
+    pub(crate) fn hole(self) -> Hole
+        ensures { result ≡ hole_of self }
+    {
+        match self {
+            Record::Free(hole) => hole,
+            _ => Hole {
+                length: 0,
+                next: NONE,
+            },
+        }
+    }
+
+    /// Whether somebody waits for the cell.
+    pub(crate) fn is_waiting(self) -> bool
+        ensures { result ≡ is_waiting (slot_of self) }
+    {
+        matches!(self, Record::Waiting(_))
+    }
+}

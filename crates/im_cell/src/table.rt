@@ -1,0 +1,126 @@
+//! The table. Its blocks lie at the least place, first fit over holes in order of address, and a hole that comes back is
+//! joined with its neighbours (Knuth, The Art of Computer Programming 1, section 2.5, algorithms A and B).
+ghost use Rattle.std.specs.Prelude.{◌≡◌, ◌<◌, None, false, replicate, slice_set, IsTrue, IsNone, IsSome, IfSome, IfOk, IfErr};
+ghost use Rattle.im_types.specs.Place.{place, fill, IsLeastFree};
+ghost use Rattle.im_cell.specs.Slots.{slot_at, block_at, cell_at, with_cell, empty_slot, is_releasable, length_at, HasBlocks};
+
+use crate::holes::{any_waiting, find_room, give_back, take_cells};
+use crate::records::{Hole, Record};
+use crate::slots::{Cell, Slot};
+use im_types::{Block, Kind, NONE, Refusal};
+use std::alloc::Global;
+use std::marker::Model;
+
+/// A table of cells, numbered from 0, each free or in a block. Once made it takes no more memory.
+#[derive(Drop)]
+pub struct CellTable {
+    // One for each cell.
+    records: Vec<Record>,
+    // The first cell of the first hole, or NONE.
+    first: u32,
+}
+
+impl Model for CellTable {
+    ghost use Rattle.std.specs.Prelude.{List, Option};
+    ghost use Rattle.im_cell.specs.declared.slots.Slot.{Slot};
+
+    ghost Value = { List (Option Slot) };
+
+    ghost use Rattle.im_cell.specs.Records.{slots_of, IsTable};
+
+    ghost view = { λ t. slots_of t.records.items };
+
+    ghost invariant = { λ t. IsTable t.records.items t.first };
+}
+
+impl CellTable {
+    /// A table with so many cells, all of them free. `NoMemory` is its only refusal.
+    pub fn new(alloc: Global, cells: u32) -> Result<CellTable, Refusal>
+        ensures free { IfOk result (λ table. table ≡ replicate cells None) }
+        ensures err { IfErr result (λ refusal. refusal ≡ Refusal.NoMemory) }
+    {
+        let inner = Record::Free(Hole {
+            length: 0,
+            next: NONE,
+        });
+        let Ok(mut records) = vec![in alloc; inner; cells as usize] else {
+            return Err(Refusal::NoMemory);
+        };
+        if cells == 0 {
+            return Ok(CellTable {
+                records,
+                first: NONE,
+            });
+        }
+        records[0] = Record::Free(Hole {
+            length: cells,
+            next: NONE,
+        });
+        Ok(CellTable { records, first: 0 })
+    }
+
+    // The cell at an address and its block, unless it is free.
+    fn slot(&self, a: u32) -> Option<Slot>
+        ensures { result ≡ slot_at self.now a }
+    {
+        self.records.get(a as usize)?.slot()
+    }
+
+    /// The cell at an address; `None` in no block, which includes each address past the last cell.
+    pub fn get(&self, a: u32) -> Option<Cell>
+        ensures { result ≡ cell_at self.now a }
+    {
+        Some(self.slot(a)?.cell)
+    }
+
+    /// The block that an address lies in.
+    pub fn block_of(&self, a: u32) -> Option<Block>
+        ensures block { result ≡ block_at self.now a }
+        ensures whole { HasBlocks self.now }
+    {
+        Some(self.records.get(a as usize)?.slot()?.block)
+    }
+
+    /// Puts another state into the cell at an address in a block.
+    pub fn set(&mut self, a: u32, cell: Cell)
+        requires { IsSome (slot_at self.old a) }
+        ensures { self.new ≡ slice_set self.old a (with_cell cell (slot_at self.old a)) }
+    {
+        let Some(slot) = self.slot(a) else {
+            unreachable!()
+        };
+        self.records[a as usize] = Record::new(slot.block, cell);
+    }
+
+    /// Makes a block of `n` cells, at least one, at the least base where so many cells are free; `None` where there
+    /// is no such base. All its cells are empty.
+    pub fn place(&mut self, kind: Kind, n: u32) -> Option<u32>
+        requires { 0 < n }
+        ensures place { result ≡ place n self.old }
+        ensures least { IfSome result (IsLeastFree self.old n) }
+        ensures made { IfSome result (λ base. self.new ≡ fill self.old base n (empty_slot base n kind)) }
+        ensures same { IsNone result → self.new ≡ self.old }
+    {
+        let spot = find_room(self.records.as_slice(), self.first, n)?;
+        self.first = take_cells(self.records.as_mut_slice(), self.first, spot, n, kind);
+        Some(spot.at)
+    }
+
+    /// Gives the cells of the block with this base back. `false`, and nothing changed, where there is no such block
+    /// or a cell of it is waiting.
+    pub fn release(&mut self, base: u32) -> bool
+        ensures done { result ≡ is_releasable self.old base }
+        ensures released { IsTrue result → self.new ≡ fill self.old base (length_at self.old base) None }
+        ensures same { result ≡ false → self.new ≡ self.old }
+    {
+        let Some(slot) = self.slot(base) else {
+            return false;
+        };
+        let block = slot.block;
+        if block.base != base || any_waiting(self.records.as_slice(), block) {
+            return false;
+        }
+        self.first = give_back(self.records.as_mut_slice(), self.first, block);
+        true
+    }
+}

@@ -1,0 +1,69 @@
+-- What an honest file would have come to, had it given the answers that a real one gave.
+use Rattle.std.specs.Prelude.{ℕ, zero, suc, ◌+◌, nat_lt, nat_le, Bool, true, false, not, ◌&&◌, ◌||◌, ◌==◌, if◌then◌else◌, List, [], ◌∷◌, length, take, drop, replicate, slice_index, bytes_eq, IsTrue}
+use Rattle.im_disk.specs.Moment.{Moment, overlaid, written, synced}
+
+-- what is known of a file from its calls and their answers
+pub record Account : Type 0 where
+  -- the file now, and the moments before it, the newest first
+  pub now : Moment
+  pub past : List Moment
+  -- What the failing calls to come leave, the next one first. Nobody knows it, as nobody knows the first moment.
+  pub outcomes : List (List ℕ)
+  -- each answer so far was that of an honest file
+  pub agrees : Bool
+
+-- the answers so far are those of an honest file
+abbrev pub IsHonest : Account → Type 0
+IsHonest a = IsTrue a.agrees
+
+-- what the next call that failed came to
+abbrev pub first_outcome : List (List ℕ) → List ℕ
+first_outcome [] = []
+first_outcome (o ∷ os) = o
+
+-- what the calls that failed after it came to
+abbrev pub later_outcomes : List (List ℕ) → List (List ℕ)
+later_outcomes [] = []
+later_outcomes (o ∷ os) = os
+
+-- byte i lies in one of the ranges
+abbrev pub is_inside : List (ℕ × ℕ) → ℕ → Bool
+is_inside [] i = false
+is_inside (r ∷ rs) i = (nat_le r.0 i && nat_lt i (r.0 + r.1)) || is_inside rs i
+
+-- The files, of which these are the bytes from i on, are of one length, and the same outside the ranges.
+abbrev pub are_same_outside : List (ℕ × ℕ) → ℕ → List ℕ → List ℕ → Bool
+are_same_outside rs i [] [] = true
+are_same_outside rs i [] (d ∷ ds) = false
+are_same_outside rs i (c ∷ cs) [] = false
+are_same_outside rs i (c ∷ cs) (d ∷ ds) = (c == d || is_inside rs i) && are_same_outside rs (i + 1) cs ds
+
+-- after a write of so many bytes that failed: its range holds the outcome
+abbrev pub torn_by : ℕ → ℕ → List ℕ → Moment → Moment
+torn_by at n outcome m = record { bytes = if length outcome == n then overlaid m.bytes at outcome else m.bytes; ranges = (at, n) ∷ m.ranges }
+
+-- after a sync that failed: the ranges hold what they hold in the outcome
+abbrev pub shaken_by : List ℕ → Moment → Moment
+shaken_by outcome m = record { bytes = if are_same_outside m.ranges 0 outcome m.bytes then outcome else m.bytes; ranges = m.ranges }
+
+-- after a write that was answered so
+abbrev pub after_write : Bool → ℕ → List ℕ → Account → Account
+after_write true at bytes a = record { now = written at bytes a.now; past = a.now ∷ a.past; outcomes = a.outcomes; agrees = a.agrees }
+after_write false at bytes a = record { now = torn_by at (length bytes) (first_outcome a.outcomes) a.now; past = a.now ∷ a.past; outcomes = later_outcomes a.outcomes; agrees = a.agrees }
+
+-- after a sync that was answered so
+abbrev pub after_sync : Bool → Account → Account
+after_sync true a = record { now = synced a.now; past = a.now ∷ a.past; outcomes = a.outcomes; agrees = a.agrees }
+after_sync false a = record { now = shaken_by (first_outcome a.outcomes) a.now; past = a.now ∷ a.past; outcomes = later_outcomes a.outcomes; agrees = a.agrees }
+
+-- After a call, by its number: the file was made anew, measured, read, written, synced. A call may always fail.
+abbrev pub after_call : ℕ → ℕ → Bool → List ℕ → Account → Account
+after_call zero len ok bytes a = record { now = record { bytes = replicate len 0; ranges = [] }; past = []; outcomes = a.outcomes; agrees = a.agrees }
+after_call (suc zero) len ok bytes a = record { now = a.now; past = a.past; outcomes = a.outcomes; agrees = a.agrees && (not ok || len == length a.now.bytes) }
+after_call (suc (suc zero)) at ok bytes a = record { now = a.now; past = a.now ∷ a.past; outcomes = a.outcomes; agrees = a.agrees && (not ok || bytes_eq bytes (take (length bytes) (drop at a.now.bytes))) }
+after_call (suc (suc (suc zero))) at ok bytes a = after_write ok at bytes a
+after_call (suc (suc (suc (suc more)))) at ok bytes a = after_sync ok a
+
+-- after the call that is noted by these numbers: which call, an offset or a length, and 1 for success
+abbrev pub noted : List ℕ → List ℕ → Account → Account
+noted numbers bytes a = after_call (slice_index numbers 0) (slice_index numbers 1) (slice_index numbers 2 == 1) bytes a

@@ -1,0 +1,20 @@
+//! One file of fixed length: what may be read from it, and what a crash at each moment may leave. [`Disk`] is the
+//! contract, [`MemDisk`] a disk in memory that can be made to crash, [`FuseDisk`] one whose calls fail on demand, and
+//! [`FileDisk`] a file of the operating system. docs/CRASH.md tells the model and what it assumes of a real file.
+#![tactic(auto)]
+
+mod account;
+mod disk;
+mod file;
+mod fuse;
+mod gate;
+mod memory;
+mod record;
+#[cfg(test)]
+mod tests;
+
+pub use disk::{DeviceFault, Disk};
+pub use file::FileDisk;
+pub use fuse::{FuseDisk, Mode};
+pub use gate::write_behind_gate;
+pub use memory::{Crash, MemDisk};

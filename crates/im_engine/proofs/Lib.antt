@@ -1,0 +1,6 @@
+pub mod Images
+pub mod Making
+pub mod Serving
+pub mod Accepting
+pub mod Running
+pub mod Opening

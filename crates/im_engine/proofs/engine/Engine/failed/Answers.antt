@@ -1,0 +1,8 @@
+use Rattle.std.proofs.Common.{◌≡◌, false, subst}
+use Rattle.im_disk.specs.Since.{LeavesNow}
+use Rattle.im_engine.specs.State.{EngineState, MeansState}
+use Rattle.im_engine.proofs.engine.Engine.failed.Goals as goal
+
+pub returns-clause-means : goal.returns-clause-means
+returns-clause-means g c =
+    subst (λ (s : EngineState g.row.D.Denot). g.D.Disk.honest s.disk → s.failed ≡ false → LeavesNow (g.D.Disk.now s.disk) (MeansState s)) c.self.view_is c.self.invariant.1

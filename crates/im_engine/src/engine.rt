@@ -1,0 +1,187 @@
+//! The engine, and how it serves one command.
+ghost use Rattle.std.specs.Prelude.{◌≡◌, ◌↔◌, ◌⊎◌, ◌+◌, ◌≤◌, ◌<◌, List, ℕ, length, true, false, IsTrue, Ok, Err, OnOk, OnErr, IfOk, IfErr, IsErrOf};
+ghost use Rattle.im_types.specs.Window.{ask, bounds};
+ghost use Rattle.im_types.specs.Step.{step, is_accepted};
+ghost use Rattle.im_disk.specs.Moment.{Rises};
+ghost use Rattle.im_disk.specs.Since.{Leaves, LeavesNow};
+ghost use Rattle.im_image.specs.Headers.{seen};
+ghost use Rattle.im_engine.specs.Run.{Answered};
+ghost use Rattle.im_engine.specs.State.{IsImage, journal_of, MeansState, MeansEither, with_command};
+
+use im_disk::Disk;
+use im_image::Header;
+use im_journal::Journal;
+use im_plain::PlainMemory;
+use im_types::{Command, Entry, Outcome, Refusal};
+use std::marker::Model;
+
+/// A memory that a disk keeps.
+///
+/// Contracts see its disk, the header in force, the memory, the count of all accepted commands, the room for more, and
+/// whether the disk has failed it. While it hasn't failed, each file that a crash may leave means this memory and this
+/// count.
+#[derive(Drop)]
+pub struct Engine<D: Disk> {
+    disk: D,
+    header: Header,
+    journal: Journal,
+    memory: PlainMemory,
+    failed: bool,
+}
+
+impl<D: Disk> Model for Engine<D> {
+    ghost use Rattle.std.specs.Prelude.{◌≡◌, false};
+    ghost use Rattle.im_image.specs.Headers.{seen};
+    ghost use Rattle.im_disk.specs.Since.{LeavesNow};
+    ghost use Rattle.im_engine.specs.State.{EngineState, IsImage, journal_of};
+
+    ghost Value = { EngineState D };
+
+    ghost view = { λ e. record { disk = e.disk; header = seen e.header; memory = e.memory; count = e.journal.count; room = e.journal.room; failed = e.failed } };
+
+    ghost invariant = { λ e. (e.journal ≡ journal_of (seen e.header) e.journal.count e.journal.room)
+        × (D.honest e.disk → e.failed ≡ false → LeavesNow (D.now e.disk) (IsImage (seen e.header) e.memory e.journal.count e.journal.room)) };
+}
+
+impl<D: Disk> Engine<D> {
+    /// Serves one command: it is judged, and where it is accepted it is put on the disk, by four calls, and then
+    /// acts. Any other command is answered with no call of the disk, and changes nothing: a repeat by its kept entry, a
+    /// confirmation that forgets nothing by `Confirmed`. It takes no memory.
+    ///
+    /// `Failed` exactly where an earlier call failed on the disk. The refusals of numbers, where the command isn't
+    /// accepted. `JournalFull` exactly where it would be accepted and there is no room. All of these leave all as it is.
+    /// `Device` where a call of the disk failed: then the command is on the disk or not, the engine has failed, and the
+    /// image has to be opened again.
+    pub fn serve(&mut self, command: &Command) -> Result<Outcome, Refusal>
+        ensures answered { Answered self.old command.now result self.new }
+        ensures calls { OnOk result (is_accepted self.old.memory command.now ≡ true → D.honest self.new.disk → length (D.past self.new.disk) ≡ length (D.past self.old.disk) + 4) }
+        ensures device { IsErrOf result Refusal.Device → Rises (D.failures self.old.disk) (D.failures self.new.disk) }
+
+        // Each file that a crash may leave, from the start on, and now.
+        ensures leaves { D.honest self.new.disk → self.old.failed ≡ false
+            → Leaves (D.now self.old.disk) (D.now self.new.disk) (D.past self.old.disk) (D.past self.new.disk) (MeansEither self.old command.now) }
+        ensures doubt { D.honest self.new.disk → self.old.failed ≡ false → LeavesNow (D.now self.new.disk) (MeansEither self.old command.now) }
+        ensures means { D.honest self.new.disk → self.new.failed ≡ false → LeavesNow (D.now self.new.disk) (MeansState self.new) }
+        ensures honest { D.honest self.new.disk → D.honest self.old.disk }
+    {
+        if self.failed {
+            return Err(Refusal::Failed);
+        }
+        match self.memory.judge(command) {
+            Ok(true) => self.accept(command),
+            Ok(false) => self.memory.step(command),
+            Err(refusal) => Err(refusal),
+        }
+    }
+
+    // Serves a command that is accepted.
+    fn accept(&mut self, command: &Command) -> Result<Outcome, Refusal>
+        requires alive { self.old.failed ≡ false }
+        requires accepted { is_accepted self.old.memory command.now ≡ true }
+        ensures full { self.old.room ≡ 0 → (result ≡ Err Refusal.JournalFull) × (self.new ≡ self.old) }
+        ensures put { 0 < self.old.room →
+            ((result ≡ (step self.old.memory command.now).answer) × (self.new ≡ record (with_command self.old command.now) { disk = self.new.disk }))
+            ⊎ ((result ≡ Err Refusal.Device) × (self.new ≡ record self.old { disk = self.new.disk; failed = true })) }
+        ensures calls { OnOk result (D.honest self.new.disk → length (D.past self.new.disk) ≡ length (D.past self.old.disk) + 4) }
+        ensures device { IsErrOf result Refusal.Device → Rises (D.failures self.old.disk) (D.failures self.new.disk) }
+        ensures leaves { D.honest self.new.disk
+            → Leaves (D.now self.old.disk) (D.now self.new.disk) (D.past self.old.disk) (D.past self.new.disk) (MeansEither self.old command.now) }
+        ensures doubt { D.honest self.new.disk → LeavesNow (D.now self.new.disk) (MeansEither self.old command.now) }
+        ensures means { D.honest self.new.disk → self.new.failed ≡ false → LeavesNow (D.now self.new.disk) (MeansState self.new) }
+        ensures honest { D.honest self.new.disk → D.honest self.old.disk }
+    {
+        if self.journal.room() == 0 {
+            return Err(Refusal::JournalFull);
+        }
+        // A stop in it leaves the command on the disk, whole, or not at all: its answer isn't given before.
+        if let Err(_) = self.journal.append(&mut self.disk, command) {
+            self.failed = true;
+            return Err(Refusal::Device);
+        }
+        self.memory.step(command)
+    }
+
+    // An engine over a disk whose image means this.
+    pub(crate) fn started(
+        disk: D,
+        header: Header,
+        journal: Journal,
+        memory: PlainMemory,
+    ) -> Engine<D>
+        requires journal { journal ≡ journal_of (seen header) journal.count journal.room }
+        requires means { D.honest disk → LeavesNow (D.now disk) (IsImage (seen header) memory journal.count journal.room) }
+        ensures state { result ≡ record { disk = disk; header = seen header; memory = memory; count = journal.count; room = journal.room; failed = false } }
+        ensures means { D.honest result.disk → LeavesNow (D.now result.disk) (MeansState result) }
+    {
+        Engine {
+            disk,
+            header,
+            journal,
+            memory,
+            failed: false,
+        }
+    }
+
+    /// The entry that is kept under an element's number: refused with `Failed` where an earlier call failed on the disk,
+    /// with `NoElement`, with `Forgotten` below the window, and with `Gap` where the number isn't used yet. No call of the
+    /// disk.
+    pub fn collect(&self, element: u16, number: u64) -> Result<Entry, Refusal>
+        ensures failed { self.now.failed ≡ true → result ≡ Err Refusal.Failed }
+        ensures answer { self.now.failed ≡ false → result ≡ ask self.now.memory.windows (record { element = element; number = number }) }
+    {
+        if self.failed {
+            return Err(Refusal::Failed);
+        }
+        self.memory.collect(element, number)
+    }
+
+    /// The base of an element's window, from which on its entries are kept, and the number of its next new request:
+    /// refused with `Failed` where an earlier call failed on the disk, and with `NoElement`. No call of the disk.
+    pub fn window(&self, element: u16) -> Result<(u64, u64), Refusal>
+        ensures failed { self.now.failed ≡ true → result ≡ Err Refusal.Failed }
+        ensures answer { self.now.failed ≡ false → result ≡ bounds self.now.memory.windows element }
+    {
+        if self.failed {
+            return Err(Refusal::Failed);
+        }
+        self.memory.window(element)
+    }
+
+    /// How many more commands can be accepted.
+    pub fn room(&self) -> u32
+        ensures { result ≡ self.now.room }
+    {
+        self.journal.room()
+    }
+
+    /// How many commands have been accepted since the image was formatted.
+    pub fn count(&self) -> u64
+        ensures { result ≡ self.now.count }
+    {
+        self.journal.count()
+    }
+
+    /// Whether a call of the disk has failed. From then on `serve`, `collect` and `window` only answer `Failed`. While none
+    /// has, each file that a crash may leave means the memory and the count.
+    pub fn failed(&self) -> bool
+        ensures failed { result ≡ self.now.failed }
+        ensures means { D.honest self.now.disk → self.now.failed ≡ false → LeavesNow (D.now self.now.disk) (MeansState self.now) }
+    {
+        self.failed
+    }
+
+    /// The memory.
+    pub fn memory(&self) -> &PlainMemory
+        ensures { result.now ≡ self.now.memory }
+    {
+        &self.memory
+    }
+
+    /// Gives the disk back. It makes no call of the disk: each file that a crash may leave means what it meant before.
+    pub fn close(self) -> D
+        ensures disk { result ≡ self.disk }
+        ensures means { D.honest result → self.failed ≡ false → LeavesNow (D.now result) (MeansState self) }
+    {
+        self.disk
+    }
+}

@@ -1,0 +1,113 @@
+//! How an image is made of a file.
+ghost use Rattle.std.specs.Prelude.{◌≡◌, ◌≢◌, false, ◌⊎◌, ◌∷◌, ◌<◌, length, drop, IfOk, IfErr, OnOk, IsErrOf, MatchResult};
+ghost use Rattle.im_types.specs.declared.refusals.Refusal.TheVariants.{WrongLength, NoMemory, Device};
+ghost use Rattle.im_types.specs.Contents.{empty_contents};
+ghost use Rattle.im_types.specs.Layout.{layout_1, image_length};
+ghost use Rattle.im_types.specs.Header.{Header as Seen};
+ghost use Rattle.im_disk.specs.Moment.{Counts, Rises};
+ghost use Rattle.im_disk.specs.Since.{LeavesNow};
+ghost use Rattle.im_image.specs.Headers.{seen, sizes_of};
+ghost use Rattle.im_image.specs.Fresh.{new_header, new_image};
+ghost use Rattle.im_engine.specs.State.{MeansState};
+
+use crate::engine::Engine;
+use im_disk::{DeviceFault, Disk};
+use im_image::{Header, OPEN, VERSION, image_length, new_image};
+use im_journal::Journal;
+use im_plain::PlainMemory;
+use im_types::{Limits, Refusal};
+use std::alloc::Global;
+
+// The header of a new image.
+fn new_header(limits: Limits) -> Header
+    ensures { seen result ≡ new_header (sizes_of limits) }
+{
+    Header {
+        version: VERSION,
+        area: 0,
+        generation: 1,
+        count: 0,
+        limits,
+    }
+}
+
+// Writes a whole image, and then opens the gate of its first header.
+fn write_image<D: Disk>(disk: &mut D, image: &[u8]) -> Result<(), DeviceFault>
+    requires some { 0 < length image.now }
+    requires size { D.honest disk.old → length image.now ≡ length (D.now disk.old).bytes }
+    ensures written { OnOk result (D.honest disk.new → LeavesNow (D.now disk.new) (λ file. file ≡ 0xA5 ∷ drop 1 image.now)) }
+    ensures honest { D.honest disk.new → D.honest disk.old }
+    ensures failures { Counts result (D.failures disk.old) (D.failures disk.new) }
+{
+    disk.write_at(0, image)?; // Its gate is closed: a stop leaves no image, or what is left of an old one.
+    disk.sync()?; // The same, until the whole of the new one is on the disk.
+    disk.write_at(0, &[OPEN])?; // A stop leaves the gate closed, or open before the whole of the image.
+    disk.sync()?; // The same. Once this is done the gate is open for good.
+    Ok(())
+}
+
+// Makes a new image of a file, and the memory that it means.
+fn lay_down<D: Disk>(alloc: Global, disk: &mut D, limits: Limits) -> Result<PlainMemory, Refusal>
+    ensures empty { IfOk result (λ m. m ≡ empty_contents limits.cells limits.elements) }
+    ensures written { OnOk result (D.honest disk.new → LeavesNow (D.now disk.new) (λ file. file ≡ new_image 0xA5 (sizes_of limits))) }
+    ensures wrong { IsErrOf result Refusal.WrongLength → D.honest disk.new
+        → (length (D.now disk.old).bytes ≢ image_length layout_1 (sizes_of limits)) × (D.now disk.new ≡ D.now disk.old) × (D.past disk.new ≡ D.past disk.old) }
+    ensures right { MatchResult result (λ m. D.honest disk.new → length (D.now disk.old).bytes ≡ image_length layout_1 (sizes_of limits))
+        (λ e. e ≡ NoMemory → D.honest disk.new
+        → (length (D.now disk.old).bytes ≡ image_length layout_1 (sizes_of limits)) × (D.now disk.new ≡ D.now disk.old) × (D.past disk.new ≡ D.past disk.old)) }
+    ensures device { IsErrOf result Refusal.Device → Rises (D.failures disk.old) (D.failures disk.new) }
+    ensures only { IfErr result (λ e. (e ≡ WrongLength) ⊎ (e ≡ NoMemory) ⊎ (e ≡ Device)) }
+    ensures honest { D.honest disk.new → D.honest disk.old }
+{
+    let Ok(length) = disk.len() else {
+        return Err(Refusal::Device);
+    };
+    if length != image_length(limits) {
+        return Err(Refusal::WrongLength);
+    }
+    let Ok(memory) = PlainMemory::new(alloc, limits) else {
+        return Err(Refusal::NoMemory);
+    };
+    let Ok(image) = new_image(alloc, limits) else {
+        return Err(Refusal::NoMemory);
+    };
+    // A stop in it leaves no image before the whole of the new one is on the disk.
+    if let Err(_) = write_image(disk, &image) {
+        return Err(Refusal::Device);
+    }
+    Ok(memory)
+}
+
+impl<D: Disk> Engine<D> {
+    /// Makes the image of an empty memory of a file: the header in area 0, at generation 1 and count 0, and every gate of
+    /// the journal closed. What the file held is gone. One write of the whole image, a sync, one of its gate alone, a sync.
+    ///
+    /// Each refusal gives the disk back. `WrongLength` exactly where the file's length isn't that of such an image, and
+    /// `NoMemory` where `alloc` refused the room for the image and the memory: then nothing was written. `Device` where a
+    /// call of the disk failed: then the file may hold no image.
+    pub fn format(alloc: Global, mut disk: D, limits: Limits) -> Result<Engine<D>, (Refusal, D)>
+        ensures empty { IfOk result (λ e. (e.memory ≡ empty_contents limits.cells limits.elements) × (e.count ≡ 0) × (e.room ≡ limits.slots)
+            × (e.header ≡ new_header (sizes_of limits))) }
+        // Each file that a crash may leave means that.
+        ensures means { IfOk result (λ e. D.honest e.disk → LeavesNow (D.now e.disk) (MeansState e)) }
+        ensures works { IfOk result (λ e. e.failed ≡ false) }
+        ensures wrong { IfErr result (λ e. e.0 ≡ WrongLength → D.honest e.1
+            → (length (D.now disk).bytes ≢ image_length layout_1 (sizes_of limits)) × (D.now e.1 ≡ D.now disk) × (D.past e.1 ≡ D.past disk)) }
+        ensures right { MatchResult result (λ e. D.honest e.disk → length (D.now disk).bytes ≡ image_length layout_1 (sizes_of limits))
+            (λ e. e.0 ≡ NoMemory → D.honest e.1
+            → (length (D.now disk).bytes ≡ image_length layout_1 (sizes_of limits)) × (D.now e.1 ≡ D.now disk) × (D.past e.1 ≡ D.past disk)) }
+        ensures device { IfErr result (λ e. e.0 ≡ Device → Rises (D.failures disk) (D.failures e.1)) }
+        ensures only { IfErr result (λ e. (e.0 ≡ WrongLength) ⊎ (e.0 ≡ NoMemory) ⊎ (e.0 ≡ Device)) }
+        ensures honest { MatchResult result (λ e. D.honest e.disk → D.honest disk) (λ e. D.honest e.1 → D.honest disk) }
+    {
+        match lay_down(alloc, &mut disk, limits) {
+            Ok(memory) => Ok(Engine::started(
+                disk,
+                new_header(limits),
+                Journal::fresh(limits),
+                memory,
+            )),
+            Err(refusal) => Err((refusal, disk)),
+        }
+    }
+}

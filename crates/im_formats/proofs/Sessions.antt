@@ -1,0 +1,105 @@
+-- A session record is spelled by one window alone.
+use Rattle.std.proofs.Common.{◌≡◌, ℕ, ◌+◌, ◌-◌, ◌*◌, ◌%◌, ◌<◌, ◌≤◌, zero, suc, take, drop, List, [], ◌∷◌, ◌++◌, Option, None, Some, length, replicate, slice_get, slice_index, refl, sym, ap, ◌∙◌, arith}
+use Rattle.std.proofs.lemmas.List.{append_assoc, take_at, drop_at, drop-drop}
+use Rattle.byteorder.specs.Endian.{little_number}
+use Rattle.byteorder.specs.Numbers.{little_number-reads_back}
+use Rattle.im_types.specs.declared.TheConstants.{LAST}
+use Rattle.im_types.specs.declared.operations.Kept.{Kept}
+use Rattle.im_types.specs.Contents.{Window}
+use Rattle.im_types.specs.Bytes.{zeros}
+use Rattle.im_types.specs.Layout.{layout_1}
+use Rattle.im_types.specs.Records.{place_bytes, entry_at, places_from, session_bytes, FitsPlace, FitsWindow}
+use Rattle.im_formats.specs.Reading.{place_in}
+use Rattle.im_formats.proofs.Places.{place_in-spelled}
+
+length-place : (place : Option Kept) → length (place_bytes place) ≡ 32
+length-place None = refl
+length-place (Some k) = refl
+
+-- the i-th of the places
+pub places-piece : (n : ℕ) (w : Window) (ones rest : List ℕ) (place i : ℕ) → i < length ones → take 32 (drop (32 * i) (places_from n w place ones ++ rest)) ≡ place_bytes (entry_at n w (place + i))
+places-piece n w [] rest place i lt = absurd (omega arith)
+places-piece n w (one ∷ ones) rest place zero lt =
+    ap (λ (l : List ℕ). take 32 l) (append_assoc (place_bytes (entry_at n w place)) (places_from n w (place + 1) ones) rest)
+    ∙ take_at (place_bytes (entry_at n w place)) (places_from n w (place + 1) ones ++ rest) 32 (length-place (entry_at n w place))
+    ∙ ap (λ (k : ℕ). place_bytes (entry_at n w k)) (same place)
+  where
+    same : (k : ℕ) → k ≡ k + 0
+    same k = omega arith
+places-piece n w (one ∷ ones) rest place (suc i) lt =
+    ap (λ (k : ℕ). take 32 (drop k (places_from n w place (one ∷ ones) ++ rest))) (more i)
+    ∙ ap (λ (l : List ℕ). take 32 l) (sym (drop-drop (32 * i) 32 (places_from n w place (one ∷ ones) ++ rest)))
+    ∙ ap (λ (l : List ℕ). take 32 (drop (32 * i) (drop 32 l))) (append_assoc (place_bytes (entry_at n w place)) (places_from n w (place + 1) ones) rest)
+    ∙ ap (λ (l : List ℕ). take 32 (drop (32 * i) l)) (drop_at (place_bytes (entry_at n w place)) (places_from n w (place + 1) ones ++ rest) 32 (length-place (entry_at n w place)))
+    ∙ places-piece n w ones rest (place + 1) i (omega arith)
+    ∙ ap (λ (k : ℕ). place_bytes (entry_at n w k)) (same place i)
+  where
+    more : (k : ℕ) → 32 * suc k ≡ 32 + 32 * k
+    more k = omega arith
+
+    same : (k m : ℕ) → k + 1 + m ≡ k + suc m
+    same k m = omega arith
+
+-- which of 16 places a number stands at, and back
+pub turn_back : (base j : ℕ) → j < 16 → ((base + j) % 16 + 16 - base % 16) % 16 ≡ j
+turn_back base j lt = omega arith
+
+place_of_session : (w : Window) (place : ℕ) → place < 16 → take 32 (drop (32 * place) (drop 32 (session_bytes layout_1 w))) ≡ place_bytes (entry_at 16 w place)
+place_of_session w place lt = places-piece 16 w (replicate 16 0) (zeros 480) 0 place lt ∙ ap (λ (k : ℕ). place_bytes (entry_at 16 w k)) (start place)
+  where
+    start : (k : ℕ) → 0 + k ≡ k
+    start k = omega arith
+
+some_inj : {X : Type 0} (x y : X) → Some x ≡ Some y → x ≡ y
+some_inj x y e = cc
+
+-- an entry of a window of fitting entries fits
+pub fits_at : (w : Window) → FitsWindow layout_1 w → (j : ℕ) → FitsPlace (slice_get w.kept j)
+fits_at w fits j = by_cases (slice_get w.kept j) refl
+  where
+    by_cases : (place : Option Kept) → slice_get w.kept j ≡ place → FitsPlace place
+    by_cases None is = tt
+    by_cases (Some k) is = fits.fields j k is
+
+-- the same bytes have the same places
+same_place : (w v : Window) → FitsWindow layout_1 w → FitsWindow layout_1 v → session_bytes layout_1 w ≡ session_bytes layout_1 v → (place : ℕ) → place < 16 → entry_at 16 w place ≡ entry_at 16 v place
+same_place w v fw fv e place lt =
+    let bytes : place_bytes (entry_at 16 w place) ≡ place_bytes (entry_at 16 v place) =
+    sym (place_of_session w place lt) ∙ ap (λ (l : List ℕ). take 32 (drop (32 * place) (drop 32 l))) e ∙ place_of_session v place lt in
+    some_inj (entry_at 16 w place) (entry_at 16 v place)
+    (sym (place_in-spelled (entry_at 16 w place) (fits_at w fw ((place + 16 - w.base % 16) % 16)))
+    ∙ ap place_in bytes
+    ∙ place_in-spelled (entry_at 16 v place) (fits_at v fv ((place + 16 - v.base % 16) % 16)))
+
+same_base : (w v : Window) → FitsWindow layout_1 w → FitsWindow layout_1 v → session_bytes layout_1 w ≡ session_bytes layout_1 v → w.base ≡ v.base
+same_base w v fw fv e =
+    let bw : w.base ≤ LAST + 1 = fw.base_to in
+    let bv : v.base ≤ LAST + 1 = fv.base_to in
+    sym (little_number-reads_back 8 w.base [] (omega arith)) ∙ ap (λ (l : List ℕ). little_number 8 (take 8 l)) e ∙ little_number-reads_back 8 v.base [] (omega arith)
+
+same_count : (w v : Window) → session_bytes layout_1 w ≡ session_bytes layout_1 v → length w.kept ≡ length v.kept
+same_count w v e = ap (λ (l : List ℕ). slice_index l 8) e
+
+ext_get : (xs ys : List Kept) → length xs ≡ length ys → ((j : ℕ) → j < length xs → slice_get xs j ≡ slice_get ys j) → xs ≡ ys
+ext_get [] [] size same = refl
+ext_get [] (y ∷ ys) size same = absurd (omega arith)
+ext_get (x ∷ xs) [] size same = absurd (omega arith)
+ext_get (x ∷ xs) (y ∷ ys) size same =
+    let head : x ≡ y = some_inj x y (same 0 (omega arith)) in
+    let rest : xs ≡ ys = ext_get xs ys (omega arith) (λ j lt. same (suc j) (omega arith)) in
+    cc
+
+same_kept : (w v : Window) → FitsWindow layout_1 w → FitsWindow layout_1 v → session_bytes layout_1 w ≡ session_bytes layout_1 v → (j : ℕ) → j < length w.kept → slice_get w.kept j ≡ slice_get v.kept j
+same_kept w v fw fv e j lt =
+    let few : length w.kept ≤ 16 = fw.few in
+    let base : w.base ≡ v.base = same_base w v fw fv e in
+    let place : entry_at 16 w ((w.base + j) % 16) ≡ entry_at 16 v ((w.base + j) % 16) = same_place w v fw fv e ((w.base + j) % 16) (omega arith) in
+    let here : ((w.base + j) % 16 + 16 - w.base % 16) % 16 ≡ j = turn_back w.base j (omega arith) in
+    let there : ((w.base + j) % 16 + 16 - v.base % 16) % 16 ≡ j = ap (λ (b : ℕ). ((w.base + j) % 16 + 16 - b % 16) % 16) (sym base) ∙ here in
+    ap (λ (k : ℕ). slice_get w.kept k) (sym here) ∙ place ∙ ap (λ (k : ℕ). slice_get v.kept k) there
+
+pub session_bytes-one : (w v : Window) → FitsWindow layout_1 w → FitsWindow layout_1 v → session_bytes layout_1 w ≡ session_bytes layout_1 v → w ≡ v
+session_bytes-one w v fw fv e =
+    let base : w.base ≡ v.base = same_base w v fw fv e in
+    let kept : w.kept ≡ v.kept = ext_get w.kept v.kept (same_count w v e) (same_kept w v fw fv e) in
+    (λ i. record { base = base i; kept = kept i })

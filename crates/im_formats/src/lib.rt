@@ -1,0 +1,64 @@
+//! Laws of the bytes of an image: what a header, a cell, a waiter node and a kept entry are spelled as reads back as what
+//! it was, and nothing else reads so.
+//!
+//! Each law is the contract of a function that does nothing. The spellings are `im_types`' definitions.
+#![tactic(auto)]
+
+ghost use Rattle.std.specs.Prelude.{◌≡◌, ◌≤◌, ◌<◌, ◌^◌, ◌∷◌, ℕ, List, Option, Some, true, slice_range};
+ghost use Rattle.im_types.specs.declared.operations.Kept.{Kept};
+ghost use Rattle.im_types.specs.Contents.{Window};
+ghost use Rattle.im_types.specs.Layout.{Layout, layout_1};
+ghost use Rattle.im_types.specs.Header.{Header, header_body, header_in, is_header, spells_header};
+ghost use Rattle.im_types.specs.Records.{CellRecord, NodeRecord, cell_bytes, node_bytes, place_bytes, session_bytes, FitsCell, FitsNode, FitsPlace, FitsWindow};
+ghost use Rattle.im_formats.specs.Fitting.{FitsHeader};
+ghost use Rattle.im_formats.specs.Reading.{read_cell, read_node, read_place};
+
+/// The fields of a header read back, whatever its gate is.
+pub fn headers_read_back()
+    ensures { (gate : ℕ) (h : Header) → FitsHeader h → header_in (gate ∷ header_body h) ≡ h }
+{}
+
+/// A header that can stand in an area spells one.
+pub fn headers_are_taken()
+    ensures { (l : Layout) (area gate : ℕ) (h : Header) → FitsHeader h → is_header l area h ≡ true → spells_header l area (gate ∷ header_body h) ≡ true }
+{}
+
+/// Bytes that spell the header of an area are the spelling of their fields.
+pub fn headers_read_nothing_else()
+    ensures { (l : Layout) (area : ℕ) (bytes : List ℕ) → spells_header l area bytes ≡ true → slice_range bytes 1 64 ≡ header_body (header_in bytes) }
+{}
+
+/// A place of a session record reads back as what it was spelled from.
+pub fn places_read_back()
+    ensures { (place : Option Kept) → FitsPlace place → read_place (place_bytes place) ≡ Some place }
+{}
+
+/// Bytes that read as a place of a session record are that place's spelling.
+pub fn places_read_nothing_else()
+    ensures { (bytes : List ℕ) (place : Option Kept) → read_place bytes ≡ Some place → bytes ≡ place_bytes place }
+{}
+
+/// The record of a cell reads back as what it was spelled from.
+pub fn cells_read_back()
+    ensures { (cells nodes : ℕ) (cell : CellRecord) → cells < 2 ^ 32 → nodes ≤ 2 ^ 32 → FitsCell cells nodes cell → read_cell (cell_bytes cell) ≡ Some cell }
+{}
+
+/// Bytes that read as the record of a cell are its spelling.
+pub fn cells_read_nothing_else()
+    ensures { (bytes : List ℕ) (cell : CellRecord) → read_cell bytes ≡ Some cell → bytes ≡ cell_bytes cell }
+{}
+
+/// A waiter node reads back as what it was spelled from.
+pub fn nodes_read_back()
+    ensures { (nodes : ℕ) (node : NodeRecord) → nodes ≤ 2 ^ 32 → FitsNode nodes node → read_node (node_bytes node) ≡ Some node }
+{}
+
+/// Bytes that read as a waiter node are its spelling.
+pub fn nodes_read_nothing_else()
+    ensures { (bytes : List ℕ) (node : NodeRecord) → read_node bytes ≡ Some node → bytes ≡ node_bytes node }
+{}
+
+/// A session record is spelled by one window alone.
+pub fn sessions_are_spelled_by_one_window()
+    ensures { (w v : Window) → FitsWindow layout_1 w → FitsWindow layout_1 v → session_bytes layout_1 w ≡ session_bytes layout_1 v → w ≡ v }
+{}

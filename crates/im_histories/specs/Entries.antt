@@ -1,0 +1,18 @@
+-- What becomes of the entry that a request was given at once. (Own.)
+use Rattle.std.specs.Prelude.{◌≡◌, List, IsSomeAnd}
+use Rattle.std.specs.List.{AllByRecursion}
+use Rattle.im_types.specs.declared.operations.Entry.{Entry}
+use Rattle.im_types.specs.declared.operations.Entry.TheVariants.{Waiting, Answered}
+use Rattle.im_types.specs.declared.commands.Command.{Command}
+use Rattle.im_types.specs.Contents.{Contents}
+use Rattle.im_types.specs.Step.{asker}
+use Rattle.im_types.specs.History.{events, last_entry}
+
+-- an answer stays; a request that waits may be answered, or wait on
+abbrev pub MayBecome : Entry → Entry → Type 0
+MayBecome Waiting last = Unit {0}
+MayBecome (Answered reply) last = last ≡ Answered reply
+
+-- each accepted request has an entry in the end, or had one when it was dropped, and it came from the entry that it was given at once
+abbrev pub EntryLaw : Contents → List Command → Type 0
+EntryLaw m commands = AllByRecursion (λ event. IsSomeAnd (last_entry m commands (asker event.request)) (MayBecome event.entry)) (events m commands)

@@ -1,0 +1,179 @@
+-- The area of a new image shows the empty memory.
+use Rattle.std.proofs.Common.{◌≡◌, ℕ, zero, suc, ◌+◌, ◌*◌, ◌-◌, ◌/◌, ◌<◌, ◌≤◌, List, [], ◌∷◌, ◌++◌, length, take, drop, replicate, slice_range, slice_index_or, inl, Option, None, Some, refl, sym, ap, ◌∙◌, arith, subst, slice_get, mul-zero, zero-add}
+use Rattle.std.proofs.Math.Nat.{mul-suc}
+use Rattle.std.proofs.lemmas.List.{length-append, length-replicate, append_assoc, take_at, drop_at, drop-drop}
+use Rattle.im_types.specs.declared.TheConstants.{NONE}
+use Rattle.im_types.specs.declared.operations.Kept.{Kept}
+use Rattle.im_types.specs.Contents.{Held, new_window, empty_contents}
+use Rattle.im_types.specs.Memory.{IsMemory}
+use Rattle.im_types.specs.Bytes.{zeros}
+use Rattle.im_types.specs.Layout.{Sizes, layout_1, page_bytes, cell_pages, node_pages, session_pages, area_bytes, node_count, cell_record_bytes, node_record_bytes, session_record_bytes, cell_part, node_part, session_part, record_at}
+use Rattle.im_types.specs.Records.{FreeCell, NodeRecord, FreeNode, cell_bytes, node_bytes, session_bytes, FitsCell, FitsNode, FitsWindow}
+use Rattle.im_types.specs.Chains.{HaveChains, all_uses, bit, is_listed}
+use Rattle.im_types.specs.Pages.{Records, IsRow, SpellsArea, ShowsRecords, Shows, cells_shown}
+use Rattle.im_image.specs.Fresh.{repeated, new_cell, new_node, new_row, new_area}
+use Rattle.im_image.proofs.Rows.{length-repeated}
+
+less : (a b : ℕ) → (a + b) - a ≡ b
+less a b = omega arith
+
+slice_is : (size at : ℕ) (l : List ℕ) → slice_range l at (at + size) ≡ take size (drop at l)
+slice_is size at l = ap (λ (m : ℕ). take m (drop at l)) (less at size)
+
+nothing_before : (n : ℕ) → n * 0 ≡ 0
+nothing_before n = mul-zero n
+
+one_more : (size i : ℕ) → size * suc i ≡ size + size * i
+one_more size i = mul-suc size i ∙ omega arith
+
+-- record i of bytes that are a record so many times
+piece : (n size i : ℕ) (bytes rest : List ℕ) → length bytes ≡ size → i < n → take size (drop (size * i) (repeated n bytes ++ rest)) ≡ bytes
+piece zero size i bytes rest is lt = absurd (omega arith)
+piece (suc n) size zero bytes rest is lt =
+    ap (λ (k : ℕ). take size (drop k (bytes ++ repeated n bytes ++ rest))) (nothing_before size)
+    ∙ ap (λ (l : List ℕ). take size l) (append_assoc bytes (repeated n bytes) rest)
+    ∙ take_at bytes (repeated n bytes ++ rest) size is
+piece (suc n) size (suc i) bytes rest is lt =
+    ap (λ (k : ℕ). take size (drop k (bytes ++ repeated n bytes ++ rest))) (one_more size i ∙ comm size (size * i))
+    ∙ ap (λ (l : List ℕ). take size l) (sym (drop-drop (size * i) size (bytes ++ repeated n bytes ++ rest)))
+    ∙ ap (λ (l : List ℕ). take size (drop (size * i) (drop size l))) (append_assoc bytes (repeated n bytes) rest)
+    ∙ ap (λ (l : List ℕ). take size (drop (size * i) l)) (drop_at bytes (repeated n bytes ++ rest) size is)
+    ∙ piece n size i bytes rest is (omega arith)
+  where
+    comm : (a b : ℕ) → a + b ≡ a + b
+    comm a b = refl
+
+record-repeated : (n size i : ℕ) (bytes rest : List ℕ) → length bytes ≡ size → i < n → record_at size (repeated n bytes ++ rest) i ≡ bytes
+record-repeated n size i bytes rest is lt = slice_is size (size * i) (repeated n bytes ++ rest) ∙ piece n size i bytes rest is lt
+
+pub get-replicate : {X : Type 0} (n i : ℕ) (x none : X) → i < n → slice_index_or (replicate n x) i none ≡ x
+get-replicate zero i x none lt = absurd (omega arith)
+get-replicate (suc n) zero x none lt = refl
+get-replicate (suc n) (suc i) x none lt = get-replicate n i x none (omega arith)
+
+get-replicate_default : {X : Type 0} (n i : ℕ) (x : X) → slice_index_or (replicate n x) i x ≡ x
+get-replicate_default zero i x = refl
+get-replicate_default (suc n) zero x = refl
+get-replicate_default (suc n) (suc i) x = get-replicate_default n i x
+
+pub length-zeros : (n : ℕ) → length (zeros n) ≡ n
+length-zeros n = length-replicate n 0
+
+-- the bytes of a new row, and its records
+is_new_row : {X : Type 0} (pages size count : ℕ) (spelled : X → List ℕ) (Fits : X → Type 0) (none x : X) → length (spelled x) ≡ size → Fits x → IsRow size spelled Fits none count (new_row pages size (spelled x) count) (replicate count x)
+is_new_row pages size count spelled Fits none x is fits = record {
+  many = length-replicate count x;
+  each = λ i lt. record-repeated count size i (spelled x) (zeros (page_bytes * pages - size * count)) is lt ∙ ap spelled (sym (get-replicate count i x none lt));
+  fits = λ i lt. subst Fits (sym (get-replicate count i x none lt)) fits;
+  rest =
+      let size_is : length (repeated count (spelled x)) ≡ size * count = length-repeated count (spelled x) ∙ ap (λ (k : ℕ). k * count) is in
+      let dropped : drop (size * count) (new_row pages size (spelled x) count) ≡ zeros (page_bytes * pages - size * count) = drop_at (repeated count (spelled x)) (zeros (page_bytes * pages - size * count)) (size * count) size_is in
+      dropped ∙ ap (λ (k : ℕ). zeros k) (sym (ap length dropped ∙ length-zeros (page_bytes * pages - size * count)));
+}
+
+pub length-row : (pages size count : ℕ) (bytes : List ℕ) → length bytes ≡ size → size * count ≤ 4096 * pages → length (new_row pages size bytes count) ≡ 4096 * pages
+length-row pages size count bytes is fits =
+    length-append (repeated count bytes) (zeros (4096 * pages - size * count))
+    ∙ both (length-repeated count bytes ∙ ap (λ (k : ℕ). k * count) is) (length-zeros (4096 * pages - size * count))
+  where
+    both : {a b : ℕ} → a ≡ size * count → b ≡ 4096 * pages - size * count → a + b ≡ 4096 * pages
+    both ea eb = omega arith
+
+cells_fit : (n : ℕ) → 32 * n ≤ 4096 * ((n + 128 - 1) / 128)
+cells_fit n = omega arith
+
+nodes_fit : (n : ℕ) → 16 * n ≤ 4096 * ((n + 256 - 1) / 256)
+nodes_fit n = omega arith
+
+sessions_fit : (n : ℕ) → 1024 * n ≤ 4096 * ((n + 4 - 1) / 4)
+sessions_fit n = omega arith
+
+abbrev cell_row : Sizes → List ℕ
+cell_row s = new_row (cell_pages s) cell_record_bytes (cell_bytes new_cell) s.cells
+
+abbrev node_row : Sizes → List ℕ
+node_row s = new_row (node_pages layout_1 s) node_record_bytes (node_bytes new_node) (node_count layout_1 s)
+
+abbrev session_row : Sizes → List ℕ
+session_row s = new_row (session_pages layout_1 s) (session_record_bytes layout_1) (session_bytes layout_1 new_window) s.elements
+
+length-cells : (s : Sizes) → length (cell_row s) ≡ 4096 * cell_pages s
+length-cells s = length-row (cell_pages s) 32 s.cells (cell_bytes new_cell) refl (cells_fit s.cells)
+
+length-nodes : (s : Sizes) → length (node_row s) ≡ 4096 * node_pages layout_1 s
+length-nodes s = length-row (node_pages layout_1 s) 16 (node_count layout_1 s) (node_bytes new_node) refl (nodes_fit (node_count layout_1 s))
+
+length-sessions : (s : Sizes) → length (session_row s) ≡ 4096 * session_pages layout_1 s
+length-sessions s = length-row (session_pages layout_1 s) 1024 s.elements (session_bytes layout_1 new_window) refl (sessions_fit s.elements)
+
+pub length-area : (s : Sizes) → length (new_area s) ≡ area_bytes layout_1 s
+length-area s = omega (arith, length-append (cell_row s ++ node_row s) (session_row s), length-append (cell_row s) (node_row s), length-cells s, length-nodes s, length-sessions s)
+
+-- the parts of a new area
+cell_part-new : (s : Sizes) → cell_part s (new_area s) ≡ cell_row s
+cell_part-new s = ap (λ (l : List ℕ). take (4096 * cell_pages s) l) (append_assoc (cell_row s) (node_row s) (session_row s)) ∙ take_at (cell_row s) (node_row s ++ session_row s) (4096 * cell_pages s) (length-cells s)
+
+node_part-new : (s : Sizes) → node_part layout_1 s (new_area s) ≡ node_row s
+node_part-new s =
+    ap (λ (l : List ℕ). take (4096 * node_pages layout_1 s) (drop (4096 * cell_pages s) l)) (append_assoc (cell_row s) (node_row s) (session_row s))
+    ∙ ap (λ (l : List ℕ). take (4096 * node_pages layout_1 s) l) (drop_at (cell_row s) (node_row s ++ session_row s) (4096 * cell_pages s) (length-cells s))
+    ∙ take_at (node_row s) (session_row s) (4096 * node_pages layout_1 s) (length-nodes s)
+
+session_part-new : (s : Sizes) → session_part layout_1 s (new_area s) ≡ session_row s
+session_part-new s = drop_at (cell_row s ++ node_row s) (session_row s) (4096 * (cell_pages s + node_pages layout_1 s)) (omega (arith, length-append (cell_row s) (node_row s), length-cells s, length-nodes s))
+
+unfoldable pub new_records : Sizes → Records
+new_records s = record { cells = replicate s.cells new_cell; nodes = replicate (node_count layout_1 s) new_node; windows = replicate s.elements new_window }
+
+no_kept : (i : ℕ) (k : Kept) → slice_get [] i ≡ Some k → ⊥
+no_kept i k e = none_some k e
+  where
+    none_some : (k : Kept) → None ≡ Some k → ⊥
+    none_some k e = cc
+
+pub new_window_fits : FitsWindow layout_1 new_window
+new_window_fits = record { base_from = omega arith; base_to = omega arith; few = omega arith; numbers = omega arith; fields = λ i k e. absurd (no_kept i k e) }
+
+pub new_area_spelled : (s : Sizes) → SpellsArea layout_1 s (new_area s) (new_records s)
+unfolding new_records
+new_area_spelled s = record {
+  cells = subst (λ (l : List ℕ). IsRow cell_record_bytes cell_bytes (FitsCell s.cells (node_count layout_1 s)) (FreeCell 0 NONE) s.cells l (replicate s.cells new_cell)) (sym (cell_part-new s))
+      (is_new_row (cell_pages s) 32 s.cells cell_bytes (FitsCell s.cells (node_count layout_1 s)) (FreeCell 0 NONE) new_cell refl (none_yet s.cells, inl refl));
+  nodes = subst (λ (l : List ℕ). IsRow node_record_bytes node_bytes (FitsNode (node_count layout_1 s)) (FreeNode NONE) (node_count layout_1 s) l (replicate (node_count layout_1 s) new_node)) (sym (node_part-new s))
+      (is_new_row (node_pages layout_1 s) 16 (node_count layout_1 s) node_bytes (FitsNode (node_count layout_1 s)) (FreeNode NONE) new_node refl (inl refl));
+  sessions = subst (λ (l : List ℕ). IsRow (session_record_bytes layout_1) (session_bytes layout_1) (FitsWindow layout_1) new_window s.elements l (replicate s.elements new_window)) (sym (session_part-new s))
+      (is_new_row (session_pages layout_1 s) 1024 s.elements (session_bytes layout_1) (FitsWindow layout_1) new_window new_window refl new_window_fits);
+}
+  where
+    none_yet : (n : ℕ) → 0 ≤ n
+    none_yet n = omega arith
+
+-- nobody waits
+have_none : (nodes : List NodeRecord) (n : ℕ) → HaveChains nodes (replicate n new_cell) (replicate n []) (replicate n [])
+have_none nodes zero = tt
+have_none nodes (suc n) = ((refl, refl), have_none nodes n)
+
+no_uses : (node n : ℕ) → all_uses node (replicate n []) ≡ 0
+no_uses node zero = refl
+no_uses node (suc n) = zero-add (all_uses node (replicate n [])) ∙ no_uses node n
+
+no_cells : (n : ℕ) → replicate n None ≡ cells_shown (replicate n new_cell) (replicate n [])
+no_cells zero = refl
+no_cells (suc n) = ap (λ (l : List (Option Held)). None ∷ l) (no_cells n)
+
+pub new_records_show : (s : Sizes) → IsMemory s.cells s.elements (empty_contents s.cells s.elements) → ShowsRecords s (new_records s) (empty_contents s.cells s.elements)
+unfolding new_records empty_contents
+new_records_show s memory = record {
+  lists = replicate s.cells [];
+  chained = record {
+    chains = replicate s.cells [];
+    have = have_none (replicate (node_count layout_1 s) new_node) s.cells;
+    once = λ n. no_uses n s.cells ∙ ap (λ (node : NodeRecord). bit (is_listed node)) (sym (get-replicate_default (node_count layout_1 s) n new_node));
+  };
+  cells = no_cells s.cells;
+  windows = refl;
+  memory = memory;
+}
+
+pub new_area_shows : (s : Sizes) → IsMemory s.cells s.elements (empty_contents s.cells s.elements) → Shows layout_1 s (new_area s) (empty_contents s.cells s.elements)
+new_area_shows s memory = record { records = new_records s; spelled = new_area_spelled s; shown = new_records_show s memory }

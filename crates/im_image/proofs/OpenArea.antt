@@ -1,0 +1,64 @@
+-- What the area of a header in force shows.
+use Rattle.std.proofs.Common.{◌≡◌, ℕ, ◌+◌, ◌-◌, List, length, take, drop, ◌==◌, nat_lt, Bool, true, false, Option, None, Some, if◌then◌else◌, refl, sym, ap, subst, ◌∙◌, arith}
+use Rattle.im_types.specs.declared.refusals.Refusal.{Refusal}
+use Rattle.im_types.specs.declared.refusals.Refusal.TheVariants.{WrongLength}
+use Rattle.im_types.specs.Sizes.{AreLimits}
+use Rattle.im_types.specs.Contents.{empty_contents}
+use Rattle.im_types.specs.Layout.{Sizes, layout_1, area_at, area_bytes, area_of, image_length}
+use Rattle.im_types.specs.Header.{Header, header_of, header_fault, header_place, place_fault, or_else}
+use Rattle.im_types.specs.Pages.{Shows}
+use Rattle.im_types.specs.Meaning.{IsShown}
+use Rattle.im_laws.proofs.MemoryLemmas.{empty-memory}
+use Rattle.im_image.specs.Blank.{IsBlank}
+use Rattle.im_image.proofs.BlankArea.{blank_shows, shows_blank, eq_true}
+
+pub blank_shows_empty : (s : Sizes) (area : List ℕ) → IsBlank s area → Shows layout_1 s area (empty_contents s.cells s.elements)
+blank_shows_empty s area blank = blank_shows s area (empty-memory s.cells s.elements) blank
+
+pub empty_is_blank : (s : Sizes) (area : List ℕ) → AreLimits s.cells s.elements s.slots → Shows layout_1 s area (empty_contents s.cells s.elements) → IsBlank s area
+empty_is_blank s area limits shows = shows_blank s area (omega (arith, limits.few_cells)) (omega (arith, limits.few_elements)) shows
+
+less : (a b : ℕ) → (a + b) - a ≡ b
+less a b = omega arith
+
+-- the area that is read is the one of the header in force
+pub area_read : (s : Sizes) (number : ℕ) (file : List ℕ) → take (area_bytes layout_1 s) (drop (area_at layout_1 s number) file) ≡ area_of layout_1 s number file
+area_read s number file = ap (λ (k : ℕ). take k (drop (area_at layout_1 s number) file)) (sym (less (area_at layout_1 s number) (area_bytes layout_1 s)))
+
+-- what is shown of a file whose header in force is this one
+pub shown_by : (h : Header) (file area : List ℕ) → h ≡ header_of file → area ≡ area_of layout_1 h.sizes h.area file
+    → Shows layout_1 h.sizes area (empty_contents h.sizes.cells h.sizes.elements) → IsShown layout_1 file (empty_contents h.sizes.cells h.sizes.elements)
+shown_by h file area is read shows =
+    subst (λ (k : Header). Shows layout_1 k.sizes (area_of layout_1 k.sizes k.area file) (empty_contents h.sizes.cells h.sizes.elements)) is
+    (subst (λ (l : List ℕ). Shows layout_1 h.sizes l (empty_contents h.sizes.cells h.sizes.elements)) read shows)
+
+pub shown_back : (h : Header) (file area : List ℕ) → h ≡ header_of file → area ≡ area_of layout_1 h.sizes h.area file
+    → IsShown layout_1 file (empty_contents h.sizes.cells h.sizes.elements) → Shows layout_1 h.sizes area (empty_contents h.sizes.cells h.sizes.elements)
+shown_back h file area is read shown =
+    subst (λ (l : List ℕ). Shows layout_1 h.sizes l (empty_contents h.sizes.cells h.sizes.elements)) (sym read)
+    (subst (λ (k : Header). Shows layout_1 k.sizes (area_of layout_1 k.sizes k.area file) (empty_contents h.sizes.cells h.sizes.elements)) (sym is) shown)
+
+-- an image without fault has the length that its header says
+pub length_of_image : (file : List ℕ) → header_fault layout_1 file ≡ None → length file ≡ image_length layout_1 (header_of file).sizes
+length_of_image file good = by_length (nat_lt (length file) 8192) refl
+  where
+    none_some : (e : Refusal) → Some e ≡ None → ⊥
+    none_some e h = cc
+
+    rest : Bool → Option Refusal
+    rest b = if b then None else Some WrongLength
+
+    by_same : (b : Bool) → (length file == image_length layout_1 (header_of file).sizes) ≡ b → rest b ≡ None → length file ≡ image_length layout_1 (header_of file).sizes
+    by_same true is none = eq_true (length file) (image_length layout_1 (header_of file).sizes) is
+    by_same false is none = absurd (none_some WrongLength none)
+
+    by_places : (f : Option Refusal) → or_else f (rest (length file == image_length layout_1 (header_of file).sizes)) ≡ None → length file ≡ image_length layout_1 (header_of file).sizes
+    by_places None none = by_same (length file == image_length layout_1 (header_of file).sizes) refl none
+    by_places (Some e) none = absurd (none_some e none)
+
+    by_length : (b : Bool) → nat_lt (length file) 8192 ≡ b → length file ≡ image_length layout_1 (header_of file).sizes
+    by_length true is = absurd (none_some WrongLength (sym (ap (λ (b : Bool). if b then Some WrongLength else or_else (place_fault layout_1 (header_place 0 file) (header_place 1 file)) (rest (length file == image_length layout_1 (header_of file).sizes))) is) ∙ good))
+    by_length false is = by_places (place_fault layout_1 (header_place 0 file) (header_place 1 file)) (sym (ap (λ (b : Bool). if b then Some WrongLength else or_else (place_fault layout_1 (header_place 0 file) (header_place 1 file)) (rest (length file == image_length layout_1 (header_of file).sizes))) is) ∙ good)
+
+pub length_by : (h : Header) (file : List ℕ) → header_fault layout_1 file ≡ None → h ≡ header_of file → length file ≡ image_length layout_1 h.sizes
+length_by h file good is = length_of_image file good ∙ ap (λ (k : Header). image_length layout_1 k.sizes) (sym is)

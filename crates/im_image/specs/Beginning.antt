@@ -1,0 +1,11 @@
+-- How an image begins. (Own.)
+use Rattle.std.specs.Prelude.{◌≡◌, ◌≤◌, ℕ, List, length}
+use Rattle.im_types.specs.Header.{header_place}
+use Rattle.im_image.specs.declared.in_force.Beginning.{Beginning}
+
+-- this is how the file begins
+pub record IsBeginning (b : Beginning) (file : List ℕ) : Type 0 where
+  pub length_is : b.length ≡ length file
+  pub room : 8192 ≤ length file
+  pub zero_is : b.zero ≡ header_place 0 file
+  pub one_is : b.one ≡ header_place 1 file

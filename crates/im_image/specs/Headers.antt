@@ -1,0 +1,25 @@
+-- A header of the code, as the definitions see it. (Own.)
+use Rattle.std.specs.Prelude.{◌≡◌, ◌⊎◌, ℕ, List, Option, None, Some, ◌==◌, if◌then◌else◌}
+use Rattle.im_types.specs.declared.refusals.Refusal.{Refusal}
+use Rattle.im_types.specs.declared.refusals.Refusal.TheVariants.{WrongLength, NoHeader, BadHeader}
+use Rattle.im_types.specs.Header.{Header as Seen, header_in, place_in_force, place_fault, or_else}
+use Rattle.im_types.specs.Layout.{Layout, Sizes, image_length}
+use Rattle.im_types.specs.declared.sizes.Limits.{Limits}
+use Rattle.im_image.specs.declared.header.Header.{Header}
+
+-- limits, as the definitions see them
+abbrev pub sizes_of : Limits → Sizes
+sizes_of l = record { cells = l.cells; elements = l.elements; slots = l.slots }
+
+-- a header, as the definitions see it
+abbrev pub seen : Header → Seen
+seen h = record { version = h.version; area = h.area; generation = h.generation; count = h.count; sizes = sizes_of h.limits }
+
+-- the faults of a length and of headers
+abbrev pub IsHeaderFault : Refusal → Type 0
+IsHeaderFault e = (e ≡ WrongLength) ⊎ (e ≡ NoHeader) ⊎ (e ≡ BadHeader)
+
+-- the first fault of a file of this length, which has room for two header places
+abbrev pub beginning_fault : Layout → ℕ → List ℕ → List ℕ → Option Refusal
+beginning_fault l length zero one =
+    or_else (place_fault l zero one) (if length == image_length l (header_in (place_in_force zero one)).sizes then None else Some WrongLength)

@@ -1,0 +1,4 @@
+pub mod Headers
+pub mod Beginning
+pub mod Fresh
+pub mod Blank

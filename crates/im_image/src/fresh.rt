@@ -1,0 +1,149 @@
+//! The image of an empty memory.
+ghost use Rattle.std.specs.Prelude.{◌≡◌, ◌++◌, ◌∷◌, ◌≤◌, ◌*◌, ◌+◌, ◌-◌, ◌<◌, ◌^◌, length, IfOk, IfErr, OnOk};
+ghost use Rattle.im_types.specs.Bytes.{zeros};
+ghost use Rattle.im_types.specs.Contents.{new_window};
+ghost use Rattle.im_types.specs.Layout.{layout_1, area_bytes};
+ghost use Rattle.im_types.specs.Header.{header_body};
+ghost use Rattle.im_types.specs.Records.{cell_bytes, node_bytes, session_bytes};
+ghost use Rattle.im_image.specs.Headers.{sizes_of};
+ghost use Rattle.im_image.specs.Fresh.{repeated, new_cell, new_node, new_row, new_area, new_header, new_image};
+ghost use Rattle.im_types.specs.declared.refusals.Refusal.TheVariants.{NoMemory};
+
+use crate::header::{Header, VERSION};
+use crate::layout::{
+    PAGE, SLOT, area_pages, cell_pages, image_length, node_count, node_pages, session_pages,
+};
+use im_types::{Limits, Refusal};
+use std::alloc::{AllocError, Global};
+
+// The record of a free cell that names no hole.
+pub(crate) fn new_cell() -> [u8; 32]
+    ensures { result ≡ cell_bytes new_cell }
+{
+    let mut bytes = [0; 32];
+    bytes[8..20].fill(0xFF);
+    bytes
+}
+
+// The record of a free node that names no other.
+fn new_node() -> [u8; 16]
+    ensures { result ≡ node_bytes new_node }
+{
+    let mut bytes = [0; 16];
+    bytes[0..4].fill(0xFF);
+    bytes
+}
+
+// The record of a session with no entry.
+pub(crate) fn new_session() -> [u8; 1024]
+    ensures { result ≡ session_bytes layout_1 new_window }
+{
+    let mut bytes = [0; 1024];
+    bytes[0] = 1;
+    bytes
+}
+
+// Puts bytes behind others, so many times.
+#[tactic(auto, using(crate::proofs::Rows::pushes))]
+fn push_repeated(image: &mut Vec<u8>, bytes: &[u8], count: usize) -> Result<(), AllocError>
+    ensures items { OnOk result (image.new.items ≡ image.old.items ++ repeated count bytes.now) }
+    ensures longer { OnOk result (length image.new.items ≡ length image.old.items + length bytes.now * count) }
+{
+    for _turn in 0..count {
+        image.extend_from_slice(bytes)?;
+    }
+    Ok(())
+}
+
+// Puts zeros behind others.
+fn push_zeros(image: &mut Vec<u8>, count: usize) -> Result<(), AllocError>
+    requires { length image.old.items + count < 2 ^ 63 }
+    ensures items { OnOk result (image.new.items ≡ image.old.items ++ zeros count) }
+    ensures longer { OnOk result (length image.new.items ≡ length image.old.items + count) }
+{
+    let length = image.len() + count;
+    image.resize(length, 0)
+}
+
+// Puts so many pages behind others, which begin with a record so many times.
+fn push_row(
+    image: &mut Vec<u8>,
+    pages: usize,
+    record: &[u8],
+    count: usize,
+) -> Result<(), AllocError>
+    requires room { length image.old.items + 4096 * pages < 2 ^ 63 }
+    requires fits { length record.now * count ≤ 4096 * pages }
+    ensures items { OnOk result (image.new.items ≡ image.old.items ++ new_row pages (length record.now) record.now count) }
+    ensures longer { OnOk result (length image.new.items ≡ length image.old.items + 4096 * pages) }
+{
+    push_repeated(image, record, count)?;
+    push_zeros(image, PAGE * pages - record.len() * count)
+}
+
+// Puts the pages of a new area behind other bytes.
+fn push_area(image: &mut Vec<u8>, limits: Limits) -> Result<(), AllocError>
+    requires { length image.old.items < 2 ^ 62 }
+    ensures items { OnOk result (image.new.items ≡ image.old.items ++ new_area (sizes_of limits)) }
+    ensures longer { OnOk result (length image.new.items ≡ length image.old.items + area_bytes layout_1 (sizes_of limits)) }
+{
+    push_row(
+        image,
+        cell_pages(limits),
+        &new_cell(),
+        limits.cells as usize,
+    )?;
+    push_row(image, node_pages(limits), &new_node(), node_count(limits))?;
+    push_row(
+        image,
+        session_pages(limits),
+        &new_session(),
+        limits.elements as usize,
+    )
+}
+
+// The header of a new image, its gate closed.
+fn new_header(limits: Limits) -> [u8; 64]
+    ensures { result ≡ 0 ∷ header_body (new_header (sizes_of limits)) }
+{
+    let header = Header {
+        version: VERSION,
+        area: 0,
+        generation: 1,
+        count: 0,
+        limits,
+    };
+    let mut bytes = header.spell();
+    bytes[0] = 0;
+    bytes
+}
+
+// The bytes of a new image that begins so.
+fn lay_out(alloc: Global, first: &[u8], limits: Limits) -> Result<Vec<u8>, AllocError>
+    requires { length first.now ≡ 64 }
+    ensures { IfOk result (λ image. image.items ≡ first.now ++ zeros (2 * 4096 - 64) ++ new_area (sizes_of limits) ++ zeros (area_bytes layout_1 (sizes_of limits) + 64 * limits.slots)) }
+{
+    let mut image = Vec::with_capacity(alloc, image_length(limits))?;
+    image.extend_from_slice(first)?;
+    push_zeros(&mut image, 2 * PAGE - SLOT)?;
+    push_area(&mut image, limits)?;
+    push_zeros(
+        &mut image,
+        PAGE * area_pages(limits) + SLOT * limits.slots as usize,
+    )?;
+    Ok(image)
+}
+
+/// The bytes of a new image, but for the gate of its first header, which is still closed: the empty memory in area 0 at
+/// generation 1 and count 0, the second header closed, and every gate of the journal closed.
+///
+/// Memory: as much as the image is long, at most 4,628,480 bytes; `NoMemory` where it is refused.
+pub fn new_image(alloc: Global, limits: Limits) -> Result<Vec<u8>, Refusal>
+    ensures image { IfOk result (λ image. image.items ≡ new_image 0 (sizes_of limits)) }
+    ensures only { IfErr result (λ e. e ≡ NoMemory) }
+{
+    match lay_out(alloc, &new_header(limits), limits) {
+        Ok(image) => Ok(image),
+        Err(_) => Err(Refusal::NoMemory),
+    }
+}

@@ -1,0 +1,151 @@
+//! Which header is in force.
+ghost use Rattle.std.specs.Prelude.{◌≡◌, ◌⊎◌, ◌↔◌, ◌≤◌, ◌||◌, not, true, Some, None, IfSome, IsSome, length, ◌<◌, IfOk, IfErr, OnOk, IsErrOf};
+ghost use Rattle.im_types.specs.declared.refusals.Refusal.TheVariants.{NoHeader, BadHeader, WrongLength, Device};
+ghost use Rattle.im_types.specs.Layout.{layout_1, image_length};
+ghost use Rattle.im_types.specs.Header.{header_in, header_of, header_fault, is_open_header, generation_in, is_second, are_ambiguous, number_in_force, place_in_force, place_fault, spells_header};
+ghost use Rattle.im_disk.specs.Moment.{Counts, Rises};
+ghost use Rattle.im_disk.specs.Since.{ReadsOnly};
+ghost use Rattle.im_image.specs.Headers.{seen, IsHeaderFault, beginning_fault};
+ghost use Rattle.im_image.specs.Beginning.{IsBeginning};
+ghost use Rattle.im_types.specs.declared.TheConstants.{LAST};
+
+use crate::header::{Header, OPEN};
+use crate::layout::{PAGE, image_length};
+use byteorder::{ByteOrder, LittleEndian};
+use im_disk::{DeviceFault, Disk};
+use im_types::Refusal;
+
+fn is_open(place: &[u8; 64]) -> bool
+    ensures { result ≡ is_open_header place.now }
+{
+    place[0] == OPEN
+}
+
+fn generation_in(place: &[u8; 64]) -> u64
+    ensures { result ≡ generation_in place.now }
+{
+    LittleEndian::read_u64(&place[8..16])
+}
+
+// Whether the second of two header places is in force.
+fn is_second(zero: &[u8; 64], one: &[u8; 64]) -> bool
+    ensures { result ≡ is_second zero.now one.now }
+{
+    is_open(one) && (!is_open(zero) || generation_in(zero) < generation_in(one))
+}
+
+// Whether neither is open.
+fn are_closed(zero: &[u8; 64], one: &[u8; 64]) -> bool
+    ensures { result ≡ not (is_open_header zero.now || is_open_header one.now) }
+{
+    !(is_open(zero) || is_open(one))
+}
+
+// Whether both are open, under one generation.
+fn are_ambiguous(zero: &[u8; 64], one: &[u8; 64]) -> bool
+    ensures { result ≡ are_ambiguous zero.now one.now }
+{
+    is_open(zero) && is_open(one) && generation_in(zero) == generation_in(one)
+}
+
+// What the one in force spells.
+fn read_in_force(zero: &[u8; 64], one: &[u8; 64]) -> Option<Header>
+    ensures found { IfSome result (λ h. seen h ≡ header_in (place_in_force zero.now one.now)) }
+    ensures range { IfSome result (λ h. (h.area ≤ 1) × (h.count ≤ LAST)) }
+    ensures only { IsSome result ↔ (spells_header layout_1 (number_in_force zero.now one.now) (place_in_force zero.now one.now) ≡ true) }
+{
+    if is_second(zero, one) {
+        Header::read(one, 1)
+    } else {
+        Header::read(zero, 0)
+    }
+}
+
+// What is read of an image before all else: its length, and the places of its two headers.
+#[derive(Drop)]
+struct Beginning {
+    length: usize,
+    zero: [u8; 64],
+    one: [u8; 64],
+}
+
+// The header in force of two header places, or their first fault.
+fn header_of_places(zero: &[u8; 64], one: &[u8; 64]) -> Result<Header, Refusal>
+    ensures found { IfOk result (λ h. seen h ≡ header_in (place_in_force zero.now one.now)) }
+    ensures range { IfOk result (λ h. (h.area ≤ 1) × (h.count ≤ LAST)) }
+    ensures good { OnOk result (place_fault layout_1 zero.now one.now ≡ None) }
+    ensures fault { IfErr result (λ e. place_fault layout_1 zero.now one.now ≡ Some e) }
+    ensures only { IfErr result (λ e. IsHeaderFault e) }
+{
+    if are_closed(zero, one) {
+        return Err(Refusal::NoHeader);
+    }
+    if are_ambiguous(zero, one) {
+        return Err(Refusal::BadHeader);
+    }
+    match read_in_force(zero, one) {
+        Some(header) => Ok(header),
+        None => Err(Refusal::BadHeader),
+    }
+}
+
+// The header in force of an image that begins so, or the first fault.
+fn header_of(beginning: &Beginning) -> Result<Header, Refusal>
+    ensures found { IfOk result (λ h. seen h ≡ header_in (place_in_force beginning.now.zero beginning.now.one)) }
+    ensures range { IfOk result (λ h. (h.area ≤ 1) × (h.count ≤ LAST)) }
+    ensures good { OnOk result (beginning_fault layout_1 beginning.now.length beginning.now.zero beginning.now.one ≡ None) }
+    ensures fault { IfErr result (λ e. beginning_fault layout_1 beginning.now.length beginning.now.zero beginning.now.one ≡ Some e) }
+    ensures only { IfErr result (λ e. IsHeaderFault e) }
+{
+    match header_of_places(&beginning.zero, &beginning.one) {
+        Ok(header) => {
+            if beginning.length == image_length(header.limits) {
+                Ok(header)
+            } else {
+                Err(Refusal::WrongLength)
+            }
+        }
+        Err(refusal) => Err(refusal),
+    }
+}
+
+// Reads how an image begins; nothing where the file is shorter than two header places.
+fn read_beginning<D: Disk>(disk: &mut D) -> Result<Option<Beginning>, DeviceFault>
+    ensures short { IfOk result (λ o. D.honest disk.new → o ≡ None → length (D.now disk.old).bytes < 8192) }
+    ensures found { IfOk result (λ o. IfSome o (λ b. D.honest disk.new → IsBeginning b (D.now disk.old).bytes)) }
+    ensures reads { D.honest disk.new → ReadsOnly (D.now disk.old) (D.now disk.new) (D.past disk.old) (D.past disk.new) }
+    ensures honest { D.honest disk.new → D.honest disk.old }
+    ensures failures { Counts result (D.failures disk.old) (D.failures disk.new) }
+{
+    let length = disk.len()?;
+    if length < 2 * PAGE {
+        return Ok(None);
+    }
+    let mut zero = [0; 64];
+    let mut one = [0; 64];
+    // A read changes nothing, so a stop before or within it leaves what was there.
+    disk.read(0, &mut zero)?;
+    disk.read(PAGE, &mut one)?;
+    Ok(Some(Beginning { length, zero, one }))
+}
+
+/// The header in force of an image, or the first fault of its length and its headers.
+///
+/// Device calls: reads of the two header places; none where the file is shorter than these. Memory: none.
+/// `WrongLength`, `NoHeader`, `BadHeader`: the first fault in the order of the definition. `Device`: a call failed.
+pub fn read_header<D: Disk>(disk: &mut D) -> Result<Header, Refusal>
+    ensures found { IfOk result (λ h. D.honest disk.new → seen h ≡ header_of (D.now disk.old).bytes) }
+    ensures good { OnOk result (D.honest disk.new → header_fault layout_1 (D.now disk.old).bytes ≡ None) }
+    ensures fault { IfErr result (λ e. (e ≡ Device) ⊎ (D.honest disk.new → header_fault layout_1 (D.now disk.old).bytes ≡ Some e)) }
+    ensures reads { D.honest disk.new → ReadsOnly (D.now disk.old) (D.now disk.new) (D.past disk.old) (D.past disk.new) }
+    ensures honest { D.honest disk.new → D.honest disk.old }
+    ensures device { IsErrOf result Refusal.Device → Rises (D.failures disk.old) (D.failures disk.new) }
+    ensures range { IfOk result (λ h. (h.area ≤ 1) × (h.count ≤ LAST)) }
+    ensures steady { OnOk result (D.failures disk.new ≡ D.failures disk.old) }
+{
+    match read_beginning(disk) {
+        Ok(Some(beginning)) => header_of(&beginning),
+        Ok(None) => Err(Refusal::WrongLength),
+        Err(_) => Err(Refusal::Device),
+    }
+}

@@ -1,0 +1,92 @@
+//! Reading the area in force, where it shows the empty memory.
+ghost use Rattle.std.specs.Prelude.{◌≡◌, ◌⊎◌, ◌↔◌, ◌≤◌, ◌+◌, None, length, drop, take, IsTrue, IfOk, IfErr, OnOk, IsErrOf};
+ghost use Rattle.im_types.specs.Contents.{empty_contents};
+ghost use Rattle.im_types.specs.Layout as layout;
+ghost use Rattle.im_types.specs.Layout.{layout_1, area_of};
+ghost use Rattle.im_types.specs.Header.{header_of, header_fault};
+ghost use Rattle.im_types.specs.Pages.{Shows};
+ghost use Rattle.im_types.specs.Meaning.{IsShown};
+ghost use Rattle.im_disk.specs.Moment.{Counts, Rises};
+ghost use Rattle.im_disk.specs.Since.{ReadsOnly};
+ghost use Rattle.im_image.specs.Headers.{seen, sizes_of};
+
+use crate::blank::is_blank;
+use crate::header::Header;
+use crate::layout::{PAGE, area_at, area_pages};
+use im_disk::{DeviceFault, Disk};
+use im_types::{Limits, Refusal};
+use std::alloc::Global;
+
+// Whether the pages of an area show the empty memory.
+fn shows_empty(area: &[u8], limits: Limits) -> bool
+    requires { length area.now ≡ layout.area_bytes layout_1 (sizes_of limits) }
+    ensures { IsTrue result ↔ Shows layout_1 (sizes_of limits) area.now (empty_contents limits.cells limits.elements) }
+{
+    is_blank(area, limits)
+}
+
+// Reads a part of a file.
+fn read_part<D: Disk>(disk: &mut D, at: usize, part: &mut [u8]) -> Result<(), DeviceFault>
+    requires { D.honest disk.old → at + length part.old ≤ length (D.now disk.old).bytes }
+    ensures read { OnOk result (D.honest disk.new → part.new ≡ take (length part.old) (drop at (D.now disk.old).bytes)) }
+    ensures reads { D.honest disk.new → ReadsOnly (D.now disk.old) (D.now disk.new) (D.past disk.old) (D.past disk.new) }
+    ensures honest { D.honest disk.new → D.honest disk.old }
+    ensures failures { Counts result (D.failures disk.old) (D.failures disk.new) }
+{
+    // A read changes nothing, so a stop before or within it leaves what was there.
+    disk.read(at, part)
+}
+
+// Reads an area.
+fn read_area<D: Disk>(
+    alloc: Global,
+    disk: &mut D,
+    limits: Limits,
+    number: u8,
+) -> Result<Vec<u8>, Refusal>
+    requires number { number ≤ 1 }
+    requires length { D.honest disk.old → length (D.now disk.old).bytes ≡ layout.image_length layout_1 (sizes_of limits) }
+    ensures area { IfOk result (λ v. D.honest disk.new → v.items ≡ area_of layout_1 (sizes_of limits) number (D.now disk.old).bytes) }
+    ensures size { IfOk result (λ v. length v.items ≡ layout.area_bytes layout_1 (sizes_of limits)) }
+    ensures only { IfErr result (λ e. (e ≡ Refusal.NoMemory) ⊎ (e ≡ Refusal.Device)) }
+    ensures reads { D.honest disk.new → ReadsOnly (D.now disk.old) (D.now disk.new) (D.past disk.old) (D.past disk.new) }
+    ensures honest { D.honest disk.new → D.honest disk.old }
+    ensures device { IsErrOf result Refusal.Device → Rises (D.failures disk.old) (D.failures disk.new) }
+    ensures steady { OnOk result (D.failures disk.new ≡ D.failures disk.old) }
+{
+    let Ok(mut area) = vec![in alloc; 0; PAGE * area_pages(limits)] else {
+        return Err(Refusal::NoMemory);
+    };
+    match read_part(disk, area_at(limits, number as usize), area.as_mut_slice()) {
+        Ok(()) => Ok(area),
+        Err(_) => Err(Refusal::Device),
+    }
+}
+
+/// Whether the area of a header in force shows the empty memory: `BadPage` where it doesn't.
+///
+/// Device calls: one read of the area. Memory: as much as the area is long, at most 2,179,072 bytes; `NoMemory` where it is
+/// refused. `Device`: the read failed.
+pub fn read_new_area<D: Disk>(alloc: Global, disk: &mut D, header: &Header) -> Result<(), Refusal>
+    requires area { header.now.area ≤ 1 }
+    requires good { D.honest disk.old → header_fault layout_1 (D.now disk.old).bytes ≡ None }
+    requires header { D.honest disk.old → seen header.now ≡ header_of (D.now disk.old).bytes }
+    ensures shown { OnOk result (D.honest disk.new → IsShown layout_1 (D.now disk.old).bytes (empty_contents header.now.limits.cells header.now.limits.elements)) }
+    ensures bad { IsErrOf result Refusal.BadPage → D.honest disk.new → IsShown layout_1 (D.now disk.old).bytes (empty_contents header.now.limits.cells header.now.limits.elements) → ⊥ }
+    ensures only { IfErr result (λ e. (e ≡ Refusal.BadPage) ⊎ (e ≡ Refusal.NoMemory) ⊎ (e ≡ Refusal.Device)) }
+    ensures reads { D.honest disk.new → ReadsOnly (D.now disk.old) (D.now disk.new) (D.past disk.old) (D.past disk.new) }
+    ensures honest { D.honest disk.new → D.honest disk.old }
+    ensures device { IsErrOf result Refusal.Device → Rises (D.failures disk.old) (D.failures disk.new) }
+    ensures steady { OnOk result (D.failures disk.new ≡ D.failures disk.old) }
+{
+    match read_area(alloc, disk, header.limits, header.area) {
+        Ok(area) => {
+            if shows_empty(&area, header.limits) {
+                Ok(())
+            } else {
+                Err(Refusal::BadPage)
+            }
+        }
+        Err(refusal) => Err(refusal),
+    }
+}

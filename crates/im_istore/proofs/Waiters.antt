@@ -1,0 +1,29 @@
+-- Who waits at a cell, by its list.
+use Rattle.std.proofs.Common.{◌≡◌, ℕ, List, [], ◌∷◌, Option, None, Some, refl, sym, ap, ◌∙◌}
+use Rattle.im_types.specs.declared.operations.Waiter.{Waiter}
+use Rattle.im_types.specs.Contents.{waiters_of, waiters_in, waiters_at}
+use Rattle.im_cell.specs.declared.slots.Cell.{Cell}
+use Rattle.im_cell.specs.declared.slots.Cell.TheVariants.{Empty, Waiting, Full, Clashed}
+use Rattle.im_cell.specs.declared.slots.Slot.{Slot}
+use Rattle.im_cell.specs.Slots.{slot_at, is_waiting, is_waiting_cell}
+use Rattle.im_arena.specs.Lists.{Shown, list_at}
+use Rattle.im_istore.specs.Joined.{state_of, held_of, cells_of}
+use Rattle.im_istore.specs.Agreement.{has_some, Agree}
+use Rattle.im_istore.proofs.Cells.{held_at-cells}
+
+waiters_of-state : (cell : Cell) (waiters : List Waiter) → is_waiting_cell cell ≡ has_some waiters → waiters_of (state_of cell waiters) ≡ waiters
+waiters_of-state Empty waiters e = refl
+waiters_of-state Waiting waiters e = refl
+waiters_of-state (Full v) [] e = refl
+waiters_of-state (Full v) (waiter ∷ waiters) e = absurd (cc)
+waiters_of-state (Clashed v) [] e = refl
+waiters_of-state (Clashed v) (waiter ∷ waiters) e = absurd (cc)
+
+waiters_in-held : (slot : Option Slot) (waiters : List Waiter) → is_waiting slot ≡ has_some waiters → waiters_in (held_of slot waiters) ≡ waiters
+waiters_in-held None [] e = refl
+waiters_in-held None (waiter ∷ waiters) e = absurd (cc)
+waiters_in-held (Some slot) waiters e = waiters_of-state slot.cell waiters e
+
+-- where cells and lists agree, those who wait at a cell by the definitions are those on its list
+pub waiters_at-cells : (slots : List (Option Slot)) (arena : Shown) (a : ℕ) → Agree slots arena → waiters_at (cells_of slots arena) a ≡ list_at arena.held a
+waiters_at-cells slots arena a agree = ap waiters_in (held_at-cells slots arena a) ∙ waiters_in-held (slot_at slots a) (list_at arena.held a) (agree.each a)

@@ -1,0 +1,3 @@
+pub mod Joined
+pub mod Agreement
+pub mod Access

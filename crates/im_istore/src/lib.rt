@@ -1,0 +1,129 @@
+//! Fetch and store, on the cells of a table whose waiters stand on the lists of an arena (I cells: Arvind, Nikhil,
+//! Pingali, TOPLAS 11(4), 1989). The list of a cell's waiters has the cell's address for its number.
+//!
+//! Stands on `im_cell`, `im_arena` and `im_types`. Contracts see the cells that the table and the arena stand for, and
+//! say what a call does to them by the definitions of `im_types`.
+#![tactic(auto)]
+
+ghost use Rattle.std.specs.Prelude.{◌≡◌, ◌≢◌, ◌<◌, ◌++◌, [], List, Option, length, drop, slice_get, IfNone, ◌+◌, ◌≤◌, vec_len, vec_capacity};
+ghost use Rattle.im_types.specs.declared.operations.Reply.TheVariants.{Stored};
+ghost use Rattle.im_types.specs.declared.operations.Entry.TheVariants.{Answered};
+ghost use Rattle.im_cell.specs.declared.slots.Slot.{Slot};
+ghost use Rattle.im_cell.specs.Slots.{slot_at};
+ghost use Rattle.im_arena.specs.Lists.{list_at, with_list, free};
+ghost use Rattle.im_istore.specs.Joined.{cells_of};
+ghost use Rattle.im_istore.specs.Agreement.{Agree, AgreeBut};
+ghost use Rattle.im_istore.specs.Access.{fetched, stored, replies_to, access_in};
+
+use im_arena::Arena;
+use im_cell::{Cell, CellTable};
+use im_types::{Entry, Kind, Reply, Waiter};
+
+/// The cell at an address in a block of this kind. `NoCell` where the address lies in no block, which includes each
+/// address past the last cell; else `WrongKind` where the block is of the other kind.
+pub fn look(table: &CellTable, a: u32, kind: Kind) -> Result<Cell, Reply>
+    ensures { result ≡ access_in kind (slot_at table.now a) }
+{
+    let Some(block) = table.block_of(a) else {
+        return Err(Reply::NoCell);
+    };
+    if block.kind != kind {
+        return Err(Reply::WrongKind);
+    }
+    table.get(a).ok_or(Reply::NoCell)
+}
+
+/// Reads the cell at an address for `who`: a full one gives its value, and where there is none yet, `who` waits behind
+/// those who wait. It takes a node where `who` waits.
+pub fn fetch(table: &mut CellTable, arena: &mut Arena, a: u32, who: Waiter) -> Entry
+    requires agree { Agree table.old arena.old }
+    requires room { 0 < free arena.old.held }
+    ensures entry { result ≡ (fetched (cells_of table.old arena.old) a who).entry }
+    ensures cells { cells_of table.new arena.new ≡ (fetched (cells_of table.old arena.old) a who).cells }
+    ensures nobody { (fetched (cells_of table.old arena.old) a who).resumed ≡ [] }
+
+    ensures agree { Agree table.new arena.new }
+    ensures nodes { arena.new.held.nodes ≡ arena.old.held.nodes }
+{
+    let cell = match look(table, a, Kind::I) {
+        Ok(cell) => cell,
+        Err(reply) => return Entry::Answered(reply),
+    };
+    match cell {
+        Cell::Full(value) => Entry::Answered(Reply::Value(value)),
+        Cell::Clashed(_) => Entry::Answered(Reply::Clash),
+        _ => {
+            table.set(a, Cell::Waiting);
+            let _ = arena.push_back(a, who);
+            Entry::Waiting
+        }
+    }
+}
+
+/// Writes the cell at an address. After `Stored` its readers, if there are any, still stand on its list:
+/// [`next_reader`] hands them out, and each of them gets the value. A cell that has a value keeps it, and is clashed.
+pub fn store(table: &mut CellTable, arena: &Arena, a: u32, value: u64) -> Reply
+    requires { Agree table.old arena.now }
+    ensures reply { Answered result ≡ (stored (cells_of table.old arena.now) a value).entry }
+    ensures cells { cells_of table.new arena.now ≡ (stored (cells_of table.old arena.now) a value).cells }
+
+    // The readers are those on the list, and until they are off it the cell has no need of it.
+    ensures readers { result ≡ Stored → (stored (cells_of table.old arena.now) a value).resumed ≡ replies_to (list_at arena.now.held a) value }
+    ensures draining { result ≡ Stored → AgreeBut a table.new arena.now }
+
+    // Any other answer is the whole of it.
+    ensures nobody { result ≢ Stored → (stored (cells_of table.old arena.now) a value).resumed ≡ [] }
+    ensures agree { result ≢ Stored → Agree table.new arena.now }
+{
+    let cell = match look(table, a, Kind::I) {
+        Ok(cell) => cell,
+        Err(reply) => return reply,
+    };
+    match cell {
+        Cell::Full(kept) => {
+            table.set(a, Cell::Clashed(kept));
+            Reply::Clash
+        }
+        Cell::Clashed(_) => Reply::Clash,
+        _ => {
+            table.set(a, Cell::Full(value));
+            Reply::Stored
+        }
+    }
+}
+
+/// Takes the first reader off the list of a cell that a store made full, and gives its node back; `None` where no
+/// reader is left, and then cells and lists agree again.
+pub fn next_reader(arena: &mut Arena, a: u32) -> Option<Waiter>
+    requires { a < length arena.old.held.lists }
+    ensures first { result ≡ slice_get (list_at arena.old.held a) 0 }
+    ensures rest { arena.new.held ≡ with_list arena.old.held a (drop 1 (list_at arena.old.held a)) }
+    ensures none { IfNone result (arena.new ≡ arena.old) }
+
+    // Of each table whose full cell this is.
+    ensures cells { (slots : List (Option Slot)) → AgreeBut a slots arena.old → cells_of slots arena.new ≡ cells_of slots arena.old }
+    ensures draining { (slots : List (Option Slot)) → AgreeBut a slots arena.old → AgreeBut a slots arena.new }
+    ensures whole { (slots : List (Option Slot)) → AgreeBut a slots arena.old → IfNone result (Agree slots arena.new) }
+{
+    arena.pop_front(a)
+}
+
+/// Takes the readers off the list of a cell that a store made full, until none is left, and puts them in their order
+/// behind those in `readers`. So a store and this call are the whole of what the definitions say of a store.
+pub fn drain(arena: &mut Arena, a: u32, readers: &mut Vec<Waiter>)
+    requires list { a < length arena.old.held.lists }
+    requires room { vec_len readers.old + length (list_at arena.old.held a) ≤ vec_capacity readers.old }
+    ensures readers { readers.new.items ≡ readers.old.items ++ list_at arena.old.held a }
+    ensures rest { arena.new.held ≡ with_list arena.old.held a [] }
+
+    // Of each table whose full cell this is.
+    ensures cells { (slots : List (Option Slot)) → AgreeBut a slots arena.old → cells_of slots arena.new ≡ cells_of slots arena.old }
+    ensures whole { (slots : List (Option Slot)) → AgreeBut a slots arena.old → Agree slots arena.new }
+{
+    while let Some(reader) = next_reader(arena, a) {
+        readers.push_reserved(reader);
+    }
+}
+
+#[cfg(test)]
+mod tests;

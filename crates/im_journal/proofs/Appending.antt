@@ -1,0 +1,134 @@
+-- What a slot that is written, or may be, does to the tail.
+use Rattle.std.proofs.Common.{◌≡◌, ◌≢◌, inl, inr, ⊎_elim, ℕ, ◌+◌, ◌*◌, ◌<◌, ◌≤◌, List, [], ◌∷◌, ◌++◌, Some, option_map, length, get_or, take, drop, refl, sym, ◌∙◌, ap, subst, arith, length-append}
+use Rattle.std.proofs.lemmas.Bool.{cases_eq}
+use Rattle.im_types.specs.declared.TheConstants.{LAST}
+use Rattle.im_types.specs.declared.commands.Command.{Command}
+use Rattle.im_types.specs.Bytes.{open_gate}
+use Rattle.im_types.specs.Slot.{slot_body, FitsCommand}
+use Rattle.im_types.specs.Journal.{slot_at, Tail, tail}
+use Rattle.im_disk.specs.Moment.{Moment}
+use Rattle.im_disk.specs.Since.{SameBut, Leaves}
+use Rattle.im_disk.proofs.SinceLemmas.{left_now, leaves_weaker}
+use Rattle.im_journal.specs.Holding.{JournalState, IsJournal, Holds, AllHold, longer, longer_tail, Appended, MayAppend}
+use Rattle.im_journal.specs.Gates.{IsClosed, Written, MayWrite}
+use Rattle.im_journal.proofs.Slots.{slot_inside, slot_is}
+use Rattle.im_journal.proofs.Tails.{Parts, parts_of, next_closed, tail_kept, tail_added}
+
+module _ (j : JournalState) (known : IsJournal j) (command : Command) (fits : FitsCommand command) (m0 : Moment) (all : AllHold j m0) (some : 0 < j.room) where
+  abbrev at : ℕ
+  at = slot_at j.ring j.count
+
+  abbrev bytes : List ℕ
+  bytes = open_gate ∷ slot_body 1 j.count command
+
+  some_slots : 0 < j.ring.slots
+  some_slots = omega (arith, known.enough_slots)
+
+  pub inside : at + 64 ≤ length m0.bytes
+  inside = omega (arith, slot_inside j.ring some_slots j.count, (all m0.bytes (left_now m0)).size)
+
+  low : j.count < LAST
+  low = ⊎_elim
+      (λ (last : j.count ≡ LAST). let none : j.room ≡ 0 = known.full_at_last last in absurd (omega arith))
+      (λ (other : j.count ≢ LAST). omega (arith, known.to_last))
+      (cases_eq j.count LAST)
+
+  module _ (d : List ℕ) (held : Holds j d) where
+    abbrev t : Tail
+    t = record { commands = held.commands; room = j.room }
+
+    parts : Parts j.ring j.first d t
+    parts = parts_of j.ring j.first d t held.reads
+
+    none_changed : SameBut at 64 d d
+    none_changed = record { size = refl; same = λ i out. refl }
+
+    gate_shut : get_or d at 0 ≢ open_gate
+    gate_shut = next_closed j.ring some_slots j.first j.count d d t parts held.count some none_changed
+
+    kept : (c : List ℕ) → SameBut at 64 d c → get_or c at 0 ≢ open_gate → tail j.ring j.first c ≡ tail j.ring j.first d
+    kept c same shut = tail_kept j.ring some_slots j.first j.count d c t parts held.count some same shut ∙ sym held.reads
+
+    added : (c : List ℕ) → SameBut at 64 d c → take 64 (drop at c) ≡ bytes → tail j.ring j.first c ≡ Some (longer_tail j.count command t)
+    added c same is = tail_added j.ring some_slots j.first j.count d c t parts held.count some same command fits known.begun low (slot_is j.ring j.count c bytes is)
+
+    added_to : (c : List ℕ) → SameBut at 64 d c → take 64 (drop at c) ≡ bytes → tail j.ring j.first c ≡ option_map (longer_tail j.count command) (tail j.ring j.first d)
+    added_to c same is = added c same is ∙ ap (λ o. option_map (longer_tail j.count command) o) (sym held.reads)
+
+    longer_held : (c : List ℕ) → SameBut at 64 d c → take 64 (drop at c) ≡ bytes → Holds (longer j) c
+    longer_held c same is = record {
+      size = subst (λ (n : ℕ). j.ring.base + 64 * j.ring.slots ≤ n) (sym same.size) held.size;
+      commands = held.commands ++ command ∷ [];
+      reads = added c same is;
+      count = one_more j.count j.first (length held.commands) (length (held.commands ++ command ∷ [])) held.count (length-append held.commands (command ∷ []));
+    }
+      where
+        one_more : (n first k l : ℕ) → n ≡ first + k → l ≡ k + 1 → n + 1 ≡ first + l
+        one_more n first k l e f = omega arith
+
+  pub closed : IsClosed at m0
+  closed file left = gate_shut file (all file left)
+
+  pub may_append : (c : List ℕ) → MayWrite at bytes m0 c → MayAppend j command m0 c
+  may_append c w = record {
+    from = w.from;
+    left = w.left;
+    same = w.same;
+    reads = ⊎_elim (λ shut. inl (kept w.from (all w.from w.left) c w.same shut)) (λ is. inr (added_to w.from (all w.from w.left) c w.same is)) w.bytes;
+  }
+
+  pub appended : (c : List ℕ) → Written at bytes m0 c → Appended j command m0 c
+  appended c w = record {
+    from = w.from;
+    left = w.left;
+    same = w.same;
+    slot = slot_is j.ring j.count c bytes w.bytes;
+    reads = added_to w.from (all w.from w.left) c w.same w.bytes;
+  }
+
+  pub holds_longer : (c : List ℕ) → Written at bytes m0 c → Holds (longer j) c
+  holds_longer c w = longer_held w.from (all w.from w.left) c w.same w.bytes
+
+-- a slot is the next command's
+pub record IsNext (j : JournalState) (command : Command) (m0 : Moment) (place : ℕ) (bytes_there : List ℕ) : Type 0 where
+  pub known : IsJournal j
+  pub fits : FitsCommand command
+  pub all : AllHold j m0
+  pub some : 0 < j.room
+  pub is_at : place ≡ slot_at j.ring j.count
+  pub is_bytes : bytes_there ≡ open_gate ∷ slot_body 1 j.count command
+
+-- `s` is the journal, as its fields show it
+pub next_of : (s j : JournalState) (command : Command) (m0 : Moment) (bytes_there : List ℕ) → s ≡ j → IsJournal s → FitsCommand command → AllHold j m0 → 0 < s.room
+    → bytes_there ≡ open_gate ∷ slot_body 1 s.count command → IsNext j command m0 (slot_at s.ring s.count) bytes_there
+next_of s j command m0 bytes_there is known fits all some is_bytes = record {
+  known = subst IsJournal is known;
+  fits = fits;
+  all = all;
+  some = subst (λ (x : JournalState). 0 < x.room) is some;
+  is_at = ap (λ (x : JournalState). slot_at x.ring x.count) is;
+  is_bytes = is_bytes ∙ ap (λ (x : JournalState). open_gate ∷ slot_body 1 x.count command) is;
+}
+
+module _ {j : JournalState} {command : Command} {m0 : Moment} {place : ℕ} {bytes_there : List ℕ} (n : IsNext j command m0 place bytes_there) where
+  may_be : (c : List ℕ) → MayWrite place bytes_there m0 c → MayWrite (slot_at j.ring j.count) (open_gate ∷ slot_body 1 j.count command) m0 c
+  may_be c w = subst (λ (x : ℕ). MayWrite x (open_gate ∷ slot_body 1 j.count command) m0 c) n.is_at (subst (λ (l : List ℕ). MayWrite place l m0 c) n.is_bytes w)
+
+  is_written : (c : List ℕ) → Written place bytes_there m0 c → Written (slot_at j.ring j.count) (open_gate ∷ slot_body 1 j.count command) m0 c
+  is_written c w = subst (λ (x : ℕ). Written x (open_gate ∷ slot_body 1 j.count command) m0 c) n.is_at (subst (λ (l : List ℕ). Written place l m0 c) n.is_bytes w)
+
+  pub is_closed : IsClosed place m0
+  is_closed = subst (λ (x : ℕ). IsClosed x m0) (sym n.is_at) (closed j n.known command n.fits m0 n.all n.some)
+
+  pub may : (c : List ℕ) → MayWrite place bytes_there m0 c → MayAppend j command m0 c
+  may c w = may_append j n.known command n.fits m0 n.all n.some c (may_be c w)
+
+  pub done : (c : List ℕ) → Written place bytes_there m0 c → Appended j command m0 c
+  done c w = appended j n.known command n.fits m0 n.all n.some c (is_written c w)
+
+  pub holds_next : (next : JournalState) → next ≡ longer j → (c : List ℕ) → Written place bytes_there m0 c → Holds next c
+  holds_next next is c w = subst (λ (x : JournalState). Holds x c) (sym is) (holds_longer j n.known command n.fits m0 n.all n.some c (is_written c w))
+
+  -- since the start, and now
+  pub may_since : (m : Moment) (past past_new : List Moment) → Leaves m0 m past past_new (MayWrite place bytes_there m0) → Leaves m0 m past past_new (MayAppend j command m0)
+  may_since m past past_new leaves = leaves_weaker m0 m past past_new (MayWrite place bytes_there m0) (MayAppend j command m0) leaves may

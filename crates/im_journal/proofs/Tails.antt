@@ -1,0 +1,294 @@
+-- How a tail depends on the file's bytes.
+use Rattle.std.proofs.Common.{◌≡◌, ◌≢◌, ◌⊎◌, inl, inr, ⊎_elim, ℕ, zero, suc, ◌+◌, ◌-◌, ◌*◌, ◌%◌, ◌<◌, ◌≤◌, ◌==◌, Bool, true, false, List, [], ◌∷◌, ◌++◌, Option, None, Some, option_and_then, length, get_or, take, drop, refl, sym, ◌∙◌, ap, subst, arith, length-append, if◌then◌else◌}
+use Rattle.std.proofs.Math.Nat.{mod-lt, mod-eq_of_lt}
+use Rattle.std.proofs.lemmas.Bool.{cases_eq, lt-ltb}
+use Rattle.std.proofs.lemmas.List.{drop-take, take-take, drop-drop}
+use Rattle.im_types.specs.declared.TheConstants.{LAST}
+use Rattle.im_types.specs.declared.commands.Command.{Command}
+use Rattle.im_types.specs.Bytes.{open_gate}
+use Rattle.im_types.specs.Slot.{is_open, sequence_of, read_slot, slot_body, FitsCommand}
+use Rattle.im_types.specs.Journal.{Ring, slot_at, slot, continues, run_from, run, commands_in, closed_from, are_stale, behind, ends_stale, room_of, Tail, tail_if, tail}
+use Rattle.im_disk.specs.Since.{SameBut}
+use Rattle.im_journal.specs.Holding.{room_after, longer_tail, AreClosed}
+use Rattle.im_journal.proofs.Spelling.{sequence_of-spelled, read_slot-spelled}
+use Rattle.im_journal.proofs.Slots.{slot_inside, away, away_after, same_slot, closed_gate, gate_closed, stops_closed, stops_other, goes_on}
+use Rattle.im_journal.proofs.Runs.{stops, same_run, added_run, same_closed, all_closed, closed_at_most, closed_first, same_stale, stale_first, run_moved, closed_moved, stale_moved, length-commands, commands-push}
+
+-- the tail, by the run and by what is behind it
+abbrev finished : List (List ℕ) → (ℕ → Bool) → (ℕ → ℕ) → Option Tail
+finished slots stale room = option_and_then (tail_if (stale (length slots)) (room (length slots))) (commands_in slots)
+
+pub tail_is : (r : Ring) (first : ℕ) (file : List ℕ) → tail r first file ≡ finished (run r first file) (λ n. ends_stale r first n file) (λ n. room_of r first n file)
+unfolding tail
+tail_is r first file = refl
+
+finished_same : (a b : List (List ℕ)) (stale_a stale_b : ℕ → Bool) (room_a room_b : ℕ → ℕ) → a ≡ b → stale_a (length b) ≡ stale_b (length b) → room_a (length b) ≡ room_b (length b) → finished a stale_a room_a ≡ finished b stale_b room_b
+finished_same a b stale_a stale_b room_a room_b run stale room =
+    ap (λ (l : List (List ℕ)). finished l stale_a room_a) run
+    ∙ ap (λ (t : Bool). option_and_then (tail_if t (room_a (length b))) (commands_in b)) stale
+    ∙ ap (λ (n : ℕ). option_and_then (tail_if (stale_b (length b)) n) (commands_in b)) room
+
+abbrev if_room : Bool → ℕ → ℕ
+if_room b n = if b then 0 else n
+
+-- what a tail says, part by part
+pub record Parts (r : Ring) (first : ℕ) (file : List ℕ) (t : Tail) : Type 0 where
+  pub read : commands_in (run r first file) ≡ Some t.commands
+  pub size : length (run r first file) ≡ length t.commands
+  pub stale : ends_stale r first (length t.commands) file ≡ true
+  pub room : room_of r first (length t.commands) file ≡ t.room
+
+module _ (r : Ring) (first : ℕ) (file : List ℕ) (t : Tail) where
+  found : (cs : List Command) (stale : Bool) (room : ℕ) → tail_if stale room cs ≡ Some t → (stale ≡ true) × (cs ≡ t.commands) × (room ≡ t.room)
+  found cs true room e = (refl, ap_commands e, ap_room e)
+    where
+      ap_commands : Some (record { commands = cs; room = room }) ≡ Some t → cs ≡ t.commands
+      ap_commands h = let same : ◌≡◌ {A = Tail} (record { commands = cs; room = room }) t = cc in ap (λ (x : Tail). x.commands) same
+
+      ap_room : Some (record { commands = cs; room = room }) ≡ Some t → room ≡ t.room
+      ap_room h = let same : ◌≡◌ {A = Tail} (record { commands = cs; room = room }) t = cc in ap (λ (x : Tail). x.room) same
+  found cs false room e = absurd (cc)
+
+  parts : (o : Option (List Command)) → commands_in (run r first file) ≡ o → option_and_then (tail_if (ends_stale r first (length (run r first file)) file) (room_of r first (length (run r first file)) file)) o ≡ Some t → Parts r first file t
+  parts None is e = absurd (cc)
+  parts (Some cs) is e =
+      let both = found cs (ends_stale r first (length (run r first file)) file) (room_of r first (length (run r first file)) file) e in
+      let size : length (run r first file) ≡ length t.commands = sym (length-commands (run r first file) cs is) ∙ ap length both.1 in
+      record {
+        read = is ∙ ap (λ (l : List Command). Some l) both.1;
+        size = size;
+        stale = ap (λ (n : ℕ). ends_stale r first n file) (sym size) ∙ both.0;
+        room = ap (λ (n : ℕ). room_of r first n file) (sym size) ∙ both.2;
+      }
+
+  pub parts_of : tail r first file ≡ Some t → Parts r first file t
+  parts_of e = parts (commands_in (run r first file)) refl (sym (tail_is r first file) ∙ e)
+
+  pub tail_of : Parts r first file t → tail r first file ≡ Some t
+  tail_of p =
+      tail_is r first file
+      ∙ ap (λ (o : Option (List Command)). option_and_then (tail_if (ends_stale r first (length (run r first file)) file) (room_of r first (length (run r first file)) file)) o) p.read
+      ∙ ap (λ (n : ℕ). tail_if (ends_stale r first n file) (room_of r first n file) t.commands) p.size
+      ∙ ap (λ (b : Bool). tail_if b (room_of r first (length t.commands) file) t.commands) p.stale
+      ∙ ap (λ (n : ℕ). tail_if true n t.commands) p.room
+
+-- where there is room, it is the closed gates
+room_is : (b : Bool) (n : ℕ) → 0 < if_room b n → (b ≡ false) × (if_room b n ≡ n)
+room_is true n some = absurd (omega arith)
+room_is false n some = (refl, refl)
+
+module _ (r : Ring) (some : 0 < r.slots) (first n : ℕ) (d c : List ℕ) (t : Tail) (p : Parts r first d t) (is_n : n ≡ first + length t.commands) (room : 0 < t.room) (same : SameBut (slot_at r n) 64 d c) where
+  abbrev k : ℕ
+  k = length t.commands
+
+  abbrev closed : ℕ
+  closed = closed_from r (r.slots - k) (first + k) d
+
+  closed_is : t.room ≡ closed
+  closed_is = sym p.room ∙ (room_is (first + k == LAST) closed (subst (λ (m : ℕ). 0 < m) (sym p.room) room)).1
+
+  few : closed ≤ r.slots - k
+  few = closed_at_most r (r.slots - k) (first + k) d
+
+  fits : k < r.slots
+  fits = omega (arith, closed_is, few)
+
+  rest : r.slots - k ≡ suc (r.slots - (k + 1))
+  rest = omega (arith, fits)
+
+  next : first + k + 1 ≡ first + (k + 1)
+  next = omega arith
+
+  abbrev closed_after : ℕ
+  closed_after = closed_from r (r.slots - (k + 1)) (first + (k + 1)) d
+
+  first_closed : (is_open (slot r (first + k) d) ≡ false) × (closed ≡ suc closed_after)
+  first_closed =
+      let e : closed ≡ closed_from r (suc (r.slots - (k + 1))) (first + k) d = ap (λ (m : ℕ). closed_from r m (first + k) d) rest in
+      let both = closed_first r (r.slots - (k + 1)) (first + k) d (omega (arith, closed_is)) in
+      (both.0, e ∙ both.1 ∙ ap (λ (m : ℕ). suc (closed_from r (r.slots - (k + 1)) m d)) next)
+
+  -- the next slot's gate is closed
+  pub next_closed : get_or d (slot_at r n) 0 ≢ open_gate
+  next_closed = gate_closed r n d (ap (λ (x : ℕ). is_open (slot r x d)) is_n ∙ first_closed.0)
+
+  before : (i : ℕ) → first ≤ i → i < n → slot r i c ≡ slot r i d
+  before i low high = same_slot r i c d same.size (λ j lo hi. same.same j (away r some i n j high (omega (arith, fits)) lo hi))
+
+  after : (i : ℕ) → n < i → i < first + r.slots → slot r i c ≡ slot r i d
+  after i low high = same_slot r i c d same.size (λ j lo hi. same.same j (away_after r some i n j low (omega arith) lo hi))
+
+  -- the slots behind the first closed one
+  stale_same : (m s : ℕ) → n < s → s + m ≤ first + r.slots → are_stale r m s first c ≡ are_stale r m s first d
+  stale_same m s low high = same_stale r m s first c d (λ i lo hi. after i (omega arith) (omega arith))
+
+  module _ (shut : get_or c (slot_at r n) 0 ≢ open_gate) where
+    shut_n : is_open (slot r n c) ≡ false
+    shut_n = closed_gate r n c shut
+
+    kept_run : run r first c ≡ run r first d
+    kept_run = same_run r r.slots first c d (λ i low high. before i low (omega (arith, p.size))) (λ lt e is_e.
+        let here : e ≡ n = is_e ∙ ap (λ (m : ℕ). first + m) p.size ∙ sym is_n in
+        subst (λ (x : ℕ). continues (slot r x c) x ≡ false) (sym here) (stops_closed (slot r n c) n shut_n))
+
+    gates_same : (i : ℕ) → first + k ≤ i → i < first + k + (r.slots - k) → is_open (slot r i c) ≡ is_open (slot r i d)
+    gates_same i low high = ⊎_elim
+        (λ (here : i ≡ first + k). ap (λ (x : ℕ). is_open (slot r x c)) (here ∙ sym is_n) ∙ shut_n ∙ sym (ap (λ (x : ℕ). is_open (slot r x d)) here ∙ first_closed.0))
+        (λ (other : i ≢ first + k). ap is_open (after i (omega arith) (omega (arith, fits))))
+        (cases_eq i (first + k))
+
+    kept_closed : closed_from r (r.slots - k) (first + k) c ≡ closed
+    kept_closed = same_closed r (r.slots - k) (first + k) c d gates_same
+
+    kept_stale : ends_stale r first k c ≡ ends_stale r first k d
+    kept_stale =
+        ap (λ (m : ℕ). are_stale r (r.slots - k - m) (first + k + m) first c) kept_closed
+        ∙ stale_same (r.slots - k - closed) (first + k + closed) (omega (arith, first_closed.1)) (omega (arith, few, fits))
+
+    -- a closed gate keeps the tail
+    pub tail_kept : tail r first c ≡ Some t
+    tail_kept = tail_of r first c t (record {
+      read = ap commands_in kept_run ∙ p.read;
+      size = ap length kept_run ∙ p.size;
+      stale = kept_stale ∙ p.stale;
+      room = ap (λ (m : ℕ). if_room (first + k == LAST) m) kept_closed ∙ p.room;
+    })
+
+  module _ (command : Command) (fits_command : FitsCommand command) (begun : first ≤ n) (low : n < LAST) (is : slot r n c ≡ open_gate ∷ slot_body 1 n command) where
+    sequence_n : sequence_of (slot r n c) ≡ n
+    sequence_n = ap sequence_of is ∙ sequence_of-spelled open_gate n command (omega arith)
+
+    reads_n : read_slot (slot r n c) ≡ Some command
+    reads_n = ap read_slot is ∙ read_slot-spelled open_gate n command fits_command (omega arith)
+
+    continues_n : continues (slot r n c) n ≡ true
+    continues_n = goes_on (slot r n c) n (ap is_open is) sequence_n (lt-ltb n LAST low)
+
+    -- the slot behind it is closed, or stale
+    ends_there : n + 1 < first + r.slots → continues (slot r (n + 1) c) (n + 1) ≡ false
+    ends_there more = ap (λ (l : List ℕ). continues l (n + 1)) (after (n + 1) (omega arith) more) ∙ subst (λ (x : ℕ). continues (slot r x d) x ≡ false) (sym here) (stops_d (closed_after) refl)
+      where
+        here : n + 1 ≡ first + (k + 1)
+        here = omega arith
+
+        two : r.slots - (k + 1) ≡ suc (r.slots - (k + 1 + 1))
+        two = omega arith
+
+        one_after : closed_after ≡ closed_from r (suc (r.slots - (k + 1 + 1))) (first + (k + 1)) d
+        one_after = ap (λ (m : ℕ). closed_from r m (first + (k + 1)) d) two
+
+        stops_d : (m : ℕ) → closed_after ≡ m → continues (slot r (first + (k + 1)) d) (first + (k + 1)) ≡ false
+        stops_d (suc m) e = stops_closed (slot r (first + (k + 1)) d) (first + (k + 1)) (closed_first r (r.slots - (k + 1 + 1)) (first + (k + 1)) d (omega (arith, one_after, e))).0
+        stops_d zero e =
+            let left : r.slots - k - closed ≡ suc (r.slots - (k + 1 + 1)) = omega (arith, first_closed.1, e) in
+            let place : first + k + closed ≡ first + (k + 1) = omega (arith, first_closed.1, e) in
+            let stale : are_stale r (suc (r.slots - (k + 1 + 1))) (first + (k + 1)) first d ≡ true = ap (λ (m : ℕ). are_stale r m (first + (k + 1)) first d) (sym left) ∙ ap (λ (m : ℕ). are_stale r (r.slots - k - closed) m first d) (sym place) ∙ p.stale in
+            stops_other (slot r (first + (k + 1)) d) (first + (k + 1)) (omega (arith, stale_first r (r.slots - (k + 1 + 1)) (first + (k + 1)) first d stale))
+
+    added : run r first c ≡ run r first d ++ slot r n c ∷ []
+    added = added_run r r.slots first n c d (is_n ∙ ap (λ (m : ℕ). first + m) (sym p.size)) (omega (arith, fits)) before continues_n ends_there
+
+    abbrev longer_commands : List Command
+    longer_commands = t.commands ++ command ∷ []
+
+    size_longer : length longer_commands ≡ k + 1
+    size_longer = length-append t.commands (command ∷ [])
+
+    added_closed : closed_from r (r.slots - (k + 1)) (first + (k + 1)) c ≡ closed_after
+    added_closed = same_closed r (r.slots - (k + 1)) (first + (k + 1)) c d (λ i lo hi. ap is_open (after i (omega arith) (omega (arith, fits))))
+
+    added_stale : ends_stale r first (k + 1) c ≡ ends_stale r first k d
+    added_stale =
+        let left : r.slots - (k + 1) - closed_after ≡ r.slots - k - closed = omega (arith, first_closed.1) in
+        let place : first + (k + 1) + closed_after ≡ first + k + closed = omega (arith, first_closed.1) in
+        ap (λ (m : ℕ). are_stale r (r.slots - (k + 1) - m) (first + (k + 1) + m) first c) added_closed
+        ∙ ap (λ (m : ℕ). are_stale r m (first + (k + 1) + closed_after) first c) left
+        ∙ ap (λ (m : ℕ). are_stale r (r.slots - k - closed) m first c) place
+        ∙ stale_same (r.slots - k - closed) (first + k + closed) (omega (arith, first_closed.1)) (omega (arith, few, fits))
+
+    added_room : room_of r first (k + 1) c ≡ room_after n t.room
+    added_room =
+        let here : first + (k + 1) ≡ n + 1 = omega arith in
+        let less : closed_after ≡ t.room - 1 = omega (arith, first_closed.1, closed_is) in
+        ap (λ (m : ℕ). if_room (first + (k + 1) == LAST) m) (added_closed ∙ less)
+        ∙ ap (λ (m : ℕ). if_room (m == LAST) (t.room - 1)) here
+
+    -- a slot behind the run that is spelled so makes it longer
+    pub tail_added : tail r first c ≡ Some (longer_tail n command t)
+    tail_added = tail_of r first c (longer_tail n command t) (record {
+      read = ap commands_in added ∙ commands-push (run r first d) t.commands (slot r n c) command p.read reads_n;
+      size = ap length added ∙ length-append (run r first d) (slot r n c ∷ []) ∙ ap (λ (m : ℕ). m + 1) p.size ∙ sym size_longer;
+      stale = ap (λ (m : ℕ). ends_stale r first m c) size_longer ∙ added_stale ∙ p.stale;
+      room = ap (λ (m : ℕ). room_of r first m c) size_longer ∙ added_room;
+    })
+
+-- rings with the same slots have the same tail
+pub tail_moved : (q r : Ring) (first : ℕ) (c d : List ℕ) → q.slots ≡ r.slots → ((i : ℕ) → slot q i c ≡ slot r i d) → tail q first c ≡ tail r first d
+tail_moved q r first c d slots same =
+    let runs : run q first c ≡ run r first d = ap (λ (m : ℕ). run_from q m first c) slots ∙ run_moved q r c d same r.slots first in
+    tail_is q first c
+    ∙ finished_same (run q first c) (run r first d) (λ n. ends_stale q first n c) (λ n. ends_stale r first n d) (λ n. room_of q first n c) (λ n. room_of r first n d)
+    runs (stale (length (run r first d))) (ap (λ (m : ℕ). if_room (first + length (run r first d) == LAST) m) (gates (length (run r first d))))
+    ∙ sym (tail_is r first d)
+  where
+    gates : (n : ℕ) → behind q first n c ≡ behind r first n d
+    gates n = ap (λ (m : ℕ). closed_from q (m - n) (first + n) c) slots ∙ closed_moved q r c d same (r.slots - n) (first + n)
+
+    stale : (n : ℕ) → ends_stale q first n c ≡ ends_stale r first n d
+    stale n =
+        ap (λ (m : ℕ). are_stale q (q.slots - n - m) (first + n + m) first c) (gates n)
+        ∙ ap (λ (m : ℕ). are_stale q (m - n - behind r first n d) (first + n + behind r first n d) first c) slots
+        ∙ stale_moved q r c d same (r.slots - n - behind r first n d) (first + n + behind r first n d) first
+
+-- files that agree on the ring's bytes have the same tail
+pub same_tail : (r : Ring) (first : ℕ) (c d : List ℕ) → 0 < r.slots → length c ≡ length d → ((i : ℕ) → r.base ≤ i → i < r.base + 64 * r.slots → get_or c i 0 ≡ get_or d i 0) → tail r first c ≡ tail r first d
+same_tail r first c d some size same = tail_moved r r first c d refl (λ s. same_slot r s c d size (λ i low high. same i (omega arith) (omega (arith, slot_inside r some s))))
+
+-- what is written before or behind the ring leaves the tail
+pub tail_elsewhere : (r : Ring) (first at n : ℕ) (d c : List ℕ) → 0 < r.slots → (at + n ≤ r.base) ⊎ (r.base + 64 * r.slots ≤ at) → SameBut at n d c → tail r first c ≡ tail r first d
+tail_elsewhere r first at n d c some beside same = same_tail r first c d some same.size (λ i low high. same.same i (⊎_elim (λ (before : at + n ≤ r.base). inr (omega arith)) (λ (behind : r.base + 64 * r.slots ≤ at). inl (omega arith)) beside))
+
+none_more : (m : ℕ) → 0 + m ≡ m
+none_more m = omega arith
+
+split : (a b : ℕ) → a ≤ b → b ≡ a + (b - a)
+split a b le = omega arith
+
+slot_alone : (r : Ring) (file bytes : List ℕ) → 0 < r.slots → bytes ≡ take (64 * r.slots) (drop r.base file) → (s : ℕ) → slot (record { base = 0; slots = r.slots }) s bytes ≡ slot r s file
+unfolding slot
+slot_alone r file bytes some is s =
+    let low : s % r.slots < r.slots = mod-lt s some in
+    ap (λ (l : List ℕ). take 64 (drop (0 + 64 * (s % r.slots)) l)) is
+    ∙ ap (λ (m : ℕ). take 64 (drop m (take (64 * r.slots) (drop r.base file)))) (none_more (64 * (s % r.slots)))
+    ∙ ap (λ (m : ℕ). take 64 (drop (64 * (s % r.slots)) (take m (drop r.base file)))) (split (64 * (s % r.slots)) (64 * r.slots) (omega arith))
+    ∙ ap (λ (l : List ℕ). take 64 l) (drop-take (64 * (s % r.slots)) (64 * r.slots - 64 * (s % r.slots)) (drop r.base file))
+    ∙ take-take 64 (64 * r.slots - 64 * (s % r.slots)) (drop (64 * (s % r.slots)) (drop r.base file)) (omega arith)
+    ∙ ap (λ (l : List ℕ). take 64 l) (drop-drop (64 * (s % r.slots)) r.base file)
+
+-- the ring's bytes alone have the tail
+pub tail_alone : (r : Ring) (first : ℕ) (file bytes : List ℕ) → 0 < r.slots → bytes ≡ take (64 * r.slots) (drop r.base file) → tail (record { base = 0; slots = r.slots }) first bytes ≡ tail r first file
+tail_alone r first file bytes some is = tail_moved (record { base = 0; slots = r.slots }) r first bytes file refl (slot_alone r file bytes some is)
+
+-- closed gates all round are no commands, and room in each slot
+pub tail_closed : (r : Ring) (file : List ℕ) → 0 < r.slots → AreClosed r file → tail r 0 file ≡ Some (record { commands = []; room = r.slots })
+tail_closed r file some closed = tail_of r 0 file (record { commands = []; room = r.slots }) (record {
+  read = ap commands_in none;
+  size = ap length none;
+  stale = ap (λ (m : ℕ). are_stale r (r.slots - 0 - m) (0 + 0 + m) 0 file) all ∙ ap (λ (m : ℕ). are_stale r m (0 + 0 + r.slots) 0 file) over;
+  room = all;
+})
+  where
+    over : r.slots - 0 - r.slots ≡ 0
+    over = omega arith
+
+    shut : (i : ℕ) → i < r.slots → is_open (slot r i file) ≡ false
+    shut i lt = closed_gate r i file (λ e. closed i lt (ap (λ (m : ℕ). get_or file (r.base + 64 * m) 0) (sym (mod-eq_of_lt lt)) ∙ e))
+
+    none : run r 0 file ≡ []
+    none = stops r r.slots 0 file (λ more. stops_closed (slot r 0 file) 0 (shut 0 some))
+
+    all : closed_from r (r.slots - 0) (0 + 0) file ≡ r.slots
+    all = ap (λ (m : ℕ). closed_from r m 0 file) whole ∙ all_closed r r.slots 0 file (λ i low high. shut i (omega arith))
+      where
+        whole : r.slots - 0 ≡ r.slots
+        whole = omega arith

@@ -1,0 +1,10 @@
+use Rattle.std.proofs.Common.{◌<◌, [], arith, refl}
+use Rattle.im_types.specs.Journal.{Ring}
+use Rattle.im_journal.proofs.Tails.{tail_closed}
+use Rattle.im_journal.proofs.journal.Journal.fresh.Goals as goal
+
+pub returns-clause-holds : goal.returns-clause-holds
+returns-clause-holds c = λ file size closed.
+    let ring : Ring = record { base = c.ring_base.result; slots = c.args.limits.slots } in
+    let some : 0 < c.args.limits.slots = omega (arith, c.args.limits.in_range.enough_slots) in
+    record { size = size; commands = []; reads = tail_closed ring file some closed; count = refl }

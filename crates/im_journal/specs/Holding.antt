@@ -1,0 +1,82 @@
+-- A journal over a disk: what its file holds, and what an append leaves.
+use Rattle.std.specs.Prelude.{◌≡◌, ◌≢◌, ◌⊎◌, ℕ, ◌+◌, ◌-◌, ◌*◌, ◌^◌, ◌<◌, ◌≤◌, ◌==◌, List, [], ◌∷◌, ◌++◌, length, slice_index, Some, option_map, if◌then◌else◌}
+use Rattle.im_types.specs.declared.TheConstants.{LAST, MIN_SLOTS, MAX_SLOTS}
+use Rattle.im_types.specs.declared.commands.Command.{Command}
+use Rattle.im_types.specs.declared.sizes.Limits.{Limits}
+use Rattle.im_types.specs.Bytes.{open_gate}
+use Rattle.im_types.specs.Slot.{slot_body}
+use Rattle.im_types.specs.Journal.{Ring, slot_at, slot, Tail, tail}
+use Rattle.im_types.specs.Layout.{layout_1, ring_of}
+use Rattle.im_disk.specs.Moment.{Moment, Left}
+use Rattle.im_disk.specs.Since.{SameBut}
+
+-- the ring of an image with these limits
+abbrev pub ring_under : Limits → Ring
+ring_under limits = ring_of layout_1 (record { cells = limits.cells; elements = limits.elements; slots = limits.slots })
+
+-- a ring by itself
+abbrev pub ring_alone : ℕ → Ring
+ring_alone slots = record { base = 0; slots = slots }
+
+-- the run goes from the sequence number `first` to the one before `count`, and has so much room behind it
+pub record JournalState : Type 0 where
+  pub ring : Ring
+  pub first : ℕ
+  pub count : ℕ
+  pub room : ℕ
+
+-- a journal with these numbers
+abbrev pub state_of : ℕ → ℕ → ℕ → ℕ → ℕ → JournalState
+state_of base slots first count room = record { ring = record { base = base; slots = slots }; first = first; count = count; room = room }
+
+-- run and room go once round the ring at most, and no further than the last count there is
+pub record IsJournal (j : JournalState) : Type 0 where
+  pub enough_slots : MIN_SLOTS ≤ j.ring.slots
+  pub few_slots : j.ring.slots ≤ MAX_SLOTS
+  pub inside : j.ring.base + 64 * j.ring.slots < 2 ^ 63
+  pub begun : j.first ≤ j.count
+  pub once_round : j.count + j.room ≤ j.first + j.ring.slots
+  pub to_last : j.count ≤ LAST
+  pub full_at_last : j.count ≡ LAST → j.room ≡ 0
+
+-- the journal is the tail of the file
+pub record Holds (j : JournalState) (file : List ℕ) : Type 0 where
+  pub size : j.ring.base + 64 * j.ring.slots ≤ length file
+  pub commands : List Command
+  pub reads : tail j.ring j.first file ≡ Some (record { commands = commands; room = j.room })
+  pub count : j.count ≡ j.first + length commands
+
+-- it is the tail of each file that a crash at this moment may leave
+abbrev pub AllHold : JournalState → Moment → Type 0
+AllHold j m = (file : List ℕ) → Left m file → Holds j file
+
+-- the room behind the command with this sequence number, of what there was before it
+abbrev pub room_after : ℕ → ℕ → ℕ
+room_after count room = if count + 1 == LAST then 0 else room - 1
+
+-- with one command more
+abbrev pub longer : JournalState → JournalState
+longer j = record j { count = j.count + 1; room = room_after j.count j.room }
+
+-- a tail with one command more
+abbrev pub longer_tail : ℕ → Command → Tail → Tail
+longer_tail count command t = record { commands = t.commands ++ command ∷ []; room = room_after count t.room }
+
+-- the file is one that could be left, but for the slot of the next command, and its tail has the command at its end
+pub record Appended (j : JournalState) (command : Command) (m : Moment) (file : List ℕ) : Type 0 where
+  pub from : List ℕ
+  pub left : Left m from
+  pub same : SameBut (slot_at j.ring j.count) 64 from file
+  pub slot : slot j.ring j.count file ≡ open_gate ∷ slot_body 1 j.count command
+  pub reads : tail j.ring j.first file ≡ option_map (longer_tail j.count command) (tail j.ring j.first from)
+
+-- the same, or its tail is as it was
+pub record MayAppend (j : JournalState) (command : Command) (m : Moment) (file : List ℕ) : Type 0 where
+  pub from : List ℕ
+  pub left : Left m from
+  pub same : SameBut (slot_at j.ring j.count) 64 from file
+  pub reads : (tail j.ring j.first file ≡ tail j.ring j.first from) ⊎ (tail j.ring j.first file ≡ option_map (longer_tail j.count command) (tail j.ring j.first from))
+
+-- the gates of a ring are closed
+abbrev pub AreClosed : Ring → List ℕ → Type 0
+AreClosed ring file = (i : ℕ) → i < ring.slots → slice_index file (ring.base + 64 * i) ≢ open_gate

@@ -1,0 +1,36 @@
+// How a part of a disk is read.
+ghost use Rattle.std.specs.Prelude.{◌≡◌, ◌⊎◌, ◌+◌, ◌≤◌, length, take, drop, IfOk, IfErr, OnOk, IsErrOf};
+ghost use Rattle.im_disk.specs.Moment.{Rises};
+ghost use Rattle.im_disk.specs.Since.{ReadsOnly};
+
+use im_disk::Disk;
+use im_types::Refusal;
+use std::alloc::Global;
+
+/// These bytes of the disk, by one read. `NoMemory` or `Device`.
+pub(crate) fn read_bytes<D: Disk>(
+    alloc: Global,
+    disk: &mut D,
+    at: usize,
+    len: usize,
+) -> Result<Vec<u8>, Refusal>
+    requires inside { D.honest disk.old → at + len ≤ length (D.now disk.old).bytes }
+    ensures bytes { IfOk result (λ v. D.honest disk.new → v.items ≡ take len (drop at (D.now disk.old).bytes)) }
+    ensures size { IfOk result (λ v. length v.items ≡ len) }
+    ensures reads { D.honest disk.new
+        → ReadsOnly (D.now disk.old) (D.now disk.new) (D.past disk.old) (D.past disk.new) }
+    ensures only { IfErr result (λ e. (e ≡ Refusal.NoMemory) ⊎ (e ≡ Refusal.Device)) }
+    ensures device { IsErrOf result Refusal.Device → Rises (D.failures disk.old) (D.failures disk.new) }
+    ensures steady { (IsErrOf result Refusal.Device → ⊥) → D.failures disk.new ≡ D.failures disk.old }
+    ensures calls { OnOk result (D.honest disk.new → length (D.past disk.new) ≡ length (D.past disk.old) + 1) }
+    ensures honest { D.honest disk.new → D.honest disk.old }
+{
+    let Ok(mut bytes) = vec![in alloc; 0; len] else {
+        return Err(Refusal::NoMemory);
+    };
+    // A stop leaves what was there: nothing is written.
+    if let Err(_) = disk.read(at, &mut bytes) {
+        return Err(Refusal::Device);
+    }
+    Ok(bytes)
+}

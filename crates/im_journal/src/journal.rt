@@ -1,0 +1,180 @@
+//! The journal as its owner sees it: how far its run of commands has come, and how a command is added.
+ghost use Rattle.std.specs.Prelude.{◌≡◌, ◌↔◌, ◌⊎◌, ◌+◌, ◌*◌, ◌-◌, ◌≤◌, ◌<◌, ◌^◌, List, ℕ, length, Some, None, OnOk, OnErr, IfOk, IfErr, IsErrOf};
+ghost use Rattle.im_types.specs.Journal.{tail};
+ghost use Rattle.im_disk.specs.Moment.{Left, Counts, Rises};
+ghost use Rattle.im_disk.specs.Since.{Leaves, ReadsOnly};
+ghost use Rattle.im_journal.specs.Holding.{ring_under, IsJournal, Holds, AllHold, room_after, longer, Appended, MayAppend, AreClosed};
+
+use crate::bytes::read_bytes;
+use crate::gate::write_slot;
+use crate::layout::ring_base;
+use crate::ring::tail_in;
+use crate::slot::spell;
+use im_disk::Disk;
+use im_types::{Command, LAST, Limits, Refusal};
+use std::alloc::Global;
+use std::marker::Model;
+
+/// The journal of an image: where its ring of slots is, and how far the run of commands in it has come. The command
+/// with sequence number s stands in slot s mod slots. The commands themselves are on the disk alone.
+#[derive(Drop)]
+pub struct Journal {
+    base: usize,
+    slots: u32,
+    first: u64,
+    count: u64,
+    room: u32,
+}
+
+impl Model for Journal {
+    ghost use Rattle.im_journal.specs.Holding.{JournalState, IsJournal, state_of};
+
+    ghost Value = { JournalState };
+
+    ghost view = { λ j. state_of j.base j.slots j.first j.count j.room };
+
+    ghost invariant = { λ j. IsJournal (state_of j.base j.slots j.first j.count j.room) };
+}
+
+// The room behind the command with this sequence number.
+fn room_after(count: u64, room: u32) -> u32
+    requires some { 0 < room }
+    requires low { count < LAST }
+    ensures { result ≡ room_after count room }
+{
+    if count + 1 == LAST { 0 } else { room - 1 }
+}
+
+impl Journal {
+    /// The journal of an image that was formatted under these limits: no commands yet, and room in every slot. It is
+    /// the tail of each file whose gates are all closed.
+    pub fn fresh(limits: Limits) -> Journal
+        ensures state { result ≡ record { ring = ring_under limits; first = 0; count = 0; room = limits.slots } }
+        ensures holds { (file : List ℕ) → result.ring.base + 64 * result.ring.slots ≤ length file
+            → AreClosed result.ring file → Holds result file }
+    {
+        Journal {
+            base: ring_base(limits),
+            slots: limits.slots,
+            first: 0,
+            count: 0,
+            room: limits.slots,
+        }
+    }
+
+    /// Reads the run of commands from a sequence number on, and the room behind it. `from` is the count of the header in
+    /// force, at most [`LAST`], and the file is long enough for the ring. It writes nothing, and reads the ring whole by
+    /// one call of the disk: 64 bytes a slot.
+    ///
+    /// `BadRecord` exactly where the file has no such tail: a slot of the run isn't spelled as it should be, or one
+    /// from the first open gate behind the run on, up to the run's first slot, has a sequence number that isn't below
+    /// `from`. `Device` where the call of the disk failed. `NoMemory`, where `alloc` refused the room for the ring's
+    /// bytes or the commands. None of them changes anything.
+    pub fn read_tail<D: Disk>(
+        alloc: Global,
+        disk: &mut D,
+        limits: Limits,
+        from: u64,
+    ) -> Result<(Journal, Vec<Command>), Refusal>
+        requires last { from ≤ LAST }
+        requires inside { D.honest disk.old
+            → (ring_under limits).base + 64 * limits.slots ≤ length (D.now disk.old).bytes }
+        ensures tail { IfOk result (λ r. D.honest disk.new → tail (ring_under limits) from (D.now disk.old).bytes
+            ≡ Some (record { commands = r.1.items; room = r.0.room })) }
+        ensures journal { IfOk result
+            (λ r. (r.0.ring ≡ ring_under limits) × (r.0.first ≡ from) × (r.0.count ≡ from + length r.1.items)) }
+        ensures holds { IfOk result (λ r. D.honest disk.new → Holds r.0 (D.now disk.old).bytes) }
+        ensures bad { IsErrOf result Refusal.BadRecord → D.honest disk.new
+            → tail (ring_under limits) from (D.now disk.old).bytes ≡ None }
+        ensures only { IfErr result (λ e. (e ≡ Refusal.BadRecord) ⊎ (e ≡ Refusal.NoMemory) ⊎ (e ≡ Refusal.Device)) }
+        ensures reads { D.honest disk.new
+            → ReadsOnly (D.now disk.old) (D.now disk.new) (D.past disk.old) (D.past disk.new) }
+        ensures device { IsErrOf result Refusal.Device → Rises (D.failures disk.old) (D.failures disk.new) }
+        ensures steady { (IsErrOf result Refusal.Device → ⊥) → D.failures disk.new ≡ D.failures disk.old }
+        ensures calls { OnOk result (D.honest disk.new → length (D.past disk.new) ≡ length (D.past disk.old) + 1) }
+        ensures honest { D.honest disk.new → D.honest disk.old }
+    {
+        let base = ring_base(limits);
+        let slots = limits.slots as usize;
+        let ring = match read_bytes(alloc, disk, base, 64 * slots) {
+            Ok(ring) => ring,
+            Err(refusal) => return Err(refusal),
+        };
+        let (commands, room) = match tail_in(alloc, &ring, slots, from) {
+            Ok(read) => read,
+            Err(refusal) => return Err(refusal),
+        };
+        let journal = Journal {
+            base,
+            slots: limits.slots,
+            first: from,
+            count: from + commands.len() as u64,
+            room: room as u32,
+        };
+        Ok((journal, commands))
+    }
+
+    /// The sequence number of the run's first command: the count of the header in force.
+    pub fn first(&self) -> u64
+        ensures { result ≡ self.now.first }
+    {
+        self.first
+    }
+
+    /// The sequence number of the next command: how many there have been.
+    pub fn count(&self) -> u64
+        ensures count { result ≡ self.now.count }
+        ensures known { IsJournal self.now }
+    {
+        self.count
+    }
+
+    /// How many more commands can be appended: 0 where the count is the last one that there is, else how many slots
+    /// from the next one on are known to have their gates closed on the disk.
+    pub fn room(&self) -> u32
+        ensures { result ≡ self.now.room }
+    {
+        self.room
+    }
+
+    /// Adds a command at the end of the run, by four calls of the disk: its body, a sync, its gate, a sync. At `Ok` the
+    /// command is on the disk. It takes no memory.
+    ///
+    /// `JournalFull` exactly where there is no room; then no call is made. `Device` where a call of the disk failed;
+    /// then the command is on the disk or not, the journal is as it was, and the image has to be opened again.
+    pub fn append<D: Disk>(&mut self, disk: &mut D, command: &Command) -> Result<(), Refusal>
+        requires holds { D.honest disk.old → AllHold self.old (D.now disk.old) }
+        // Each file that a crash may leave from the start on has the old run, or the old run and the command.
+        ensures leaves { D.honest disk.new → Leaves (D.now disk.old) (D.now disk.new) (D.past disk.old)
+            (D.past disk.new) (MayAppend self.old command.now (D.now disk.old)) }
+        ensures now { D.honest disk.new → (file : List ℕ) → Left (D.now disk.new) file
+            → MayAppend self.old command.now (D.now disk.old) file }
+        // Once it is done, each has the command.
+        ensures added { OnOk result (D.honest disk.new → (file : List ℕ) → Left (D.now disk.new) file
+            → Appended self.old command.now (D.now disk.old) file) }
+        ensures holds { OnOk result (D.honest disk.new → AllHold self.new (D.now disk.new)) }
+        ensures calls { OnOk result (D.honest disk.new → length (D.past disk.new) ≡ length (D.past disk.old) + 4) }
+        ensures longer { OnOk result (self.new ≡ longer self.old) }
+        ensures same { OnErr result (self.new ≡ self.old) }
+        ensures full { (IsErrOf result Refusal.JournalFull) ↔ (self.old.room ≡ 0) }
+        ensures untouched { IsErrOf result Refusal.JournalFull → disk.new ≡ disk.old }
+        ensures only { IfErr result (λ e. (e ≡ Refusal.JournalFull) ⊎ (e ≡ Refusal.Device)) }
+        ensures device { IsErrOf result Refusal.Device
+            → Rises (D.failures disk.old) (D.failures disk.new) × (D.failures disk.old ≤ D.failures disk.new) }
+        ensures passes { OnOk result (D.failures disk.new ≡ D.failures disk.old) }
+        ensures honest { D.honest disk.new → D.honest disk.old }
+    {
+        if self.room == 0 {
+            return Err(Refusal::JournalFull);
+        }
+        let at = self.base + 64 * ((self.count % self.slots as u64) as usize);
+        let slot = spell(command, self.count);
+        if let Err(_) = write_slot(disk, at, &slot) {
+            return Err(Refusal::Device);
+        }
+        let room = room_after(self.count, self.room);
+        self.count += 1;
+        self.room = room;
+        Ok(())
+    }
+}

@@ -1,0 +1,137 @@
+// The slots of a ring in memory: the run of commands, and what is behind it.
+ghost use Rattle.std.specs.Prelude.{◌≡◌, ◌⊎◌, ◌+◌, ◌*◌, ◌-◌, ◌<◌, ◌≤◌, ◌^◌, true, length, Some, None, IfOk, IfErr, IsErrOf, ◌==◌, if◌then◌else◌};
+ghost use Rattle.im_types.specs.Bytes.{open_gate};
+ghost use Rattle.im_types.specs.Slot.{is_open};
+ghost use Rattle.im_types.specs.Journal.{slot, continues, run_from, commands_in, closed_from, are_stale, tail};
+ghost use Rattle.im_journal.specs.Holding.{ring_alone};
+
+use crate::slot::{OPEN, read, sequence_in};
+use im_types::{Command, LAST, Refusal};
+use std::alloc::Global;
+
+// The slot of the command with this sequence number.
+#[tactic(auto, unfolding(im_types::specs::Journal::slot))]
+fn slot_in(ring: &[u8], slots: usize, sequence: u64) -> [u8; 64]
+    requires some { 0 < slots }
+    requires size { length ring.now ≡ 64 * slots }
+    ensures { result ≡ slot (ring_alone slots) sequence ring.now }
+{
+    let at = 64 * ((sequence % slots as u64) as usize);
+    let mut bytes = [0; 64];
+    bytes.copy_from_slice(&ring[at..at + 64]);
+    bytes
+}
+
+// Whether the run goes on with this slot.
+#[tactic(auto, unfolding(im_types::specs::Journal::continues))]
+fn continues(slot: &[u8; 64], sequence: u64) -> bool
+    ensures { result ≡ continues slot.now sequence }
+{
+    slot[0] == OPEN && sequence_in(slot) == sequence && sequence < LAST
+}
+
+// The commands from a sequence number on, at most once round the ring.
+fn run_in(alloc: Global, ring: &[u8], slots: usize, first: u64) -> Result<Vec<Command>, Refusal>
+    requires some { 0 < slots }
+    requires few { slots < 2 ^ 32 }
+    requires size { length ring.now ≡ 64 * slots }
+    requires last { first ≤ LAST }
+    ensures commands { IfOk result
+        (λ v. commands_in (run_from (ring_alone slots) slots first ring.now) ≡ Some v.items) }
+    ensures few { IfOk result (λ v. length v.items ≤ slots) }
+    ensures last { IfOk result (λ v. first + length v.items ≤ LAST) }
+    ensures bad { IsErrOf result Refusal.BadRecord
+        → commands_in (run_from (ring_alone slots) slots first ring.now) ≡ None }
+    ensures only { IfErr result (λ e. (e ≡ Refusal.BadRecord) ⊎ (e ≡ Refusal.NoMemory)) }
+{
+    let mut commands = Vec::new(alloc);
+    for i in 0..slots {
+        let sequence = first + i as u64;
+        let slot = slot_in(ring, slots, sequence);
+        if !continues(&slot, sequence) {
+            return Ok(commands);
+        }
+        let Some(command) = read(&slot) else {
+            return Err(Refusal::BadRecord);
+        };
+        if let Err(_) = commands.push(command) {
+            return Err(Refusal::NoMemory);
+        }
+    }
+    Ok(commands)
+}
+
+// How many of so many gates are closed, up to the first open one.
+fn closed_in(ring: &[u8], slots: usize, from: u64, count: usize) -> usize
+    requires some { 0 < slots }
+    requires size { length ring.now ≡ 64 * slots }
+    requires last { from + count < 2 ^ 64 }
+    ensures closed { result ≡ closed_from (ring_alone slots) count from ring.now }
+    ensures few { result ≤ count }
+{
+    for i in 0..count {
+        let slot = slot_in(ring, slots, from + i as u64);
+        if slot[0] == OPEN {
+            return i;
+        }
+    }
+    count
+}
+
+// Whether so many slots are of commands before this one.
+fn are_stale(ring: &[u8], slots: usize, from: u64, count: usize, first: u64) -> bool
+    requires some { 0 < slots }
+    requires size { length ring.now ≡ 64 * slots }
+    requires last { from + count < 2 ^ 64 }
+    ensures { result ≡ are_stale (ring_alone slots) count from first ring.now }
+{
+    for i in 0..count {
+        let slot = slot_in(ring, slots, from + i as u64);
+        if sequence_in(&slot) >= first {
+            return false;
+        }
+    }
+    true
+}
+
+// The room behind a run, of so many closed gates: none at the last count there is.
+fn room_behind(next: u64, closed: usize) -> usize
+    ensures room { result ≡ (if next == LAST then 0 else closed) }
+    ensures few { result ≤ closed }
+    ensures full { next ≡ LAST → result ≡ 0 }
+{
+    if next == LAST { 0 } else { closed }
+}
+
+/// The commands from a sequence number on, and the room behind them. `BadRecord` exactly where a slot of the run isn't
+/// spelled as it should be, or one from the first open gate behind it on isn't stale; else `NoMemory`.
+pub(crate) fn tail_in(
+    alloc: Global,
+    ring: &[u8],
+    slots: usize,
+    first: u64,
+) -> Result<(Vec<Command>, usize), Refusal>
+    requires some { 0 < slots }
+    requires few { slots < 2 ^ 32 }
+    requires size { length ring.now ≡ 64 * slots }
+    requires last { first ≤ LAST }
+    ensures tail { IfOk result
+        (λ r. tail (ring_alone slots) first ring.now ≡ Some (record { commands = r.0.items; room = r.1 })) }
+    ensures once_round { IfOk result (λ r. length r.0.items + r.1 ≤ slots) }
+    ensures last { IfOk result (λ r. first + length r.0.items ≤ LAST) }
+    ensures full { IfOk result (λ r. first + length r.0.items ≡ LAST → r.1 ≡ 0) }
+    ensures bad { IsErrOf result Refusal.BadRecord → tail (ring_alone slots) first ring.now ≡ None }
+    ensures only { IfErr result (λ e. (e ≡ Refusal.BadRecord) ⊎ (e ≡ Refusal.NoMemory)) }
+{
+    let commands = match run_in(alloc, ring, slots, first) {
+        Ok(commands) => commands,
+        Err(refusal) => return Err(refusal),
+    };
+    let next = first + commands.len() as u64;
+    let left = slots - commands.len();
+    let closed = closed_in(ring, slots, next, left);
+    if !are_stale(ring, slots, next + closed as u64, left - closed, first) {
+        return Err(Refusal::BadRecord);
+    }
+    Ok((commands, room_behind(next, closed)))
+}

@@ -1,0 +1,173 @@
+-- What an allocation and a release come to.
+use Rattle.std.proofs.Common.{◌≡◌, ℕ, ◌+◌, ◌<◌, ◌≤◌, List, [], length, take, drop, Some, None, Bool, true, false, cond, refl, sym, ap, ◌∙◌, arith}
+use Rattle.std.specs.Prelude.{Option, ◌==◌, option_map}
+use Rattle.std.specs.List.{list_any}
+use Rattle.std.proofs.lemmas.Bool.Decides.{nat_tests}
+use Rattle.im_types.specs.declared.operations.Op.TheVariants.{Alloc, Release}
+use Rattle.im_types.specs.declared.operations.Kind.{Kind}
+use Rattle.im_types.specs.declared.operations.Reply.{Reply}
+use Rattle.im_types.specs.declared.operations.Reply.TheVariants.{Base, NoSpace, BadLength, Released, NoBlock, StillWaiting}
+use Rattle.im_types.specs.declared.operations.Entry.TheVariants.{Answered}
+use Rattle.im_types.specs.declared.operations.Block.{Block}
+use Rattle.im_types.specs.declared.commands.Request.{Request}
+use Rattle.im_types.specs.Contents.{Held, Contents, held_at, waiters_at, block_at, HasBlocks}
+use Rattle.im_types.specs.Place.{is_free, place, fill, IsLeastFree}
+use Rattle.im_types.specs.Act.{only_tells, new_cell, allocate, allocate_at, release_block, block_with_base, is_waiting_cell}
+use Rattle.im_types.specs.Step.{Stepped}
+use Rattle.im_laws.specs.Cells.{empty_cell}
+use Rattle.im_laws.specs.Requests.{after_request, IsServed}
+use Rattle.im_laws.proofs.Tests.{some_same}
+use Rattle.im_laws.proofs.PlaceLemmas.{place-least, place-none}
+use Rattle.im_laws.proofs.BlockLemmas.{get_or-fill_in, place-fits}
+use Rattle.im_laws.proofs.StepAgrees.{nobody_waits}
+use Rattle.im_laws.proofs.ResumeLemmas.{new-served, served-entry}
+
+same_reply : (a b : Reply) → Answered a ≡ Answered b → a ≡ b
+same_reply a b e = cc
+
+-- a block that was made
+pub record IsMade (cells : List (Option Held)) (kind : Kind) (n base : ℕ) : Type 0 where
+  pub some : 1 ≤ n
+  pub placed : place n cells ≡ Some base
+  pub made : (allocate cells kind n).cells ≡ fill cells base n (new_cell base n kind)
+
+allocate-base : (cells : List (Option Held)) (kind : Kind) (n base : ℕ) → (allocate cells kind n).entry ≡ Answered (Base base)
+    → IsMade cells kind n base
+allocate-base cells kind n base = by_test (n == 0) refl
+  where
+    by_place : (o : Option ℕ) → place n cells ≡ o → (n == 0) ≡ false → (allocate_at cells kind n o).entry ≡ Answered (Base base)
+        → IsMade cells kind n base
+    by_place None p t e = absurd (differ (same_reply NoSpace (Base base) e))
+      where
+        differ : NoSpace ≡ Base base → ⊥
+        differ e = cc
+    by_place (Some found) p t e =
+        let same : found ≡ base = (let reply = same_reply (Base found) (Base base) e in cc) in
+        record {
+          some = grind (arith, nat_tests);
+          placed = p ∙ ap Some same;
+          made = ap (λ b. (cond b (only_tells cells BadLength) (allocate_at cells kind n (place n cells))).cells) t
+              ∙ ap (λ o. (allocate_at cells kind n o).cells) (p ∙ ap Some same);
+        }
+
+    by_test : (b : Bool) → (n == 0) ≡ b
+        → (cond b (only_tells cells BadLength) (allocate_at cells kind n (place n cells))).entry ≡ Answered (Base base)
+        → IsMade cells kind n base
+    by_test true t e = absurd (differ (same_reply BadLength (Base base) e))
+      where
+        differ : BadLength ≡ Base base → ⊥
+        differ e = cc
+    by_test false t e = by_place (place n cells) refl t e
+
+allocate-no_space : (cells : List (Option Held)) (kind : Kind) (n : ℕ) → (allocate cells kind n).entry ≡ Answered NoSpace → (base : ℕ)
+    → is_free cells base n ≡ false
+allocate-no_space cells kind n = by_test (n == 0) refl
+  where
+    by_place : (o : Option ℕ) → place n cells ≡ o → (n == 0) ≡ false → (allocate_at cells kind n o).entry ≡ Answered NoSpace → (base : ℕ)
+        → is_free cells base n ≡ false
+    by_place None p t e = place-none n cells (grind (arith, nat_tests)) p
+    by_place (Some found) p t e = absurd (differ (same_reply (Base found) NoSpace e))
+      where
+        differ : Base found ≡ NoSpace → ⊥
+        differ e = cc
+
+    by_test : (b : Bool) → (n == 0) ≡ b → (cond b (only_tells cells BadLength) (allocate_at cells kind n (place n cells))).entry ≡ Answered NoSpace
+        → (base : ℕ) → is_free cells base n ≡ false
+    by_test true t e = absurd (differ (same_reply BadLength NoSpace e))
+      where
+        differ : BadLength ≡ NoSpace → ⊥
+        differ e = cc
+    by_test false t e = by_place (place n cells) refl t e
+
+-- a new request to allocate
+module _ (m : Contents) (r : Request) (kind : Kind) (n : ℕ) where
+  is_made : (base : ℕ) → IsServed m r (Alloc kind n) (Answered (Base base)) → IsMade m.cells kind n base
+  is_made base served = allocate-base m.cells kind n base (served-entry m r (Alloc kind n) (Answered (Base base)) served)
+
+  pub allocation-least : (base : ℕ) → IsServed m r (Alloc kind n) (Answered (Base base)) → IsLeastFree m.cells n base
+  allocation-least base served = place-least n m.cells base (is_made base served).placed
+
+  pub allocation-cells : (base a : ℕ) → IsServed m r (Alloc kind n) (Answered (Base base)) → base ≤ a → a < base + n
+      → held_at (after_request m r).cells a ≡ Some (empty_cell (record { base = base; length = n; kind = kind }))
+  allocation-cells base a served lo hi =
+      let fits = place-fits n m.cells base (is_made base served).placed in
+      ap (λ (s : Stepped). held_at s.contents.cells a) (new-served m r (Alloc kind n) served.is_new)
+      ∙ ap (λ cells. held_at cells a) (is_made base served).made
+      ∙ get_or-fill_in m.cells base n (new_cell base n kind) a lo hi (omega arith)
+
+  pub allocation-no_space : (base : ℕ) → IsServed m r (Alloc kind n) (Answered NoSpace) → is_free m.cells base n ≡ false
+  allocation-no_space base served = allocate-no_space m.cells kind n (served-entry m r (Alloc kind n) (Answered NoSpace) served) base
+
+-- a block that was released
+pub record IsReleased (cells : List (Option Held)) (a : ℕ) : Type 0 where
+  pub block : Block
+  pub there : block_at cells a ≡ Some block
+  pub nobody : list_any is_waiting_cell (take block.length (drop a cells)) ≡ false
+  pub gone : (release_block cells a (block_with_base a (held_at cells a))).cells ≡ fill cells a block.length None
+
+release-released : (cells : List (Option Held)) (a : ℕ)
+    → (release_block cells a (block_with_base a (held_at cells a))).entry ≡ Answered Released → IsReleased cells a
+release-released cells a = by_held (held_at cells a) refl
+  where
+    not_told : (reply : Reply) → (reply ≡ Released → ⊥) → Answered reply ≡ Answered Released → ⊥
+    not_told reply other e = other (same_reply reply Released e)
+
+    no_block : NoBlock ≡ Released → ⊥
+    no_block e = cc
+
+    still_waiting : StillWaiting ≡ Released → ⊥
+    still_waiting e = cc
+
+    by_waiting : (held : Held) → held_at cells a ≡ Some held → block_with_base a (held_at cells a) ≡ Some held.block → (t : Bool)
+        → list_any is_waiting_cell (take held.block.length (drop a cells)) ≡ t
+        → (cond t (only_tells cells StillWaiting) (record { cells = fill cells a held.block.length None; entry = Answered Released; resumed = [] })).entry ≡ Answered Released
+        → IsReleased cells a
+    by_waiting held at is true t e = absurd (not_told StillWaiting still_waiting e)
+    by_waiting held at is false t e = record {
+      block = held.block;
+      there = ap (option_map (λ (held : Held). held.block)) at;
+      nobody = t;
+      gone = ap (λ o. (release_block cells a o).cells) is
+          ∙ ap (λ b. (cond b (only_tells cells StillWaiting) (record { cells = fill cells a held.block.length None; entry = Answered Released; resumed = [] })).cells) t;
+    }
+
+    by_base : (held : Held) → held_at cells a ≡ Some held → (t : Bool) → (held.block.base == a) ≡ t
+        → (release_block cells a (cond t (Some held.block) None)).entry ≡ Answered Released → IsReleased cells a
+    by_base held at true t e =
+        by_waiting held at (ap (block_with_base a) at ∙ ap (λ b. cond b (Some held.block) None) t) (list_any is_waiting_cell (take held.block.length (drop a cells))) refl e
+    by_base held at false t e = absurd (not_told NoBlock no_block e)
+
+    by_held : (o : Option Held) → held_at cells a ≡ o → (release_block cells a (block_with_base a o)).entry ≡ Answered Released → IsReleased cells a
+    by_held None at e = absurd (not_told NoBlock no_block e)
+    by_held (Some held) at e = by_base held at (held.block.base == a) refl e
+
+-- a new request to release that is told so, and a cell of the block
+module _ (m : Contents) (r : Request) (a : ℕ) (blocks : HasBlocks m.cells) (served : IsServed m r (Release a) (Answered Released))
+    (b : ℕ) (block : Block) (here : block_at m.cells b ≡ Some block) (base : block.base ≡ a) where
+  released : IsReleased m.cells a
+  released = release-released m.cells a (served-entry m r (Release a) (Answered Released) served)
+
+  same_block : released.block ≡ block
+  same_block =
+      let within = blocks.within b block here in
+      let low = within.0 in
+      let high = within.1 in
+      some_same released.block block (sym released.there ∙ blocks.whole b block here a (omega arith) (omega arith))
+
+  in_range : (a ≤ b) × (b < a + released.block.length) × (b < length m.cells)
+  in_range =
+      let within = blocks.within b block here in
+      let low = within.0 in
+      let high = within.1 in
+      let top = within.2 in
+      let long : released.block.length ≡ block.length = ap (λ (block : Block). block.length) same_block in
+      (omega arith, omega arith, omega arith)
+
+  pub release-frees : held_at (after_request m r).cells b ≡ None
+  release-frees =
+      ap (λ (s : Stepped). held_at s.contents.cells b) (new-served m r (Release a) served.is_new)
+      ∙ ap (λ cells. held_at cells b) released.gone
+      ∙ get_or-fill_in m.cells a released.block.length None b in_range.0 in_range.1 in_range.2
+
+  pub release-nobody : waiters_at m.cells b ≡ []
+  release-nobody = nobody_waits m.cells a released.block.length released.nobody b in_range.0 in_range.1

@@ -1,0 +1,231 @@
+-- Each operation keeps that blocks lie below the cell count and don't overlap.
+use Rattle.std.proofs.Common.{take, drop}
+use Rattle.std.specs.Prelude.{◌==◌}
+use Rattle.std.specs.List.{list_any}
+use Rattle.std.proofs.lemmas.Bool.Decides.{nat_tests}
+use Rattle.im_types.specs.declared.operations.Op.{Op}
+use Rattle.im_types.specs.declared.operations.Op.TheVariants.{Alloc, Release, Fetch, Store, Take, Put}
+use Rattle.im_types.specs.declared.operations.Kind.{Kind}
+use Rattle.im_types.specs.declared.operations.Kind.TheVariants.{I, M}
+use Rattle.im_types.specs.declared.operations.Waiter.{Waiter}
+use Rattle.im_types.specs.declared.operations.Entry.TheVariants.{Answered}
+use Rattle.im_types.specs.declared.operations.Reply.TheVariants.{BadLength, WrongKind, StillWaiting, Released}
+use Rattle.im_types.specs.Contents.{Empty}
+use Rattle.im_types.specs.Act.{Served, only_tells, fetch, store, take_from, put, same_kind, serve_cell, at_cell, allocate, allocate_at, release_block, block_with_base, is_waiting_cell, act}
+use Rattle.std.proofs.Common.{◌≡◌, ⊎_elim, ℕ, zero, suc, ◌+◌, ◌<◌, ◌≤◌, List, [], ◌∷◌, length, get_or, set, Some, None, Bool, true, false, cond, refl, sym, ap, ◌∙◌, subst, arith, length-set}
+use Rattle.std.specs.Prelude.{Option, option_map}
+use Rattle.im_types.specs.declared.operations.Block.{Block}
+use Rattle.im_types.specs.Contents.{CellState, Held, held_at, block_at, HasBlocks}
+use Rattle.im_types.specs.Place.{begins_free, place, fill}
+use Rattle.im_laws.proofs.Tests.{some_none, some_same}
+use Rattle.im_laws.specs.Blocks.{LiesIn}
+use Rattle.im_laws.proofs.PlaceLemmas.{get_or-fill, place-free}
+use Rattle.im_laws.proofs.AgreementLemmas.{held_at-set, held_at-within}
+
+-- the same blocks at the same addresses
+pub HasBlocks-same : (cells now : List (Option Held)) → ((b : ℕ) → block_at now b ≡ block_at cells b) → length now ≡ length cells
+    → HasBlocks cells → HasBlocks now
+HasBlocks-same cells now same len blocks = record {
+  within = λ a block is. let w = blocks.within a block (sym (same a) ∙ is) in (w.0, w.1, omega arith);
+  whole = λ a block is b lo hi. same b ∙ blocks.whole a block (sym (same a) ∙ is) b lo hi;
+}
+
+pub HasBlocks-set : (cells : List (Option Held)) (a : ℕ) (held : Held) (state : CellState) → held_at cells a ≡ Some held → HasBlocks cells
+    → HasBlocks (set cells a (Some (record { block = held.block; state = state })))
+HasBlocks-set cells a held state at blocks = HasBlocks-same cells _ same (length-set cells a _) blocks
+  where
+    same : (b : ℕ) → block_at (set cells a (Some (record { block = held.block; state = state }))) b ≡ block_at cells b
+    same b = ⊎_elim
+        (λ h. ap (option_map (λ (held : Held). held.block)) h.1 ∙ sym (ap (option_map (λ (held : Held). held.block)) (ap (held_at cells) h.0 ∙ at)))
+        (λ h. ap (option_map (λ (held : Held). held.block)) h.1)
+        (held_at-set cells a b (Some (record { block = held.block; state = state })) (held_at-within cells a held at))
+
+pub length-fill : {X : Type 0} (xs : List (Option X)) (base n : ℕ) (x : Option X) → length (fill xs base n x) ≡ length xs
+length-fill [] base n x = refl
+length-fill (y ∷ xs) zero zero x = refl
+length-fill (y ∷ xs) zero (suc n) x = ap suc (length-fill xs zero n x)
+length-fill (y ∷ xs) (suc base) n x = ap suc (length-fill xs base n x)
+
+pub get_or-fill_in : {X : Type 0} (xs : List (Option X)) (base n : ℕ) (x : Option X) (a : ℕ) → base ≤ a → a < base + n → a < length xs
+    → get_or (fill xs base n x) a None ≡ x
+get_or-fill_in [] base n x a lo hi h = absurd (omega arith)
+get_or-fill_in (y ∷ xs) zero zero x a lo hi h = absurd (omega arith)
+get_or-fill_in (y ∷ xs) zero (suc n) x zero lo hi h = refl
+get_or-fill_in (y ∷ xs) zero (suc n) x (suc a) lo hi h = get_or-fill_in xs zero n x a (omega arith) (omega arith) (omega arith)
+get_or-fill_in (y ∷ xs) (suc base) n x zero lo hi h = absurd (omega arith)
+get_or-fill_in (y ∷ xs) (suc base) n x (suc a) lo hi h = get_or-fill_in xs base n x a (omega arith) (omega arith) (omega arith)
+
+-- a place that was found lies below the cell count
+begins_free-fits : {X : Type 0} (n : ℕ) (xs : List (Option X)) → begins_free n xs ≡ true → n ≤ length xs
+begins_free-fits zero xs e = omega arith
+begins_free-fits (suc n) [] e = absurd (cc)
+begins_free-fits (suc n) (None ∷ xs) e = let h = begins_free-fits n xs e in omega arith
+begins_free-fits (suc n) (Some x ∷ xs) e = absurd (cc)
+
+place-fits_step : {X : Type 0} (n : ℕ) (x : Option X) (xs : List (Option X)) → ((b : ℕ) → place n xs ≡ Some b → b + n ≤ length xs)
+    → (t : Bool) → begins_free n (x ∷ xs) ≡ t → (o : Option ℕ) → place n xs ≡ o → (base : ℕ)
+    → cond t (Some 0) (option_map suc o) ≡ Some base → base + n ≤ suc (length xs)
+place-fits_step n x xs further true t o p base e = let at_start : 0 ≡ base = cc in let h : n ≤ suc (length xs) = begins_free-fits n (x ∷ xs) t in omega arith
+place-fits_step n x xs further false t None p base e = absurd (cc)
+place-fits_step n x xs further false t (Some b) p base e = let later : suc b ≡ base = cc in let h = further b p in omega arith
+
+pub place-fits : {X : Type 0} (n : ℕ) (xs : List (Option X)) (base : ℕ) → place n xs ≡ Some base → base + n ≤ length xs
+place-fits n [] base e = absurd (cc)
+place-fits n (x ∷ xs) base e = place-fits_step n x xs (place-fits n xs) (begins_free n (x ∷ xs)) refl (place n xs) refl base e
+
+abbrev blocks_of : Option Held → Option Block
+blocks_of held = option_map (λ (held : Held). held.block) held
+
+-- a new block, where there was none
+pub HasBlocks-allocate : (cells : List (Option Held)) (base n : ℕ) (block : Block) (state : CellState) → block.base ≡ base
+    → block.length ≡ n → place n cells ≡ Some base
+    → HasBlocks cells → HasBlocks (fill cells base n (Some (record { block = block; state = state })))
+HasBlocks-allocate cells base n block state at long e blocks = record {
+  within = λ a b is. ⊎_elim
+      (λ same. let w = blocks.within a b (sym (ap blocks_of same) ∙ is) in (w.0, w.1, omega (arith, len)))
+      (λ h. let mine : block ≡ b = some_same block b (sym (ap blocks_of h.2) ∙ is) in
+      let p = ap (λ (b : Block). b.base) mine in let q = ap (λ (b : Block). b.length) mine in (omega arith, omega arith, omega (arith, len, fits)))
+      (get_or-fill cells base n new a);
+  whole = λ a b is c lo hi. ⊎_elim
+      (λ same. ⊎_elim
+      (λ same_c. ap blocks_of same_c ∙ blocks.whole a b (sym (ap blocks_of same) ∙ is) c lo hi)
+      (λ h. absurd (some_none b (sym (blocks.whole a b (sym (ap blocks_of same) ∙ is) c lo hi) ∙ ap blocks_of (place-free n cells base e c h.0 h.1))))
+      (get_or-fill cells base n new c))
+      (λ h. let mine : block ≡ b = some_same block b (sym (ap blocks_of h.2) ∙ is) in
+      let p = ap (λ (b : Block). b.base) mine in let q = ap (λ (b : Block). b.length) mine in
+      ap blocks_of (get_or-fill_in cells base n new c (omega arith) (omega arith) (omega (arith, fits))) ∙ ap Some mine)
+      (get_or-fill cells base n new a);
+}
+  where
+    new : Option Held
+    new = Some (record { block = block; state = state })
+
+    len : length (fill cells base n new) ≡ length cells
+    len = length-fill cells base n new
+
+    fits : base + n ≤ length cells
+    fits = place-fits n cells base e
+
+-- a block is gone
+pub HasBlocks-release : (cells : List (Option Held)) (block : Block) → block_at cells block.base ≡ Some block → HasBlocks cells
+    → HasBlocks (fill cells block.base block.length None)
+HasBlocks-release cells block at blocks = record {
+  within = λ a b is. ⊎_elim
+      (λ same. let w = blocks.within a b (sym (ap blocks_of same) ∙ is) in (w.0, w.1, omega (arith, len)))
+      (λ h. absurd (some_none b (sym is ∙ ap blocks_of h.2)))
+      (get_or-fill cells block.base block.length None a);
+  whole = λ a b is c lo hi. ⊎_elim
+      (λ same. ⊎_elim
+      (λ same_c. ap blocks_of same_c ∙ blocks.whole a b (sym (ap blocks_of same) ∙ is) c lo hi)
+      (λ h.
+      let was = sym (ap blocks_of same) ∙ is in
+      let mine : b ≡ block = some_same b block (sym (blocks.whole a b was c lo hi) ∙ blocks.whole block.base block at c h.0 h.1) in
+      let p = ap (λ (b : Block). b.base) mine in
+      let q = ap (λ (b : Block). b.length) mine in
+      let w = blocks.within a b was in
+      absurd (some_none b (sym is ∙ ap blocks_of (get_or-fill_in cells block.base block.length None a (omega arith) (omega arith) (omega arith)))))
+      (get_or-fill cells block.base block.length None c))
+      (λ h. absurd (some_none b (sym is ∙ ap blocks_of h.2)))
+      (get_or-fill cells block.base block.length None a);
+}
+  where
+    len : length (fill cells block.base block.length None) ≡ length cells
+    len = length-fill cells block.base block.length None
+
+-- each operation
+module _ (cells : List (Option Held)) (blocks : HasBlocks cells) where
+  at_cell-blocks : (kind : Kind) (f : CellState → Served) (a : ℕ) → HasBlocks (at_cell kind f cells a (held_at cells a)).cells
+  at_cell-blocks kind f a = by_held (held_at cells a) refl
+    where
+      by_kind : (held : Held) → held_at cells a ≡ Some held → (b : Bool)
+          → HasBlocks (cond b (serve_cell cells a held.block (f held.state)) (only_tells cells WrongKind)).cells
+      by_kind held at true = HasBlocks-set cells a held (f held.state).state at blocks
+      by_kind held at false = blocks
+
+      by_held : (o : Option Held) → held_at cells a ≡ o → HasBlocks (at_cell kind f cells a o).cells
+      by_held None at = blocks
+      by_held (Some held) at = by_kind held at (same_kind kind held.block.kind)
+
+  allocate-blocks : (kind : Kind) (n : ℕ) → HasBlocks (allocate cells kind n).cells
+  allocate-blocks kind n = by_test (n == 0)
+    where
+      by_place : (o : Option ℕ) → place n cells ≡ o → HasBlocks (allocate_at cells kind n o).cells
+      by_place None e = blocks
+      by_place (Some base) e = HasBlocks-allocate cells base n (record { base = base; length = n; kind = kind }) (Empty []) refl refl e blocks
+
+      by_test : (b : Bool) → HasBlocks (cond b (only_tells cells BadLength) (allocate_at cells kind n (place n cells))).cells
+      by_test true = blocks
+      by_test false = by_place (place n cells) refl
+
+  release-blocks : (a : ℕ) → HasBlocks (release_block cells a (block_with_base a (held_at cells a))).cells
+  release-blocks a = by_held (held_at cells a) refl
+    where
+      gone : (held : Held) → held_at cells a ≡ Some held → held.block.base ≡ a → HasBlocks (fill cells a held.block.length None)
+      gone held at e = subst (λ k. HasBlocks (fill cells k held.block.length None)) e (HasBlocks-release cells held.block (ap (block_at cells) e ∙ ap blocks_of at) blocks)
+
+      by_waiting : (held : Held) → held_at cells a ≡ Some held → held.block.base ≡ a → (b : Bool)
+          → HasBlocks (cond b (only_tells cells StillWaiting) (record { cells = fill cells a held.block.length None; entry = Answered Released; resumed = [] })).cells
+      by_waiting held at e true = blocks
+      by_waiting held at e false = gone held at e
+
+      by_base : (held : Held) → held_at cells a ≡ Some held → (b : Bool) → (held.block.base == a) ≡ b
+          → HasBlocks (release_block cells a (cond b (Some held.block) None)).cells
+      by_base held at true e = let same : held.block.base ≡ a = grind (arith, nat_tests) in by_waiting held at same (list_any is_waiting_cell (take held.block.length (drop a cells)))
+      by_base held at false e = blocks
+
+      by_held : (o : Option Held) → held_at cells a ≡ o → HasBlocks (release_block cells a (block_with_base a o)).cells
+      by_held None at = blocks
+      by_held (Some held) at = by_base held at (held.block.base == a) refl
+
+  pub act-blocks : (who : Waiter) (op : Op) → HasBlocks (act cells who op).cells
+  act-blocks who (Alloc kind n) = allocate-blocks kind n
+  act-blocks who (Release a) = release-blocks a
+  act-blocks who (Fetch a) = at_cell-blocks I (fetch who) a
+  act-blocks who (Store a v) = at_cell-blocks I (store v) a
+  act-blocks who (Take a) = at_cell-blocks M (take_from who) a
+  act-blocks who (Put a v) = at_cell-blocks M (put v) a
+
+-- each operation leaves as many cells as there were
+module _ (cells : List (Option Held)) where
+  length-at_cell : (kind : Kind) (f : CellState → Served) (a : ℕ) (o : Option Held) → length (at_cell kind f cells a o).cells ≡ length cells
+  length-at_cell kind f a None = refl
+  length-at_cell kind f a (Some held) = by_kind (same_kind kind held.block.kind)
+    where
+      by_kind : (b : Bool) → length (cond b (serve_cell cells a held.block (f held.state)) (only_tells cells WrongKind)).cells ≡ length cells
+      by_kind true = length-set cells a _
+      by_kind false = refl
+
+  length-allocate : (kind : Kind) (n : ℕ) → length (allocate cells kind n).cells ≡ length cells
+  length-allocate kind n = by_test (n == 0)
+    where
+      by_place : (o : Option ℕ) → length (allocate_at cells kind n o).cells ≡ length cells
+      by_place None = refl
+      by_place (Some base) = length-fill cells base n _
+
+      by_test : (b : Bool) → length (cond b (only_tells cells BadLength) (allocate_at cells kind n (place n cells))).cells ≡ length cells
+      by_test true = refl
+      by_test false = by_place (place n cells)
+
+  length-release_block : (a : ℕ) (o : Option Block) → length (release_block cells a o).cells ≡ length cells
+  length-release_block a None = refl
+  length-release_block a (Some block) = by_test (list_any is_waiting_cell (take block.length (drop a cells)))
+    where
+      by_test : (b : Bool)
+          → length (cond b (only_tells cells StillWaiting) (record { cells = fill cells a block.length None; entry = Answered Released; resumed = [] })).cells ≡ length cells
+      by_test true = refl
+      by_test false = length-fill cells a block.length None
+
+  pub length-act : (who : Waiter) (op : Op) → length (act cells who op).cells ≡ length cells
+  length-act who (Alloc kind n) = length-allocate kind n
+  length-act who (Release a) = length-release_block a (block_with_base a (held_at cells a))
+  length-act who (Fetch a) = length-at_cell I (fetch who) a (held_at cells a)
+  length-act who (Store a v) = length-at_cell I (store v) a (held_at cells a)
+  length-act who (Take a) = length-at_cell M (take_from who) a (held_at cells a)
+  length-act who (Put a v) = length-at_cell M (put v) a (held_at cells a)
+
+-- two blocks that share an address are one
+pub blocks-apart : (cells : List (Option Held)) → HasBlocks cells → (a b shared : ℕ) (first second : Block) → block_at cells a ≡ Some first
+    → block_at cells b ≡ Some second
+    → LiesIn shared first → LiesIn shared second → first ≡ second
+blocks-apart cells blocks a b shared first second at_a at_b in_first in_second =
+    some_same first second (sym (blocks.whole a first at_a shared in_first.0 in_first.1) ∙ blocks.whole b second at_b shared in_second.0 in_second.1)

@@ -1,0 +1,15 @@
+use Rattle.im_laws.proofs.RunAgrees.{step-keeps}
+use Rattle.im_laws.proofs.EntryLemmas.{after-lasts, after-keeps, answered-lasts}
+use Rattle.im_laws.proofs.entries.entry_lasts.Goals as goal
+
+pub returns-clause-step : goal.returns-clause-step
+returns-clause-step c = step-keeps
+
+pub returns-clause-run : goal.returns-clause-run
+returns-clause-run c = λ m commands who k agrees. after-lasts m commands agrees who k
+
+pub returns-clause-unconfirmed : goal.returns-clause-unconfirmed
+returns-clause-unconfirmed c = λ m commands who k agrees. after-keeps m commands agrees who k
+
+pub returns-clause-answered : goal.returns-clause-answered
+returns-clause-answered c = λ m commands who k agrees. answered-lasts m commands agrees who k

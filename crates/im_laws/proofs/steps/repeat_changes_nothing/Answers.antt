@@ -1,0 +1,11 @@
+use Rattle.im_laws.proofs.EntryLemmas.{step-repeat, step-mismatch, accepted-kept}
+use Rattle.im_laws.proofs.steps.repeat_changes_nothing.Goals as goal
+
+pub returns-clause-same : goal.returns-clause-same
+returns-clause-same c = step-repeat
+
+pub returns-clause-other : goal.returns-clause-other
+returns-clause-other c = step-mismatch
+
+pub returns-clause-unaccepted : goal.returns-clause-unaccepted
+returns-clause-unaccepted c = accepted-kept

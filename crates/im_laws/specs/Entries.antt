@@ -1,0 +1,41 @@
+-- What a request comes to when it is sent again. (Own.)
+use Rattle.std.specs.Prelude.{◌≡◌, ◌⊎◌, Ok, Err}
+use Rattle.im_types.specs.declared.operations.Reply.{Reply}
+use Rattle.im_types.specs.declared.operations.Entry.{Entry}
+use Rattle.im_types.specs.declared.operations.Entry.TheVariants.{Waiting, Answered}
+use Rattle.im_types.specs.declared.operations.Waiter.{Waiter}
+use Rattle.im_types.specs.declared.operations.Kept.{Kept}
+use Rattle.im_types.specs.declared.commands.Request.{Request}
+use Rattle.im_types.specs.declared.commands.Command.TheVariants.{Request as Asks}
+use Rattle.im_types.specs.declared.commands.Outcome.TheVariants.{Entry as Tells}
+use Rattle.im_types.specs.declared.refusals.Refusal.{Refusal}
+use Rattle.im_types.specs.Contents.{Contents, kept_for}
+use Rattle.im_types.specs.Step.{asker, step}
+use Rattle.im_types.specs.Agreement.{StaysOrIsAnswered}
+use Rattle.im_laws.specs.Windows.{IsForgotten}
+
+-- the same entry, or an answer to what was waiting
+abbrev pub IsSameOrAnswer : Entry → Entry → Type 0
+IsSameOrAnswer before now = (now ≡ before) ⊎ ((reply : Reply) × (before ≡ Waiting) × (now ≡ Answered reply))
+
+-- what was kept for a request is still kept, or is answered, or was confirmed
+abbrev pub LastsOrIsForgotten : Contents → Waiter → Kept → Type 0
+LastsOrIsForgotten m who k = IsForgotten m.windows who ⊎ StaysOrIsAnswered k (kept_for m.windows who)
+
+-- the request is told this entry, and the memory stays as it is
+abbrev pub IsTold : Contents → Request → Entry → Type 0
+IsTold m r entry = step m (Asks r) ≡ record { answer = Ok (Tells entry); contents = m }
+
+-- the request is refused, and the memory stays as it is
+abbrev pub IsRefused : Contents → Request → Refusal → Type 0
+IsRefused m r refusal = step m (Asks r) ≡ record { answer = Err refusal; contents = m }
+
+-- the request is told the entry that it had, or the answer that has come since, and the memory stays as it is
+pub record IsToldAgain (m : Contents) (r : Request) (before : Entry) : Type 0 where
+  pub entry : Entry
+  pub since : IsSameOrAnswer before entry
+  pub told : IsTold m r entry
+
+-- sent again: told again, unless it was confirmed
+abbrev pub IsToldAgainOrForgotten : Contents → Request → Entry → Type 0
+IsToldAgainOrForgotten m r before = IsForgotten m.windows (asker r) ⊎ IsToldAgain m r before

@@ -1,0 +1,262 @@
+-- Worked traces, and what the laws over histories say of them. (Own.)
+use Rattle.std.specs.Prelude.{ℕ, List, [], ◌∷◌, ◌++◌, map, Option, None, Some, Result, Ok, Err}
+use Rattle.im_types.specs.declared.operations.Op.{Op}
+use Rattle.im_types.specs.declared.operations.Op.TheVariants.{Alloc, Release, Fetch, Store, Take, Put}
+use Rattle.im_types.specs.declared.operations.Kind.{Kind}
+use Rattle.im_types.specs.declared.operations.Kind.TheVariants.{I, M}
+use Rattle.im_types.specs.declared.operations.Reply.{Reply}
+use Rattle.im_types.specs.declared.operations.Reply.TheVariants.{Base, NoSpace, BadLength, Value, Stored, Clash, NoCell, WrongKind, Released, NoBlock, StillWaiting}
+use Rattle.im_types.specs.declared.operations.Entry.{Entry}
+use Rattle.im_types.specs.declared.operations.Entry.TheVariants.{Waiting, Answered}
+use Rattle.im_types.specs.declared.operations.Waiter.{Waiter}
+use Rattle.im_types.specs.declared.commands.Command.{Command}
+use Rattle.im_types.specs.declared.commands.Command.TheVariants.{Request as Asks, Confirm}
+use Rattle.im_types.specs.declared.commands.Outcome.{Outcome}
+use Rattle.im_types.specs.declared.commands.Outcome.TheVariants.{Entry as Tells, Confirmed}
+use Rattle.im_types.specs.declared.commands.Call.TheVariants.{Command as Commands, Collect}
+use Rattle.im_types.specs.declared.commands.Line.{Line}
+use Rattle.im_types.specs.declared.refusals.Refusal.{Refusal}
+use Rattle.im_types.specs.declared.refusals.Refusal.TheVariants.{Gap, Forgotten, WindowFull, Mismatch, NoElement, NotAnswered}
+use Rattle.im_types.specs.Contents.{Contents, empty_contents}
+use Rattle.im_types.specs.Step.{asker}
+use Rattle.im_types.specs.History.{Event, Life, lives, events, last_entry, lawful_entry}
+
+-- an empty memory of 16 cells and 16 elements
+abbrev pub sixteen_cells : Contents
+sixteen_cells = empty_contents 16 16
+
+-- the least memory
+abbrev pub one_cell : Contents
+one_cell = empty_contents 1 1
+
+-- who waits, by element and number
+abbrev pub waiter : ℕ → ℕ → Waiter
+waiter element number = record { element = element; number = number }
+
+-- the lines of a trace: an element asks under a number; it confirms up to a number; its entry under a number is collected
+abbrev pub asks : ℕ → ℕ → Op → Result Outcome Refusal → Line
+asks element number op answer = record { call = Commands (Asks (record { element = element; number = number; op = op })); answer = answer }
+
+-- a confirmation, and its answer
+abbrev pub confirms : ℕ → ℕ → Result Outcome Refusal → Line
+confirms element upto answer = record { call = Commands (Confirm element upto); answer = answer }
+
+-- a question for an entry, and its answer
+abbrev pub collects : ℕ → ℕ → Result Outcome Refusal → Line
+collects element number answer = record { call = Collect element number; answer = answer }
+
+-- and their answers
+abbrev pub told : Reply → Result Outcome Refusal
+told reply = Ok (Tells (Answered reply))
+
+-- the answer to a request that is deferred
+abbrev pub waits : Result Outcome Refusal
+waits = Ok (Tells Waiting)
+
+-- the answer to a confirmation that is taken
+abbrev pub confirmed : Result Outcome Refusal
+confirmed = Ok Confirmed
+
+-- three readers wait
+abbrev pub three_readers : List Line
+three_readers =
+    asks 0 1 (Alloc I 1) (told (Base 0))
+    ∷ asks 1 1 (Fetch 0) waits
+    ∷ asks 2 1 (Fetch 0) waits
+    ∷ asks 1 2 (Fetch 0) waits
+    ∷ []
+
+-- and one store answers all of them
+abbrev pub one_store : List Line
+one_store =
+    three_readers
+    ++ asks 3 1 (Store 0 7) (told Stored)
+    ∷ collects 1 1 (told (Value 7))
+    ∷ collects 2 1 (told (Value 7))
+    ∷ collects 1 2 (told (Value 7))
+    ∷ []
+
+-- a second store, of the same value too, clashes for good
+abbrev pub second_store : List Line
+second_store =
+    asks 0 1 (Alloc I 1) (told (Base 0))
+    ∷ asks 1 1 (Store 0 5) (told Stored)
+    ∷ asks 1 2 (Fetch 0) (told (Value 5))
+    ∷ asks 1 3 (Store 0 5) (told Clash)
+    ∷ asks 1 4 (Fetch 0) (told Clash)
+    ∷ collects 1 2 (told (Value 5))
+    ∷ []
+
+-- takers are served in the order in which they came
+abbrev pub three_takers : List Line
+three_takers =
+    asks 0 1 (Alloc M 1) (told (Base 0))
+    ∷ asks 3 1 (Take 0) waits
+    ∷ asks 1 1 (Take 0) waits
+    ∷ asks 2 1 (Take 0) waits
+    ∷ asks 4 1 (Put 0 10) (told Stored)
+    ∷ asks 4 2 (Put 0 20) (told Stored)
+    ∷ collects 3 1 (told (Value 10))
+    ∷ collects 1 1 (told (Value 20))
+    ∷ collects 2 1 waits
+    ∷ asks 4 3 (Put 0 30) (told Stored)
+    ∷ collects 2 1 (told (Value 30))
+    ∷ []
+
+-- a put on a full cell clashes
+abbrev pub second_put : List Line
+second_put =
+    asks 0 1 (Alloc M 1) (told (Base 0))
+    ∷ asks 1 1 (Put 0 1) (told Stored)
+    ∷ asks 1 2 (Put 0 2) (told Clash)
+    ∷ asks 1 3 (Take 0) (told Clash)
+    ∷ []
+
+-- lengths and addresses that don't fit
+abbrev pub edges : List Line
+edges =
+    asks 0 1 (Alloc I 16) (told (Base 0))
+    ∷ asks 0 2 (Alloc I 1) (told NoSpace)
+    ∷ asks 0 3 (Alloc I 0) (told BadLength)
+    ∷ asks 0 4 (Alloc M 17) (told NoSpace)
+    ∷ asks 1 1 (Fetch 16) (told NoCell)
+    ∷ asks 1 2 (Fetch 0xFFFF_FFFF) (told NoCell)
+    ∷ []
+
+-- the least hole that is large enough is taken
+abbrev pub least_hole : List Line
+least_hole =
+    asks 0 1 (Alloc I 2) (told (Base 0))
+    ∷ asks 0 2 (Alloc I 3) (told (Base 2))
+    ∷ asks 0 3 (Alloc M 2) (told (Base 5))
+    ∷ asks 0 4 (Release 2) (told Released)
+    ∷ asks 0 5 (Alloc I 4) (told (Base 7))
+    ∷ asks 0 6 (Alloc I 3) (told (Base 2))
+    ∷ asks 0 7 (Release 3) (told NoBlock)
+    ∷ asks 1 1 (Fetch 5) (told WrongKind)
+    ∷ []
+
+-- a block with a waiting cell stays, and what was told of it is kept
+abbrev pub waiting_block : List Line
+waiting_block =
+    asks 0 1 (Alloc I 1) (told (Base 0))
+    ∷ asks 1 1 (Fetch 0) waits
+    ∷ asks 0 2 (Release 0) (told StillWaiting)
+    ∷ asks 2 1 (Store 0 9) (told Stored)
+    ∷ asks 0 3 (Release 0) (told Released)
+    ∷ asks 0 2 (Release 0) (told StillWaiting)
+    ∷ asks 1 2 (Fetch 0) (told NoCell)
+    ∷ collects 1 1 (told (Value 9))
+    ∷ asks 0 4 (Alloc I 1) (told (Base 0))
+    ∷ asks 1 3 (Fetch 0) waits
+    ∷ []
+
+-- a request that comes again acts once
+abbrev pub sent_again : List Line
+sent_again =
+    asks 0 1 (Alloc I 1) (told (Base 0))
+    ∷ asks 1 1 (Fetch 0) waits
+    ∷ asks 1 1 (Fetch 0) waits
+    ∷ asks 1 1 (Fetch 1) (Err Mismatch)
+    ∷ asks 1 3 (Fetch 0) (Err Gap)
+    ∷ asks 1 0 (Fetch 0) (Err Forgotten)
+    ∷ asks 16 1 (Fetch 0) (Err NoElement)
+    ∷ asks 2 1 (Store 0 3) (told Stored)
+    ∷ asks 1 1 (Fetch 0) (told (Value 3))
+    ∷ []
+
+-- sixteen entries that wait are a full window, which nothing leaves before it is answered
+abbrev pub full_window : List Line
+full_window =
+    asks 0 1 (Alloc I 1) (told (Base 0))
+    ∷ asks 1 1 (Fetch 0) waits
+    ∷ asks 1 2 (Fetch 0) waits
+    ∷ asks 1 3 (Fetch 0) waits
+    ∷ asks 1 4 (Fetch 0) waits
+    ∷ asks 1 5 (Fetch 0) waits
+    ∷ asks 1 6 (Fetch 0) waits
+    ∷ asks 1 7 (Fetch 0) waits
+    ∷ asks 1 8 (Fetch 0) waits
+    ∷ asks 1 9 (Fetch 0) waits
+    ∷ asks 1 10 (Fetch 0) waits
+    ∷ asks 1 11 (Fetch 0) waits
+    ∷ asks 1 12 (Fetch 0) waits
+    ∷ asks 1 13 (Fetch 0) waits
+    ∷ asks 1 14 (Fetch 0) waits
+    ∷ asks 1 15 (Fetch 0) waits
+    ∷ asks 1 16 (Fetch 0) waits
+    ∷ asks 1 17 (Fetch 0) (Err WindowFull)
+    ∷ confirms 1 2 (Err NotAnswered)
+    ∷ confirms 1 18 (Err Gap)
+    ∷ asks 2 1 (Store 0 8) (told Stored)
+    ∷ confirms 1 17 confirmed
+    ∷ asks 1 1 (Fetch 0) (Err Forgotten)
+    ∷ asks 1 17 (Fetch 0) (told (Value 8))
+    ∷ confirms 1 1 confirmed
+    ∷ []
+
+-- one cell and one element
+abbrev pub least_memory : List Line
+least_memory =
+    asks 0 1 (Alloc I 1) (told (Base 0))
+    ∷ asks 0 2 (Fetch 0) waits
+    ∷ asks 0 3 (Store 0 0) (told Stored)
+    ∷ collects 0 2 (told (Value 0))
+    ∷ asks 1 1 (Fetch 0) (Err NoElement)
+    ∷ []
+
+-- fetches before a store, after it, and after a second one
+abbrev pub fetches : List Line
+fetches =
+    asks 0 1 (Alloc I 1) (told (Base 0))
+    ∷ asks 1 1 (Fetch 0) waits
+    ∷ asks 2 1 (Store 0 7) (told Stored)
+    ∷ asks 1 2 (Fetch 0) (told (Value 7))
+    ∷ asks 2 2 (Store 0 7) (told Clash)
+    ∷ asks 1 3 (Fetch 0) (told Clash)
+    ∷ []
+
+-- takes that come before their puts, and then puts that outnumber the takes
+abbrev pub takes_and_puts : List Line
+takes_and_puts =
+    asks 0 1 (Alloc M 1) (told (Base 0))
+    ∷ asks 1 1 (Take 0) waits
+    ∷ asks 1 2 (Take 0) waits
+    ∷ asks 2 1 (Put 0 10) (told Stored)
+    ∷ asks 2 2 (Put 0 20) (told Stored)
+    ∷ asks 2 3 (Put 0 30) (told Stored)
+    ∷ asks 2 4 (Put 0 40) (told Clash)
+    ∷ asks 1 3 (Take 0) (told Clash)
+    ∷ asks 2 5 (Put 0 50) (told Clash)
+    ∷ []
+
+-- two lives at one address, and an entry that was dropped
+abbrev pub two_lives : List Line
+two_lives =
+    asks 0 1 (Alloc I 1) (told (Base 0))
+    ∷ asks 1 1 (Store 0 5) (told Stored)
+    ∷ asks 1 2 (Fetch 0) (told (Value 5))
+    ∷ confirms 1 3 confirmed
+    ∷ asks 0 2 (Release 0) (told Released)
+    ∷ asks 0 3 (Alloc I 2) (told (Base 0))
+    ∷ asks 1 3 (Fetch 0) waits
+    ∷ asks 1 4 (Fetch 1) waits
+    ∷ []
+
+-- for each request of a life the entry that the laws say, if they say one, beside the last that it had
+abbrev pub beside : Contents → List Command → Kind → ℕ → List Event → List Event → List Event → List (Option Entry × Option Entry)
+beside m commands kind a all before [] = []
+beside m commands kind a all before (event ∷ later) =
+    (lawful_entry kind a all before event event.request.op, last_entry m commands (asker event.request)) ∷ beside m commands kind a all (before ++ event ∷ []) later
+
+-- for each life of a run
+abbrev pub in_lives : Contents → List Command → ℕ → List (List (Option Entry × Option Entry))
+in_lives m commands a = map (λ (life : Life). beside m commands life.kind a life.requests [] life.requests) (lives (events m commands))
+
+-- the laws say this entry, and it is the one that was had; or they say nothing
+abbrev pub lawful : Entry → Option Entry × Option Entry
+lawful entry = (Some entry, Some entry)
+
+-- an entry of which the laws say nothing
+abbrev pub unsaid : Entry → Option Entry × Option Entry
+unsaid entry = (None, Some entry)

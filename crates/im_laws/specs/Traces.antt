@@ -1,0 +1,28 @@
+-- The commands of a trace. (Own.)
+use Rattle.std.specs.Prelude.{List, [], ◌∷◌, ◌++◌, Result}
+use Rattle.im_types.specs.declared.commands.Command.{Command}
+use Rattle.im_types.specs.declared.commands.Outcome.{Outcome}
+use Rattle.im_types.specs.declared.commands.Call.{Call}
+use Rattle.im_types.specs.declared.commands.Call.TheVariants.{Command as Commands, Collect}
+use Rattle.im_types.specs.declared.commands.Line.{Line}
+use Rattle.im_types.specs.declared.refusals.Refusal.{Refusal}
+
+-- the command of a call, if it is one
+abbrev pub command_in : Call → List Command
+command_in (Commands command) = command ∷ []
+command_in (Collect element number) = []
+
+-- the commands of a trace, in order
+abbrev pub commands_of : List Line → List Command
+commands_of [] = []
+commands_of (line ∷ lines) = command_in line.call ++ commands_of lines
+
+-- an answer to a command, if it is one
+abbrev pub answer_to_command : Call → Result Outcome Refusal → List (Result Outcome Refusal)
+answer_to_command (Commands command) answer = answer ∷ []
+answer_to_command (Collect element number) answer = []
+
+-- the answers that a trace has for its commands, in order
+abbrev pub command_answers : List Line → List (Result Outcome Refusal)
+command_answers [] = []
+command_answers (line ∷ lines) = answer_to_command line.call line.answer ++ command_answers lines

@@ -1,0 +1,34 @@
+//! Who waits.
+ghost use Rattle.std.specs.Prelude.{◌≡◌, ◌↔◌, ℕ, ◌≤◌, List, IsTrue};
+ghost use Rattle.im_types.specs.declared.operations.Waiter.{Waiter};
+ghost use Rattle.im_types.specs.declared.operations.Kept.{Kept};
+ghost use Rattle.im_types.specs.declared.commands.Command.{Command};
+ghost use Rattle.im_types.specs.Contents.{Contents, empty_contents, waiters_at, kept_for};
+ghost use Rattle.im_types.specs.Window.{is_waiting};
+ghost use Rattle.im_types.specs.Step.{step};
+ghost use Rattle.im_types.specs.Run.{after};
+ghost use Rattle.im_types.specs.Agreement.{WaitingAgrees, times, address_of};
+ghost use Rattle.im_laws.specs.Agreement.{WaitsAt};
+
+/// Who waits at a cell is who has a waiting entry for it: each command keeps this, and it holds after any commands on an
+/// empty memory.
+pub fn waiting_agrees()
+    ensures step { (m : Contents) (command : Command) → WaitingAgrees m
+        → WaitingAgrees (step m command).contents }
+    ensures run { (cells elements : ℕ) (commands : List Command)
+        → WaitingAgrees (after (empty_contents cells elements) commands) }
+{}
+
+/// What the agreement says: a request stands in a cell's list exactly where its entry waits for that cell, and then once
+/// and in no other list; and each waiting entry waits for the cell that it names.
+pub fn waiting_entries_are_listed_once()
+    ensures listed { (m : Contents) → WaitingAgrees m → (who : Waiter) (a : ℕ)
+        → (1 ≤ times who (waiters_at m.cells a)) ↔ WaitsAt m who a }
+    ensures once { (m : Contents) → WaitingAgrees m → (who : Waiter) (a : ℕ)
+        → times who (waiters_at m.cells a) ≤ 1 }
+    ensures in_one_list { (m : Contents) (who : Waiter) (a b : ℕ) → WaitsAt m who a
+        → WaitsAt m who b → a ≡ b }
+    ensures somewhere { (m : Contents) → WaitingAgrees m → (who : Waiter) (k : Kept)
+        → kept_for m.windows who ≡ Some k → IsTrue (is_waiting k)
+        → WaitsAt m who (address_of k.op) }
+{}

@@ -1,0 +1,57 @@
+//! Blocks.
+ghost use Rattle.std.specs.Prelude.{◌≡◌, ℕ, ◌+◌, ◌<◌, ◌≤◌, [], List, Option};
+ghost use Rattle.std.specs.Bool.{IsFalse};
+ghost use Rattle.im_types.specs.declared.operations.Op.TheVariants.{Alloc, Release};
+ghost use Rattle.im_types.specs.declared.operations.Kind.{Kind};
+ghost use Rattle.im_types.specs.declared.operations.Reply.TheVariants.{Base, NoSpace, Released};
+ghost use Rattle.im_types.specs.declared.operations.Entry.TheVariants.{Answered};
+ghost use Rattle.im_types.specs.declared.operations.Block.{Block};
+ghost use Rattle.im_types.specs.declared.commands.Request.{Request};
+ghost use Rattle.im_types.specs.declared.commands.Command.{Command};
+ghost use Rattle.im_types.specs.Contents.{Held, Contents, held_at, waiters_at, block_at, HasBlocks};
+ghost use Rattle.im_types.specs.Place.{is_free, IsLeastFree};
+ghost use Rattle.im_types.specs.Step.{step};
+ghost use Rattle.im_types.specs.Run.{after};
+ghost use Rattle.im_laws.specs.Blocks.{LiesIn};
+ghost use Rattle.im_laws.specs.Cells.{empty_cell};
+ghost use Rattle.im_laws.specs.Requests.{after_request, IsServed};
+
+/// Blocks stay whole and below the cell count, after each command and after any commands.
+pub fn blocks_stay_whole()
+    ensures step { (m : Contents) (command : Command) → HasBlocks m.cells
+        → HasBlocks (step m command).contents.cells }
+    ensures run { (m : Contents) (commands : List Command) → HasBlocks m.cells
+        → HasBlocks (after m commands).cells }
+{}
+
+/// Two blocks that share an address are one block.
+pub fn blocks_are_apart()
+    ensures { (cells : List (Option Held)) → HasBlocks cells
+        → (a b shared : ℕ) (first second : Block) → block_at cells a ≡ Some first
+        → block_at cells b ≡ Some second → LiesIn shared first → LiesIn shared second
+        → first ≡ second }
+{}
+
+/// A new request for a block that is told a base is given the least one that is free, and from there on the cells of the
+/// new block, all empty. One that is told that there is no space meets a memory where no base is free.
+pub fn allocation_takes_the_least_place()
+    ensures least { (m : Contents) (r : Request) (kind : Kind) (n base : ℕ)
+        → IsServed m r (Alloc kind n) (Answered (Base base)) → IsLeastFree m.cells n base }
+    ensures made { (m : Contents) (r : Request) (kind : Kind) (n base a : ℕ)
+        → IsServed m r (Alloc kind n) (Answered (Base base)) → base ≤ a → a < base + n
+        → held_at (after_request m r).cells a
+        ≡ Some (empty_cell (record { base = base; length = n; kind = kind })) }
+    ensures no_space { (m : Contents) (r : Request) (kind : Kind) (n base : ℕ)
+        → IsServed m r (Alloc kind n) (Answered NoSpace) → IsFalse (is_free m.cells base n) }
+{}
+
+/// A new request for a release that is told so frees each cell of the block with that base, and nobody waited for any.
+pub fn release_frees_the_block()
+    ensures freed { (m : Contents) (r : Request) (a b : ℕ) (block : Block)
+        → HasBlocks m.cells → IsServed m r (Release a) (Answered Released)
+        → block_at m.cells b ≡ Some block → block.base ≡ a
+        → held_at (after_request m r).cells b ≡ None }
+    ensures nobody { (m : Contents) (r : Request) (a b : ℕ) (block : Block)
+        → HasBlocks m.cells → IsServed m r (Release a) (Answered Released)
+        → block_at m.cells b ≡ Some block → block.base ≡ a → waiters_at m.cells b ≡ [] }
+{}

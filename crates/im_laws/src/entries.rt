@@ -1,0 +1,57 @@
+//! What is kept for a request.
+ghost use Rattle.std.specs.Prelude.{◌≡◌, ◌⊎◌, List, IsTrue};
+ghost use Rattle.std.specs.Bool.{IsFalse};
+ghost use Rattle.std.specs.List.{list_any};
+ghost use Rattle.im_types.specs.declared.operations.Entry.{Entry};
+ghost use Rattle.im_types.specs.declared.operations.Waiter.{Waiter};
+ghost use Rattle.im_types.specs.declared.operations.Kept.{Kept};
+ghost use Rattle.im_types.specs.declared.commands.Request.{Request};
+ghost use Rattle.im_types.specs.declared.commands.Command.{Command};
+ghost use Rattle.im_types.specs.declared.commands.Command.TheVariants.{Request as Asks};
+ghost use Rattle.im_types.specs.Contents.{Contents, kept_for};
+ghost use Rattle.im_types.specs.Window.{is_waiting, ask};
+ghost use Rattle.im_types.specs.Step.{asker, step, is_accepted};
+ghost use Rattle.im_types.specs.Run.{after, accepted};
+ghost use Rattle.im_types.specs.Agreement.{StaysOrIsAnswered, KeepsEntries, drops, WaitingAgrees};
+ghost use Rattle.im_laws.specs.Windows.{IsForgotten};
+ghost use Rattle.im_laws.specs.Requests.{after_request, IsAnswered};
+ghost use Rattle.im_laws.specs.Entries.{LastsOrIsForgotten, IsToldAgainOrForgotten};
+
+/// What is kept for a request stays kept until it is confirmed, save that a waiting entry may be answered; an answered
+/// entry never changes.
+pub fn entry_lasts()
+    ensures step { (m : Contents) (command : Command) → WaitingAgrees m
+        → KeepsEntries m command (step m command).contents }
+    ensures run { (m : Contents) (commands : List Command) (who : Waiter) (k : Kept)
+        → WaitingAgrees m → kept_for m.windows who ≡ Some k
+        → LastsOrIsForgotten (after m commands) who k }
+    ensures unconfirmed { (m : Contents) (commands : List Command) (who : Waiter) (k : Kept)
+        → WaitingAgrees m → kept_for m.windows who ≡ Some k
+        → IsFalse (list_any (λ command. drops command who) (accepted m commands))
+        → StaysOrIsAnswered k (kept_for (after m commands).windows who) }
+    ensures answered { (m : Contents) (commands : List Command) (who : Waiter) (k : Kept)
+        → WaitingAgrees m → kept_for m.windows who ≡ Some k → IsFalse (is_waiting k)
+        → IsForgotten (after m commands).windows who
+        ⊎ (kept_for (after m commands).windows who ≡ Some k) }
+{}
+
+/// What a request was told is what is kept for it right after.
+pub fn read_back()
+    ensures { (m : Contents) (r : Request) (entry : Entry) → WaitingAgrees m → IsAnswered m r entry
+        → ask (after_request m r).windows (asker r) ≡ Ok entry }
+{}
+
+/// A request that was told its entry and is sent again, after any commands, is told the same entry, or the answer that
+/// has come since, and changes nothing; unless it was confirmed.
+pub fn repeat_is_told_again()
+    ensures { (m : Contents) (r : Request) (entry : Entry) (commands : List Command)
+        → WaitingAgrees m → IsAnswered m r entry
+        → IsToldAgainOrForgotten (after (after_request m r) commands) r entry }
+{}
+
+/// A request under a number that was accepted once is never accepted again, whatever it asks and whatever came between.
+pub fn number_acts_once()
+    ensures { (m : Contents) (r again : Request) (commands : List Command)
+        → IsTrue (is_accepted m (Asks r)) → asker again ≡ asker r
+        → IsFalse (is_accepted (after (after_request m r) commands) (Asks again)) }
+{}

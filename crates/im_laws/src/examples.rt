@@ -1,0 +1,99 @@
+//! Worked traces: the definitions compute each answer.
+ghost use Rattle.std.specs.Prelude.{◌≡◌, [], ◌∷◌, length, take};
+ghost use Rattle.im_types.specs.declared.operations.Kind.TheVariants.{I, M};
+ghost use Rattle.im_types.specs.declared.operations.Reply.TheVariants.{Value, Stored, Clash};
+ghost use Rattle.im_types.specs.declared.operations.Entry.TheVariants.{Waiting, Answered};
+ghost use Rattle.im_types.specs.Contents.{Empty, Full, Clashed, held_at, waiters_at};
+ghost use Rattle.im_types.specs.Run.{accepted};
+ghost use Rattle.im_types.specs.Trace.{IsLegal, end_of};
+ghost use Rattle.im_laws.specs.Traces.{commands_of};
+ghost use Rattle.im_laws.specs.Examples.{sixteen_cells, one_cell, waiter, three_readers, one_store, second_store, three_takers, second_put, edges, least_hole, waiting_block, sent_again, full_window, least_memory, fetches, takes_and_puts, two_lives, in_lives, lawful, unsaid};
+
+/// Three readers wait in the order of their arrival, and one store answers all of them.
+pub fn readers_wait_for_one_store()
+    ensures legal { IsLegal sixteen_cells one_store }
+    ensures in_order { waiters_at (end_of sixteen_cells three_readers).cells 0
+        ≡ waiter 1 1 ∷ waiter 2 1 ∷ waiter 1 2 ∷ [] }
+    ensures full { held_at (end_of sixteen_cells one_store).cells 0
+        ≡ Some (record { block = record { base = 0; length = 1; kind = I }; state = Full 7 }) }
+{}
+
+/// A second store clashes, though it has the same value, and so does each fetch after it.
+pub fn second_store_clashes()
+    ensures legal { IsLegal sixteen_cells second_store }
+    ensures clashed { held_at (end_of sixteen_cells second_store).cells 0
+        ≡ Some (record { block = record { base = 0; length = 1; kind = I }; state = Clashed 5 }) }
+{}
+
+/// Takers are served in the order in which they came, and the cell stays empty.
+pub fn takers_are_served_in_order()
+    ensures legal { IsLegal sixteen_cells three_takers }
+    ensures emptied { held_at (end_of sixteen_cells three_takers).cells 0
+        ≡ Some (record { block = record { base = 0; length = 1; kind = M }; state = Empty [] }) }
+{}
+
+/// A put on a full cell clashes, and so does each take after it.
+pub fn second_put_clashes()
+    ensures legal { IsLegal sixteen_cells second_put }
+    ensures clashed { held_at (end_of sixteen_cells second_put).cells 0
+        ≡ Some (record { block = record { base = 0; length = 1; kind = M }; state = Clashed 1 }) }
+{}
+
+/// A block may fill all cells; none has no cell or more than there are; and past the last cell there is none.
+pub fn lengths_and_addresses_have_edges()
+    ensures { IsLegal sixteen_cells edges }
+{}
+
+/// A block is placed in the least hole that is large enough.
+pub fn least_hole_is_taken()
+    ensures { IsLegal sixteen_cells least_hole }
+{}
+
+/// A block with a waiting cell isn't released, and that answer is kept though the block goes later.
+pub fn waiting_block_stays()
+    ensures { IsLegal sixteen_cells waiting_block }
+{}
+
+/// A request that comes again acts once: the reader stands in the list once, and only three commands are accepted.
+pub fn repeat_acts_once()
+    ensures legal { IsLegal sixteen_cells sent_again }
+    ensures once { waiters_at (end_of sixteen_cells (take 3 sent_again)).cells 0 ≡ waiter 1 1 ∷ [] }
+    ensures accepts { length (accepted sixteen_cells (commands_of sent_again)) ≡ 3 }
+{}
+
+/// A window of sixteen waiting entries takes no more, and gives none up before it is answered.
+pub fn full_window_is_answered_first()
+    ensures legal { IsLegal sixteen_cells full_window }
+    ensures accepts { length (accepted sixteen_cells (commands_of full_window)) ≡ 20 }
+{}
+
+/// The least memory serves one element on one cell.
+pub fn least_memory_serves()
+    ensures { IsLegal one_cell least_memory }
+{}
+
+/// The value law, worked: the fetch that came before the store and the one that came after it have its value, and the one
+/// after the second store is a clash.
+pub fn fetches_have_the_first_value()
+    ensures legal { IsLegal sixteen_cells fetches }
+    ensures law { in_lives sixteen_cells (commands_of fetches) 0
+        ≡ (lawful (Answered (Value 7)) ∷ unsaid (Answered Stored) ∷ lawful (Answered (Value 7))
+        ∷ unsaid (Answered Clash) ∷ lawful (Answered Clash) ∷ []) ∷ [] }
+{}
+
+/// The matching law, worked: each take has the value of its put, until a put comes for which there is no room.
+pub fn takes_match_puts()
+    ensures legal { IsLegal sixteen_cells takes_and_puts }
+    ensures law { in_lives sixteen_cells (commands_of takes_and_puts) 0
+        ≡ (lawful (Answered (Value 10)) ∷ lawful (Answered (Value 20)) ∷ lawful (Answered Stored)
+        ∷ lawful (Answered Stored) ∷ lawful (Answered Stored) ∷ lawful (Answered Clash)
+        ∷ lawful (Answered Clash) ∷ lawful (Answered Clash) ∷ []) ∷ [] }
+{}
+
+/// Two blocks that had one address in turn have a life each, and an entry that was dropped counts as it last was.
+pub fn lives_are_apart()
+    ensures legal { IsLegal sixteen_cells two_lives }
+    ensures law { in_lives sixteen_cells (commands_of two_lives) 0
+        ≡ (unsaid (Answered Stored) ∷ lawful (Answered (Value 5)) ∷ [])
+        ∷ (lawful Waiting ∷ unsaid Waiting ∷ []) ∷ [] }
+{}

@@ -1,0 +1,19 @@
+//! What stays true of a memory.
+ghost use Rattle.std.specs.Prelude.{ℕ, List};
+ghost use Rattle.im_types.specs.declared.commands.Command.{Command};
+ghost use Rattle.im_types.specs.Contents.{Contents, empty_contents};
+ghost use Rattle.im_types.specs.Step.{step};
+ghost use Rattle.im_types.specs.Run.{after};
+ghost use Rattle.im_types.specs.Memory.{IsMemory};
+
+/// The empty memory is a memory, and after each command and any commands a memory still is one: so many cells and
+/// windows, whole blocks, windows within their bounds, and who waits at a cell has a waiting entry.
+pub fn memory_stays_one()
+    ensures empty { (cells elements : ℕ) → IsMemory cells elements (empty_contents cells elements) }
+    ensures step { (cells elements : ℕ) (m : Contents) (command : Command)
+        → IsMemory cells elements m → IsMemory cells elements (step m command).contents }
+    ensures run { (cells elements : ℕ) (m : Contents) (commands : List Command)
+        → IsMemory cells elements m → IsMemory cells elements (after m commands) }
+    ensures reached { (cells elements : ℕ) (commands : List Command)
+        → IsMemory cells elements (after (empty_contents cells elements) commands) }
+{}

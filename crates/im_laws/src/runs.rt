@@ -1,0 +1,24 @@
+//! Lists of commands.
+ghost use Rattle.std.specs.Prelude.{◌≡◌, ◌++◌, List};
+ghost use Rattle.im_types.specs.declared.commands.Command.{Command};
+ghost use Rattle.im_types.specs.Contents.{Contents};
+ghost use Rattle.im_types.specs.Run.{after, accepted, answers};
+
+/// A list of commands and then another come to the same as the two lists joined: the same memory, the same answers, the
+/// same commands accepted.
+pub fn runs_join()
+    ensures memory { (m : Contents) (earlier later : List Command)
+        → after m (earlier ++ later) ≡ after (after m earlier) later }
+    ensures answer { (m : Contents) (earlier later : List Command)
+        → answers m (earlier ++ later) ≡ answers m earlier ++ answers (after m earlier) later }
+    ensures accept { (m : Contents) (earlier later : List Command)
+        → accepted m (earlier ++ later) ≡ accepted m earlier ++ accepted (after m earlier) later }
+{}
+
+/// The accepted commands alone lead to the same memory as all the commands, and each of them is accepted again.
+pub fn only_accepted_commands_matter()
+    ensures memory { (m : Contents) (commands : List Command)
+        → after m (accepted m commands) ≡ after m commands }
+    ensures again { (m : Contents) (commands : List Command)
+        → accepted m (accepted m commands) ≡ accepted m commands }
+{}

@@ -1,0 +1,55 @@
+//! One command.
+ghost use Rattle.std.specs.Prelude.{◌≡◌, ◌≢◌, ◌↔◌, ◌≤◌, List, IsTrue, IsOk, true, false};
+ghost use Rattle.std.specs.Bool.{IsFalse};
+ghost use Rattle.im_types.specs.declared.operations.Waiter.{Waiter};
+ghost use Rattle.im_types.specs.declared.operations.Kept.{Kept};
+ghost use Rattle.im_types.specs.declared.commands.Request.{Request};
+ghost use Rattle.im_types.specs.declared.commands.Command.{Command};
+ghost use Rattle.im_types.specs.declared.commands.Command.TheVariants.{Request as Asks};
+ghost use Rattle.im_types.specs.declared.refusals.Refusal.{Refusal};
+ghost use Rattle.im_types.specs.declared.refusals.Refusal.TheVariants.{Mismatch};
+ghost use Rattle.im_types.specs.Refusals.{number_of};
+ghost use Rattle.im_types.specs.Contents.{Window, Contents, kept_for};
+ghost use Rattle.im_types.specs.Window.{ask};
+ghost use Rattle.im_types.specs.Step.{asker, step, is_accepted, acceptance};
+ghost use Rattle.im_laws.specs.Entries.{IsTold, IsRefused};
+
+/// A command is accepted exactly where it changes the memory, and then it isn't refused.
+pub fn accepted_where_changed()
+    ensures accepted { (m : Contents) (command : Command)
+        → IsTrue (is_accepted m command) ↔ ((step m command).contents ≢ m) }
+    ensures unaccepted { (m : Contents) (command : Command)
+        → IsFalse (is_accepted m command) ↔ ((step m command).contents ≡ m) }
+    ensures answered { (m : Contents) (command : Command) → IsTrue (is_accepted m command)
+        → IsOk (step m command).answer }
+{}
+
+/// The acceptance of a command, asked before it is put: the refusal that it would meet, and else whether it would change
+/// the memory.
+pub fn acceptance_tells()
+    ensures refused { (m : Contents) (command : Command) (refusal : Refusal)
+        → (acceptance m command ≡ Err refusal) ↔ ((step m command).answer ≡ Err refusal) }
+    ensures changes { (m : Contents) (command : Command)
+        → (acceptance m command ≡ Ok true) ↔ ((step m command).contents ≢ m) }
+    ensures leaves { (m : Contents) (command : Command) → (acceptance m command ≡ Ok false)
+        ↔ (IsOk (step m command).answer × ((step m command).contents ≡ m)) }
+{}
+
+/// A request under a number that is kept changes nothing: the same operation is told what is kept, another one is a
+/// mismatch.
+pub fn repeat_changes_nothing()
+    ensures same { (m : Contents) (r : Request) (k : Kept) → kept_for m.windows (asker r) ≡ Some k
+        → k.op ≡ r.op → IsTold m r k.entry }
+    ensures other { (m : Contents) (r : Request) (k : Kept) → kept_for m.windows (asker r) ≡ Some k
+        → k.op ≢ r.op → IsRefused m r Mismatch }
+    ensures unaccepted { (m : Contents) (r : Request) (k : Kept)
+        → kept_for m.windows (asker r) ≡ Some k → IsFalse (is_accepted m (Asks r)) }
+{}
+
+/// A command, and a question for an entry, meet only the first six refusals: those of request numbers.
+pub fn refusals_are_of_numbers()
+    ensures command { (m : Contents) (command : Command) (refusal : Refusal)
+        → (step m command).answer ≡ Err refusal → number_of refusal ≤ 6 }
+    ensures question { (windows : List Window) (who : Waiter) (refusal : Refusal)
+        → ask windows who ≡ Err refusal → number_of refusal ≤ 6 }
+{}

@@ -1,0 +1,31 @@
+//! Traces.
+ghost use Rattle.std.specs.Prelude.{◌≡◌, ◌↔◌, ◌++◌, ◌∷◌, [], List};
+ghost use Rattle.im_types.specs.declared.commands.Line.{Line};
+ghost use Rattle.im_types.specs.Contents.{Contents};
+ghost use Rattle.im_types.specs.Run.{after, answers};
+ghost use Rattle.im_types.specs.Trace.{answer_to, contents_after, IsLegal, end_of};
+ghost use Rattle.im_laws.specs.Traces.{commands_of, command_answers};
+
+/// Two traces joined are legal exactly where the first is, and the second is from the first one's end on.
+pub fn traces_join()
+    ensures end { (m : Contents) (earlier later : List Line)
+        → end_of m (earlier ++ later) ≡ end_of (end_of m earlier) later }
+    ensures legal { (m : Contents) (earlier later : List Line)
+        → IsLegal m (earlier ++ later) ↔ (IsLegal m earlier × IsLegal (end_of m earlier) later) }
+{}
+
+/// A legal trace with one line more is legal exactly where that line has the answer of the memory at the trace's end.
+pub fn trace_grows()
+    ensures end { (m : Contents) (trace : List Line) (line : Line)
+        → end_of m (trace ++ line ∷ []) ≡ contents_after (end_of m trace) line.call }
+    ensures legal { (m : Contents) (trace : List Line) (line : Line) → IsLegal m trace
+        → IsLegal m (trace ++ line ∷ []) ↔ (line.answer ≡ answer_to (end_of m trace) line.call) }
+{}
+
+/// The end of a trace is the memory after its commands, and a legal trace has the answers of that run.
+pub fn trace_is_a_run()
+    ensures end { (m : Contents) (trace : List Line)
+        → end_of m trace ≡ after m (commands_of trace) }
+    ensures answer { (m : Contents) (trace : List Line) → IsLegal m trace
+        → command_answers trace ≡ answers m (commands_of trace) }
+{}

@@ -1,0 +1,103 @@
+//! Windows of request numbers.
+ghost use Rattle.std.specs.Prelude.{◌≡◌, ◌↔◌, ◌⊎◌, ℕ, ◌+◌, ◌<◌, ◌≤◌, List, IsTrue, IsErr, if◌then◌else◌};
+ghost use Rattle.im_types.specs.declared.operations.Waiter.{Waiter};
+ghost use Rattle.im_types.specs.declared.operations.Kept.{Kept};
+ghost use Rattle.im_types.specs.declared.commands.Request.{Request};
+ghost use Rattle.im_types.specs.declared.commands.Command.{Command};
+ghost use Rattle.im_types.specs.declared.commands.Command.TheVariants.{Request as Asks, Confirm};
+ghost use Rattle.im_types.specs.declared.commands.Outcome.TheVariants.{Confirmed};
+ghost use Rattle.im_types.specs.declared.refusals.Refusal.TheVariants.{Gap, Forgotten, WindowFull, NoElement, NotAnswered};
+ghost use Rattle.im_types.specs.declared.TheConstants.{WINDOW, LAST};
+ghost use Rattle.im_types.specs.Contents.{Window, Contents, kept_for};
+ghost use Rattle.im_types.specs.Window.{is_waiting, ask, bounds};
+ghost use Rattle.im_types.specs.Step.{asker, step, is_accepted};
+ghost use Rattle.im_types.specs.Run.{after};
+ghost use Rattle.im_types.specs.Agreement.{drops};
+ghost use Rattle.im_laws.specs.Windows.{IsForgotten, AreNoLess, TakesNextNumber, MovesBase, IsNextRequest, IsConfirmable};
+ghost use Rattle.im_laws.specs.Entries.{IsRefused};
+
+/// A request that is accepted takes its element's next number, and moves no other bound of a window.
+pub fn request_takes_the_next_number()
+    ensures { (m : Contents) (r : Request) → IsTrue (is_accepted m (Asks r)) → TakesNextNumber m r }
+{}
+
+/// A confirmation that is accepted raises its window's base to the confirmed number, and moves no other bound.
+pub fn confirmation_moves_the_base()
+    ensures { (m : Contents) (element upto : ℕ) → IsTrue (is_accepted m (Confirm element upto))
+        → MovesBase m element upto }
+{}
+
+/// Neither bound of a window ever falls.
+pub fn bounds_never_fall()
+    ensures { (m : Contents) (commands : List Command) (element base next : ℕ)
+        → bounds m.windows element ≡ Ok (base, next)
+        → AreNoLess base next (bounds (after m commands).windows element) }
+{}
+
+/// The bounds of a window say how a request is met whose number isn't kept: it is accepted exactly where it has the next
+/// number, none past the last, and the window has room. Past the next number or the last it is a gap, and at the next one
+/// of a full window it is refused as such. Each refusal changes nothing.
+pub fn requests_are_judged_by_bounds()
+    ensures accepted { (m : Contents) (r : Request)
+        → IsTrue (is_accepted m (Asks r)) ↔ IsNextRequest m.windows r }
+    ensures no_element { (m : Contents) (r : Request) → IsErr (bounds m.windows r.element)
+        → IsRefused m r NoElement }
+    ensures gap { (m : Contents) (r : Request) (base next : ℕ)
+        → bounds m.windows r.element ≡ Ok (base, next) → next ≤ r.number
+        → (next < r.number) ⊎ (LAST < r.number) → IsRefused m r Gap }
+    ensures full { (m : Contents) (r : Request) (base : ℕ)
+        → bounds m.windows r.element ≡ Ok (base, r.number) → r.number ≤ LAST
+        → base + WINDOW ≤ r.number → IsRefused m r WindowFull }
+{}
+
+/// A confirmation is answered exactly where its number isn't past the next one and no entry below it waits. It drops the
+/// entries below that number, and leaves all others and all cells.
+pub fn confirmations_drop_what_is_answered()
+    ensures confirmed { (m : Contents) (element upto : ℕ)
+        → ((step m (Confirm element upto)).answer ≡ Ok Confirmed)
+        ↔ IsConfirmable m.windows element upto }
+    ensures dropped { (m : Contents) (element upto : ℕ) (who : Waiter)
+        → (step m (Confirm element upto)).answer ≡ Ok Confirmed
+        → kept_for (step m (Confirm element upto)).contents.windows who
+        ≡ (if drops (Confirm element upto) who then None else kept_for m.windows who) }
+    ensures cells { (m : Contents) (element upto : ℕ)
+        → (step m (Confirm element upto)).contents.cells ≡ m.cells }
+    ensures no_element { (m : Contents) (element upto : ℕ) → IsErr (bounds m.windows element)
+        → (step m (Confirm element upto)).answer ≡ Err NoElement }
+    ensures gap { (m : Contents) (element upto base next : ℕ)
+        → bounds m.windows element ≡ Ok (base, next) → next < upto
+        → (step m (Confirm element upto)).answer ≡ Err Gap }
+    ensures waits { (m : Contents) (element upto base next number : ℕ) (k : Kept)
+        → bounds m.windows element ≡ Ok (base, next) → upto ≤ next → number < upto
+        → kept_for m.windows (record { element = element; number = number }) ≡ Some k
+        → IsTrue (is_waiting k) → (step m (Confirm element upto)).answer ≡ Err NotAnswered }
+{}
+
+/// Who asks for an entry is told what is kept, exactly within the bounds of the window; below them that it is forgotten,
+/// and past them that it is a gap.
+pub fn entries_are_kept_within_bounds()
+    ensures below { (windows : List Window) (who : Waiter) (base next : ℕ)
+        → bounds windows who.element ≡ Ok (base, next) → who.number < base
+        → ask windows who ≡ Err Forgotten }
+    ensures within { (windows : List Window) (who : Waiter) (base next : ℕ)
+        → bounds windows who.element ≡ Ok (base, next) → base ≤ who.number → who.number < next
+        → (k : Kept) × (kept_for windows who ≡ Some k) }
+    ensures told { (windows : List Window) (who : Waiter) (k : Kept) → kept_for windows who ≡ Some k
+        → ask windows who ≡ Ok k.entry }
+    ensures past { (windows : List Window) (who : Waiter) (base next : ℕ)
+        → bounds windows who.element ≡ Ok (base, next) → next ≤ who.number
+        → ask windows who ≡ Err Gap }
+    ensures no_element { (windows : List Window) (who : Waiter) → IsErr (bounds windows who.element)
+        → ask windows who ≡ Err NoElement }
+{}
+
+/// A number that was confirmed stays forgotten, whatever comes later. A request under it is refused as forgotten and
+/// changes nothing, and who asks for its entry is told that it is forgotten.
+pub fn forgotten_for_ever()
+    ensures stays { (m : Contents) (commands : List Command) (who : Waiter)
+        → IsForgotten m.windows who → IsForgotten (after m commands).windows who }
+    ensures refused { (m : Contents) (r : Request) → IsForgotten m.windows (asker r)
+        → IsRefused m r Forgotten }
+    ensures told { (windows : List Window) (who : Waiter)
+        → IsForgotten windows who ↔ (ask windows who ≡ Err Forgotten) }
+{}

@@ -1,0 +1,104 @@
+//! Take and put, on the cells of a table whose waiters stand on the lists of an arena (M cells: Barth, Nikhil, Arvind,
+//! 1991). The list of a cell's waiters has the cell's address for its number.
+//!
+//! Stands on `im_istore`, for what cells and lists stand for, when they agree, and the checks before an access. Contracts
+//! say what a call does to the cells by the definitions of `im_types`.
+#![tactic(auto)]
+
+ghost use Rattle.std.specs.Prelude.{◌≡◌, ◌<◌, ◌∷◌, [], length, MatchOption};
+ghost use Rattle.im_types.specs.declared.operations.Entry.TheVariants.{Answered};
+ghost use Rattle.im_arena.specs.Lists.{list_at, free};
+ghost use Rattle.im_istore.specs.Joined.{cells_of};
+ghost use Rattle.im_istore.specs.Agreement.{Agree};
+ghost use Rattle.im_istore.specs.Access.{replies_to};
+ghost use Rattle.im_mstore.specs.Access.{taken, given, open_cell, AreOperations};
+
+use im_arena::Arena;
+use im_cell::{Cell, CellTable};
+use im_istore::look;
+use im_types::{Entry, Kind, Reply, Waiter};
+
+// The cell without a value that those on this list wait for.
+fn open_cell(arena: &Arena, list: u32) -> Cell
+    requires { list < length arena.now.held.lists }
+    ensures { result ≡ open_cell (list_at arena.now.held list) }
+{
+    if arena.len(list) == 0 {
+        Cell::Empty
+    } else {
+        Cell::Waiting
+    }
+}
+
+/// Takes the value of the cell at an address for `who`, and leaves the cell empty; where there is no value yet, `who`
+/// waits behind those who wait. It takes a node where `who` waits.
+pub fn take(table: &mut CellTable, arena: &mut Arena, a: u32, who: Waiter) -> Entry
+    requires agree { Agree table.old arena.old }
+    requires room { 0 < free arena.old.held }
+    ensures entry { result ≡ (taken (cells_of table.old arena.old) a who).entry }
+    ensures cells { cells_of table.new arena.new ≡ (taken (cells_of table.old arena.old) a who).cells }
+    ensures nobody { (taken (cells_of table.old arena.old) a who).resumed ≡ [] }
+
+    ensures agree { Agree table.new arena.new }
+    ensures nodes { arena.new.held.nodes ≡ arena.old.held.nodes }
+{
+    let cell = match look(table, a, Kind::M) {
+        Ok(cell) => cell,
+        Err(reply) => return Entry::Answered(reply),
+    };
+    match cell {
+        Cell::Full(value) => {
+            table.set(a, Cell::Empty);
+            Entry::Answered(Reply::Value(value))
+        }
+        Cell::Clashed(_) => Entry::Answered(Reply::Clash),
+        _ => {
+            table.set(a, Cell::Waiting);
+            let _ = arena.push_back(a, who);
+            Entry::Waiting
+        }
+    }
+}
+
+/// Gives a value to the first of those who wait for the cell at an address, who comes with the answer and whose node is
+/// given back; where nobody waits, the cell keeps the value. A cell that has a value keeps that, and is clashed.
+pub fn put(table: &mut CellTable, arena: &mut Arena, a: u32, value: u64) -> (Reply, Option<Waiter>)
+    requires { Agree table.old arena.old }
+    ensures reply { Answered result.0 ≡ (given (cells_of table.old arena.old) a value).entry }
+    ensures cells { cells_of table.new arena.new ≡ (given (cells_of table.old arena.old) a value).cells }
+    ensures taker { let resumed = (given (cells_of table.old arena.old) a value).resumed in
+        MatchOption result.1 (resumed ≡ []) (λ taker. resumed ≡ replies_to (taker ∷ []) value) }
+
+    ensures agree { Agree table.new arena.new }
+    ensures nodes { arena.new.held.nodes ≡ arena.old.held.nodes }
+{
+    let cell = match look(table, a, Kind::M) {
+        Ok(cell) => cell,
+        Err(reply) => return (reply, None),
+    };
+    match cell {
+        Cell::Full(kept) => {
+            table.set(a, Cell::Clashed(kept));
+            (Reply::Clash, None)
+        }
+        Cell::Clashed(_) => (Reply::Clash, None),
+        Cell::Empty => {
+            table.set(a, Cell::Full(value));
+            (Reply::Stored, None)
+        }
+        Cell::Waiting => {
+            let taker = arena.pop_front(a);
+            table.set(a, open_cell(arena, a));
+            (Reply::Stored, taker)
+        }
+    }
+}
+
+/// That `fetch`, `store` with its readers, `take` and `put` do what the definitions say of the four operations. It does
+/// nothing.
+pub fn are_operations()
+    ensures { AreOperations }
+{}
+
+#[cfg(test)]
+mod tests;

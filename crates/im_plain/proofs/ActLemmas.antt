@@ -1,0 +1,239 @@
+-- What an operation comes to on slots and a queue is what it comes to on the cells that they make.
+use Rattle.std.proofs.Common.{◌≡◌, ◌≢◌, ⊎_elim, ℕ, zero, suc, ◌+◌, ◌-◌, ◌<◌, ◌≤◌, List, [], ◌∷◌, length, get_or, set, take, drop, Some, None, Bool, true, false, cond, refl, sym, ap, ◌∙◌, arith}
+use Rattle.std.specs.Prelude.{Option, ◌==◌, ◌||◌, not, option_map}
+use Rattle.std.specs.List.{list_any}
+use Rattle.std.proofs.lemmas.List.{get_or-set_same, get_or-set_other}
+use Rattle.std.proofs.lemmas.Bool.{cases_eq}
+use Rattle.std.proofs.lemmas.Bool.Decides.{nat_tests}
+use denote.Enum.Bare.{sameb}
+use Rattle.im_types.specs.declared.operations.Waiter.{Waiter}
+use Rattle.im_types.specs.declared.operations.Block.{Block}
+use Rattle.im_types.specs.declared.operations.Kind.{Kind}
+use Rattle.im_types.specs.declared.operations.Kind.TheVariants.{I, M}
+use Rattle.im_types.specs.contracts.operations.Kind.{the_type as the_kind}
+use Rattle.im_types.specs.declared.operations.Entry.TheVariants.{Answered}
+use Rattle.im_types.specs.declared.operations.Reply.{Reply}
+use Rattle.im_types.specs.declared.operations.Reply.TheVariants.{Base, BadLength, NoCell, WrongKind, NoBlock, StillWaiting, Released}
+use Rattle.im_types.specs.Contents.{CellState, Held, held_at, HasBlocks}
+use Rattle.im_types.specs.Act.{Served as ServedCell, Acted as ActedCells, at_cell, serve_cell, only_tells, same_kind, allocate, allocate_at, release_block, block_with_base, is_waiting_cell}
+use Rattle.im_types.specs.Place.{place, fill}
+use Rattle.im_laws.proofs.PlaceLemmas.{get_or-fill, place-free}
+use Rattle.im_plain.specs.declared.cells.State.{State}
+use Rattle.im_plain.specs.declared.cells.State.TheVariants.{Empty as HasNothing, Full as HasValue, Clashed as HasClash}
+use Rattle.im_plain.specs.declared.cells.Slot.{Slot}
+use Rattle.im_plain.specs.declared.queue.Deferred.{Deferred}
+use Rattle.im_plain.specs.declared.acts.Served.{Served}
+use Rattle.im_plain.specs.declared.acts.Acted.{Acted}
+use Rattle.im_plain.specs.Waiting.{waiting_at, without, parked, with_asker, replies_to}
+use Rattle.im_plain.specs.Joined.{state_of, held_of, joined, is_open_state, is_open, Fits}
+use Rattle.im_plain.specs.Served.{AreWaiting, HasServed, HasActed}
+use Rattle.im_plain.proofs.QueueLemmas.{waiting_at-without, waiting_at-without_other, waiting_at-parked, waiting_at-parked_other}
+use Rattle.im_plain.proofs.JoinedLemmas.{NobodyWaits, held_at-joined, held_at-None, held_at-Some, length-joined, place-joined, joined-fill, joined-set}
+
+true_false : true ≡ false → ⊥
+true_false e = cc
+
+-- a test that fails of all fails of each
+or_left : (a b : Bool) → (a || b) ≡ false → a ≡ false
+or_left true b e = e
+or_left false b e = refl
+
+or_right : (a b : Bool) → (a || b) ≡ false → b ≡ false
+or_right true b e = absurd (cc)
+or_right false b e = e
+
+none_of : {X : Type 0} (p : X → Bool) (d : X) → p d ≡ false → (xs : List X) (base n : ℕ) → list_any p (take n (drop base xs)) ≡ false → (a : ℕ) → base ≤ a → a < base + n → p (get_or xs a d) ≡ false
+none_of p d q [] base n e a lo hi = q
+none_of p d q (x ∷ xs) zero zero e a lo hi = absurd (omega arith)
+none_of p d q (x ∷ xs) zero (suc n) e zero lo hi = or_left (p x) (list_any p (take n xs)) e
+none_of p d q (x ∷ xs) zero (suc n) e (suc a) lo hi = none_of p d q xs zero n (or_right (p x) (list_any p (take n xs)) e) a (omega arith) (omega arith)
+none_of p d q (x ∷ xs) (suc base) n e zero lo hi = absurd (omega arith)
+none_of p d q (x ∷ xs) (suc base) n e (suc a) lo hi = none_of p d q xs base n e a (omega arith) (omega arith)
+
+-- what is told at once, to the asker alone
+abbrev pub telling : Reply → Acted
+telling reply = record { entry = Answered reply; address = 0; count = 0; value = 0 }
+
+module _ (slots : List (Option Slot)) (queue : List Deferred) (fits : Fits slots queue) where
+  abbrev cells : List (Option Held)
+  cells = joined slots queue
+
+  -- only an answer is given
+  pub tells-HasActed : (reply : Reply) (was : ActedCells) → was ≡ only_tells cells reply → HasActed slots queue (telling reply) was
+  tells-HasActed reply was e = record {
+    cells = sym (ap (λ a. a.cells) e);
+    fits = fits;
+    told = sym (ap (λ a. a.entry) e);
+    replies = sym (ap (λ a. a.resumed) e);
+  }
+
+  -- one cell is served
+  module _ (kind : Kind) (serve : CellState → ServedCell) (a : ℕ) where
+    pub at_cell-absent : get_or slots a None ≡ None → at_cell kind serve cells a (held_at cells a) ≡ only_tells cells NoCell
+    at_cell-absent e = ap (at_cell kind serve cells a) (held_at-None slots queue a e)
+
+    at_cell-held : (slot : Slot) → get_or slots a None ≡ Some slot → (b : Bool) → same_kind kind slot.block.kind ≡ b
+        → at_cell kind serve cells a (held_at cells a) ≡ cond b (serve_cell cells a slot.block (serve (state_of slot.state (waiting_at a queue)))) (only_tells cells WrongKind)
+    at_cell-held slot e b k =
+        ap (at_cell kind serve cells a) (held_at-Some slots queue a slot e)
+        ∙ ap (λ b. cond b (serve_cell cells a slot.block (serve (state_of slot.state (waiting_at a queue)))) (only_tells cells WrongKind)) k
+
+    pub at_cell-other : (slot : Slot) → get_or slots a None ≡ Some slot → same_kind kind slot.block.kind ≡ false → at_cell kind serve cells a (held_at cells a) ≡ only_tells cells WrongKind
+    at_cell-other slot e k = at_cell-held slot e false k
+
+    pub at_cell-serves : (slot : Slot) → get_or slots a None ≡ Some slot → same_kind kind slot.block.kind ≡ true → a < length slots
+        → (served : Served) (who : Waiter) → HasServed served who (waiting_at a queue) (serve (state_of slot.state (waiting_at a queue)))
+        → HasActed (set slots a (Some (record { block = slot.block; state = served.state }))) (parked served.entry a who queue)
+        (record { entry = served.entry; address = a; count = served.count; value = served.value }) (at_cell kind serve cells a (held_at cells a))
+    at_cell-serves slot e k within served who has = record {
+      cells = joined-set slots queue a new left (record { block = slot.block; state = was.state }) within
+          (ap (λ state. Some (record { block = slot.block; state = state })) (sym has.state ∙ ap (state_of served.state) (sym here))) others
+          ∙ sym (ap (λ (acted : ActedCells). acted.cells) same);
+      fits = λ b. ⊎_elim (at_it b) (at_another b) (cases_eq b a);
+      told = has.told ∙ sym (ap (λ (acted : ActedCells). acted.entry) same);
+      replies = ap (λ waiters. replies_of (take served.count waiters)) (waiting_at-parked served.entry a who queue) ∙ has.replies ∙ sym (ap (λ (acted : ActedCells). acted.resumed) same);
+    }
+      where
+        was : ServedCell
+        was = serve (state_of slot.state (waiting_at a queue))
+
+        new : Slot
+        new = record { block = slot.block; state = served.state }
+
+        left : List Deferred
+        left = without served.count a (parked served.entry a who queue)
+
+        replies_of : List Waiter → List (Waiter × Reply)
+        replies_of waiters = replies_to waiters served.value
+
+        same : at_cell kind serve cells a (held_at cells a) ≡ serve_cell cells a slot.block was
+        same = at_cell-held slot e true k
+
+        here : waiting_at a left ≡ drop served.count (with_asker served.entry who (waiting_at a queue))
+        here = waiting_at-without served.count a (parked served.entry a who queue) ∙ ap (drop served.count) (waiting_at-parked served.entry a who queue)
+
+        others : (b : ℕ) → b ≢ a → waiting_at b left ≡ waiting_at b queue
+        others b n = waiting_at-without_other served.count a b (parked served.entry a who queue) n ∙ waiting_at-parked_other served.entry a b who queue n
+
+        at_it : (b : ℕ) → b ≡ a → is_open (get_or (set slots a (Some new)) b None) ≡ false → waiting_at b left ≡ []
+        at_it b e closed =
+            ap (λ b. waiting_at b left) e ∙ here
+            ∙ has.quiet (sym (ap (λ b. is_open (get_or (set slots a (Some new)) b None)) e ∙ ap is_open (get_or-set_same slots a (Some new) None within)) ∙ closed)
+
+        at_another : (b : ℕ) → b ≢ a → is_open (get_or (set slots a (Some new)) b None) ≡ false → waiting_at b left ≡ []
+        at_another b n closed = others b n ∙ fits b (sym (ap is_open (get_or-set_other slots a b (Some new) None n)) ∙ closed)
+
+  -- a new block
+  pub allocate-placed : (kind : Kind) (n : ℕ) → n ≢ 0 → (o : Option ℕ) → place n slots ≡ o → allocate cells kind n ≡ allocate_at cells kind n o
+  allocate-placed kind n some o e =
+      let t : (n == 0) ≡ false = grind (arith, nat_tests) in
+      ap (λ b. cond b (only_tells cells BadLength) (allocate_at cells kind n (place n cells))) t ∙ ap (allocate_at cells kind n) (place-joined slots queue n ∙ e)
+
+  pub allocate-HasActed : (kind : Kind) (n base : ℕ) → n ≢ 0 → place n slots ≡ Some base
+      → HasActed (fill slots base n (Some (record { block = record { base = base; length = n; kind = kind }; state = HasNothing }))) queue (telling (Base base)) (allocate cells kind n)
+  allocate-HasActed kind n base some e = record {
+    cells = joined-fill slots queue base n new (λ a lo hi. fits a (ap is_open (place-free n slots base e a lo hi))) ∙ sym (ap (λ (acted : ActedCells). acted.cells) same);
+    fits = λ a closed. ⊎_elim (λ old. fits a (ap is_open (sym old) ∙ closed)) (λ h. absurd (true_false (ap is_open (sym h.2) ∙ closed))) (get_or-fill slots base n new a);
+    told = sym (ap (λ (acted : ActedCells). acted.entry) same);
+    replies = sym (ap (λ (acted : ActedCells). acted.resumed) same);
+  }
+    where
+      new : Option Slot
+      new = Some (record { block = record { base = base; length = n; kind = kind }; state = HasNothing })
+
+      same : allocate cells kind n ≡ allocate_at cells kind n (Some base)
+      same = allocate-placed kind n some (Some base) e
+
+  -- the end of a block
+  pub release-absent : (a : ℕ) → get_or slots a None ≡ None → release_block cells a (block_with_base a (held_at cells a)) ≡ only_tells cells NoBlock
+  release-absent a e = ap (λ held. release_block cells a (block_with_base a held)) (held_at-None slots queue a e)
+
+  pub release-held : (a : ℕ) (slot : Slot) → get_or slots a None ≡ Some slot → (b : Bool) → (slot.block.base == a) ≡ b
+      → release_block cells a (block_with_base a (held_at cells a)) ≡ cond b (release_block cells a (Some slot.block)) (only_tells cells NoBlock)
+  release-held a slot e b q = ap (λ held. release_block cells a (block_with_base a held)) (held_at-Some slots queue a slot e) ∙ by_test b q
+    where
+      by_test : (b : Bool) → (slot.block.base == a) ≡ b → release_block cells a (cond (slot.block.base == a) (Some slot.block) None) ≡ cond b (release_block cells a (Some slot.block)) (only_tells cells NoBlock)
+      by_test true q = ap (λ b. release_block cells a (cond b (Some slot.block) None)) q
+      by_test false q = ap (λ b. release_block cells a (cond b (Some slot.block) None)) q
+
+  released : (a : ℕ) (block : Block) (b : Bool) → list_any is_waiting_cell (take block.length (drop a cells)) ≡ b
+      → release_block cells a (Some block) ≡ cond b (only_tells cells StillWaiting) (record { cells = fill cells a block.length None; entry = Answered Released; resumed = [] })
+  released a block b w = ap (λ b. cond b (only_tells cells StillWaiting) (record { cells = fill cells a block.length None; entry = Answered Released; resumed = [] })) w
+
+  pub released-waiting : (a : ℕ) (block : Block) → list_any is_waiting_cell (take block.length (drop a cells)) ≡ true → release_block cells a (Some block) ≡ only_tells cells StillWaiting
+  released-waiting a block w = released a block true w
+
+  pub released-HasActed : (a : ℕ) (block : Block) → list_any is_waiting_cell (take block.length (drop a cells)) ≡ false → (was : ActedCells) → was ≡ release_block cells a (Some block)
+      → HasActed (fill slots a block.length None) queue (telling Released) was
+  released-HasActed a block w was e = record {
+    cells = joined-fill slots queue a block.length None nobody ∙ sym (ap (λ (acted : ActedCells). acted.cells) same);
+    fits = λ b closed. ⊎_elim (λ old. fits b (ap is_open (sym old) ∙ closed)) (λ h. nobody b h.0 h.1) (get_or-fill slots a block.length None b);
+    told = sym (ap (λ (acted : ActedCells). acted.entry) same);
+    replies = sym (ap (λ (acted : ActedCells). acted.resumed) same);
+  }
+    where
+      same : was ≡ record { cells = fill cells a block.length None; entry = Answered Released; resumed = [] }
+      same = e ∙ released a block false w
+
+      by_state : (slot : Slot) (state : State) (waiters : List Waiter) → is_waiting_cell (Some (record { block = slot.block; state = state_of state waiters })) ≡ false
+          → (is_open_state state ≡ false → waiters ≡ []) → waiters ≡ []
+      by_state slot HasNothing [] e quiet = refl
+      by_state slot HasNothing (who ∷ waiters) e quiet = absurd (cc)
+      by_state slot (HasValue v) waiters e quiet = quiet refl
+      by_state slot (HasClash v) waiters e quiet = quiet refl
+
+      by_slot : (slot : Option Slot) (waiters : List Waiter) → is_waiting_cell (held_of slot waiters) ≡ false → (is_open slot ≡ false → waiters ≡ []) → waiters ≡ []
+      by_slot None waiters e quiet = quiet refl
+      by_slot (Some slot) waiters e quiet = by_state slot slot.state waiters e quiet
+
+      nobody : NobodyWaits queue a block.length
+      nobody b lo hi = by_slot (get_or slots b None) (waiting_at b queue) (ap is_waiting_cell (sym (held_at-joined slots queue b)) ∙ none_of is_waiting_cell None refl cells a block.length w b lo hi) (fits b)
+
+-- one of these passes the test, or one of the rest
+pub any-step : {X : Type 0} (p : X → Bool) (d : X) → p d ≡ false → (xs : List X) (k m : ℕ) → list_any p (take (suc m) (drop k xs)) ≡ (p (get_or xs k d) || list_any p (take m (drop (suc k) xs)))
+any-step p d e [] k m = nothing k m
+  where
+    none_there : (m : ℕ) → list_any p (take m []) ≡ false
+    none_there zero = refl
+    none_there (suc m) = refl
+
+    nothing : (k m : ℕ) → list_any p (take (suc m) (drop k [])) ≡ (p d || list_any p (take m (drop (suc k) [])))
+    nothing zero m = sym (ap (λ b. b || list_any p (take m [])) e ∙ none_there m)
+    nothing (suc k) m = sym (ap (λ b. b || list_any p (take m [])) e ∙ none_there m)
+any-step p d e (x ∷ xs) zero m = refl
+any-step p d e (x ∷ xs) (suc k) m = any-step p d e xs k m
+
+-- the derived comparison of kinds
+pub same_kind-other : (k kind : Kind) → not (sameb the_kind k kind) ≡ true → same_kind kind k ≡ false
+same_kind-other I I e = absurd (cc)
+same_kind-other I M e = refl
+same_kind-other M I e = refl
+same_kind-other M M e = absurd (cc)
+
+pub same_kind-equal : (k kind : Kind) → not (sameb the_kind k kind) ≡ false → same_kind kind k ≡ true
+same_kind-equal I I e = refl
+same_kind-equal I M e = absurd (cc)
+same_kind-equal M I e = absurd (cc)
+same_kind-equal M M e = refl
+
+-- the test of these goes on at the next cell
+pub waits-step : (cells : List (Option Held)) (base n i : ℕ) → i < n → (b : Bool) → is_waiting_cell (held_at cells (base + i)) ≡ b
+    → list_any is_waiting_cell (take (n - i) (drop (base + i) cells)) ≡ (b || list_any is_waiting_cell (take (n - (i + 1)) (drop (base + (i + 1)) cells)))
+waits-step cells base n i h b e =
+    let m : n - i ≡ suc (n - (i + 1)) = omega arith in
+    let k : suc (base + i) ≡ base + (i + 1) = omega arith in
+    ap (λ m. list_any is_waiting_cell (take m (drop (base + i) cells))) m
+    ∙ any-step is_waiting_cell None refl cells (base + i) (n - (i + 1))
+    ∙ ap (λ k. is_waiting_cell (get_or cells (base + i) None) || list_any is_waiting_cell (take (n - (i + 1)) (drop k cells))) k
+    ∙ ap (λ b. b || list_any is_waiting_cell (take (n - (i + 1)) (drop (base + (i + 1)) cells))) e
+
+pub AreWaiting-Fits : (slots : List (Option Slot)) (queue : List Deferred) → Fits slots queue → (a : ℕ) (slot : Slot) → get_or slots a None ≡ Some slot
+    → (count : ℕ) → count ≡ length (waiting_at a queue) → AreWaiting slot.state count (waiting_at a queue)
+AreWaiting-Fits slots queue fits a slot at count e = record { counted = sym e; quiet = λ closed. fits a (ap is_open at ∙ closed) }
+
+-- a block that is released lies below the cell count
+pub released_within : (slots : List (Option Slot)) (queue : List Deferred) → HasBlocks (joined slots queue) → (a : ℕ) (slot : Slot) → get_or slots a None ≡ Some slot → slot.block.base ≡ a → a + slot.block.length ≤ length slots
+released_within slots queue blocks a slot at base =
+    let w = blocks.within a slot.block (ap (option_map (λ (held : Held). held.block)) (held_at-Some slots queue a slot at)) in
+    let h = w.2 in
+    omega (arith, length-joined slots queue)

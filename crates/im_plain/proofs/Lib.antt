@@ -1,0 +1,9 @@
+pub mod Places
+pub mod QueueLemmas
+pub mod JoinedLemmas
+pub mod ActLemmas
+pub mod WindowLemmas
+pub mod ResumeLemmas
+pub mod KeepsMemory
+pub mod RoomLemmas
+pub mod MakesLemmas

@@ -1,0 +1,114 @@
+-- What the loops over the cells need.
+use Rattle.std.proofs.Common.{◌≡◌, ℕ, zero, suc, ◌+◌, ◌-◌, ◌<◌, ◌≤◌, List, [], ◌∷◌, length, get_or, set, take, drop, Some, None, true, false, cond, refl, sym, ap, ◌∙◌, arith, add-one, length-drop, zero-add, suc-add}
+use Rattle.std.specs.Prelude.{Option, option_map, is_some}
+use Rattle.std.proofs.Math.Seq.{drop-cons}
+use Rattle.im_types.specs.Place.{begins_free, place, fill}
+
+pub begins_free-nothing : (X : Type 0) (n : ℕ) → 0 < n → begins_free {X = X} n [] ≡ false
+begins_free-nothing X zero h = absurd (omega arith)
+begins_free-nothing X (suc n) h = refl
+
+shift : (o : Option ℕ) (base : ℕ) → option_map (λ b. base + b) (option_map suc o) ≡ option_map (λ b. suc base + b) o
+shift None base = refl
+shift (Some b) base = ap Some (omega arith)
+
+option_map-zero : (o : Option ℕ) → o ≡ option_map (λ b. 0 + b) o
+option_map-zero None = refl
+option_map-zero (Some b) = ap Some (omega arith)
+
+module _ {X : Type 0} where
+  take-length : (xs : List X) → take (length xs) xs ≡ xs
+  take-length [] = refl
+  take-length (x ∷ xs) = ap (λ ys. x ∷ ys) (take-length xs)
+
+  -- all of what is left
+  pub take-rest : (i : ℕ) (xs : List X) → take (length xs - i) (drop i xs) ≡ drop i xs
+  take-rest i xs = ap (λ n. take n (drop i xs)) (sym (length-drop i xs)) ∙ take-length (drop i xs)
+
+  pub begins_free-past : (n i : ℕ) (xs : List (Option X)) → i < n → length xs ≤ i → begins_free (n - i) (drop i xs) ≡ false
+  begins_free-past n i xs h past = ap (begins_free (n - i)) (drop_past i xs past) ∙ begins_free-nothing X (n - i) (omega arith)
+    where
+      drop_past : (i : ℕ) (xs : List (Option X)) → length xs ≤ i → drop i xs ≡ []
+      drop_past zero [] past = refl
+      drop_past (suc i) [] past = refl
+      drop_past zero (x ∷ xs) past = absurd (omega arith)
+      drop_past (suc i) (x ∷ xs) past = drop_past i xs (omega arith)
+
+  begins_free-cons : (n : ℕ) (cell : Option X) (xs : List (Option X)) → is_some cell ≡ false → begins_free (suc n) (cell ∷ xs) ≡ begins_free n xs
+  begins_free-cons n None xs free = refl
+  begins_free-cons n (Some x) xs free = absurd (cc)
+
+  begins_free-block : (n : ℕ) (cell : Option X) (xs : List (Option X)) → is_some cell ≡ true → begins_free (suc n) (cell ∷ xs) ≡ false
+  begins_free-block n None xs held = absurd (cc)
+  begins_free-block n (Some x) xs held = refl
+
+  pub begins_free-held : (n i : ℕ) (xs : List (Option X)) (d : Option X) → i < n → i < length xs → is_some (get_or xs i d) ≡ true → begins_free (n - i) (drop i xs) ≡ false
+  begins_free-held n i xs d h within held =
+      let e : n - i ≡ suc (n - suc i) = omega arith in
+      rw (e, drop-cons xs i d within) (begins_free-block (n - suc i) (get_or xs i d) (drop (suc i) xs) held)
+
+  pub begins_free-more : (n i : ℕ) (xs : List (Option X)) (d : Option X) → i < n → i < length xs → is_some (get_or xs i d) ≡ false → begins_free (n - i) (drop i xs) ≡ begins_free (n - (i + 1)) (drop (i + 1) xs)
+  begins_free-more n i xs d h within free =
+      let e : n - i ≡ suc (n - suc i) = omega arith in
+      rw (e, drop-cons xs i d within, add-one) (begins_free-cons (n - suc i) (get_or xs i d) (drop (suc i) xs) free)
+
+  place-here : (n : ℕ) (xs : List (Option X)) → 0 < length xs → begins_free n xs ≡ true → place n xs ≡ Some 0
+  place-here n [] h e = absurd (omega arith)
+  place-here n (x ∷ xs) h e = ap (λ b. cond b (Some 0) (option_map suc (place n xs))) e
+
+  place-later : (n : ℕ) (x : Option X) (xs : List (Option X)) → begins_free n (x ∷ xs) ≡ false → place n (x ∷ xs) ≡ option_map suc (place n xs)
+  place-later n x xs e = ap (λ b. cond b (Some 0) (option_map suc (place n xs))) e
+
+  -- the place in what is left, from a base on
+  abbrev pub place_from : ℕ → ℕ → List (Option X) → Option ℕ
+  place_from base n xs = option_map (λ b. base + b) (place n (drop base xs))
+
+  pub place_from-here : (base n : ℕ) (xs : List (Option X)) → base < length xs → begins_free n (drop base xs) ≡ true → place_from base n xs ≡ Some base
+  place_from-here base n xs within e =
+      ap (option_map (λ b. base + b)) (place-here n (drop base xs) (rw (drop-cons xs base None within) (omega arith)) e) ∙ ap Some (omega arith)
+
+  pub place_from-later : (base n : ℕ) (xs : List (Option X)) → base < length xs → begins_free n (drop base xs) ≡ false → place_from base n xs ≡ place_from (base + 1) n xs
+  place_from-later base n xs within e =
+      let cut = drop-cons xs base None within in
+      ap (option_map (λ b. base + b)) (ap (place n) cut ∙ place-later n (get_or xs base None) (drop (suc base) xs) (ap (begins_free n) (sym cut) ∙ e))
+      ∙ shift (place n (drop (suc base) xs)) base ∙ ap (λ k. place_from k n xs) (sym (add-one base))
+
+  pub place_from-end : (base n : ℕ) (xs : List (Option X)) → length xs ≤ base → place_from base n xs ≡ None
+  place_from-end base n xs past = ap (λ ys. option_map (λ b. base + b) (place n ys)) (drop_past base xs past)
+    where
+      drop_past : (i : ℕ) (xs : List (Option X)) → length xs ≤ i → drop i xs ≡ []
+      drop_past zero [] past = refl
+      drop_past (suc i) [] past = refl
+      drop_past zero (x ∷ xs) past = absurd (omega arith)
+      drop_past (suc i) (x ∷ xs) past = drop_past i xs (omega arith)
+
+  pub place_from-start : (n : ℕ) (xs : List (Option X)) → place n xs ≡ place_from 0 n xs
+  place_from-start n xs = option_map-zero (place n xs)
+
+  pub fill-none : (xs : List (Option X)) (base : ℕ) (x : Option X) → xs ≡ fill xs base 0 x
+  fill-none [] base x = refl
+  fill-none (y ∷ xs) zero x = refl
+  fill-none (y ∷ xs) (suc base) x = ap (λ ys. y ∷ ys) (fill-none xs base x)
+
+  fill-suc : (xs : List (Option X)) (base i : ℕ) (x : Option X) → set (fill xs base i x) (base + i) x ≡ fill xs base (suc i) x
+  fill-suc [] base i x = refl
+  fill-suc (y ∷ xs) zero zero x = ap (λ ys. x ∷ ys) (fill-none xs zero x)
+  fill-suc (y ∷ xs) zero (suc i) x = rw (zero-add (suc i)) (ap (λ ys. x ∷ ys) (ap (λ k. set (fill xs zero i x) k x) (sym (zero-add i)) ∙ fill-suc xs zero i x))
+  fill-suc (y ∷ xs) (suc base) i x = rw (suc-add base i) (ap (λ ys. y ∷ ys) (fill-suc xs base i x))
+
+  pub fill-more : (xs : List (Option X)) (base i : ℕ) (x : Option X) → set (fill xs base i x) (base + i) x ≡ fill xs base (i + 1) x
+  fill-more xs base i x = fill-suc xs base i x ∙ ap (λ n. fill xs base n x) (sym (add-one i))
+
+  pub length-fill : (xs : List (Option X)) (base n : ℕ) (x : Option X) → length (fill xs base n x) ≡ length xs
+  length-fill [] base n x = refl
+  length-fill (y ∷ xs) zero zero x = refl
+  length-fill (y ∷ xs) zero (suc n) x = ap suc (length-fill xs zero n x)
+  length-fill (y ∷ xs) (suc base) n x = ap suc (length-fill xs base n x)
+
+  pub fill-past : (xs : List (Option X)) (base i : ℕ) (x : Option X) → length xs ≤ base + i → fill xs base i x ≡ fill xs base (i + 1) x
+  fill-past xs base i x past = sym (set_past (fill xs base i x) (base + i) x (omega (arith, length-fill xs base i x))) ∙ fill-more xs base i x
+    where
+      set_past : (ys : List (Option X)) (k : ℕ) (x : Option X) → length ys ≤ k → set ys k x ≡ ys
+      set_past [] k x h = refl
+      set_past (y ∷ ys) zero x h = absurd (omega arith)
+      set_past (y ∷ ys) (suc k) x h = ap (λ zs. y ∷ zs) (set_past ys k x (omega arith))

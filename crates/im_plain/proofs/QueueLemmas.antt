@@ -1,0 +1,93 @@
+-- Those that wait at a cell, found in the one queue.
+use Rattle.std.proofs.Common.{◌≡◌, ◌≢◌, ℕ, zero, suc, ◌+◌, ◌<◌, List, [], ◌∷◌, ◌++◌, length, get_or, take, drop, Bool, true, false, cond, refl, sym, ap, ◌∙◌, arith}
+use Rattle.std.specs.Prelude.{◌==◌}
+use Rattle.std.proofs.lemmas.Bool.Decides.{nat_tests}
+use Rattle.im_types.specs.declared.operations.Waiter.{Waiter}
+use Rattle.im_types.specs.declared.operations.Entry.{Entry}
+use Rattle.im_types.specs.declared.operations.Entry.TheVariants.{Waiting, Answered}
+use Rattle.im_plain.specs.declared.queue.Deferred.{Deferred}
+use Rattle.im_plain.specs.Waiting.{waiting_at, without, parked, with_asker}
+
+-- one more that waits, if it is here
+abbrev pub and_waits : Bool → Waiter → List Waiter → List Waiter
+and_waits b who waiters = cond b (who ∷ waiters) waiters
+
+-- the queue from a place on, by what stands there
+pub waiting_at-drop : (a : ℕ) (queue : List Deferred) (i : ℕ) (d : Deferred) → i < length queue → (b : Bool) → ((get_or queue i d).address == a) ≡ b
+    → waiting_at a (drop i queue) ≡ and_waits b (get_or queue i d).waiter (waiting_at a (drop (i + 1) queue))
+waiting_at-drop a queue i d h b e = ap (waiting_at a) (cut queue i h) ∙ ap (λ t. and_waits t (get_or queue i d).waiter (waiting_at a (drop (i + 1) queue))) e
+  where
+    cut : (queue : List Deferred) (i : ℕ) → i < length queue → drop i queue ≡ get_or queue i d ∷ drop (i + 1) queue
+    cut [] i h = absurd (omega arith)
+    cut (x ∷ queue) zero h = refl
+    cut (x ∷ queue) (suc i) h = let e : suc (i + 1) ≡ suc i + 1 = omega arith in cut queue i (omega arith) ∙ ap (λ n. get_or queue i d ∷ drop n (x ∷ queue)) e
+
+pub without-skip : (a : ℕ) (queue : List Deferred) (i : ℕ) (d : Deferred) → i < length queue → ((get_or queue i d).address == a) ≡ false
+    → take i queue ++ without 1 a (drop i queue) ≡ take (i + 1) queue ++ without 1 a (drop (i + 1) queue)
+without-skip a [] i d h e = absurd (omega arith)
+without-skip a (x ∷ queue) zero d h e = ap (λ t. cond t (without 0 a queue) (x ∷ without 1 a queue)) e
+without-skip a (x ∷ queue) (suc i) d h e =
+    let same : suc (i + 1) ≡ suc i + 1 = omega arith in
+    ap (λ xs. x ∷ xs) (without-skip a queue i d (omega arith) e) ∙ ap (λ n. take n (x ∷ queue) ++ without 1 a (drop n (x ∷ queue))) same
+
+-- those that wait at the cell, after the first ones left
+pub waiting_at-without : (n a : ℕ) (queue : List Deferred) → waiting_at a (without n a queue) ≡ drop n (waiting_at a queue)
+waiting_at-without zero a queue = refl
+waiting_at-without (suc n) a [] = refl
+waiting_at-without (suc n) a (d ∷ queue) = by_test (waiting_at-without n a queue) (waiting_at-without (suc n) a queue) (d.address == a) refl
+  where
+    by_test : waiting_at a (without n a queue) ≡ drop n (waiting_at a queue) → waiting_at a (without (suc n) a queue) ≡ drop (suc n) (waiting_at a queue)
+        → (t : Bool) → (d.address == a) ≡ t → waiting_at a (cond t (without n a queue) (d ∷ without (suc n) a queue)) ≡ drop (suc n) (and_waits t d.waiter (waiting_at a queue))
+    by_test fewer same true e = fewer
+    by_test fewer same false e = ap (λ t. and_waits t d.waiter (waiting_at a (without (suc n) a queue))) e ∙ same
+
+-- those that wait at another cell stay
+pub waiting_at-without_other : (n a b : ℕ) (queue : List Deferred) → b ≢ a → waiting_at b (without n a queue) ≡ waiting_at b queue
+waiting_at-without_other zero a b queue other = refl
+waiting_at-without_other (suc n) a b [] other = refl
+waiting_at-without_other (suc n) a b (d ∷ queue) other = by_test (waiting_at-without_other n a b queue other) (waiting_at-without_other (suc n) a b queue other) (d.address == a) refl
+  where
+    by_test : waiting_at b (without n a queue) ≡ waiting_at b queue → waiting_at b (without (suc n) a queue) ≡ waiting_at b queue
+        → (t : Bool) → (d.address == a) ≡ t → waiting_at b (cond t (without n a queue) (d ∷ without (suc n) a queue)) ≡ and_waits (d.address == b) d.waiter (waiting_at b queue)
+    by_test fewer same true e =
+        let elsewhere : (d.address == b) ≡ false = grind (arith, nat_tests) in
+        fewer ∙ sym (ap (λ t. and_waits t d.waiter (waiting_at b queue)) elsewhere)
+    by_test fewer same false e = ap (and_waits (d.address == b) d.waiter) same
+
+-- first one, then the others
+pub without-one : (n a : ℕ) (queue : List Deferred) → without (suc n) a queue ≡ without n a (without 1 a queue)
+without-one zero a [] = refl
+without-one (suc n) a [] = refl
+without-one n a (d ∷ queue) = by_test n (without-one n a queue) (d.address == a) refl
+  where
+    by_test : (n : ℕ) → without (suc n) a queue ≡ without n a (without 1 a queue) → (t : Bool) → (d.address == a) ≡ t
+        → cond t (without n a queue) (d ∷ without (suc n) a queue) ≡ without n a (cond t queue (d ∷ without 1 a queue))
+    by_test n same true e = refl
+    by_test zero same false e = ap (λ xs. d ∷ xs) same
+    by_test (suc n) same false e = ap (λ xs. d ∷ xs) same ∙ sym (ap (λ t. cond t (without n a (without 1 a queue)) (d ∷ without (suc n) a (without 1 a queue))) e)
+
+-- a new one behind all
+pub waiting_at-push : (a : ℕ) (queue : List Deferred) (d : Deferred) → waiting_at a (queue ++ d ∷ []) ≡ waiting_at a queue ++ and_waits (d.address == a) d.waiter []
+waiting_at-push a [] d = refl
+waiting_at-push a (x ∷ queue) d = by_test (waiting_at-push a queue d) (x.address == a)
+  where
+    by_test : waiting_at a (queue ++ d ∷ []) ≡ waiting_at a queue ++ and_waits (d.address == a) d.waiter []
+        → (t : Bool) → and_waits t x.waiter (waiting_at a (queue ++ d ∷ [])) ≡ and_waits t x.waiter (waiting_at a queue) ++ and_waits (d.address == a) d.waiter []
+    by_test same true = ap (λ ws. x.waiter ∷ ws) same
+    by_test same false = same
+
+pub waiting_at-parked : (entry : Entry) (a : ℕ) (who : Waiter) (queue : List Deferred) → waiting_at a (parked entry a who queue) ≡ with_asker entry who (waiting_at a queue)
+waiting_at-parked (Answered reply) a who queue = refl
+waiting_at-parked Waiting a who queue =
+    let here : (a == a) ≡ true = grind (arith, nat_tests) in
+    waiting_at-push a queue _ ∙ ap (λ t. waiting_at a queue ++ and_waits t who []) here
+
+pub waiting_at-parked_other : (entry : Entry) (a b : ℕ) (who : Waiter) (queue : List Deferred) → b ≢ a → waiting_at b (parked entry a who queue) ≡ waiting_at b queue
+waiting_at-parked_other (Answered reply) a b who queue other = refl
+waiting_at-parked_other Waiting a b who queue other =
+    let elsewhere : (a == b) ≡ false = grind (arith, nat_tests) in
+    waiting_at-push b queue _ ∙ ap (λ t. waiting_at b queue ++ and_waits t who []) elsewhere ∙ append-none (waiting_at b queue)
+  where
+    append-none : (ws : List Waiter) → ws ++ [] ≡ ws
+    append-none [] = refl
+    append-none (w ∷ ws) = ap (λ ws. w ∷ ws) (append-none ws)

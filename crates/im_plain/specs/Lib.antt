@@ -1,0 +1,6 @@
+pub mod Waiting
+pub mod Joined
+pub mod Served
+pub mod Confirming
+pub mod MakesMemory
+pub mod Presences

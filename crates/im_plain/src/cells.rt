@@ -1,0 +1,94 @@
+//! The cells by address, without those that wait for them.
+ghost use Rattle.std.specs.Prelude.{◌≡◌, ℕ, ◌+◌, ◌<◌, ◌≤◌, length, List, Some, None, IfSome, slice_index_or};
+ghost use Rattle.im_types.specs.declared.operations.Waiter.{Waiter};
+ghost use Rattle.im_plain.specs.Joined.{state_of};
+ghost use Rattle.im_plain.specs.Presences.{presence_of};
+ghost use Rattle.im_types.specs.Place.{begins_free, place, fill};
+
+use im_types::{Block, MAX_CELLS};
+
+/// What a cell is, as its tag shows it.
+#[derive(Clone, Copy, Debug, PartialEq, Eq)]
+pub enum Presence {
+    /// Nothing was written, and nobody waits.
+    Empty,
+    /// Nothing is there, and somebody waits for it.
+    Waiting,
+    /// This value is there.
+    Full(u64),
+    /// This value was there when the cell was written again.
+    Clashed(u64),
+}
+
+/// What is in a cell, whoever waits for it.
+#[derive(Clone, Copy)]
+pub enum State {
+    Empty,
+    Full(u64),
+    Clashed(u64),
+}
+
+/// A cell of a block.
+#[derive(Clone, Copy)]
+pub struct Slot {
+    pub block: Block,
+    pub state: State,
+}
+
+/// What a cell is at which so many wait.
+pub fn presence_of(state: State, waiting: usize) -> Presence
+    ensures { (waiters : List Waiter) → length waiters ≡ waiting → result ≡ presence_of (state_of state waiters) }
+{
+    match state {
+        State::Empty if waiting == 0 => Presence::Empty,
+        State::Empty => Presence::Waiting,
+        State::Full(value) => Presence::Full(value),
+        State::Clashed(value) => Presence::Clashed(value),
+    }
+}
+
+/// The slot at an address, if it is in a block.
+pub fn slot_at(slots: &[Option<Slot>], a: u32) -> Option<Slot>
+    ensures value { result ≡ slice_index_or slots.now a None }
+    ensures within { IfSome result (λ _. a < length slots.now) }
+{
+    let at = a as usize;
+    if at < slots.len() { slots[at] } else { None }
+}
+
+/// Whether the slots begin with `n` that are in no block.
+pub fn begins_free(slots: &[Option<Slot>], n: u32) -> bool
+    ensures { result ≡ begins_free n slots.now }
+{
+    for i in 0..n as usize {
+        if i >= slots.len() || slots[i].is_some() {
+            return false;
+        }
+    }
+    true
+}
+
+/// The least base from which on `n` slots are in no block.
+pub fn place(slots: &[Option<Slot>], n: u32) -> Option<u32>
+    requires { length slots.now ≤ MAX_CELLS }
+    ensures { result ≡ place n slots.now }
+{
+    for base in 0..slots.len() {
+        if begins_free(&slots[base..], n) {
+            return Some(base as u32);
+        }
+    }
+    None
+}
+
+/// Sets `n` slots from `base` on, as far as there are slots.
+pub fn fill(slots: &mut [Option<Slot>], base: u32, n: u32, slot: Option<Slot>)
+    ensures { slots.new ≡ fill slots.old base n slot }
+{
+    for i in 0..n {
+        let at = base as usize + i as usize;
+        if at < slots.len() {
+            slots[at] = slot;
+        }
+    }
+}

@@ -1,0 +1,14 @@
+//! A memory kept plainly: slow, with no links and no bytes. What each of its functions does is what the definitions say.
+#![tactic(auto)]
+
+mod acts;
+mod cells;
+mod memory;
+mod queue;
+mod windows;
+
+pub use cells::Presence;
+pub use memory::PlainMemory;
+
+#[cfg(test)]
+mod tests;

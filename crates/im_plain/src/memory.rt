@@ -1,0 +1,257 @@
+//! A memory, and one command on it.
+ghost use Rattle.std.specs.Prelude.{◌≡◌, ◌≤◌, List, length, vec_capacity, IfOk, IfErr, OnErr, Ok, None, replicate, slice_get};
+ghost use Rattle.im_types.specs.declared.commands.Judged.TheVariants.{Fresh};
+ghost use Rattle.im_types.specs.Contents.{empty_contents, new_window, held_at, block_at, waiters_at, kept_for};
+ghost use Rattle.im_types.specs.Window.{judge, ask, bounds};
+ghost use Rattle.im_types.specs.Step.{step, serve, asker, acceptance};
+ghost use Rattle.im_types.specs.Act.{act};
+ghost use Rattle.im_types.specs.Agreement.{WaitingAgrees, KeepsEntries};
+ghost use Rattle.im_types.specs.Memory.{IsMemory};
+ghost use Rattle.im_plain.specs.Presences.{presence_in};
+ghost use Rattle.im_plain.specs.MakesMemory.{contents_of, MakesMemory};
+
+use crate::acts::act;
+use crate::cells::{Presence, Slot, presence_of, slot_at};
+use crate::queue::{Deferred, count_at, nth_at};
+use crate::windows::{
+    KeptWindow, ask, bounds, confirm, judge, judge_confirm, kept_for, note, resume,
+};
+use im_types::{
+    Block, Command, Entry, Judged, Kept, Limits, MAX_CELLS, MAX_ELEMENTS, Outcome, Refusal,
+    Request, WINDOW, Waiter,
+};
+use std::alloc::{AllocError, Global};
+use std::marker::Model;
+
+/// A memory, kept plainly. Contracts see its contents, and they are always those of a memory.
+#[derive(Drop)]
+pub struct PlainMemory {
+    slots: Vec<Option<Slot>>,
+    queue: Vec<Deferred>,
+    windows: Vec<KeptWindow>,
+}
+
+impl Model for PlainMemory {
+    ghost use Rattle.std.specs.Prelude.{vec_capacity};
+    ghost use Rattle.im_types.specs.Contents.{Contents};
+
+    ghost Value = { Contents };
+
+    ghost use Rattle.im_plain.specs.MakesMemory.{contents_of, MakesMemory};
+
+    ghost view = { λ m. contents_of m.slots.items m.queue.items m.windows.items };
+
+    ghost invariant = { λ m. MakesMemory m.slots.items m.queue.items (vec_capacity m.queue) m.windows.items };
+}
+
+// A new request: what comes of it is done, and it is kept with its entry.
+fn serve(
+    slots: &mut [Option<Slot>],
+    queue: &mut Vec<Deferred>,
+    windows: &mut [KeptWindow],
+    request: &Request,
+) -> Entry
+    requires memory { MakesMemory slots.old queue.old.items (vec_capacity queue.old) windows.old }
+    requires fresh { judge windows.old request.now ≡ Ok Fresh }
+    ensures answer { let m = contents_of slots.old queue.old.items windows.old in result ≡ (act m.cells (asker request.now) request.now.op).entry }
+    ensures contents { let m = contents_of slots.old queue.old.items windows.old in
+        contents_of slots.new queue.new.items windows.new ≡ (serve m request.now (act m.cells (asker request.now) request.now.op)).contents }
+    ensures memory { MakesMemory slots.new queue.new.items (vec_capacity queue.new) windows.new }
+{
+    let who = Waiter {
+        element: request.element,
+        number: request.number,
+    };
+    let acted = act(slots, queue, who, request.op);
+    note(windows, request, acted.entry);
+    resume(windows, queue, acted.address, acted.count, acted.value);
+    acted.entry
+}
+
+impl PlainMemory {
+    /// A memory of these sizes, with no block and no entry. All memory that it will ever need is taken here; refused with
+    /// `NoMemory` where there isn't enough.
+    pub fn new(alloc: Global, limits: Limits) -> Result<Self, Refusal>
+        ensures empty { IfOk result (λ m. m ≡ empty_contents limits.cells limits.elements) }
+        ensures memory { IfOk result (λ m. IsMemory limits.cells limits.elements m) }
+        ensures refused { IfErr result (λ refusal. refusal ≡ Refusal.NoMemory) }
+    {
+        match PlainMemory::make(alloc, limits) {
+            Ok(memory) => Ok(memory),
+            Err(_) => Err(Refusal::NoMemory),
+        }
+    }
+
+    fn make(alloc: Global, limits: Limits) -> Result<Self, AllocError>
+        ensures { IfOk result (λ m. m ≡ empty_contents limits.cells limits.elements) }
+    {
+        let slots = no_slots(alloc, limits.cells)?;
+        let windows = new_windows(alloc, limits.elements)?;
+        let room = WINDOW as usize * limits.elements as usize;
+        let queue = Vec::with_capacity(alloc, room)?;
+        Ok(PlainMemory {
+            slots,
+            queue,
+            windows,
+        })
+    }
+
+    /// One command: what it comes to, or why it is refused, and then nothing changes. Refused are, with `NoElement`, a
+    /// command of an element that isn't there; a request with `Forgotten` below its window, with `Mismatch` under a
+    /// number that is kept for another operation, with `Gap` past the next number and past the last that there is, and
+    /// with `WindowFull` where 16 entries are kept; a confirmation with `Gap` past the next number, and with
+    /// `NotAnswered` where an entry that it would drop still waits. It takes no memory.
+    pub fn step(&mut self, command: &Command) -> Result<Outcome, Refusal>
+        ensures answer { result ≡ (step self.old command.now).answer }
+        ensures contents { self.new ≡ (step self.old command.now).contents }
+        ensures refused { OnErr result (self.new ≡ self.old) }
+
+        // It stays a memory, who waits has a waiting entry, and what is kept stays kept until it is confirmed.
+        ensures memory { IsMemory (length self.old.cells) (length self.old.windows) self.new }
+        ensures agrees { WaitingAgrees self.new }
+        ensures keeps { KeepsEntries self.old command.now self.new }
+    {
+        match command {
+            Command::Request(request) => self.request(request),
+            Command::Confirm { element, upto } => self.confirm(*element, *upto),
+        }
+    }
+
+    fn request(&mut self, request: &Request) -> Result<Outcome, Refusal>
+        ensures answer { result ≡ (step self.old (Command.Request request.now)).answer }
+        ensures contents { self.new ≡ (step self.old (Command.Request request.now)).contents }
+        ensures was_memory { IsMemory (length self.old.cells) (length self.old.windows) self.old }
+    {
+        match judge(self.windows.as_slice(), request) {
+            Err(refusal) => Err(refusal),
+            Ok(Judged::Repeat(entry)) => Ok(Outcome::Entry(entry)),
+            Ok(Judged::Fresh) => {
+                let entry = serve(
+                    self.slots.as_mut_slice(),
+                    &mut self.queue,
+                    self.windows.as_mut_slice(),
+                    request,
+                );
+                Ok(Outcome::Entry(entry))
+            }
+        }
+    }
+
+    fn confirm(&mut self, element: u16, upto: u64) -> Result<Outcome, Refusal>
+        ensures answer { result ≡ (step self.old (Command.Confirm element upto)).answer }
+        ensures contents { self.new ≡ (step self.old (Command.Confirm element upto)).contents }
+        ensures was_memory { IsMemory (length self.old.cells) (length self.old.windows) self.old }
+    {
+        match confirm(self.windows.as_mut_slice(), element, upto) {
+            Ok(()) => Ok(Outcome::Confirmed),
+            Err(refusal) => Err(refusal),
+        }
+    }
+
+    /// Whether [`PlainMemory::step`] would accept this command, which it does where the command changes the memory, or
+    /// why it would be refused.
+    pub fn judge(&self, command: &Command) -> Result<bool, Refusal>
+        ensures { result ≡ acceptance self.now command.now }
+    {
+        match command {
+            Command::Request(request) => match judge(self.windows.as_slice(), request) {
+                Ok(Judged::Fresh) => Ok(true),
+                Ok(Judged::Repeat(_)) => Ok(false),
+                Err(refusal) => Err(refusal),
+            },
+            Command::Confirm { element, upto } => {
+                judge_confirm(self.windows.as_slice(), *element, *upto)
+            }
+        }
+    }
+
+    /// The entry that is kept under an element's number: refused with `NoElement`, with `Forgotten` below the window, and
+    /// with `Gap` where the number isn't used yet.
+    pub fn collect(&self, element: u16, number: u64) -> Result<Entry, Refusal>
+        ensures { result ≡ ask self.now.windows (record { element = element; number = number }) }
+    {
+        ask(self.windows.as_slice(), Waiter { element, number })
+    }
+
+    /// The base of an element's window, from which on its entries are numbered, and the number of its next new request:
+    /// refused with `NoElement`.
+    pub fn window(&self, element: u16) -> Result<(u64, u64), Refusal>
+        ensures { result ≡ bounds self.now.windows element }
+    {
+        bounds(self.windows.as_slice(), element)
+    }
+
+    /// How many cells there are, at most 65,536.
+    pub fn cells(&self) -> u32
+        ensures count { result ≡ length self.now.cells }
+        ensures few { result ≤ MAX_CELLS }
+        ensures memory { IsMemory (length self.now.cells) (length self.now.windows) self.now }
+    {
+        self.slots.len() as u32
+    }
+
+    /// How many elements there are, at most 64.
+    pub fn elements(&self) -> u16
+        ensures count { result ≡ length self.now.windows }
+        ensures few { result ≤ MAX_ELEMENTS }
+        ensures memory { IsMemory (length self.now.cells) (length self.now.windows) self.now }
+    {
+        self.windows.len() as u16
+    }
+
+    /// What the cell at an address is, or `None` where the address lies in no block.
+    pub fn cell(&self, a: u32) -> Option<Presence>
+        ensures { result ≡ presence_in (held_at self.now.cells a) }
+    {
+        match slot_at(self.slots.as_slice(), a) {
+            Some(slot) => Some(presence_of(slot.state, count_at(self.queue.as_slice(), a))),
+            None => None,
+        }
+    }
+
+    /// The block that an address lies in.
+    pub fn block(&self, a: u32) -> Option<Block>
+        ensures { result ≡ block_at self.now.cells a }
+    {
+        match slot_at(self.slots.as_slice(), a) {
+            Some(slot) => Some(slot.block),
+            None => None,
+        }
+    }
+
+    /// The request at this place, from 0, among those that wait at a cell, in their order of arrival.
+    pub fn waiter(&self, a: u32, place: usize) -> Option<Waiter>
+        ensures { result ≡ slice_get (waiters_at self.now.cells a) place }
+    {
+        nth_at(self.queue.as_slice(), a, place)
+    }
+
+    /// What is kept under an element's number.
+    pub fn kept(&self, element: u16, number: u64) -> Option<Kept>
+        ensures { result ≡ kept_for self.now.windows (record { element = element; number = number }) }
+    {
+        kept_for(self.windows.as_slice(), Waiter { element, number })
+    }
+}
+
+// So many slots in no block.
+fn no_slots(alloc: Global, cells: u32) -> Result<Vec<Option<Slot>>, AllocError>
+    ensures { IfOk result (λ slots. slots.items ≡ replicate cells None) }
+{
+    let mut slots = Vec::with_capacity(alloc, cells as usize)?;
+    for _ in 0..cells {
+        slots.push(None)?;
+    }
+    Ok(slots)
+}
+
+// So many windows with no entry.
+fn new_windows(alloc: Global, elements: u16) -> Result<Vec<KeptWindow>, AllocError>
+    ensures { IfOk result (λ windows. windows.items ≡ replicate elements new_window) }
+{
+    let mut windows = Vec::with_capacity(alloc, elements as usize)?;
+    for _ in 0..elements {
+        windows.push(KeptWindow::new(alloc)?)?;
+    }
+    Ok(windows)
+}

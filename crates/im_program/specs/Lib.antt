@@ -1,0 +1,5 @@
+pub mod Places
+pub mod Grammar
+pub mod Lines
+pub mod Script
+pub mod Words

@@ -1,0 +1,67 @@
+-- What the words of the command line ask for. (Own.)
+use Rattle.std.specs.Prelude.{ℕ, List, [], Option, Some, None, if◌then◌else◌, codes, true, unwrap_or}
+use Rattle.std.specs.Option.{option_map, option_and_then, option_map_or}
+use Rattle.std.specs.Str.{bytes_eq}
+use Rattle.clap.specs.Words.{App, Row, Rule, Text, first_of, new_app, new_rule, subcommand_of, with_rule, with_subcommand}
+use Rattle.im_program.specs.declared.words.Work.{Work}
+use Rattle.im_program.specs.declared.words.Work.TheVariants.{Demonstration, Format, Serial}
+use Rattle.im_program.specs.Grammar.{number_up_to}
+
+-- ---- what a parse reads of the command line
+
+-- an option that takes a number
+abbrev pub option_rule : Text → Rule
+option_rule id = record (new_rule id) { long = Some id; value_names = 1 }
+
+-- a path that has to be given
+abbrev pub path_rule : Text → Rule
+path_rule id = record (new_rule id) { required = true }
+
+-- format IMAGE [--cells N] [--elements N] [--slots N]
+abbrev pub format_app : App
+format_app = with_rule (with_rule (with_rule (with_rule (new_app (codes "format")) (path_rule (codes "IMAGE"))) (option_rule (codes "cells"))) (option_rule (codes "elements"))) (option_rule (codes "slots"))
+
+-- serial IMAGE SCRIPT
+abbrev pub serial_app : App
+serial_app = with_rule (with_rule (new_app (codes "serial")) (path_rule (codes "IMAGE"))) (path_rule (codes "SCRIPT"))
+
+abbrev pub imem_app : App
+imem_app = with_subcommand (with_subcommand (new_app (codes "imem")) format_app.top) serial_app.top
+
+-- ---- what is asked for
+
+-- a Work without where its texts lie in memory
+pub data Task : Type 0 where
+  demonstration : Task
+  format : (image : List ℕ) (cells elements slots : ℕ) → Task
+  serial : (image script : List ℕ) → Task
+
+abbrev pub task_of : Work → Task
+task_of Demonstration = demonstration
+task_of (Format image cells elements slots) = format image.now cells elements slots
+task_of (Serial image script) = serial image.now script.now
+
+-- an option's number, in decimal digits below 2^32, or `fallback` where the option is not given
+abbrev pub number_in : List Row → Text → ℕ → Option ℕ
+number_in rows id fallback = option_map_or (number_up_to 4294967295) (first_of id rows) (Some fallback)
+
+-- a path's text
+abbrev pub path_in : List Row → Text → Text
+path_in rows id = unwrap_or (first_of id rows) []
+
+abbrev pub format_task : List Row → Option Task
+format_task rows =
+    option_and_then (λ cells. option_and_then (λ elements. option_map (λ slots. format (path_in rows (codes "IMAGE")) cells elements slots)
+    (number_in rows (codes "slots") 256)) (number_in rows (codes "elements") 16)) (number_in rows (codes "cells") 4096)
+
+abbrev pub serial_task : List Row → Task
+serial_task rows = serial (path_in rows (codes "IMAGE")) (path_in rows (codes "SCRIPT"))
+
+-- the subcommand that was met, with what was found of its arguments
+abbrev pub task_in : Option (Text × List Row) → Option Task
+task_in None = Some demonstration
+task_in (Some met) = if bytes_eq met.0 (codes "format") then format_task met.1 else Some (serial_task met.1)
+
+-- what the words ask for, as clap walks them
+abbrev pub asked : List Text → Option Task
+asked words = task_in (subcommand_of imem_app words)

@@ -1,0 +1,175 @@
+//! A script's requests, served one after another.
+ghost use Rattle.std.specs.Prelude.{◌≡◌, ◌≤◌, OnOk, OnErr};
+ghost use Rattle.im_disk.specs.Since.{LeavesNow};
+ghost use Rattle.im_engine.specs.State.{EngineState, MeansState};
+
+use crate::replies::{add_line, add_now, add_refusal};
+use crate::script::Script;
+use im_disk::Disk;
+use im_engine::Engine;
+use im_types::{Command, Entry, Op, Refusal, Reply, Request, WINDOW};
+use std::alloc::Global;
+
+/// A request that had to wait, with its entry as last kept.
+#[derive(Clone, Copy, Debug, PartialEq, Eq)]
+struct Waited {
+    element: u16,
+    number: u64,
+    entry: Entry,
+}
+
+/// An engine that serves a script.
+#[derive(Drop)]
+struct Server<D: Disk> {
+    engine: Engine<D>,
+    /// The base of each block of the setup.
+    bases: Vec<u32>,
+    /// The requests that had to wait, in their order.
+    waited: Vec<Waited>,
+}
+
+impl<D: Disk> Server<D> {
+    /// Notes what is now kept for the requests that had to wait.
+    fn learn(&mut self) {
+        let memory = self.engine.memory();
+        for waited in self.waited.iter_mut() {
+            if let Some(kept) = memory.kept(waited.element, waited.number) {
+                waited.entry = kept.entry;
+            }
+        }
+    }
+
+    /// The first number from `base` on, and before `next`, whose entry still waits. `next`, where none does.
+    fn first_waiting(&self, element: u16, base: u64, next: u64) -> u64 {
+        for number in base..next {
+            if self.engine.collect(element, number) == Ok(Entry::Waiting) {
+                return number;
+            }
+        }
+        next
+    }
+
+    /// Confirms the entries of a full window up to the first that still waits.
+    fn make_place(&mut self, element: u16) -> Result<(), Refusal> {
+        let (base, next) = self.engine.window(element)?;
+        if next.saturating_sub(base) < WINDOW {
+            return Ok(());
+        }
+        let upto = self.first_waiting(element, base, next);
+        self.learn();
+        self.engine.serve(&Command::Confirm { element, upto })?;
+        Ok(())
+    }
+
+    /// Serves an element's next request, and prints what is kept for it.
+    fn request(&mut self, element: u16, op: Op, out: &mut String) -> Result<Entry, Refusal> {
+        self.make_place(element)?;
+        let (_, number) = self.engine.window(element)?;
+        self.engine.serve(&Command::Request(Request {
+            element,
+            number,
+            op,
+        }))?;
+        let entry = self.engine.collect(element, number)?;
+        add_line(out, element, number, entry).map_err(|_| Refusal::NoMemory)?;
+        if entry == Entry::Waiting {
+            let waited = Waited {
+                element,
+                number,
+                entry,
+            };
+            self.waited.push(waited).map_err(|_| Refusal::NoMemory)?;
+        }
+        Ok(entry)
+    }
+
+    /// Makes the blocks of the setup. `BadScript` where one can't be made.
+    fn set_up(&mut self, script: &Script, out: &mut String) -> Result<(), Refusal> {
+        for block in &script.setup {
+            let entry = self.request(0, Op::Alloc(block.kind, block.length), out)?;
+            let Entry::Answered(Reply::Base(base)) = entry else {
+                return Err(Refusal::BadScript);
+            };
+            self.bases.push(base).map_err(|_| Refusal::NoMemory)?;
+        }
+        Ok(())
+    }
+
+    /// Serves the requests of the parts.
+    fn serve_lines(&mut self, script: &Script, out: &mut String) -> Result<(), Refusal> {
+        for line in &script.lines {
+            let Some(op) = line.action.op(self.bases.as_slice()) else {
+                return Err(Refusal::BadScript);
+            };
+            self.request(line.element, op, out)?;
+        }
+        Ok(())
+    }
+
+    /// Serves the whole script, until a request is refused.
+    fn serve(&mut self, script: &Script, out: &mut String) -> Result<(), Refusal> {
+        self.set_up(script, out)?;
+        self.serve_lines(script, out)
+    }
+
+    /// Prints what became of the requests that had to wait.
+    fn tell(&mut self, out: &mut String) -> Result<(), Refusal> {
+        self.learn();
+        for waited in &self.waited {
+            add_now(out, waited.element, waited.number, waited.entry).map_err(
+                |_| Refusal::NoMemory,
+            )?;
+        }
+        Ok(())
+    }
+}
+
+/// The status of work that is done or refused. A refusal is printed.
+pub fn end(done: Result<(), Refusal>, out: &mut String) -> u8
+    ensures done { OnOk done (result ≡ 0) }
+    ensures refused { OnErr done (result ≡ 1) }
+{
+    match done {
+        Ok(()) => 0,
+        Err(refusal) => {
+            let _printed = add_refusal(out, refusal);
+            1
+        }
+    }
+}
+
+/// Serves a script on the image of a disk, and gives the disk back. The text that it prints is added to `out`: the line
+/// `K.N REPLY` for each request, in order, K being its element and N its number, then `K.N now REPLY` for each that had
+/// to wait, with its entry as last kept, and at last `refused N NAME` where something was refused. That ends the script.
+/// Before a request of an element whose window is full, its entries before the first that still waits are confirmed.
+///
+/// The status is 0, or 1 where something was refused: the image, at opening; a request; `BadScript` where a block of the
+/// setup can't be made; `NoMemory` where `alloc`, or `out`, refused the room for what is kept of the script. Where it is
+/// 0, all files that a crash may leave mean one and the same memory, with one and the same count.
+pub fn serial_on<D: Disk>(alloc: Global, disk: D, script: &Script, out: &mut String) -> (u8, D)
+    ensures status { result.0 ≤ 1 }
+    ensures means { result.0 ≡ 0 → D.honest result.1 → (s : EngineState D) × LeavesNow (D.now result.1) (MeansState s) }
+{
+    match Engine::open(alloc, disk) {
+        Ok(engine) => serve_on(alloc, engine, script, out),
+        Err((refusal, disk)) => (end(Err(refusal), out), disk),
+    }
+}
+
+/// Serves a script on an engine, and gives its disk back.
+fn serve_on<D: Disk>(alloc: Global, engine: Engine<D>, script: &Script, out: &mut String) -> (u8, D)
+    ensures status { result.0 ≤ 1 }
+    ensures means { result.0 ≡ 0 → D.honest result.1 → (s : EngineState D) × LeavesNow (D.now result.1) (MeansState s) }
+{
+    let mut server = Server {
+        engine,
+        bases: Vec::new(alloc),
+        waited: Vec::new(alloc),
+    };
+    let served = server.serve(script, out);
+    let told = server.tell(out);
+    let status = end(served.and(told), out);
+    // Where the disk failed, a refusal was printed: the status is 1 already.
+    let failed = server.engine.failed();
+    (if failed { 1 } else { status }, server.engine.close())
+}

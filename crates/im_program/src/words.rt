@@ -1,0 +1,280 @@
+//! The words of the command line.
+ghost use Rattle.std.specs.Prelude.{◌≡◌, [], true, false, Some, IfOk, IfErr, IsOk, IsSome};
+ghost use Rattle.std.specs.Option.{option_map};
+ghost use Rattle.clap.specs.Words.{app_of, fault_of, found_of, kind_of, rows_of, rule_of, subcommand_rows_of, takes};
+ghost use Rattle.clap.specs.declared.builder.command.Command.TheViews.{out-Command};
+ghost use Rattle.im_program.specs.Grammar.{texts};
+ghost use Rattle.im_program.specs.Words.{asked, format_app, format_task, imem_app, number_in, option_rule, path_in, path_rule, serial_app, serial_task, task_in, task_of};
+
+use crate::grammar::read_u32;
+use clap::error::ErrorKind;
+use clap::{Arg, ArgMatches, Command, Error};
+use std::alloc::{AllocError, Global};
+
+/// How many cells an image has, where the words don't say.
+pub const DEFAULT_CELLS: u32 = 4_096;
+
+/// How many elements, where they don't.
+pub const DEFAULT_ELEMENTS: u32 = 16;
+
+/// How many journal slots, where they don't.
+pub const DEFAULT_SLOTS: u32 = 256;
+
+/// What the program is asked to do.
+#[derive(Clone, Copy, Debug, PartialEq, Eq)]
+pub enum Work<'a> {
+    /// No subcommand: a short script on an image in memory.
+    Demonstration,
+    /// Make an image.
+    Format {
+        /// The image's path.
+        image: &'a str,
+        /// How many cells, as given.
+        cells: u32,
+        /// How many elements, as given.
+        elements: u32,
+        /// How many journal slots, as given.
+        slots: u32,
+    },
+    /// Serve a script's lines in their order.
+    Serial {
+        /// The image's path.
+        image: &'a str,
+        /// The script's path.
+        script: &'a str,
+    },
+}
+
+/// Why the words say no work.
+#[derive(Debug, Drop)]
+pub enum WordFault {
+    /// There was not enough memory.
+    NoMemory,
+    /// What to print, and with which status to end: a bad command line, or the help that was asked for.
+    Bad(Error),
+}
+
+const ABOUT: &str = "A durable memory of I-structure and M-structure cells, kept in an image file.";
+
+const EXAMPLES: &str =
+    "With no subcommand imem serves a short script on an image in memory, and prints its replies.
+
+Example:
+  imem format a.img
+  imem serial a.img fetch.script
+
+Exit status: 0 done; 1 refused, with 'refused N NAME' as the last line; 2 a bad command line.";
+
+const BAD_NUMBER: &str = "--cells, --elements and --slots take decimal numbers below 4294967296";
+
+const FORMAT: &str =
+    "Make an image: an empty memory of this size, in a new file or over an old one";
+
+const FORMAT_EXAMPLES: &str =
+    "Prints nothing where the image is made. An older file of that name is lost.
+
+Example: an image of 4,096 cells, 16 elements and 256 journal slots, and a small one
+  imem format a.img
+  imem format small.img --cells 64 --elements 2 --slots 16";
+
+const SERIAL: &str = "Serve the requests of a script, in their order, and print each reply";
+
+const SERIAL_EXAMPLES: &str =
+    "Each request prints 'K.N REPLY', K being its element and N its number. At the end each one that had
+to wait prints 'K.N now REPLY'. The image keeps all of it for the next run.
+
+A script has one line for each request; '#' begins a line of comment:
+  setup                 at most once, first: blocks with names, made by element 0
+  alloc NAME KIND LEN   KIND is i (written once) or m (filled and emptied)
+  element K             what follows is asked by element K, 0 to 63
+  fetch PLACE           read an i cell, or wait until it is written
+  store PLACE VALUE     write an i cell
+  take PLACE            empty an m cell, or wait until it is full
+  put PLACE VALUE       fill an m cell
+  release PLACE         give a block back
+  alloc KIND LEN        make a block
+PLACE is an address, NAME or NAME+OFFSET.
+
+Example: the lines 'setup', 'alloc x i 1', 'element 1', 'fetch x', 'element 2', 'store x 5' in the
+file fetch.script, served on the image a.img
+  imem serial a.img fetch.script";
+
+/// An option that takes a number.
+fn number_option<'a>(alloc: Global, id: &'a str, help: &'a str) -> Arg<'a>
+    ensures rule { rule_of result ≡ option_rule id.entry.now }
+    ensures local { result.global ≡ false }
+{
+    Arg::new(alloc, id).long(id).value_name("N").help(help)
+}
+
+/// A path that has to be given.
+fn path_argument<'a>(alloc: Global, id: &'a str, help: &'a str) -> Arg<'a>
+    ensures rule { rule_of result ≡ path_rule id.entry.now }
+    ensures local { result.global ≡ false }
+{
+    Arg::new(alloc, id).required(true).help(help)
+}
+
+/// The subcommand `format`.
+fn format_command<'a>(alloc: Global) -> Result<Command<'a>, AllocError>
+    ensures app { IfOk result (λ c. app_of c ≡ format_app) }
+    ensures local { IfOk result (λ c. (out-Command c).has_globals ≡ false) }
+{
+    let empty = Command::new(alloc, "format")
+        .about(FORMAT)
+        .after_help(FORMAT_EXAMPLES);
+    let image = path_argument(alloc, "IMAGE", "The file to make");
+    let cells = number_option(
+        alloc,
+        "cells",
+        "How many cells, 1 to 65,536 [default: 4096]",
+    );
+    let elements = number_option(
+        alloc,
+        "elements",
+        "How many elements, 1 to 64 [default: 16]",
+    );
+    let slots = number_option(
+        alloc,
+        "slots",
+        "How many journal slots, 16 to 4,096 [default: 256]",
+    );
+    let one = empty.arg(image)?;
+    let two = one.arg(cells)?;
+    let three = two.arg(elements)?;
+    let four = three.arg(slots)?;
+    Ok(four)
+}
+
+/// The subcommand `serial`.
+fn serial_command<'a>(alloc: Global) -> Result<Command<'a>, AllocError>
+    ensures app { IfOk result (λ c. app_of c ≡ serial_app) }
+    ensures local { IfOk result (λ c. (out-Command c).has_globals ≡ false) }
+{
+    let empty = Command::new(alloc, "serial")
+        .about(SERIAL)
+        .after_help(SERIAL_EXAMPLES);
+    let image = path_argument(alloc, "IMAGE", "The image, made by 'imem format'");
+    let script = path_argument(alloc, "SCRIPT", "The file of requests");
+    let one = empty.arg(image)?;
+    let two = one.arg(script)?;
+    Ok(two)
+}
+
+/// The whole command line.
+fn imem_command<'a>(alloc: Global) -> Result<Command<'a>, AllocError>
+    ensures app { IfOk result (λ c. app_of c ≡ imem_app) }
+{
+    let empty = Command::new(alloc, "imem")
+        .about(ABOUT)
+        .after_help(EXAMPLES);
+    let format = format_command(alloc)?;
+    let serial = serial_command(alloc)?;
+    let one = empty.subcommand(format)?;
+    let two = one.subcommand(serial)?;
+    Ok(two)
+}
+
+/// The number of an option, or `fallback` where it is not given. `None` where it is no decimal number of a u32.
+fn number_or(found: &ArgMatches, id: &str, fallback: u32) -> Option<u32>
+    ensures { result ≡ number_in (rows_of (found_of found.now)) id.now fallback }
+{
+    match found.get_str(id) {
+        Some(text) => read_u32(text.as_bytes()),
+        None => Some(fallback),
+    }
+}
+
+/// The text of a path. It was given, since the command requires it.
+fn path_of<'a>(found: &ArgMatches<'a>, id: &str) -> &'a str
+    ensures { result.now ≡ path_in (rows_of (found_of found.now)) id.now }
+{
+    match found.get_str(id) {
+        Some(text) => text,
+        None => "",
+    }
+}
+
+/// What `format` is asked for. `None` where a number is no decimal number of a u32.
+fn format_work<'a>(found: &ArgMatches<'a>) -> Option<Work<'a>>
+    ensures { option_map task_of result ≡ format_task (rows_of (found_of found.now)) }
+{
+    let image = path_of(found, "IMAGE");
+    let cells = number_or(found, "cells", DEFAULT_CELLS)?;
+    let elements = number_or(found, "elements", DEFAULT_ELEMENTS)?;
+    let slots = number_or(found, "slots", DEFAULT_SLOTS)?;
+    Some(Work::Format {
+        image,
+        cells,
+        elements,
+        slots,
+    })
+}
+
+/// What `serial` is asked for.
+fn serial_work<'a>(found: &ArgMatches<'a>) -> Work<'a>
+    ensures { task_of result ≡ serial_task (rows_of (found_of found.now)) }
+{
+    let image = path_of(found, "IMAGE");
+    let script = path_of(found, "SCRIPT");
+    Work::Serial { image, script }
+}
+
+/// What the words ask for. `None` where a number is no decimal number of a u32.
+fn work_of<'a>(matches: &ArgMatches<'a>) -> Option<Work<'a>>
+    ensures { option_map task_of result ≡ task_in (subcommand_rows_of matches.now) }
+{
+    match matches.subcommand() {
+        None => Some(Work::Demonstration),
+        Some((name, found)) => {
+            if name == "format" {
+                format_work(found)
+            } else {
+                Some(serial_work(found))
+            }
+        }
+    }
+}
+
+/// The fault that clap found.
+fn fault(error: Error) -> WordFault
+    ensures { kind_of error ≡ ErrorKind.OutOfMemory → result ≡ WordFault.NoMemory }
+{
+    if error.kind() == ErrorKind::OutOfMemory {
+        WordFault::NoMemory
+    } else {
+        WordFault::Bad(error)
+    }
+}
+
+/// The fault of a number that is none.
+fn bad_number(alloc: Global) -> WordFault {
+    match imem_command(alloc) {
+        Ok(mut command) => match command.error(ErrorKind::ValueValidation, BAD_NUMBER) {
+            Ok(error) => WordFault::Bad(error),
+            Err(_) => WordFault::NoMemory,
+        },
+        Err(_) => WordFault::NoMemory,
+    }
+}
+
+/// Reads the words of a command line, the program's own name first. [`WordFault::Bad`] has what clap found, or that a
+/// number is not written in decimal digits below 2^32; `--help` is such a fault too, with status 0.
+pub fn read_words<'a>(alloc: Global, words: &'a [&'a str]) -> Result<Work<'a>, WordFault>
+    ensures work { IfOk result (λ work. asked (texts words.entry.now) ≡ Some (task_of work)) }
+    ensures sound { IsOk result → fault_of imem_app (texts words.entry.now) ≡ [] }
+    ensures taken { IfErr result (λ fault. takes imem_app (texts words.entry.now) ≡ true → IsSome (asked (texts words.entry.now)) → fault ≡ WordFault.NoMemory) }
+{
+    let command = match imem_command(alloc) {
+        Ok(command) => command,
+        Err(_) => return Err(WordFault::NoMemory),
+    };
+    let matches = match command.try_get_matches_from(words) {
+        Ok(matches) => matches,
+        Err(error) => return Err(fault(error)),
+    };
+    match work_of(&matches) {
+        Some(work) => Ok(work),
+        None => Err(bad_number(alloc)),
+    }
+}

@@ -1,0 +1,2 @@
+pub mod RingLemmas
+pub mod WindowsLemmas

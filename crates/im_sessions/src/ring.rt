@@ -1,0 +1,216 @@
+//! One element's window, as a ring of places: the entry with a number stands where the number, divided by the
+//! window's size, leaves a rest. So an entry is found at once, and none moves when others are dropped.
+ghost use Rattle.std.specs.Prelude.{◌≡◌, ◌+◌, ◌-◌, ◌<◌, ◌≤◌, length, take, drop, slice_get, MatchResult, OnOk};
+ghost use Rattle.std.specs.List.{list_any};
+ghost use Rattle.im_types.specs.Contents.{new_window, kept_under};
+ghost use Rattle.im_types.specs.Memory.{IsWindow};
+ghost use Rattle.im_types.specs.Window.{judge_window, confirm_window, ask_window, note_in, answer_in, is_waiting, next_number, same_op};
+ghost use Rattle.im_sessions.specs.Places.{place_of};
+
+use im_types::{Entry, Judged, Kept, LAST, Op, Refusal, Reply, Request, WINDOW};
+use std::marker::Model;
+
+const PLACES: usize = WINDOW as usize;
+
+/// The entries that are kept for an element, numbered from a base on.
+#[derive(Drop)]
+pub struct Ring {
+    base: u64,
+    count: u64,
+    places: [Kept; PLACES],
+}
+
+impl Model for Ring {
+    ghost use Rattle.im_types.specs.Contents.{Window};
+    ghost use Rattle.im_sessions.specs.Places.{entries_from, AreBounds};
+
+    ghost Value = { Window };
+
+    ghost view = { λ r. record { base = r.base; kept = entries_from r.places r.base r.count } };
+
+    ghost invariant = { λ r. AreBounds r.base r.count };
+}
+
+// The place of the entry with this number.
+fn place_of(number: u64) -> usize
+    ensures { result ≡ place_of number }
+{
+    (number % WINDOW) as usize
+}
+
+// Whether two operations are the same.
+fn is_same(op: &Op, other: &Op) -> bool
+    ensures { result ≡ same_op op.now other.now }
+{
+    op == other
+}
+
+// Whether an entry is waiting.
+fn is_waiting(kept: &Kept) -> bool
+    ensures { result ≡ is_waiting kept.now }
+{
+    matches!(kept.entry, Entry::Waiting)
+}
+
+impl Ring {
+    /// A window with no entry, numbered from 1 on.
+    pub fn new() -> Ring
+        ensures empty { result ≡ new_window }
+        ensures bounds { IsWindow result }
+    {
+        let blank = Kept {
+            op: Op::Release(0),
+            entry: Entry::Waiting,
+        };
+        Ring {
+            base: 1,
+            count: 0,
+            places: [blank; PLACES],
+        }
+    }
+
+    // A window with no entry, numbered from a base on.
+    #[cfg(test)]
+    pub fn with_base(base: u64) -> Ring
+        requires from_one { 1 ≤ base }
+        requires to_last { base ≤ LAST + 1 }
+        ensures { IsWindow result }
+    {
+        let mut ring = Ring::new();
+        ring.base = base;
+        ring
+    }
+
+    /// The base, and the number of the next new request.
+    pub fn bounds(&self) -> (u64, u64)
+        ensures { result ≡ (self.now.base, next_number self.now) }
+    {
+        (self.base, self.base + self.count)
+    }
+
+    /// Whether a request is new or known, or why it is refused.
+    pub fn judge(&self, request: &Request) -> Result<Judged, Refusal>
+        ensures { result ≡ judge_window request.now (Some self.now) }
+    {
+        let (base, next) = self.bounds();
+        if request.number < base {
+            return Err(Refusal::Forgotten);
+        }
+        if request.number < next {
+            let kept = self.at(request.number);
+            return if is_same(&kept.op, &request.op) {
+                Ok(Judged::Repeat(kept.entry))
+            } else {
+                Err(Refusal::Mismatch)
+            };
+        }
+        if request.number > next || request.number > LAST {
+            return Err(Refusal::Gap);
+        }
+        if next - base < WINDOW {
+            Ok(Judged::Fresh)
+        } else {
+            Err(Refusal::WindowFull)
+        }
+    }
+
+    /// What is kept under a number.
+    pub fn kept(&self, number: u64) -> Option<Kept>
+        ensures { result ≡ kept_under self.now number }
+    {
+        let (base, next) = self.bounds();
+        if number < base || number >= next {
+            None
+        } else {
+            Some(*self.at(number))
+        }
+    }
+
+    /// The entry under a number, or why there is none.
+    pub fn entry(&self, number: u64) -> Result<Entry, Refusal>
+        ensures { result ≡ ask_window number (Some self.now) }
+    {
+        let (base, next) = self.bounds();
+        if number < base {
+            Err(Refusal::Forgotten)
+        } else if number < next {
+            Ok(self.at(number).entry)
+        } else {
+            Err(Refusal::Gap)
+        }
+    }
+
+    /// Keeps an operation with its entry, under the next number.
+    pub fn note(&mut self, op: Op, entry: Entry)
+        requires room { length self.old.kept < WINDOW }
+        requires to_last { next_number self.old ≤ LAST }
+        ensures noted { self.new ≡ note_in op entry self.old }
+        ensures bounds { IsWindow self.new }
+    {
+        self.places[place_of(self.base + self.count)] = Kept { op, entry };
+        self.count += 1;
+    }
+
+    /// The entry under a number is now answered.
+    pub fn answer(&mut self, number: u64, reply: Reply)
+        requires from_base { self.old.base ≤ number }
+        requires below_next { number < next_number self.old }
+        ensures answered { self.new ≡ answer_in number reply self.old }
+        ensures bounds { IsWindow self.new }
+    {
+        self.places[place_of(number)].entry = Entry::Answered(reply);
+    }
+
+    /// Drops the entries below a number, if each of them is answered; where it is refused, nothing changes.
+    pub fn confirm(&mut self, upto: u64) -> Result<(), Refusal>
+        ensures confirmed { MatchResult result
+            (λ _. confirm_window upto (Some self.old) ≡ Ok self.new)
+            (λ refusal. (confirm_window upto (Some self.old) ≡ Err refusal) × (self.new ≡ self.old)) }
+        ensures bounds { OnOk result (IsWindow self.new) }
+    {
+        let (base, next) = self.bounds();
+        let count = upto.saturating_sub(base);
+        if upto > next {
+            Err(Refusal::Gap)
+        } else if self.has_waiting(count) {
+            Err(Refusal::NotAnswered)
+        } else {
+            self.drop_first(count);
+            Ok(())
+        }
+    }
+
+    // Drops the first entries.
+    fn drop_first(&mut self, count: u64)
+        requires { count ≤ length self.old.kept }
+        ensures dropped { self.new
+            ≡ record { base = self.old.base + count; kept = drop count self.old.kept } }
+        ensures bounds { IsWindow self.new }
+    {
+        self.base += count;
+        self.count -= count;
+    }
+
+    // What is kept under a number that the window has.
+    fn at(&self, number: u64) -> &Kept
+        requires from_base { self.now.base ≤ number }
+        requires below_next { number < next_number self.now }
+        ensures { slice_get self.now.kept (number - self.now.base) ≡ Some result.now }
+    {
+        &self.places[place_of(number)]
+    }
+
+    // Whether one of the first entries is waiting.
+    fn has_waiting(&self, count: u64) -> bool
+        requires { count ≤ length self.now.kept }
+        ensures { result ≡ list_any is_waiting (take count self.now.kept) }
+    {
+        let (base, _) = self.bounds();
+        for past in 0..count {
+            if is_waiting(self.at(base + past)) {
+                return true;
+            }
+        }
+        false
+    }
+}

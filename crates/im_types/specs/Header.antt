@@ -1,0 +1,91 @@
+-- The headers of an image, and which of them is in force. (Own.)
+use Rattle.std.specs.Prelude.{ℕ, ◌+◌, List, ◌∷◌, ◌++◌, length, Bool, ◌&&◌, ◌||◌, ◌==◌, nat_lt, nat_le, not, Option, None, Some, if◌then◌else◌, slice_index, slice_range}
+use Rattle.byteorder.specs.Endian.{little_bytes}
+use Rattle.im_types.specs.declared.TheConstants.{LAST}
+use Rattle.im_types.specs.declared.refusals.Refusal.{Refusal}
+use Rattle.im_types.specs.declared.refusals.Refusal.TheVariants.{WrongLength, NoHeader, BadHeader}
+use Rattle.im_types.specs.Bytes.{open_gate, zeros, same_bytes, number_at}
+use Rattle.im_types.specs.Layout.{Layout, Sizes, are_sizes, page_bytes, header_at, image_length}
+
+-- the layout's version, the area that the header is of, how often an area was written, how many commands that area holds, and the sizes
+pub record Header : Type 0 where
+  pub version : ℕ
+  pub area : ℕ
+  pub generation : ℕ
+  pub count : ℕ
+  pub sizes : Sizes
+
+-- the 63 bytes behind a header's gate
+abbrev pub header_body : Header → List ℕ
+header_body h =
+    h.area ∷ little_bytes 2 h.version ++ 0x49 ∷ 0x4D ∷ 0x45 ∷ 0x4D ∷ little_bytes 8 h.generation ++ little_bytes 8 h.count
+    ++ little_bytes 4 h.sizes.cells ++ little_bytes 2 h.sizes.elements ++ zeros 2 ++ little_bytes 4 h.sizes.slots ++ zeros 28
+
+-- the fields of a header, whatever its other bytes are
+abbrev pub header_in : List ℕ → Header
+header_in bytes = record {
+  version = number_at 2 2 bytes;
+  area = slice_index bytes 1;
+  generation = number_at 8 8 bytes;
+  count = number_at 8 16 bytes;
+  sizes = record { cells = number_at 4 24 bytes; elements = number_at 2 28 bytes; slots = number_at 4 32 bytes };
+}
+
+-- these numbers can stand in the header of an area
+abbrev pub is_header : Layout → ℕ → Header → Bool
+is_header l number h = (h.version == l.version) && (h.area == number) && nat_le 1 h.generation && nat_le h.generation LAST && nat_le h.count LAST && are_sizes l h.sizes
+
+-- the bytes spell the header of an area
+abbrev pub spells_header : Layout → ℕ → List ℕ → Bool
+spells_header l number bytes = same_bytes (slice_range bytes 1 64) (header_body (header_in bytes)) && is_header l number (header_in bytes)
+
+-- of a header place only the first 64 bytes are read
+abbrev pub header_place : ℕ → List ℕ → List ℕ
+header_place number file = slice_range file (header_at number) (header_at number + 64)
+
+-- whether the header in these bytes is open
+abbrev pub is_open_header : List ℕ → Bool
+is_open_header place = slice_index place 0 == open_gate
+
+-- the generation that stands in these bytes
+abbrev pub generation_in : List ℕ → ℕ
+generation_in place = (header_in place).generation
+
+-- of the two header places the second is in force: it is open, and the first is closed or of a lower generation
+abbrev pub is_second : List ℕ → List ℕ → Bool
+is_second zero one = is_open_header one && (not (is_open_header zero) || nat_lt (generation_in zero) (generation_in one))
+
+-- the number of the header in force
+abbrev pub number_in_force : List ℕ → List ℕ → ℕ
+number_in_force zero one = if is_second zero one then 1 else 0
+
+-- the bytes of the header in force
+abbrev pub place_in_force : List ℕ → List ℕ → List ℕ
+place_in_force zero one = if is_second zero one then one else zero
+
+-- both headers are open, under one generation
+abbrev pub are_ambiguous : List ℕ → List ℕ → Bool
+are_ambiguous zero one = is_open_header zero && is_open_header one && (generation_in zero == generation_in one)
+
+-- the first fault of the two header places
+abbrev pub place_fault : Layout → List ℕ → List ℕ → Option Refusal
+place_fault l zero one =
+    if not (is_open_header zero || is_open_header one) then Some NoHeader
+    else if are_ambiguous zero one || not (spells_header l (number_in_force zero one) (place_in_force zero one)) then Some BadHeader
+    else None
+
+-- the header in force
+abbrev pub header_of : List ℕ → Header
+header_of file = header_in (place_in_force (header_place 0 file) (header_place 1 file))
+
+-- the first fault of two
+abbrev pub or_else : Option Refusal → Option Refusal → Option Refusal
+or_else None second = second
+or_else (Some first) second = Some first
+
+-- the first fault of a file's length and headers
+abbrev pub header_fault : Layout → List ℕ → Option Refusal
+header_fault l file =
+    if nat_lt (length file) (page_bytes + page_bytes) then Some WrongLength
+    else or_else (place_fault l (header_place 0 file) (header_place 1 file))
+    (if length file == image_length l (header_of file).sizes then None else Some WrongLength)

@@ -1,0 +1,108 @@
+-- Where things stand in an image. (Own.)
+use Rattle.std.specs.Prelude.{ℕ, ◌+◌, ◌*◌, ◌/◌, ◌-◌, List, take, drop, Bool, ◌&&◌, nat_le, slice_range}
+use Rattle.im_types.specs.declared.TheConstants.{WINDOW, MAX_CELLS, MAX_ELEMENTS, MIN_SLOTS, MAX_SLOTS}
+use Rattle.im_types.specs.Journal.{Ring}
+
+-- a version of the layout: how many entries a window keeps, and how many cells there may be
+pub record Layout : Type 0 where
+  pub version : ℕ
+  pub window : ℕ
+  pub most_cells : ℕ
+
+-- the first version of the layout
+abbrev pub layout_1 : Layout
+layout_1 = record { version = 1; window = WINDOW; most_cells = MAX_CELLS }
+
+-- how many cells, elements and journal slots an image has
+pub record Sizes : Type 0 where
+  pub cells : ℕ
+  pub elements : ℕ
+  pub slots : ℕ
+
+-- the sizes are in range
+abbrev pub are_sizes : Layout → Sizes → Bool
+are_sizes l s = nat_le 1 s.cells && nat_le s.cells l.most_cells && nat_le 1 s.elements && nat_le s.elements MAX_ELEMENTS && nat_le MIN_SLOTS s.slots && nat_le s.slots MAX_SLOTS
+
+-- the bytes of a page, and of a header place
+abbrev pub page_bytes : ℕ
+page_bytes = 4096
+
+-- the bytes of a cell record
+abbrev pub cell_record_bytes : ℕ
+cell_record_bytes = 32
+
+-- the bytes of a waiter node
+abbrev pub node_record_bytes : ℕ
+node_record_bytes = 16
+
+-- the bytes of a session record
+abbrev pub session_record_bytes : Layout → ℕ
+session_record_bytes l = 64 * l.window
+
+-- each waiting request has a window entry, so there are as many nodes as entries
+abbrev pub node_count : Layout → Sizes → ℕ
+node_count l s = l.window * s.elements
+
+-- the pages for so many records of a size; no record crosses a page
+abbrev pub pages_for : ℕ → ℕ → ℕ
+pages_for size count = (count + page_bytes / size - 1) / (page_bytes / size)
+
+-- the pages of cells; an area has these first, then those of nodes, then those of sessions
+abbrev pub cell_pages : Sizes → ℕ
+cell_pages s = pages_for cell_record_bytes s.cells
+
+-- the pages of waiter nodes
+abbrev pub node_pages : Layout → Sizes → ℕ
+node_pages l s = pages_for node_record_bytes (node_count l s)
+
+-- the pages of sessions
+abbrev pub session_pages : Layout → Sizes → ℕ
+session_pages l s = pages_for (session_record_bytes l) s.elements
+
+-- the pages of an area
+abbrev pub area_pages : Layout → Sizes → ℕ
+area_pages l s = cell_pages s + node_pages l s + session_pages l s
+
+-- the bytes of an area
+abbrev pub area_bytes : Layout → Sizes → ℕ
+area_bytes l s = page_bytes * area_pages l s
+
+-- where a header stands: the two header places come first, then the two areas, then the journal
+abbrev pub header_at : ℕ → ℕ
+header_at number = page_bytes * number
+
+-- where an area begins; the journal begins where a third one would
+abbrev pub area_at : Layout → Sizes → ℕ → ℕ
+area_at l s area = 2 * page_bytes + area_bytes l s * area
+
+-- where the journal begins
+abbrev pub journal_at : Layout → Sizes → ℕ
+journal_at l s = area_at l s 2
+
+-- the length of an image
+abbrev pub image_length : Layout → Sizes → ℕ
+image_length l s = journal_at l s + 64 * s.slots
+
+-- the ring of the journal of an image
+abbrev pub ring_of : Layout → Sizes → Ring
+ring_of l s = record { base = journal_at l s; slots = s.slots }
+
+-- the bytes of an area in a file
+abbrev pub area_of : Layout → Sizes → ℕ → List ℕ → List ℕ
+area_of l s area file = slice_range file (area_at l s area) (area_at l s area + area_bytes l s)
+
+-- the pages of cells of an area
+abbrev pub cell_part : Sizes → List ℕ → List ℕ
+cell_part s area = take (page_bytes * cell_pages s) area
+
+-- the pages of nodes of an area
+abbrev pub node_part : Layout → Sizes → List ℕ → List ℕ
+node_part l s area = take (page_bytes * node_pages l s) (drop (page_bytes * cell_pages s) area)
+
+-- the pages of sessions of an area
+abbrev pub session_part : Layout → Sizes → List ℕ → List ℕ
+session_part l s area = drop (page_bytes * (cell_pages s + node_pages l s)) area
+
+-- record number i of a row of records of n bytes
+abbrev pub record_at : ℕ → List ℕ → ℕ → List ℕ
+record_at n bytes i = slice_range bytes (n * i) (n * i + n)

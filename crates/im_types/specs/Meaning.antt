@@ -1,0 +1,50 @@
+-- What an image means: the memory of the area in force, after the run of commands in the journal. (Own.)
+use Rattle.std.specs.Prelude.{◌≡◌, ℕ, ◌+◌, ◌⊎◌, List, [], ◌∷◌, length, Option, None, Some, Result, Ok, Err, MatchOption, if◌then◌else◌}
+use Rattle.im_types.specs.declared.commands.Command.{Command}
+use Rattle.im_types.specs.declared.refusals.Refusal.{Refusal}
+use Rattle.im_types.specs.declared.refusals.Refusal.TheVariants.{BadPage, BadRecord}
+use Rattle.im_types.specs.Contents.{Contents}
+use Rattle.im_types.specs.Step.{step, is_accepted}
+use Rattle.im_types.specs.Layout.{Layout, area_of, ring_of}
+use Rattle.im_types.specs.Header.{Header, header_of, header_fault}
+use Rattle.im_types.specs.Journal.{Tail, tail}
+use Rattle.im_types.specs.Pages.{Shows}
+
+-- what an image comes to: the memory, the count of all its commands, and the room for more
+pub record Reached : Type 0 where
+  pub contents : Contents
+  pub count : ℕ
+  pub room : ℕ
+
+-- the memory after commands each of which is accepted in its turn; None where one isn't
+abbrev pub accept_each : Contents → List Command → Option Contents
+accept_each m [] = Some m
+accept_each m (command ∷ commands) = if is_accepted m command then accept_each (step m command).contents commands else None
+
+-- what is reached with this count and this room
+abbrev pub reached_by : ℕ → ℕ → Option Contents → Result Reached Refusal
+reached_by count room None = Err BadRecord
+reached_by count room (Some m) = Ok (record { contents = m; count = count; room = room })
+
+-- what is reached from a memory through the rest of the journal
+abbrev pub reached_after : ℕ → Contents → Option Tail → Result Reached Refusal
+reached_after count m None = Err BadRecord
+reached_after count m (Some t) = reached_by (count + length t.commands) t.room (accept_each m t.commands)
+
+-- the memory of the area in force, after the journal's run
+abbrev pub read_journal : Layout → List ℕ → Contents → Result Reached Refusal
+read_journal l file m = let h = header_of file in reached_after h.count m (tail (ring_of l h.sizes) h.count file)
+
+-- the pages of the area in force show a memory
+abbrev pub IsShown : Layout → List ℕ → Contents → Type 0
+IsShown l file m = let h = header_of file in Shows l h.sizes (area_of l h.sizes h.area file) m
+
+-- reading an image comes to this: what it reaches, or the first fault: of its headers, of the pages in force, of the journal
+abbrev pub Reads : Layout → List ℕ → Result Reached Refusal → Type 0
+Reads l file outcome = MatchOption (header_fault l file)
+    (((m : Contents) × IsShown l file m × (outcome ≡ read_journal l file m)) ⊎ (((m : Contents) → IsShown l file m → ⊥) × (outcome ≡ Err BadPage)))
+    (λ fault. outcome ≡ Err fault)
+
+-- an image means a memory and a count of commands
+abbrev pub Means : Layout → List ℕ → Contents → ℕ → Type 0
+Means l file m count = (room : ℕ) × Reads l file (Ok (record { contents = m; count = count; room = room }))

@@ -1,0 +1,20 @@
+-- What makes contents those of a memory. (Own.)
+use Rattle.std.specs.Prelude.{◌≡◌, ℕ, ◌+◌, ◌≤◌, length, Some, slice_get}
+use Rattle.im_types.specs.declared.TheConstants.{WINDOW, LAST}
+use Rattle.im_types.specs.Contents.{Window, Contents, HasBlocks}
+use Rattle.im_types.specs.Window.{next_number}
+use Rattle.im_types.specs.Agreement.{WaitingAgrees}
+
+-- a window is numbered from 1 on, keeps few entries, and numbers none past the last
+pub record IsWindow (w : Window) : Type 0 where
+  pub from_one : 1 ≤ w.base
+  pub few : length w.kept ≤ WINDOW
+  pub to_last : next_number w ≤ LAST + 1
+
+-- so many cells and windows; blocks that are whole; windows within their bounds; and who waits at a cell has a waiting entry
+pub record IsMemory (cells elements : ℕ) (m : Contents) : Type 0 where
+  pub cell_count : length m.cells ≡ cells
+  pub window_count : length m.windows ≡ elements
+  pub blocks : HasBlocks m.cells
+  pub windows : (element : ℕ) (w : Window) → slice_get m.windows element ≡ Some w → IsWindow w
+  pub agrees : WaitingAgrees m

@@ -1,0 +1,118 @@
+-- The records of an area: cells, waiter nodes and sessions, and how each is spelled. (Own.)
+use Rattle.std.specs.Prelude.{◌≡◌, ℕ, ◌+◌, ◌*◌, ◌%◌, ◌-◌, ◌^◌, ◌<◌, ◌≤◌, ◌⊎◌, List, [], ◌∷◌, ◌++◌, length, replicate, Option, None, Some, slice_get, if◌then◌else◌, ◌==◌}
+use Rattle.byteorder.specs.Endian.{little_bytes}
+use Rattle.im_types.specs.declared.TheConstants.{LAST, NONE}
+use Rattle.im_types.specs.declared.operations.Block.{Block}
+use Rattle.im_types.specs.declared.operations.Waiter.{Waiter}
+use Rattle.im_types.specs.declared.operations.Kept.{Kept}
+use Rattle.im_types.specs.Contents.{Window}
+use Rattle.im_types.specs.Window.{next_number}
+use Rattle.im_types.specs.Agreement.{address_of}
+use Rattle.im_types.specs.Bytes.{zeros, op_code, op_value, entry_code, entry_number, kind_code, FitsOp, FitsEntry}
+use Rattle.im_types.specs.Layout.{Layout}
+
+-- a presence tag as a record shows it: a waiting cell names the first node of its list and the last
+pub data Tagged : Type 0 where
+  TagEmpty : Tagged
+  TagWaiting : ℕ → ℕ → Tagged
+  TagFull : ℕ → Tagged
+  TagClashed : ℕ → Tagged
+
+-- a free cell has the length of its hole and the next hole, a cell in a block the block and a tag
+pub data CellRecord : Type 0 where
+  FreeCell : ℕ → ℕ → CellRecord
+  BlockCell : Block → Tagged → CellRecord
+
+-- a free node has the next free one, a node in a list the next one and who waits there
+pub data NodeRecord : Type 0 where
+  FreeNode : ℕ → NodeRecord
+  ListNode : ℕ → Waiter → NodeRecord
+
+-- the code of a tag
+abbrev pub tag_code : Tagged → ℕ
+tag_code TagEmpty = 1
+tag_code (TagWaiting first last) = 2
+tag_code (TagFull v) = 3
+tag_code (TagClashed v) = 4
+
+-- the first waiter node that a tag names
+abbrev pub tag_first : Tagged → ℕ
+tag_first (TagWaiting first last) = first
+tag_first tag = NONE
+
+-- the last waiter node that a tag names
+abbrev pub tag_last : Tagged → ℕ
+tag_last (TagWaiting first last) = last
+tag_last tag = NONE
+
+-- the value that a tag carries
+abbrev pub tag_value : Tagged → ℕ
+tag_value (TagFull v) = v
+tag_value (TagClashed v) = v
+tag_value tag = 0
+
+-- the 32 bytes of a cell
+abbrev pub cell_bytes : CellRecord → List ℕ
+cell_bytes (FreeCell hole next) = zeros 4 ++ little_bytes 4 hole ++ little_bytes 4 next ++ little_bytes 4 NONE ++ little_bytes 4 NONE ++ zeros 12
+cell_bytes (BlockCell block tag) =
+    tag_code tag ∷ kind_code block.kind ∷ zeros 2 ++ little_bytes 4 block.base ++ little_bytes 4 block.length
+    ++ little_bytes 4 (tag_first tag) ++ little_bytes 4 (tag_last tag) ++ zeros 4 ++ little_bytes 8 (tag_value tag)
+
+-- the 16 bytes of a node
+abbrev pub node_bytes : NodeRecord → List ℕ
+node_bytes (FreeNode next) = little_bytes 4 next ++ zeros 12
+node_bytes (ListNode next who) = little_bytes 4 next ++ little_bytes 2 who.element ++ little_bytes 2 1 ++ little_bytes 8 who.number
+
+-- a link to a number below n, or to none
+abbrev pub IsLink : ℕ → ℕ → Type 0
+IsLink n link = (link ≡ NONE) ⊎ (link < n)
+
+-- a tag within its bounds
+abbrev pub FitsTag : ℕ → Tagged → Type 0
+FitsTag nodes TagEmpty = Unit {0}
+FitsTag nodes (TagWaiting first last) = (first < nodes) × (last < nodes)
+FitsTag nodes (TagFull v) = v < 2 ^ 64
+FitsTag nodes (TagClashed v) = v < 2 ^ 64
+
+-- a cell record within its bounds: a free cell has any short hole and any link, a block lies below the cell count
+abbrev pub FitsCell : ℕ → ℕ → CellRecord → Type 0
+FitsCell cells nodes (FreeCell hole next) = (hole ≤ cells) × IsLink cells next
+FitsCell cells nodes (BlockCell block tag) = (block.base + block.length ≤ cells) × FitsTag nodes tag
+
+-- a node record within its bounds
+abbrev pub FitsNode : ℕ → NodeRecord → Type 0
+FitsNode nodes (FreeNode next) = IsLink nodes next
+FitsNode nodes (ListNode next who) = IsLink nodes next × (who.element < 2 ^ 16) × (who.number < 2 ^ 64)
+
+-- the 32 bytes of a place of a session record: a kept entry, or none
+abbrev pub place_bytes : Option Kept → List ℕ
+place_bytes None = zeros 32
+place_bytes (Some k) =
+    op_code k.op ∷ 0 ∷ entry_code k.entry ∷ 0 ∷ little_bytes 4 (address_of k.op) ++ little_bytes 8 (op_value k.op) ++ little_bytes 8 (entry_number k.entry) ++ zeros 8
+
+-- a kept entry within its bounds
+abbrev pub FitsPlace : Option Kept → Type 0
+FitsPlace None = Unit {0}
+FitsPlace (Some k) = FitsOp k.op × FitsEntry k.entry
+
+-- a window of n places is a ring: the entry with request number r stands at place r mod n
+abbrev pub entry_at : ℕ → Window → ℕ → Option Kept
+entry_at n w place = slice_get w.kept ((place + n - w.base % n) % n)
+
+-- the bytes of as many places as the list is long, from this one on
+abbrev pub places_from : ℕ → Window → ℕ → List ℕ → List ℕ
+places_from n w place [] = []
+places_from n w place (one ∷ rest) = place_bytes (entry_at n w place) ++ places_from n w (place + 1) rest
+
+-- a session record: the base, how many entries there are, the places, and zeros to its end
+abbrev pub session_bytes : Layout → Window → List ℕ
+session_bytes l w =
+    little_bytes 8 w.base ++ length w.kept ∷ zeros 23 ++ places_from l.window w 0 (replicate l.window 0) ++ zeros (32 * l.window - 32)
+
+-- a window within the bounds of a layout, each of its entries within its own
+pub record FitsWindow (l : Layout) (w : Window) : Type 0 where
+  pub base_from : 1 ≤ w.base
+  pub base_to : w.base ≤ LAST + 1
+  pub few : length w.kept ≤ l.window
+  pub numbers : next_number w ≤ LAST + 1
+  pub fields : (i : ℕ) (k : Kept) → slice_get w.kept i ≡ Some k → FitsPlace (Some k)

@@ -1,0 +1,37 @@
+//! The values that every crate of the memory speaks of, and, in `specs/`, what they mean: a memory of cells with
+//! presence tags and windows of kept replies, one command on it, a list of commands, and the bytes of an image.
+#![tactic(auto)]
+
+mod commands;
+mod operations;
+mod refusals;
+mod sizes;
+
+pub use commands::{Call, Command, Judged, Line, Outcome, Request};
+pub use operations::{Block, Entry, Kept, Kind, Op, Reply, Waiter};
+pub use refusals::Refusal;
+pub use sizes::Limits;
+
+/// The most cells of a memory.
+pub const MAX_CELLS: u32 = 65_536;
+
+/// The most elements of a memory.
+pub const MAX_ELEMENTS: u16 = 64;
+
+/// The fewest slots of a journal.
+pub const MIN_SLOTS: u32 = 16;
+
+/// The most slots of a journal.
+pub const MAX_SLOTS: u32 = 4_096;
+
+/// The most entries that a window keeps.
+pub const WINDOW: u64 = 16;
+
+/// Request numbers, sequence numbers, counts of commands and generations go no further.
+pub const LAST: u64 = 1 << 62;
+
+/// A link to no cell and to no node.
+pub const NONE: u32 = 0xFFFF_FFFF;
+
+#[cfg(test)]
+mod tests;

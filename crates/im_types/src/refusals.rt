@@ -1,0 +1,101 @@
+//! Why a call is refused.
+ghost use Rattle.std.specs.Prelude.{◌≡◌};
+
+use thiserror::Error;
+
+/// Why a call is refused. Its text is its name, and [`Refusal::number`] the number that programs print.
+#[derive(Clone, Copy, Debug, PartialEq, Eq, Error)]
+pub enum Refusal {
+    /// A number past the next one, or past the last one that there is.
+    #[error("Gap")]
+    Gap,
+    /// A number below the window: its entry was confirmed.
+    #[error("Forgotten")]
+    Forgotten,
+    /// A new request while the window is full.
+    #[error("WindowFull")]
+    WindowFull,
+    /// A number that is kept for another operation.
+    #[error("Mismatch")]
+    Mismatch,
+    /// There is no such element.
+    #[error("NoElement")]
+    NoElement,
+    /// A confirmation of an entry that still waits.
+    #[error("NotAnswered")]
+    NotAnswered,
+    /// The journal has no room for the command.
+    #[error("JournalFull")]
+    JournalFull,
+    /// A call of the disk failed. The image has to be opened again.
+    #[error("Device")]
+    Device,
+    /// An earlier call failed on the disk.
+    #[error("Failed")]
+    Failed,
+    /// There was not enough memory.
+    #[error("NoMemory")]
+    NoMemory,
+    /// The trace has no room for another line.
+    #[error("TraceFull")]
+    TraceFull,
+    /// The file has not the length of an image.
+    #[error("WrongLength")]
+    WrongLength,
+    /// The image has no header in force.
+    #[error("NoHeader")]
+    NoHeader,
+    /// The header in force is not spelled as it should be.
+    #[error("BadHeader")]
+    BadHeader,
+    /// The pages in force show no memory.
+    #[error("BadPage")]
+    BadPage,
+    /// The journal holds a command that cannot stand there.
+    #[error("BadRecord")]
+    BadRecord,
+    /// A number of cells, elements or slots is out of its range.
+    #[error("BadLimits")]
+    BadLimits,
+    /// The script cannot be read.
+    #[error("BadScript")]
+    BadScript,
+    /// Everyone waits, and nobody is left to answer.
+    #[error("Stalled")]
+    Stalled,
+    /// The published cells can no longer be read.
+    #[error("PaneGone")]
+    PaneGone,
+}
+
+impl Refusal {
+    ghost use Rattle.im_types.specs.Refusals.{number_of};
+
+    /// The refusal's number, 1 to 19 or 24.
+    pub fn number(self) -> u8
+        ensures { result ≡ number_of self }
+    {
+        match self {
+            Refusal::Gap => 1,
+            Refusal::Forgotten => 2,
+            Refusal::WindowFull => 3,
+            Refusal::Mismatch => 4,
+            Refusal::NoElement => 5,
+            Refusal::NotAnswered => 6,
+            Refusal::JournalFull => 7,
+            Refusal::Device => 8,
+            Refusal::Failed => 9,
+            Refusal::NoMemory => 10,
+            Refusal::TraceFull => 11,
+            Refusal::WrongLength => 12,
+            Refusal::NoHeader => 13,
+            Refusal::BadHeader => 14,
+            Refusal::BadPage => 15,
+            Refusal::BadRecord => 16,
+            Refusal::BadLimits => 17,
+            Refusal::BadScript => 18,
+            Refusal::Stalled => 19,
+            Refusal::PaneGone => 24,
+        }
+    }
+}

@@ -1,0 +1,78 @@
+//! The program: it does what its command line asks for.
+#![tactic(auto)]
+
+ghost use Rattle.std.specs.Prelude.{◌≡◌, ◌≤◌};
+
+use im_program::{WordFault, act, read_words, refuse};
+use im_types::Refusal;
+use std::alloc::{AllocError, Global};
+use std::process::ExitCode;
+use std::{env, io};
+
+/// The status that the program ends with, once its text is printed.
+fn status_after(printed: io::Result<()>, status: u8) -> u8
+    requires { status ≤ 2 }
+    ensures { result ≤ 2 }
+{
+    match printed {
+        Ok(()) => status,
+        Err(_) => 1,
+    }
+}
+
+/// Does what the words ask for.
+fn run(rt: &HostRuntime, words: &[&str], out: &mut String) -> u8
+    ensures { result ≤ 2 }
+{
+    match read_words(rt.alloc(), words) {
+        Ok(work) => act(rt, &work, out),
+        Err(WordFault::NoMemory) => refuse(Refusal::NoMemory, out),
+        Err(WordFault::Bad(error)) => {
+            let printed = error.print(rt);
+            if error.use_stderr() {
+                2
+            } else {
+                status_after(printed, 0)
+            }
+        }
+    }
+}
+
+/// The words of the command line, as slices of text.
+fn texts<'a>(alloc: Global, words: &'a [String]) -> Result<Vec<&'a str>, AllocError> {
+    words.iter().map(|word| word.as_str()).collect(alloc)
+}
+
+/// Says why the command line can't be read.
+fn no_words(rt: &HostRuntime, error: &io::Error, out: &mut String) -> u8
+    ensures { result ≤ 2 }
+{
+    if error.kind() == io::ErrorKind::OutOfMemory {
+        return refuse(Refusal::NoMemory, out);
+    }
+    let _printed = rt.eprintln("error: each word of the command line has to be UTF-8 text");
+    2
+}
+
+/// Reads the command line, and does what it asks for.
+fn start(rt: &HostRuntime, out: &mut String) -> u8
+    ensures { result ≤ 2 }
+{
+    let words = match env::args(rt) {
+        Ok(words) => words,
+        Err(error) => return no_words(rt, &error, out),
+    };
+    let Ok(words) = words.collect::<Vec<String>>(rt.alloc()) else {
+        return refuse(Refusal::NoMemory, out);
+    };
+    match texts(rt.alloc(), words.as_slice()) {
+        Ok(texts) => run(rt, texts.as_slice(), out),
+        Err(_) => refuse(Refusal::NoMemory, out),
+    }
+}
+
+fn main(rt: HostRuntime) -> ExitCode {
+    let mut out = String::new(rt.alloc());
+    let status = start(&rt, &mut out);
+    ExitCode::from(status_after(rt.print(out.as_str()), status))
+}
