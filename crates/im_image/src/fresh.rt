@@ -65,20 +65,15 @@ fn push_zeros(image: &mut Vec<u8>, count: usize) -> Result<(), AllocError>
     image.resize(length, 0)
 }
 
-// Puts so many pages behind others, which begin with a record so many times.
-fn push_row(
-    image: &mut Vec<u8>,
-    pages: usize,
-    record: &[u8],
-    count: usize,
-) -> Result<(), AllocError>
+// Puts so many pages behind others, which begin with these bytes so many times.
+fn push_row(image: &mut Vec<u8>, pages: usize, bytes: &[u8], count: usize) -> Result<(), AllocError>
     requires room { length image.old.items + 4096 * pages < 2 ^ 63 }
-    requires fits { length record.now * count ≤ 4096 * pages }
-    ensures items { OnOk result (image.new.items ≡ image.old.items ++ new_row pages (length record.now) record.now count) }
+    requires fits { length bytes.now * count ≤ 4096 * pages }
+    ensures items { OnOk result (image.new.items ≡ image.old.items ++ new_row pages (length bytes.now) bytes.now count) }
     ensures longer { OnOk result (length image.new.items ≡ length image.old.items + 4096 * pages) }
 {
-    push_repeated(image, record, count)?;
-    push_zeros(image, PAGE * pages - record.len() * count)
+    push_repeated(image, bytes, count)?;
+    push_zeros(image, PAGE * pages - bytes.len() * count)
 }
 
 // Puts the pages of a new area behind other bytes.

@@ -5,8 +5,9 @@ use Rattle.im_image.proofs.header.Header.read.Goals as goal
 
 pub returns-in_err-limits_in-clause-only : goal.returns-in_err-limits_in-clause-only
 returns-in_err-limits_in-clause-only c = (
-    λ is. absurd (no_some c.from_residual.result c.from_residual.ensures is),
-    λ spelled. absurd (false_true (c.in_err-limits_in.ensures.only (limits_of_spelled c.args.area c.args.bytes.now spelled))))
+  λ is. absurd (no_some c.from_residual.result c.from_residual.ensures is),
+  λ spelled. absurd (false_true (c.in_err-limits_in.ensures.only (limits_of_spelled c.args.area c.args.bytes.now spelled))),
+)
 
 pub returns-then-is_spelled-clause-only : goal.returns-then-is_spelled-clause-only
 returns-then-is_spelled-clause-only c =
