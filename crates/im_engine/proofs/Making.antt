@@ -11,7 +11,7 @@ use Rattle.im_types.specs.Header.{Header, header_body, header_of}
 use Rattle.im_types.specs.Journal.{Ring, Tail, tail}
 use Rattle.im_types.specs.Meaning.{Reached, Reads, accept_each, reached_after, read_journal}
 use Rattle.im_disk.specs.Moment.{Moment, written, synced, overlaid}
-use Rattle.im_image.specs.Headers.{sizes_of}
+use Rattle.im_types.specs.Layout.{sizes_of}
 use Rattle.im_image.specs.Fresh.{new_header, new_area, new_image}
 use Rattle.im_image.proofs.FreshArea.{length-area, length-zeros}
 use Rattle.im_image.proofs.FreshImage.{new_image_good, new_image_shows, new_header_of, length-image}

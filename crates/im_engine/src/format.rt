@@ -6,7 +6,8 @@ ghost use Rattle.im_types.specs.Layout.{layout_1, image_length};
 ghost use Rattle.im_types.specs.Header.{Header as Seen};
 ghost use Rattle.im_disk.specs.Moment.{Counts, Rises};
 ghost use Rattle.im_disk.specs.Since.{LeavesNow};
-ghost use Rattle.im_image.specs.Headers.{seen, sizes_of};
+ghost use Rattle.im_types.specs.Layout.{sizes_of};
+ghost use Rattle.im_image.specs.Headers.{seen};
 ghost use Rattle.im_image.specs.Fresh.{new_header, new_image};
 ghost use Rattle.im_engine.specs.State.{MeansState};
 

@@ -6,7 +6,13 @@ use Rattle.im_types.specs.declared.operations.Kind.{Kind}
 use Rattle.im_types.specs.declared.operations.Kind.TheVariants.{I, M}
 use Rattle.im_types.specs.declared.operations.Block.{Block}
 use Rattle.im_types.specs.Bytes.{kind_code, same_bytes}
-use Rattle.im_types.specs.Records.{Tagged, TagEmpty, TagWaiting, TagFull, TagClashed, CellRecord, FreeCell, BlockCell, NodeRecord, FreeNode, ListNode, tag_code, tag_first, tag_last, tag_value, cell_bytes, node_bytes, IsLink, FitsTag, FitsCell, FitsNode}
+use Rattle.im_types.specs.declared.records.PresenceTag.{PresenceTag}
+use Rattle.im_types.specs.declared.records.PresenceTag.TheVariants.{Empty as TagEmpty, Waiting as TagWaiting, Full as TagFull, Clashed as TagClashed}
+use Rattle.im_types.specs.declared.records.CellRecord.{CellRecord}
+use Rattle.im_types.specs.declared.records.CellRecord.TheVariants.{Free as FreeCell, Held as BlockCell}
+use Rattle.im_types.specs.declared.records.NodeRecord.{NodeRecord}
+use Rattle.im_types.specs.declared.records.NodeRecord.TheVariants.{Free as FreeNode, Listed as ListNode}
+use Rattle.im_types.specs.Records.{tag_code, tag_first, tag_last, tag_value, cell_bytes, node_bytes, IsLink, FitsTag, FitsCell, FitsNode}
 use Rattle.im_formats.specs.Reading.{tag_of, block_cell, cell_of, cell_in, cell_if, read_cell, node_in, read_node}
 use Rattle.im_formats.proofs.Same.{if_same, only_spelled, spelled_if}
 
@@ -25,7 +31,7 @@ pub record FitsFields (base length first last value : ℕ) : Type 0 where
   pub last_fits : last < 2 ^ 32
   pub value_fits : value < 2 ^ 64
 
-tag_fits : (nodes base length : ℕ) (tag : Tagged) → nodes ≤ 2 ^ 32 → base < 2 ^ 32 → length < 2 ^ 32 → FitsTag nodes tag → FitsFields base length (tag_first tag) (tag_last tag) (tag_value tag)
+tag_fits : (nodes base length : ℕ) (tag : PresenceTag) → nodes ≤ 2 ^ 32 → base < 2 ^ 32 → length < 2 ^ 32 → FitsTag nodes tag → FitsFields base length (tag_first tag) (tag_last tag) (tag_value tag)
 tag_fits nodes base length TagEmpty few b l fits = record { base_fits = b; length_fits = l; first_fits = omega arith; last_fits = omega arith; value_fits = omega arith }
 tag_fits nodes base length (TagWaiting first last) few b l fits =
     let f : first < nodes = fits.0 in
@@ -34,15 +40,15 @@ tag_fits nodes base length (TagWaiting first last) few b l fits =
 tag_fits nodes base length (TagFull v) few b l fits = record { base_fits = b; length_fits = l; first_fits = omega arith; last_fits = omega arith; value_fits = fits }
 tag_fits nodes base length (TagClashed v) few b l fits = record { base_fits = b; length_fits = l; first_fits = omega arith; last_fits = omega arith; value_fits = fits }
 
-tag_of-spelled : (tag : Tagged) → tag_of (tag_code tag) (tag_first tag) (tag_last tag) (tag_value tag) ≡ Some tag
+tag_of-spelled : (tag : PresenceTag) → tag_of (tag_code tag) (tag_first tag) (tag_last tag) (tag_value tag) ≡ Some tag
 tag_of-spelled TagEmpty = refl
 tag_of-spelled (TagWaiting first last) = refl
 tag_of-spelled (TagFull v) = refl
 tag_of-spelled (TagClashed v) = refl
 
-cell_of-spelled : (block : Block) (kind : Kind) (tag : Tagged) → cell_of (tag_code tag) (kind_code kind) block.base block.length (tag_first tag) (tag_last tag) (tag_value tag) ≡ Some (BlockCell (record { base = block.base; length = block.length; kind = kind }) tag)
-cell_of-spelled block I tag = ap (λ (t : Option Tagged). block_cell block.base block.length (Some I) t) (tag_of-spelled tag)
-cell_of-spelled block M tag = ap (λ (t : Option Tagged). block_cell block.base block.length (Some M) t) (tag_of-spelled tag)
+cell_of-spelled : (block : Block) (kind : Kind) (tag : PresenceTag) → cell_of (tag_code tag) (kind_code kind) block.base block.length (tag_first tag) (tag_last tag) (tag_value tag) ≡ Some (BlockCell (record { base = block.base; length = block.length; kind = kind }) tag)
+cell_of-spelled block I tag = ap (λ (t : Option PresenceTag). block_cell block.base block.length (Some I) t) (tag_of-spelled tag)
+cell_of-spelled block M tag = ap (λ (t : Option PresenceTag). block_cell block.base block.length (Some M) t) (tag_of-spelled tag)
 
 -- the fields of a record read back, whatever is made of them
 fields-read_back : {X : Type 0} (make : ℕ → ℕ → ℕ → ℕ → ℕ → X) (base length first last value : ℕ) → FitsFields base length first last value →

@@ -9,7 +9,13 @@ use Rattle.im_types.specs.declared.operations.Entry.TheVariants.{Waiting, Answer
 use Rattle.im_types.specs.declared.operations.Kept.{Kept}
 use Rattle.im_types.specs.Bytes.{number_at, same_bytes}
 use Rattle.im_types.specs.Slot.{op_of}
-use Rattle.im_types.specs.Records.{Tagged, TagEmpty, TagWaiting, TagFull, TagClashed, CellRecord, FreeCell, BlockCell, NodeRecord, FreeNode, ListNode, cell_bytes, node_bytes, place_bytes}
+use Rattle.im_types.specs.declared.records.PresenceTag.{PresenceTag}
+use Rattle.im_types.specs.declared.records.PresenceTag.TheVariants.{Empty as TagEmpty, Waiting as TagWaiting, Full as TagFull, Clashed as TagClashed}
+use Rattle.im_types.specs.declared.records.CellRecord.{CellRecord}
+use Rattle.im_types.specs.declared.records.CellRecord.TheVariants.{Free as FreeCell, Held as BlockCell}
+use Rattle.im_types.specs.declared.records.NodeRecord.{NodeRecord}
+use Rattle.im_types.specs.declared.records.NodeRecord.TheVariants.{Free as FreeNode, Listed as ListNode}
+use Rattle.im_types.specs.Records.{cell_bytes, node_bytes, place_bytes}
 
 -- the entry that a code and a number stand for
 abbrev pub entry_of : ℕ → ℕ → Option Entry
@@ -51,7 +57,7 @@ unfoldable pub read_place : List ℕ → Option (Option Kept)
 read_place bytes = option_and_then (place_if bytes) (place_in bytes)
 
 -- the tag that a code and its fields stand for
-abbrev pub tag_of : ℕ → ℕ → ℕ → ℕ → Option Tagged
+abbrev pub tag_of : ℕ → ℕ → ℕ → ℕ → Option PresenceTag
 tag_of code first last value =
     if code == 1 then Some TagEmpty
     else if code == 2 then Some (TagWaiting first last)
@@ -64,7 +70,7 @@ abbrev pub kind_of : ℕ → Option Kind
 kind_of code = if code == 1 then Some I else if code == 2 then Some M else None
 
 -- the record of a cell in a block, if its kind and its tag are read
-abbrev pub block_cell : ℕ → ℕ → Option Kind → Option Tagged → Option CellRecord
+abbrev pub block_cell : ℕ → ℕ → Option Kind → Option PresenceTag → Option CellRecord
 block_cell base length None tag = None
 block_cell base length (Some kind) None = None
 block_cell base length (Some kind) (Some tag) = Some (BlockCell (record { base = base; length = length; kind = kind }) tag)

@@ -9,7 +9,9 @@ ghost use Rattle.im_types.specs.declared.operations.Kept.{Kept};
 ghost use Rattle.im_types.specs.Contents.{Window};
 ghost use Rattle.im_types.specs.Layout.{Layout, layout_1};
 ghost use Rattle.im_types.specs.Header.{Header, header_body, header_in, is_header, spells_header};
-ghost use Rattle.im_types.specs.Records.{CellRecord, NodeRecord, cell_bytes, node_bytes, place_bytes, session_bytes, FitsCell, FitsNode, FitsPlace, FitsWindow};
+ghost use Rattle.im_types.specs.declared.records.CellRecord.{CellRecord};
+ghost use Rattle.im_types.specs.declared.records.NodeRecord.{NodeRecord};
+ghost use Rattle.im_types.specs.Records.{cell_bytes, node_bytes, place_bytes, session_bytes, FitsCell, FitsNode, FitsPlace, FitsWindow};
 ghost use Rattle.im_formats.specs.Fitting.{FitsHeader};
 ghost use Rattle.im_formats.specs.Reading.{read_cell, read_node, read_place};
 

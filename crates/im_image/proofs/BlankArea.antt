@@ -10,7 +10,11 @@ use Rattle.im_types.specs.Contents.{Held, Window, new_window, empty_contents}
 use Rattle.im_types.specs.Memory.{IsMemory}
 use Rattle.im_types.specs.Bytes.{zeros, same_bytes}
 use Rattle.im_types.specs.Layout.{Sizes, layout_1, node_count, cell_part, node_part, session_part, record_at}
-use Rattle.im_types.specs.Records.{CellRecord, FreeCell, BlockCell, NodeRecord, FreeNode, ListNode, cell_bytes, node_bytes, session_bytes, IsLink, FitsCell, FitsNode, FitsWindow}
+use Rattle.im_types.specs.declared.records.CellRecord.{CellRecord}
+use Rattle.im_types.specs.declared.records.CellRecord.TheVariants.{Free as FreeCell, Held as BlockCell}
+use Rattle.im_types.specs.declared.records.NodeRecord.{NodeRecord}
+use Rattle.im_types.specs.declared.records.NodeRecord.TheVariants.{Free as FreeNode, Listed as ListNode}
+use Rattle.im_types.specs.Records.{cell_bytes, node_bytes, session_bytes, IsLink, FitsCell, FitsNode, FitsWindow}
 use Rattle.im_types.specs.Chains.{HasChain, HaveChains, uses, all_uses, bit, is_listed}
 use Rattle.im_types.specs.Pages.{Records, IsRow, SpellsArea, ShowsRecords, Shows, cell_shown, cells_shown}
 use Rattle.im_formats.proofs.Same.{both_true, same_bytes_self, same_bytes_true}

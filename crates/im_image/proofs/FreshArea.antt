@@ -8,7 +8,10 @@ use Rattle.im_types.specs.Contents.{Held, new_window, empty_contents}
 use Rattle.im_types.specs.Memory.{IsMemory}
 use Rattle.im_types.specs.Bytes.{zeros}
 use Rattle.im_types.specs.Layout.{Sizes, layout_1, page_bytes, cell_pages, node_pages, session_pages, area_bytes, node_count, cell_record_bytes, node_record_bytes, session_record_bytes, cell_part, node_part, session_part, record_at}
-use Rattle.im_types.specs.Records.{FreeCell, NodeRecord, FreeNode, cell_bytes, node_bytes, session_bytes, FitsCell, FitsNode, FitsWindow}
+use Rattle.im_types.specs.declared.records.CellRecord.TheVariants.{Free as FreeCell}
+use Rattle.im_types.specs.declared.records.NodeRecord.{NodeRecord}
+use Rattle.im_types.specs.declared.records.NodeRecord.TheVariants.{Free as FreeNode}
+use Rattle.im_types.specs.Records.{cell_bytes, node_bytes, session_bytes, FitsCell, FitsNode, FitsWindow}
 use Rattle.im_types.specs.Chains.{HaveChains, all_uses, bit, is_listed}
 use Rattle.im_types.specs.Pages.{Records, IsRow, SpellsArea, ShowsRecords, Shows, cells_shown}
 use Rattle.im_image.specs.Fresh.{repeated, new_cell, new_node, new_row, new_area}

@@ -5,7 +5,9 @@ use Rattle.im_types.specs.declared.TheConstants.{NONE}
 use Rattle.im_types.specs.Contents.{new_window}
 use Rattle.im_types.specs.Bytes.{number_at, same_bytes}
 use Rattle.im_types.specs.Layout.{Sizes, layout_1, node_count, cell_part, node_part, session_part, record_at}
-use Rattle.im_types.specs.Records.{FreeCell, FreeNode, cell_bytes, node_bytes, session_bytes}
+use Rattle.im_types.specs.declared.records.CellRecord.TheVariants.{Free as FreeCell}
+use Rattle.im_types.specs.declared.records.NodeRecord.TheVariants.{Free as FreeNode}
+use Rattle.im_types.specs.Records.{cell_bytes, node_bytes, session_bytes}
 
 -- the hole length that stands in the record of a free cell
 abbrev pub hole_in : List ℕ → ℕ

@@ -5,7 +5,11 @@ use Rattle.im_types.specs.Contents.{new_window}
 use Rattle.im_types.specs.Bytes.{zeros}
 use Rattle.im_types.specs.Layout.{Sizes, layout_1, page_bytes, cell_pages, node_pages, session_pages, area_bytes, node_count, cell_record_bytes, node_record_bytes, session_record_bytes}
 use Rattle.im_types.specs.Header.{Header, header_body}
-use Rattle.im_types.specs.Records.{CellRecord, FreeCell, NodeRecord, FreeNode, cell_bytes, node_bytes, session_bytes}
+use Rattle.im_types.specs.declared.records.CellRecord.{CellRecord}
+use Rattle.im_types.specs.declared.records.CellRecord.TheVariants.{Free as FreeCell}
+use Rattle.im_types.specs.declared.records.NodeRecord.{NodeRecord}
+use Rattle.im_types.specs.declared.records.NodeRecord.TheVariants.{Free as FreeNode}
+use Rattle.im_types.specs.Records.{cell_bytes, node_bytes, session_bytes}
 
 -- bytes so many times
 abbrev pub repeated : ℕ → List ℕ → List ℕ

@@ -3,13 +3,8 @@ use Rattle.std.specs.Prelude.{◌≡◌, ◌⊎◌, ℕ, List, Option, None, Som
 use Rattle.im_types.specs.declared.refusals.Refusal.{Refusal}
 use Rattle.im_types.specs.declared.refusals.Refusal.TheVariants.{WrongLength, NoHeader, BadHeader}
 use Rattle.im_types.specs.Header.{Header as Seen, header_in, place_in_force, place_fault, or_else}
-use Rattle.im_types.specs.Layout.{Layout, Sizes, image_length}
-use Rattle.im_types.specs.declared.sizes.Limits.{Limits}
+use Rattle.im_types.specs.Layout.{Layout, sizes_of, image_length}
 use Rattle.im_image.specs.declared.header.Header.{Header}
-
--- limits, as the definitions see them
-abbrev pub sizes_of : Limits → Sizes
-sizes_of l = record { cells = l.cells; elements = l.elements; slots = l.slots }
 
 -- a header, as the definitions see it
 abbrev pub seen : Header → Seen

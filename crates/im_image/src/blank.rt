@@ -2,8 +2,10 @@
 ghost use Rattle.std.specs.Prelude.{◌≡◌, ◌↔◌, ◌≤◌, ◌*◌, ◌<◌, ℕ, true, length, drop, IsTrue};
 ghost use Rattle.im_types.specs.Layout as layout;
 ghost use Rattle.im_types.specs.Layout.{layout_1, record_at};
-ghost use Rattle.im_types.specs.Records.{FreeCell, FreeNode, cell_bytes, node_bytes};
-ghost use Rattle.im_image.specs.Headers.{sizes_of};
+ghost use Rattle.im_types.specs.declared.records.CellRecord.TheVariants.{Free as FreeCell};
+ghost use Rattle.im_types.specs.declared.records.NodeRecord.TheVariants.{Free as FreeNode};
+ghost use Rattle.im_types.specs.Records.{cell_bytes, node_bytes};
+ghost use Rattle.im_types.specs.Layout.{sizes_of};
 ghost use Rattle.im_image.specs.Blank.{is_link, is_free_cell, is_free_node, is_new_session, are_zero, EachPasses, IsRowOf, IsBlank};
 
 use crate::fresh::new_session;

@@ -5,7 +5,7 @@ ghost use Rattle.im_types.specs.Contents.{new_window};
 ghost use Rattle.im_types.specs.Layout.{layout_1, area_bytes};
 ghost use Rattle.im_types.specs.Header.{header_body};
 ghost use Rattle.im_types.specs.Records.{cell_bytes, node_bytes, session_bytes};
-ghost use Rattle.im_image.specs.Headers.{sizes_of};
+ghost use Rattle.im_types.specs.Layout.{sizes_of};
 ghost use Rattle.im_image.specs.Fresh.{repeated, new_cell, new_node, new_row, new_area, new_header, new_image};
 ghost use Rattle.im_types.specs.declared.refusals.Refusal.TheVariants.{NoMemory};
 

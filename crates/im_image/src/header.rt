@@ -3,7 +3,7 @@ ghost use Rattle.std.specs.Prelude.{◌≡◌, ◌↔◌, ◌≤◌, ◌∷◌, 
 ghost use Rattle.im_types.specs.Bytes.{same_bytes};
 ghost use Rattle.im_types.specs.Sizes.{AreLimits};
 ghost use Rattle.im_types.specs.Layout.{layout_1};
-ghost use Rattle.im_image.specs.Headers.{sizes_of};
+ghost use Rattle.im_types.specs.Layout.{sizes_of};
 ghost use Rattle.im_types.specs.Header.{header_body, header_in, is_header, spells_header};
 
 use byteorder::{ByteOrder, LittleEndian};

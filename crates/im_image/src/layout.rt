@@ -2,7 +2,7 @@
 ghost use Rattle.std.specs.Prelude.{◌≡◌, ◌≤◌, ◌<◌, ◌^◌};
 ghost use Rattle.im_types.specs.Layout as layout;
 ghost use Rattle.im_types.specs.Layout.{layout_1};
-ghost use Rattle.im_image.specs.Headers.{sizes_of};
+ghost use Rattle.im_types.specs.Layout.{sizes_of};
 
 use im_types::{Limits, WINDOW};
 

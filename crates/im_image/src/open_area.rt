@@ -8,7 +8,8 @@ ghost use Rattle.im_types.specs.Pages.{Shows};
 ghost use Rattle.im_types.specs.Meaning.{IsShown};
 ghost use Rattle.im_disk.specs.Moment.{Counts, Rises};
 ghost use Rattle.im_disk.specs.Since.{ReadsOnly};
-ghost use Rattle.im_image.specs.Headers.{seen, sizes_of};
+ghost use Rattle.im_types.specs.Layout.{sizes_of};
+ghost use Rattle.im_image.specs.Headers.{seen};
 
 use crate::blank::is_blank;
 use crate::header::Header;

@@ -1,6 +1,7 @@
 -- Where things stand in an image. (Own.)
 use Rattle.std.specs.Prelude.{ℕ, ◌+◌, ◌*◌, ◌/◌, ◌-◌, List, take, drop, Bool, ◌&&◌, nat_le, slice_range}
 use Rattle.im_types.specs.declared.TheConstants.{WINDOW, MAX_CELLS, MAX_ELEMENTS, MIN_SLOTS, MAX_SLOTS}
+use Rattle.im_types.specs.declared.sizes.Limits.{Limits}
 use Rattle.im_types.specs.Journal.{Ring}
 
 -- a version of the layout: how many entries a window keeps, and how many cells there may be
@@ -18,6 +19,10 @@ pub record Sizes : Type 0 where
   pub cells : ℕ
   pub elements : ℕ
   pub slots : ℕ
+
+-- limits, as sizes
+abbrev pub sizes_of : Limits → Sizes
+sizes_of limits = record { cells = limits.cells; elements = limits.elements; slots = limits.slots }
 
 -- the sizes are in range
 abbrev pub are_sizes : Layout → Sizes → Bool

@@ -6,7 +6,13 @@ use Rattle.im_types.specs.Contents.{CellState, Empty, Full, Clashed, Held, Windo
 use Rattle.im_types.specs.Memory.{IsMemory}
 use Rattle.im_types.specs.Bytes.{zeros}
 use Rattle.im_types.specs.Layout.{Layout, Sizes, node_count, cell_record_bytes, node_record_bytes, session_record_bytes, cell_part, node_part, session_part, record_at}
-use Rattle.im_types.specs.Records.{Tagged, TagEmpty, TagWaiting, TagFull, TagClashed, CellRecord, FreeCell, BlockCell, NodeRecord, FreeNode, ListNode, cell_bytes, node_bytes, session_bytes, FitsCell, FitsNode, FitsWindow}
+use Rattle.im_types.specs.declared.records.PresenceTag.{PresenceTag}
+use Rattle.im_types.specs.declared.records.PresenceTag.TheVariants.{Empty as TagEmpty, Waiting as TagWaiting, Full as TagFull, Clashed as TagClashed}
+use Rattle.im_types.specs.declared.records.CellRecord.{CellRecord}
+use Rattle.im_types.specs.declared.records.CellRecord.TheVariants.{Free as FreeCell, Held as BlockCell}
+use Rattle.im_types.specs.declared.records.NodeRecord.{NodeRecord}
+use Rattle.im_types.specs.declared.records.NodeRecord.TheVariants.{Free as FreeNode, Listed as ListNode}
+use Rattle.im_types.specs.Records.{cell_bytes, node_bytes, session_bytes, FitsCell, FitsNode, FitsWindow}
 use Rattle.im_types.specs.Chains.{ShowLists}
 
 -- the records of an area
@@ -29,7 +35,7 @@ pub record SpellsArea (l : Layout) (s : Sizes) (area : List ℕ) (r : Records) :
   pub sessions : IsRow (session_record_bytes l) (session_bytes l) (FitsWindow l) new_window s.elements (session_part l s area) r.windows
 
 -- the state of a cell with this tag and these waiters
-abbrev pub state_shown : Tagged → List Waiter → CellState
+abbrev pub state_shown : PresenceTag → List Waiter → CellState
 state_shown TagEmpty waiters = Empty []
 state_shown (TagWaiting first last) waiters = Empty waiters
 state_shown (TagFull v) waiters = Full v

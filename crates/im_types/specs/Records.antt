@@ -5,48 +5,37 @@ use Rattle.im_types.specs.declared.TheConstants.{LAST, NONE}
 use Rattle.im_types.specs.declared.operations.Block.{Block}
 use Rattle.im_types.specs.declared.operations.Waiter.{Waiter}
 use Rattle.im_types.specs.declared.operations.Kept.{Kept}
+use Rattle.im_types.specs.declared.records.PresenceTag.{PresenceTag}
+use Rattle.im_types.specs.declared.records.PresenceTag.TheVariants.{Empty as TagEmpty, Waiting as TagWaiting, Full as TagFull, Clashed as TagClashed}
+use Rattle.im_types.specs.declared.records.CellRecord.{CellRecord}
+use Rattle.im_types.specs.declared.records.CellRecord.TheVariants.{Free as FreeCell, Held as BlockCell}
+use Rattle.im_types.specs.declared.records.NodeRecord.{NodeRecord}
+use Rattle.im_types.specs.declared.records.NodeRecord.TheVariants.{Free as FreeNode, Listed as ListNode}
 use Rattle.im_types.specs.Contents.{Window}
 use Rattle.im_types.specs.Window.{next_number}
 use Rattle.im_types.specs.Agreement.{address_of}
 use Rattle.im_types.specs.Bytes.{zeros, op_code, op_value, entry_code, entry_number, kind_code, FitsOp, FitsEntry}
 use Rattle.im_types.specs.Layout.{Layout}
 
--- a presence tag as a record shows it: a waiting cell names the first node of its list and the last
-pub data Tagged : Type 0 where
-  TagEmpty : Tagged
-  TagWaiting : ℕ → ℕ → Tagged
-  TagFull : ℕ → Tagged
-  TagClashed : ℕ → Tagged
-
--- a free cell has the length of its hole and the next hole, a cell in a block the block and a tag
-pub data CellRecord : Type 0 where
-  FreeCell : ℕ → ℕ → CellRecord
-  BlockCell : Block → Tagged → CellRecord
-
--- a free node has the next free one, a node in a list the next one and who waits there
-pub data NodeRecord : Type 0 where
-  FreeNode : ℕ → NodeRecord
-  ListNode : ℕ → Waiter → NodeRecord
-
 -- the code of a tag
-abbrev pub tag_code : Tagged → ℕ
+abbrev pub tag_code : PresenceTag → ℕ
 tag_code TagEmpty = 1
 tag_code (TagWaiting first last) = 2
 tag_code (TagFull v) = 3
 tag_code (TagClashed v) = 4
 
 -- the first waiter node that a tag names
-abbrev pub tag_first : Tagged → ℕ
+abbrev pub tag_first : PresenceTag → ℕ
 tag_first (TagWaiting first last) = first
 tag_first tag = NONE
 
 -- the last waiter node that a tag names
-abbrev pub tag_last : Tagged → ℕ
+abbrev pub tag_last : PresenceTag → ℕ
 tag_last (TagWaiting first last) = last
 tag_last tag = NONE
 
 -- the value that a tag carries
-abbrev pub tag_value : Tagged → ℕ
+abbrev pub tag_value : PresenceTag → ℕ
 tag_value (TagFull v) = v
 tag_value (TagClashed v) = v
 tag_value tag = 0
@@ -68,7 +57,7 @@ abbrev pub IsLink : ℕ → ℕ → Type 0
 IsLink n link = (link ≡ NONE) ⊎ (link < n)
 
 -- a tag within its bounds
-abbrev pub FitsTag : ℕ → Tagged → Type 0
+abbrev pub FitsTag : ℕ → PresenceTag → Type 0
 FitsTag nodes TagEmpty = Unit {0}
 FitsTag nodes (TagWaiting first last) = (first < nodes) × (last < nodes)
 FitsTag nodes (TagFull v) = v < 2 ^ 64

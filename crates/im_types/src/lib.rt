@@ -4,11 +4,13 @@
 
 mod commands;
 mod operations;
+mod records;
 mod refusals;
 mod sizes;
 
 pub use commands::{Call, Command, Judged, Line, Outcome, Request};
 pub use operations::{Block, Entry, Kept, Kind, Op, Reply, Waiter};
+pub use records::{CellRecord, NodeRecord, PresenceTag};
 pub use refusals::Refusal;
 pub use sizes::Limits;
 

@@ -1,7 +1,7 @@
 use Rattle.std.proofs.Common.{rules, ◌≡◌, ◌∷◌, List, ℕ, length, drop, sym, ◌∙◌, ap}
 use Rattle.im_types.specs.Layout.{layout_1, image_length}
 use Rattle.im_disk.specs.Moment.{Moment}
-use Rattle.im_image.specs.Headers.{sizes_of}
+use Rattle.im_types.specs.Layout.{sizes_of}
 use Rattle.im_engine.proofs.Making.{length_new_image}
 use Rattle.im_engine.proofs.format.lay_down.Goals as goal
 

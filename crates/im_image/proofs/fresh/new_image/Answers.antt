@@ -1,7 +1,7 @@
 use Rattle.std.proofs.Common.{ℕ, ◌+◌, ◌*◌, ◌-◌, List, ◌++◌, ap, ◌∙◌}
 use Rattle.im_types.specs.Bytes.{zeros}
 use Rattle.im_types.specs.Layout.{layout_1, area_bytes}
-use Rattle.im_image.specs.Headers.{sizes_of}
+use Rattle.im_types.specs.Layout.{sizes_of}
 use Rattle.im_image.specs.Fresh.{new_area}
 use Rattle.im_image.proofs.fresh.new_image.Goals as goal
 

@@ -1,4 +1,4 @@
-use Rattle.im_image.specs.Headers.{sizes_of}
+use Rattle.im_types.specs.Layout.{sizes_of}
 use Rattle.im_image.proofs.OpenArea.{blank_shows_empty, empty_is_blank}
 use Rattle.im_image.proofs.open_area.shows_empty.Goals as goal
 

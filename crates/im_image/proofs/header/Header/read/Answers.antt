@@ -1,4 +1,4 @@
-use Rattle.std.proofs.Common.{◌≡◌, true, false, Bool, refl, sym, ◌∙◌}
+use Rattle.std.proofs.Common.{refl, sym, ◌∙◌}
 use Rattle.im_image.specs.Headers.{seen}
 use Rattle.im_image.proofs.Headers.{limits_of_spelled, spelled_is, no_some, false_true}
 use Rattle.im_image.proofs.header.Header.read.Goals as goal
