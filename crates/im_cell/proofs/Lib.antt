@@ -8,3 +8,4 @@ pub mod Taken
 pub mod Returned
 pub mod Blocks
 pub mod Start
+pub mod Restored

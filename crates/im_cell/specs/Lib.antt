@@ -1,3 +1,4 @@
 pub mod Slots
 pub mod Holes
 pub mod Records
+pub mod Restored

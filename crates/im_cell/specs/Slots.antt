@@ -3,6 +3,10 @@ use Rattle.std.specs.Prelude.{◌≡◌, ℕ, ◌+◌, ◌<◌, ◌≤◌, List,
 use Rattle.std.specs.List.{list_any}
 use Rattle.im_types.specs.declared.operations.Block.{Block}
 use Rattle.im_types.specs.declared.operations.Kind.{Kind}
+use Rattle.im_types.specs.declared.records.PresenceTag.{PresenceTag}
+use Rattle.im_types.specs.declared.records.PresenceTag.TheVariants.{Empty as TagEmpty, Waiting as TagWaiting, Full as TagFull, Clashed as TagClashed}
+use Rattle.im_types.specs.declared.records.CellRecord.{CellRecord}
+use Rattle.im_types.specs.declared.records.CellRecord.TheVariants.{Free as FreeCell, Held as BlockCell}
 use Rattle.im_cell.specs.declared.slots.Cell.{Cell}
 use Rattle.im_cell.specs.declared.slots.Cell.TheVariants.{Empty, Waiting, Full, Clashed}
 use Rattle.im_cell.specs.declared.slots.Slot.{Slot}
@@ -41,6 +45,18 @@ empty_slot base n kind = new_slot (record { base = base; length = n; kind = kind
 abbrev pub with_cell : Cell → Option Slot → Option Slot
 with_cell cell None = None
 with_cell cell (Some slot) = new_slot slot.block cell
+
+-- the cell that a presence tag on a page shows
+abbrev pub shown_cell : PresenceTag → Cell
+shown_cell TagEmpty = Empty
+shown_cell (TagWaiting first last) = Waiting
+shown_cell (TagFull v) = Full v
+shown_cell (TagClashed v) = Clashed v
+
+-- the slot that a cell's record on a page shows; the hole that a free cell's record names shows nothing
+abbrev pub shown_slot : CellRecord → Option Slot
+shown_slot (FreeCell hole next) = None
+shown_slot (BlockCell block tag) = new_slot block (shown_cell tag)
 
 -- each block lies below the cell count, and all its cells are its own
 pub record HasBlocks (slots : List (Option Slot)) : Type 0 where

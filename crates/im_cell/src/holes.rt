@@ -90,8 +90,8 @@ fn cut(records: &mut [Record], hole: Hole, n: u32, end: u32) -> u32
     end
 }
 
-// The hole of `n` cells that end at `end`, with the hole `next` where that begins there.
-fn join_next(records: &[Record], n: u32, end: u32, next: u32) -> Hole
+/// The hole of `n` cells that end at `end`, with the hole `next` where that begins there.
+pub(crate) fn join_next(records: &[Record], n: u32, end: u32, next: u32) -> Hole
     requires inside { next ≡ end → next ≢ NONE → next < length records.now }
     requires fits { next ≡ end → next ≢ NONE → n + (hole_at records.now next).length < 2 ^ 32 }
     ensures { JoinsNext records.now n end next result }

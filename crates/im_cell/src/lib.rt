@@ -6,6 +6,7 @@
 
 mod holes;
 mod records;
+mod restoring;
 mod slots;
 mod table;
 

@@ -1,13 +1,14 @@
 //! The table. Its blocks lie at the least place, first fit over holes in order of address, and a hole that comes back is
 //! joined with its neighbours (Knuth, The Art of Computer Programming 1, section 2.5, algorithms A and B).
-ghost use Rattle.std.specs.Prelude.{◌≡◌, ◌<◌, None, false, replicate, slice_set, IsTrue, IsNone, IsSome, IfSome, IfOk, IfErr};
+ghost use Rattle.std.specs.Prelude.{◌≡◌, ◌<◌, ◌≤◌, None, false, length, map, replicate, slice_set, IsTrue, IsNone, IsSome, IfSome, IfOk, IfErr};
 ghost use Rattle.im_types.specs.Place.{place, fill, IsLeastFree};
-ghost use Rattle.im_cell.specs.Slots.{slot_at, block_at, cell_at, with_cell, empty_slot, is_releasable, length_at, HasBlocks};
+ghost use Rattle.im_cell.specs.Slots.{slot_at, block_at, cell_at, with_cell, empty_slot, shown_slot, is_releasable, length_at, HasBlocks};
 
 use crate::holes::{any_waiting, find_room, give_back, take_cells};
 use crate::records::{Hole, Record};
+use crate::restoring::restore_cells;
 use crate::slots::{Cell, Slot};
-use im_types::{Block, Kind, NONE, Refusal};
+use im_types::{Block, CellRecord, Kind, NONE, Refusal};
 use std::alloc::Global;
 use std::marker::Model;
 
@@ -57,6 +58,35 @@ impl CellTable {
             next: NONE,
         });
         Ok(CellTable { records, first: 0 })
+    }
+
+    /// A table with the cells that these records show, in order of address. The holes that records of free cells name
+    /// are not believed: they are threaded anew. `NoMemory` is its only refusal.
+    pub fn restore(alloc: Global, records: &[CellRecord]) -> Result<CellTable, Refusal>
+        requires few { length records.now ≤ NONE }
+        requires blocks { HasBlocks (map shown_slot records.now) }
+        ensures shown { IfOk result (λ table. table ≡ map shown_slot records.now) }
+        ensures err { IfErr result (λ refusal. refusal ≡ Refusal.NoMemory) }
+    {
+        let inner = Record::Free(Hole {
+            length: 0,
+            next: NONE,
+        });
+        let Ok(mut restored) = vec![in alloc; inner; records.len()] else {
+            return Err(Refusal::NoMemory);
+        };
+        let first = restore_cells(restored.as_mut_slice(), records);
+        Ok(CellTable {
+            records: restored,
+            first,
+        })
+    }
+
+    /// How many cells the table has.
+    pub fn cells(&self) -> u32
+        ensures { result ≡ length self.now }
+    {
+        self.records.len() as u32
     }
 
     // The cell at an address and its block, unless it is free.

@@ -5,6 +5,8 @@ use im_types::{Block, Kind};
 use std::process::Abort;
 use std::test::Fail;
 
+mod restored;
+
 // The table's rules on plain slots, one by one.
 fn place_plainly(slots: &mut [Option<Slot>], kind: Kind, n: u32) -> Option<u32>
     requires some { 0 < n }
@@ -120,6 +122,33 @@ fn a_table_without_cells_has_no_place(rt: HostRuntime) -> Result<(), Fail> {
     Ok(())
 }
 
+// One thrown call on the table and on the plain slots, which answer the same.
+fn call(rt: &impl Abort, table: &mut CellTable, slots: &mut [Option<Slot>], seed: u64)
+    requires { length slots.old ≤ 24 }
+{
+    let number = seed >> 40;
+    let a = (number % 26) as u32;
+    match seed >> 33 & 3 {
+        0 => {
+            let n = (number % 6) as u32 + 1;
+            let kind = if number % 5 < 3 { Kind::I } else { Kind::M };
+            assert_eq!(rt; table.place(kind, n), place_plainly(slots, kind, n));
+        }
+        1 => assert_eq!(rt; table.release(a), release_plainly(slots, a)),
+        _ => {
+            if let Some(Some(slot)) = slots.get(a as usize).copied() {
+                assert!(rt; table.get(a).is_some());
+                table.set(a, cell_for(number));
+                slots[a as usize] = Some(Slot {
+                    block: slot.block,
+                    cell: cell_for(number),
+                });
+            }
+        }
+    }
+    assert_same(rt, table, slots);
+}
+
 #[test]
 fn a_random_walk_agrees_with_plain_slots(rt: HostRuntime) -> Result<(), Fail> {
     let mut table = CellTable::new(rt.alloc(), CELLS)?;
@@ -127,27 +156,7 @@ fn a_random_walk_agrees_with_plain_slots(rt: HostRuntime) -> Result<(), Fail> {
     let mut seed = 1;
     for _ in 0..20_000 {
         seed = next_random(seed);
-        let number = seed >> 40;
-        let a = (number % 26) as u32;
-        match seed >> 33 & 3 {
-            0 => {
-                let n = (number % 6) as u32 + 1;
-                let kind = if number % 5 < 3 { Kind::I } else { Kind::M };
-                assert_eq!(rt; table.place(kind, n), place_plainly(&mut slots, kind, n));
-            }
-            1 => assert_eq!(rt; table.release(a), release_plainly(&mut slots, a)),
-            _ => {
-                if let Some(Some(slot)) = slots.get(a as usize).copied() {
-                    assert!(rt; table.get(a).is_some());
-                    table.set(a, cell_for(number));
-                    slots[a as usize] = Some(Slot {
-                        block: slot.block,
-                        cell: cell_for(number),
-                    });
-                }
-            }
-        }
-        assert_same(&rt, &table, &slots);
+        call(&rt, &mut table, &mut slots, seed);
     }
     Ok(())
 }

@@ -1,8 +1,9 @@
 //! Windows of kept replies, one for each element: which request is new, which is known, and what it was answered.
 #![tactic(auto)]
 
-ghost use Rattle.std.specs.Prelude.{◌≡◌, length, replicate, slice_get, slice_set, IfOk, IfErr, OnOk, MatchResult};
+ghost use Rattle.std.specs.Prelude.{◌≡◌, ◌<◌, length, replicate, slice_get, slice_set, IfOk, IfErr, OnOk, MatchResult};
 ghost use Rattle.im_types.specs.Contents.{Window, new_window, kept_for};
+ghost use Rattle.im_types.specs.Memory.{IsWindow};
 ghost use Rattle.im_types.specs.Window.{judge, note, answer, confirm_window, ask, bounds};
 ghost use Rattle.im_sessions.specs.Windows.{AreWindows};
 
@@ -49,6 +50,15 @@ impl Sessions {
             windows.push(Ring::new()).map_err(|_| Refusal::NoMemory)?;
         }
         Ok(Sessions { windows })
+    }
+
+    /// Puts a window with these entries, numbered from a base on, in place of an element's window.
+    pub fn restore(&mut self, element: u16, base: u64, kept: &[Kept])
+        requires element { element < length self.old }
+        requires window { IsWindow (record { base = base; kept = kept.now }) }
+        ensures { self.new ≡ slice_set self.old element (record { base = base; kept = kept.now }) }
+    {
+        self.windows[element as usize] = Ring::restore(base, kept);
     }
 
     /// How many elements there are. Contracts also learn here that each window is within its bounds: it is numbered

@@ -1,6 +1,6 @@
 //! One element's window, as a ring of places: the entry with a number stands where the number, divided by the
 //! window's size, leaves a rest. So an entry is found at once, and none moves when others are dropped.
-ghost use Rattle.std.specs.Prelude.{◌≡◌, ◌+◌, ◌-◌, ◌<◌, ◌≤◌, length, take, drop, slice_get, MatchResult, OnOk};
+ghost use Rattle.std.specs.Prelude.{◌≡◌, [], ◌+◌, ◌-◌, ◌<◌, ◌≤◌, length, take, drop, slice_get, MatchResult, OnOk};
 ghost use Rattle.std.specs.List.{list_any};
 ghost use Rattle.im_types.specs.Contents.{new_window, kept_under};
 ghost use Rattle.im_types.specs.Memory.{IsWindow};
@@ -69,12 +69,24 @@ impl Ring {
         }
     }
 
+    /// A window with these entries, numbered from a base on.
+    pub fn restore(base: u64, kept: &[Kept]) -> Ring
+        requires { IsWindow (record { base = base; kept = kept.now }) }
+        ensures restored { result ≡ record { base = base; kept = kept.now } }
+        ensures bounds { IsWindow result }
+    {
+        let mut ring = Ring::with_base(base);
+        for one in kept {
+            ring.note(one.op, one.entry);
+        }
+        ring
+    }
+
     // A window with no entry, numbered from a base on.
-    #[cfg(test)]
-    pub fn with_base(base: u64) -> Ring
+    fn with_base(base: u64) -> Ring
         requires from_one { 1 ≤ base }
         requires to_last { base ≤ LAST + 1 }
-        ensures { IsWindow result }
+        ensures { result ≡ record { base = base; kept = [] } }
     {
         let mut ring = Ring::new();
         ring.base = base;

@@ -1,11 +1,9 @@
-ghost use Rattle.std.specs.Prelude.{◌<◌, ◌≤◌, ◌+◌};
-
 use super::*;
 use im_types::{Kind, LAST, Op, WINDOW};
-use std::alloc::AllocError;
 use std::test::Fail;
 
 mod plain;
+mod restored;
 
 // How a request is judged; a new one is kept with this entry.
 fn ask(
@@ -35,6 +33,19 @@ fn resume(sessions: &mut Sessions, element: u16, number: u64, reply: Reply) -> b
     } else {
         false
     }
+}
+
+// Restores a window, if there is such an element and the window is within its bounds.
+fn restore(sessions: &mut Sessions, element: u16, base: u64, kept: &[Kept]) -> bool {
+    let count = kept.len() as u64;
+    if element as usize >= sessions.elements() || base < 1 || base > LAST + 1 {
+        return false;
+    }
+    if count > WINDOW || base + count > LAST + 1 {
+        return false;
+    }
+    sessions.restore(element, base, kept);
+    true
 }
 
 fn value(value: u64) -> Entry {
@@ -127,19 +138,10 @@ fn a_full_window_has_room_after_a_confirmation(rt: HostRuntime) -> Result<(), Fa
     Ok(())
 }
 
-// One window that begins at a base.
-fn begun_at(alloc: Global, base: u64) -> Result<Sessions, AllocError>
-    requires from_one { 1 ≤ base }
-    requires to_last { base ≤ LAST + 1 }
-{
-    let mut windows = Vec::new(alloc);
-    windows.push(Ring::with_base(base))?;
-    Ok(Sessions { windows })
-}
-
 #[test]
 fn no_number_is_past_the_last(rt: HostRuntime) -> Result<(), Fail> {
-    let mut sessions = begun_at(rt.alloc(), LAST - 1)?;
+    let mut sessions = Sessions::new(rt.alloc(), 1)?;
+    assert!(rt; restore(&mut sessions, 0, LAST - 1, &[]));
     let fetch = Op::Fetch(0);
     let rows = [
         (LAST - 1, Ok(Judged::Fresh)),

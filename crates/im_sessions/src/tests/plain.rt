@@ -181,3 +181,42 @@ fn a_long_run_agrees_with_plain_windows(rt: HostRuntime) -> Result<(), Fail> {
     }
     Ok(())
 }
+
+// Sessions of three elements, with these windows.
+fn restored(alloc: Global, windows: &[PlainWindow]) -> Result<Sessions, Fail> {
+    let mut sessions = Sessions::new(alloc, 3)?;
+    let mut element = 0u16;
+    for plain in windows {
+        let mut kept = Vec::new(alloc);
+        for one in plain.kept.iter() {
+            kept.push(*one)?;
+        }
+        if !restore(&mut sessions, element, plain.base, kept.as_slice()) {
+            return Err(Fail::from("a window out of its bounds"));
+        }
+        element = element.saturating_add(1);
+    }
+    Ok(sessions)
+}
+
+#[test]
+fn a_long_run_goes_on_though_its_windows_are_restored(rt: HostRuntime) -> Result<(), Fail> {
+    let mut sessions = Sessions::new(rt.alloc(), 3)?;
+    let mut windows = Vec::new(rt.alloc());
+    for _ in 0..3 {
+        windows.push(PlainWindow::new(rt.alloc()))?;
+    }
+    let mut dice = Dice {
+        state: 2_463_534_242,
+    };
+    for turn in 0..5_000u32 {
+        let element = dice.throw(3);
+        let plain = windows.get_mut(element as usize).ok_or("window")?;
+        let agrees = call(&mut sessions, plain, element as u16, &mut dice, rt.alloc())?;
+        assert!(rt; agrees, "turn {turn}");
+        if dice.throw(10) == 0 {
+            sessions = restored(rt.alloc(), windows.as_slice())?;
+        }
+    }
+    Ok(())
+}

@@ -1,0 +1,129 @@
+// One block of all cells, and who waits for them. Each call is of the next cell, and past the last one each is refused.
+ghost use Rattle.std.specs.Prelude.{◌≡◌, ◌<◌, List, Option, length, IfOk};
+ghost use Rattle.im_cell.specs.declared.slots.Slot.{Slot};
+ghost use Rattle.im_istore.specs.Agreement.{Agree, AgreeBut};
+
+use im_arena::Arena;
+use im_cell::CellTable;
+use im_istore::{fetch, next_reader, store};
+use im_mstore::{put, take};
+use im_types::{Entry, Kind, MAX_CELLS, Refusal, Reply, Waiter};
+use std::alloc::Global;
+
+fn one_block(alloc: Global, kind: Kind) -> Result<(CellTable, Arena), Refusal>
+    ensures { IfOk result (λ made. Agree made.0 made.1) }
+{
+    let mut table = CellTable::new(alloc, MAX_CELLS)?;
+    let arena = Arena::new(alloc, MAX_CELLS, MAX_CELLS)?;
+    let _ = table.place(kind, MAX_CELLS);
+    Ok((table, arena))
+}
+
+fn waiter(number: u32) -> Waiter {
+    Waiter {
+        element: 0,
+        number: number as u64,
+    }
+}
+
+fn digest(entry: Entry) -> u64 {
+    match entry {
+        Entry::Answered(Reply::Value(value)) => value,
+        Entry::Answered(_) => 1,
+        Entry::Waiting => 2,
+    }
+}
+
+fn fetch_each(table: &mut CellTable, arena: &mut Arena, count: u32) -> u64
+    requires { Agree table.old arena.old }
+    ensures { Agree table.new arena.new }
+{
+    let mut sum = 0u64;
+    for a in 0..count {
+        if arena.is_full() {
+            return sum;
+        }
+        sum = sum.wrapping_add(digest(fetch(table, arena, a, waiter(a))));
+    }
+    sum
+}
+
+fn take_each(table: &mut CellTable, arena: &mut Arena, count: u32) -> u64
+    requires { Agree table.old arena.old }
+    ensures { Agree table.new arena.new }
+{
+    let mut sum = 0u64;
+    for a in 0..count {
+        if arena.is_full() {
+            return sum;
+        }
+        sum = sum.wrapping_add(digest(take(table, arena, a, waiter(a))));
+    }
+    sum
+}
+
+// Takes the readers of a cell that a store made full.
+fn resume_readers(arena: &mut Arena, a: u32) -> u64
+    requires { a < length arena.old.held.lists }
+    ensures { (slots : List (Option Slot)) → AgreeBut a slots arena.old → Agree slots arena.new }
+{
+    let mut sum = 0u64;
+    while let Some(reader) = next_reader(arena, a) {
+        sum = sum.wrapping_add(reader.number);
+    }
+    sum
+}
+
+fn store_each(table: &mut CellTable, arena: &mut Arena, count: u32) -> u64
+    requires { Agree table.old arena.old }
+    ensures { Agree table.new arena.new }
+{
+    let mut sum = 0u64;
+    for a in 0..count {
+        if let Reply::Stored = store(table, arena, a, a as u64) {
+            sum = sum.wrapping_add(resume_readers(arena, a));
+        }
+    }
+    sum
+}
+
+fn put_each(table: &mut CellTable, arena: &mut Arena, count: u32) -> u64
+    requires { Agree table.old arena.old }
+    ensures { Agree table.new arena.new }
+{
+    let mut sum = 0u64;
+    for a in 0..count {
+        if let (_, Some(taker)) = put(table, arena, a, a as u64) {
+            sum = sum.wrapping_add(taker.number);
+        }
+    }
+    sum
+}
+
+/// Stores to cells of which so many have a reader each.
+pub fn stores(alloc: Global, readers: u32, count: u32) -> Result<u64, Refusal> {
+    let (mut table, mut arena) = one_block(alloc, Kind::I)?;
+    let _ = fetch_each(&mut table, &mut arena, readers);
+    Ok(store_each(&mut table, &mut arena, count))
+}
+
+/// Fetches from cells of which so many are full.
+pub fn fetches(alloc: Global, full: u32, count: u32) -> Result<u64, Refusal> {
+    let (mut table, mut arena) = one_block(alloc, Kind::I)?;
+    let _ = store_each(&mut table, &mut arena, full);
+    Ok(fetch_each(&mut table, &mut arena, count))
+}
+
+/// Puts to cells of which so many have a taker each.
+pub fn puts(alloc: Global, takers: u32, count: u32) -> Result<u64, Refusal> {
+    let (mut table, mut arena) = one_block(alloc, Kind::M)?;
+    let _ = take_each(&mut table, &mut arena, takers);
+    Ok(put_each(&mut table, &mut arena, count))
+}
+
+/// Takes from cells of which so many are full.
+pub fn takes(alloc: Global, full: u32, count: u32) -> Result<u64, Refusal> {
+    let (mut table, mut arena) = one_block(alloc, Kind::M)?;
+    let _ = put_each(&mut table, &mut arena, full);
+    Ok(take_each(&mut table, &mut arena, count))
+}

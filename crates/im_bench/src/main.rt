@@ -1,0 +1,73 @@
+//! Workloads over the structures of the memory, to count what a call costs: `im_bench WORKLOAD COUNT` makes a workload's call
+//! COUNT times and prints a line with its checksum. What a call costs is the difference of two counts.
+#![tactic(auto)]
+
+mod blocks;
+mod cells;
+mod lists;
+mod windows;
+
+use im_types::{MAX_CELLS, Refusal};
+use std::alloc::Global;
+use std::process::ExitCode;
+use std::{env, io};
+
+/// The checksum of a workload; `None` where none has this name.
+fn checksum(alloc: Global, workload: &str, count: u32) -> Option<Result<u64, Refusal>> {
+    let sum = match workload {
+        "push" => lists::push(alloc, count),
+        "pop" => lists::pop(alloc, count),
+        "push_and_pop" => lists::push_and_pop(alloc, count),
+        "fill_and_release" => blocks::fill_and_release(alloc, count),
+        "place_past_1000_holes" => blocks::place(alloc, 1_000, count),
+        "place_past_4000_holes" => blocks::place(alloc, 4_000, count),
+        "place_past_16000_holes" => blocks::place(alloc, 16_000, count),
+        "release_past_1000_holes" => blocks::release(alloc, 1_000, count),
+        "release_past_4000_holes" => blocks::release(alloc, 4_000, count),
+        "release_past_16000_holes" => blocks::release(alloc, 16_000, count),
+        "fetch_full" => cells::fetches(alloc, MAX_CELLS, count),
+        "fetch_deferred" => cells::fetches(alloc, 0, count),
+        "store_empty" => cells::stores(alloc, 0, count),
+        "store_deferred" => cells::stores(alloc, MAX_CELLS, count),
+        "take_full" => cells::takes(alloc, MAX_CELLS, count),
+        "take_waiting" => cells::takes(alloc, 0, count),
+        "put_empty" => cells::puts(alloc, 0, count),
+        "put_waiting" => cells::puts(alloc, MAX_CELLS, count),
+        "judge_new" => windows::judge(alloc, 0, count),
+        "judge_kept" => windows::judge(alloc, MAX_CELLS, count),
+        "judge_and_note" => windows::judge_and_note(alloc, count),
+        _ => return None,
+    };
+    Some(sum)
+}
+
+fn usage(rt: &HostRuntime) -> io::Result<u8> {
+    rt.eprintln("usage: im_bench WORKLOAD COUNT")?;
+    Ok(2)
+}
+
+/// Does what the words of the command line ask for, and returns the status to end with.
+fn start(rt: &HostRuntime) -> io::Result<u8> {
+    let words = env::args(rt)?.collect::<Vec<String>>(rt.alloc())?;
+    let [_, workload, count] = words.as_slice() else {
+        return usage(rt);
+    };
+    let Ok(count) = count.parse::<u32>() else {
+        return usage(rt);
+    };
+    match checksum(rt.alloc(), workload.as_str(), count) {
+        Some(Ok(sum)) => {
+            println!(rt; "{workload} {count} {sum}")?;
+            Ok(0)
+        }
+        Some(Err(refusal)) => {
+            println!(rt; "refused {refusal}")?;
+            Ok(1)
+        }
+        None => usage(rt),
+    }
+}
+
+fn main(rt: HostRuntime) -> ExitCode {
+    ExitCode::from(start(&rt).unwrap_or(1))
+}

@@ -1,0 +1,4 @@
+pub mod Rows
+pub mod Entries
+pub mod Placed
+pub mod Paging

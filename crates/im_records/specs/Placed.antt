@@ -1,0 +1,6 @@
+-- Bytes at a place among others. (Own.)
+use Rattle.std.specs.Prelude.{ℕ, ◌+◌, List, ◌++◌, take, drop, length}
+
+-- bytes with a part of them replaced
+abbrev pub placed : ℕ → List ℕ → List ℕ → List ℕ
+placed at part bytes = take at bytes ++ part ++ drop (at + length part) bytes

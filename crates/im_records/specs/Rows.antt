@@ -1,0 +1,45 @@
+-- Records in a row, without what stands behind them. (Own.)
+use Rattle.std.specs.Prelude.{◌≡◌, ℕ, ◌<◌, List, length, slice_index_or}
+use Rattle.im_types.specs.declared.TheConstants.{NONE}
+use Rattle.im_types.specs.Contents.{Window, new_window}
+use Rattle.im_types.specs.Layout.{layout_1, record_at}
+use Rattle.im_types.specs.declared.records.CellRecord.{CellRecord}
+use Rattle.im_types.specs.declared.records.CellRecord.TheVariants.{Free as FreeCell}
+use Rattle.im_types.specs.declared.records.NodeRecord.{NodeRecord}
+use Rattle.im_types.specs.declared.records.NodeRecord.TheVariants.{Free as FreeNode}
+use Rattle.im_types.specs.Records.{cell_bytes, node_bytes, session_bytes, FitsCell, FitsNode, FitsWindow}
+use Rattle.im_types.specs.Pages.{IsRow}
+
+-- bytes spell a record that is within its bounds
+pub record Spells {X : Type 0} (spelled : X → List ℕ) (Fits : X → Type 0) (bytes : List ℕ) (x : X) : Type 0 where
+  pub is : bytes ≡ spelled x
+  pub fits : Fits x
+
+-- bytes begin with so many records of a size, each spelled as it should be
+pub record BeginWith {X : Type 0} (size : ℕ) (spelled : X → List ℕ) (Fits : X → Type 0) (none : X) (count : ℕ) (bytes : List ℕ) (row : List X) : Type 0 where
+  pub many : length row ≡ count
+  pub each : (i : ℕ) → i < count → Spells spelled Fits (record_at size bytes i) (slice_index_or row i none)
+
+-- bytes begin with so many cells, of so many cells and nodes
+abbrev pub BeginWithCells : ℕ → ℕ → ℕ → List ℕ → List CellRecord → Type 0
+BeginWithCells count cells nodes bytes row = BeginWith 32 cell_bytes (FitsCell cells nodes) (FreeCell 0 NONE) count bytes row
+
+-- bytes begin with so many waiter nodes, of so many nodes
+abbrev pub BeginWithNodes : ℕ → ℕ → List ℕ → List NodeRecord → Type 0
+BeginWithNodes count nodes bytes row = BeginWith 16 node_bytes (FitsNode nodes) (FreeNode NONE) count bytes row
+
+-- bytes begin with so many sessions
+abbrev pub BeginWithSessions : ℕ → List ℕ → List Window → Type 0
+BeginWithSessions count bytes row = BeginWith 1024 (session_bytes layout_1) (FitsWindow layout_1) new_window count bytes row
+
+-- bytes are the records of so many cells, of so many nodes, and zeros
+abbrev pub AreCells : ℕ → ℕ → List ℕ → List CellRecord → Type 0
+AreCells cells nodes bytes row = IsRow 32 cell_bytes (FitsCell cells nodes) (FreeCell 0 NONE) cells bytes row
+
+-- bytes are so many waiter nodes, and zeros
+abbrev pub AreNodes : ℕ → List ℕ → List NodeRecord → Type 0
+AreNodes nodes bytes row = IsRow 16 node_bytes (FitsNode nodes) (FreeNode NONE) nodes bytes row
+
+-- bytes are so many sessions, and zeros
+abbrev pub AreSessions : ℕ → List ℕ → List Window → Type 0
+AreSessions elements bytes row = IsRow 1024 (session_bytes layout_1) (FitsWindow layout_1) new_window elements bytes row

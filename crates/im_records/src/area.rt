@@ -1,0 +1,115 @@
+//! The records of a whole area.
+ghost use Rattle.std.specs.Prelude.{◌≡◌, ◌⊎◌, ◌*◌, List, length, IfOk, IfErr, IsErrOf};
+ghost use Rattle.im_types.specs.Contents.{Window};
+ghost use Rattle.im_types.specs.Layout as layout;
+ghost use Rattle.im_types.specs.Layout.{layout_1, sizes_of};
+ghost use Rattle.im_types.specs.declared.records.CellRecord.{CellRecord as CellRecordSpec};
+ghost use Rattle.im_types.specs.declared.records.NodeRecord.{NodeRecord as NodeRecordSpec};
+ghost use Rattle.im_types.specs.Pages.{Records, SpellsArea};
+ghost use Rattle.im_records.specs.Rows.{AreCells, AreNodes, AreSessions};
+
+use crate::layout::{cell_bytes, node_bytes, node_count};
+use crate::rows::{read_cells, read_nodes};
+use crate::session::read_sessions;
+use crate::window::WindowRecord;
+use im_types::{CellRecord, Limits, NodeRecord, Refusal};
+use std::alloc::Global;
+use std::marker::Model;
+
+/// The records of an area: of each cell by its address, of each waiter node by its number, and of each element's window.
+#[derive(Drop)]
+pub struct AreaRecords {
+    cells: Vec<CellRecord>,
+    nodes: Vec<NodeRecord>,
+    windows: Vec<WindowRecord>,
+}
+
+impl Model for AreaRecords {
+    ghost use Rattle.im_types.specs.Pages.{Records};
+
+    ghost Value = { Records };
+
+    ghost view = { λ a. record { cells = a.cells.items; nodes = a.nodes.items; windows = a.windows.items } };
+}
+
+impl AreaRecords {
+    /// The cells, by their addresses.
+    pub fn cells(&self) -> &[CellRecord]
+        ensures { result.now ≡ self.now.cells }
+    {
+        &self.cells
+    }
+
+    /// The waiter nodes, by their numbers.
+    pub fn nodes(&self) -> &[NodeRecord]
+        ensures { result.now ≡ self.now.nodes }
+    {
+        &self.nodes
+    }
+
+    /// The windows, by their elements.
+    pub fn windows(&self) -> &[WindowRecord]
+        ensures { result.now ≡ self.now.windows }
+    {
+        &self.windows
+    }
+}
+
+fn cells_of(alloc: Global, limits: Limits, part: &[u8]) -> Result<Vec<CellRecord>, Refusal>
+    requires { length part.now ≡ layout.page_bytes * layout.cell_pages (sizes_of limits) }
+    ensures found { IfOk result (λ row. AreCells limits.cells (layout.node_count layout_1 (sizes_of limits)) part.now row.items) }
+    ensures bad { IsErrOf result Refusal.BadPage → (row : List CellRecordSpec) → AreCells limits.cells (layout.node_count layout_1 (sizes_of limits)) part.now row → ⊥ }
+    ensures only { IfErr result (λ e. (e ≡ Refusal.BadPage) ⊎ (e ≡ Refusal.NoMemory)) }
+{
+    read_cells(alloc, limits.cells, node_count(limits), part)
+}
+
+fn nodes_of(alloc: Global, limits: Limits, part: &[u8]) -> Result<Vec<NodeRecord>, Refusal>
+    requires { length part.now ≡ layout.page_bytes * layout.node_pages layout_1 (sizes_of limits) }
+    ensures found { IfOk result (λ row. AreNodes (layout.node_count layout_1 (sizes_of limits)) part.now row.items) }
+    ensures bad { IsErrOf result Refusal.BadPage → (row : List NodeRecordSpec) → AreNodes (layout.node_count layout_1 (sizes_of limits)) part.now row → ⊥ }
+    ensures only { IfErr result (λ e. (e ≡ Refusal.BadPage) ⊎ (e ≡ Refusal.NoMemory)) }
+{
+    read_nodes(alloc, node_count(limits), part)
+}
+
+fn windows_of(alloc: Global, limits: Limits, part: &[u8]) -> Result<Vec<WindowRecord>, Refusal>
+    requires { length part.now ≡ layout.page_bytes * layout.session_pages layout_1 (sizes_of limits) }
+    ensures found { IfOk result (λ row. AreSessions limits.elements part.now row.items) }
+    ensures bad { IsErrOf result Refusal.BadPage → (row : List Window) → AreSessions limits.elements part.now row → ⊥ }
+    ensures only { IfErr result (λ e. (e ≡ Refusal.BadPage) ⊎ (e ≡ Refusal.NoMemory)) }
+{
+    read_sessions(alloc, limits.elements, part)
+}
+
+/// The records that the bytes of an area spell. `BadPage` exactly where they spell none: a record isn't spelled as it
+/// should be, a number isn't within its bounds, or a byte behind the last record of a kind isn't zero. `NoMemory` where
+/// there is no room for the records.
+///
+/// The time is proportional to the bytes. Of which memory the records are isn't asked here: links may lead anywhere
+/// within their range.
+pub fn read_area(alloc: Global, area: &[u8], limits: Limits) -> Result<AreaRecords, Refusal>
+    requires { length area.now ≡ layout.area_bytes layout_1 (sizes_of limits) }
+    ensures found { IfOk result (λ r. SpellsArea layout_1 (sizes_of limits) area.now r) }
+    ensures bad { IsErrOf result Refusal.BadPage → (r : Records) → SpellsArea layout_1 (sizes_of limits) area.now r → ⊥ }
+    ensures only { IfErr result (λ e. (e ≡ Refusal.BadPage) ⊎ (e ≡ Refusal.NoMemory)) }
+{
+    let behind_cells = &area[cell_bytes(limits)..];
+    let cells = match cells_of(alloc, limits, &area[..cell_bytes(limits)]) {
+        Ok(row) => row,
+        Err(refusal) => return Err(refusal),
+    };
+    let nodes = match nodes_of(alloc, limits, &behind_cells[..node_bytes(limits)]) {
+        Ok(row) => row,
+        Err(refusal) => return Err(refusal),
+    };
+    let sessions = &area[cell_bytes(limits) + node_bytes(limits)..];
+    match windows_of(alloc, limits, sessions) {
+        Ok(windows) => Ok(AreaRecords {
+            cells,
+            nodes,
+            windows,
+        }),
+        Err(refusal) => Err(refusal),
+    }
+}

@@ -1,0 +1,31 @@
+//! The records of an area of the image: how a cell, a waiter node and a session are spelled and read, record by record,
+//! and how an area's pages are read into a list of records of each kind.
+//!
+//! The bytes are `im_types`' definitions, and their laws are in `im_formats`. Which memory records show is a matter of
+//! the layer above.
+#![tactic(auto)]
+
+mod area;
+mod bounds;
+mod fields;
+mod laws;
+mod layout;
+mod page;
+mod put;
+mod read;
+mod rows;
+mod session;
+mod spell;
+mod window;
+
+pub use area::{AreaRecords, read_area};
+pub use laws::{areas_spell_one_list_of_records, joined_pages_are_an_area, pages_are_an_area};
+pub use layout::PAGE;
+pub use page::{put_cell, put_node, put_session};
+pub use read::{read_cell, read_node, read_place};
+pub use session::{read_session, spell_session};
+pub use spell::{spell_cell, spell_node, spell_place};
+pub use window::WindowRecord;
+
+#[cfg(test)]
+mod tests;

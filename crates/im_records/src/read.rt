@@ -1,0 +1,150 @@
+//! How the records of an area are read: the fields say what a record may be, and its spelling says whether it is.
+ghost use Rattle.std.specs.Prelude.{◌≡◌, length, Some, None, if◌then◌else◌};
+ghost use Rattle.im_types.specs.Bytes.{same_bytes};
+ghost use Rattle.im_types.specs.Records.{node_bytes};
+ghost use Rattle.im_formats.specs.Reading.{read_cell, read_node, read_place, cell_in, node_in, place_in, cell_if, place_if, kept_of, block_cell};
+
+use crate::fields::{entry_of, kind_of, op_of, tag_of};
+use crate::spell::{spell_cell, spell_node, spell_place};
+use byteorder::{ByteOrder, LittleEndian};
+use im_types::{Block, CellRecord, Entry, Kept, Kind, NodeRecord, Op, PresenceTag, Waiter};
+
+fn block_cell(
+    base: u32,
+    length: u32,
+    kind: Option<Kind>,
+    tag: Option<PresenceTag>,
+) -> Option<CellRecord>
+    ensures { result ≡ block_cell base length kind tag }
+{
+    let kind = kind?;
+    let tag = tag?;
+    Some(CellRecord::Held {
+        block: Block { base, length, kind },
+        tag,
+    })
+}
+
+// The record that the fields stand for, whatever the other bytes are.
+#[tactic(auto, unfolding(im_formats::specs::Reading::cell_in))]
+fn cell_in(bytes: &[u8]) -> Option<CellRecord>
+    requires { length bytes.now ≡ 32 }
+    ensures { result ≡ cell_in bytes.now }
+{
+    let base = LittleEndian::read_u32(&bytes[4..8]);
+    let length = LittleEndian::read_u32(&bytes[8..12]);
+    if bytes[1] == 0 {
+        return Some(CellRecord::Free {
+            hole: base,
+            next: length,
+        });
+    }
+    let first = LittleEndian::read_u32(&bytes[12..16]);
+    let last = LittleEndian::read_u32(&bytes[16..20]);
+    let value = LittleEndian::read_u64(&bytes[24..32]);
+    block_cell(
+        base,
+        length,
+        kind_of(bytes[1]),
+        tag_of(bytes[0], first, last, value),
+    )
+}
+
+fn cell_if(bytes: &[u8], cell: CellRecord) -> Option<CellRecord>
+    ensures { result ≡ cell_if bytes.now cell }
+{
+    if bytes == &spell_cell(&cell)[..] {
+        Some(cell)
+    } else {
+        None
+    }
+}
+
+/// The record of a cell that these bytes spell, if they spell one.
+pub fn read_cell(bytes: &[u8]) -> Option<CellRecord>
+    ensures { result ≡ read_cell bytes.now }
+{
+    if bytes.len() != 32 {
+        return None;
+    }
+    cell_if(bytes, cell_in(bytes)?)
+}
+
+#[tactic(auto, unfolding(im_formats::specs::Reading::node_in))]
+fn node_in(bytes: &[u8]) -> NodeRecord
+    requires { length bytes.now ≡ 16 }
+    ensures { result ≡ node_in bytes.now }
+{
+    let next = LittleEndian::read_u32(&bytes[0..4]);
+    if LittleEndian::read_u16(&bytes[6..8]) == 0 {
+        return NodeRecord::Free { next };
+    }
+    let element = LittleEndian::read_u16(&bytes[4..6]);
+    let number = LittleEndian::read_u64(&bytes[8..16]);
+    NodeRecord::Listed {
+        next,
+        waiter: Waiter { element, number },
+    }
+}
+
+fn node_if(bytes: &[u8], node: NodeRecord) -> Option<NodeRecord>
+    ensures { result ≡ if same_bytes bytes.now (node_bytes node) then Some node else None }
+{
+    if bytes == &spell_node(&node)[..] {
+        Some(node)
+    } else {
+        None
+    }
+}
+
+/// The waiter node that these bytes spell, if they spell one.
+pub fn read_node(bytes: &[u8]) -> Option<NodeRecord>
+    ensures { result ≡ read_node bytes.now }
+{
+    if bytes.len() != 16 {
+        return None;
+    }
+    node_if(bytes, node_in(bytes))
+}
+
+fn kept_of(op: Option<Op>, entry: Option<Entry>) -> Option<Option<Kept>>
+    ensures { result ≡ kept_of op entry }
+{
+    let op = op?;
+    let entry = entry?;
+    Some(Some(Kept { op, entry }))
+}
+
+#[tactic(auto, unfolding(im_formats::specs::Reading::place_in))]
+fn place_in(bytes: &[u8]) -> Option<Option<Kept>>
+    requires { length bytes.now ≡ 32 }
+    ensures { result ≡ place_in bytes.now }
+{
+    if bytes[0] == 0 {
+        return Some(None);
+    }
+    let address = LittleEndian::read_u32(&bytes[4..8]);
+    let value = LittleEndian::read_u64(&bytes[8..16]);
+    let number = LittleEndian::read_u64(&bytes[16..24]);
+    kept_of(op_of(bytes[0], address, value), entry_of(bytes[2], number))
+}
+
+fn place_if(bytes: &[u8], place: Option<Kept>) -> Option<Option<Kept>>
+    ensures { result ≡ place_if bytes.now place }
+{
+    if bytes == &spell_place(place)[..] {
+        Some(place)
+    } else {
+        None
+    }
+}
+
+/// The place of a session record that these bytes spell, if they spell one: a kept entry, or none.
+pub fn read_place(bytes: &[u8]) -> Option<Option<Kept>>
+    ensures { result ≡ read_place bytes.now }
+{
+    if bytes.len() != 32 {
+        return None;
+    }
+    place_if(bytes, place_in(bytes)?)
+}

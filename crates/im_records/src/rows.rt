@@ -1,0 +1,115 @@
+// The rows of records that the parts of an area are.
+ghost use Rattle.std.specs.Prelude.{◌≡◌, ◌⊎◌, ◌*◌, ◌≤◌, length, Some, IfSome, IfOk, IfErr, IsErrOf, List};
+ghost use Rattle.im_types.specs.Records.{cell_bytes, node_bytes, FitsCell, FitsNode};
+ghost use Rattle.im_types.specs.declared.records.CellRecord.{CellRecord as CellRecordSpec};
+ghost use Rattle.im_types.specs.declared.records.NodeRecord.{NodeRecord as NodeRecordSpec};
+ghost use Rattle.im_records.specs.Rows.{Spells, BeginWithCells, BeginWithNodes, AreCells, AreNodes};
+
+use crate::bounds::{are_zero, fits_cell, fits_node};
+use crate::read::{read_cell, read_node};
+use im_types::{CellRecord, NodeRecord, Refusal};
+use std::alloc::Global;
+
+// The record of a cell that these bytes spell, if it is within its bounds.
+fn cell_within(cells: u32, nodes: u32, bytes: &[u8]) -> Option<CellRecord>
+    ensures found { IfSome result (λ cell. Spells cell_bytes (FitsCell cells nodes) bytes.now cell) }
+    ensures only { (cell : CellRecordSpec) → Spells cell_bytes (FitsCell cells nodes) bytes.now cell → result ≡ Some cell }
+{
+    let cell = read_cell(bytes)?;
+    if fits_cell(cells, nodes, cell) {
+        Some(cell)
+    } else {
+        None
+    }
+}
+
+fn first_cells(
+    alloc: Global,
+    cells: u32,
+    nodes: u32,
+    bytes: &[u8],
+) -> Result<Vec<CellRecord>, Refusal>
+    requires { 32 * cells ≤ length bytes.now }
+    ensures found { IfOk result (λ row. BeginWithCells cells cells nodes bytes.now row.items) }
+    ensures bad { IsErrOf result Refusal.BadPage → (row : List CellRecordSpec) → BeginWithCells cells cells nodes bytes.now row → ⊥ }
+    ensures only { IfErr result (λ e. (e ≡ Refusal.BadPage) ⊎ (e ≡ Refusal.NoMemory)) }
+{
+    let Ok(mut row) = Vec::with_capacity(alloc, cells as usize) else {
+        return Err(Refusal::NoMemory);
+    };
+    for i in 0..cells as usize {
+        let Some(cell) = cell_within(cells, nodes, &bytes[32 * i..32 * i + 32]) else {
+            return Err(Refusal::BadPage);
+        };
+        if let Err(_) = row.push(cell) {
+            return Err(Refusal::NoMemory);
+        }
+    }
+    Ok(row)
+}
+
+/// The records of the cells in their part of an area. `BadPage` where a record isn't spelled as it should be or isn't
+/// within its bounds, or where a byte behind the records isn't zero.
+pub(crate) fn read_cells(
+    alloc: Global,
+    cells: u32,
+    nodes: u32,
+    part: &[u8],
+) -> Result<Vec<CellRecord>, Refusal>
+    requires { 32 * cells ≤ length part.now }
+    ensures found { IfOk result (λ row. AreCells cells nodes part.now row.items) }
+    ensures bad { IsErrOf result Refusal.BadPage → (row : List CellRecordSpec) → AreCells cells nodes part.now row → ⊥ }
+    ensures only { IfErr result (λ e. (e ≡ Refusal.BadPage) ⊎ (e ≡ Refusal.NoMemory)) }
+{
+    if !are_zero(&part[32 * cells as usize..]) {
+        return Err(Refusal::BadPage);
+    }
+    first_cells(alloc, cells, nodes, part)
+}
+
+// The waiter node that these bytes spell, if it is within its bounds.
+fn node_within(nodes: u32, bytes: &[u8]) -> Option<NodeRecord>
+    ensures found { IfSome result (λ node. Spells node_bytes (FitsNode nodes) bytes.now node) }
+    ensures only { (node : NodeRecordSpec) → Spells node_bytes (FitsNode nodes) bytes.now node → result ≡ Some node }
+{
+    let node = read_node(bytes)?;
+    if fits_node(nodes, node) {
+        Some(node)
+    } else {
+        None
+    }
+}
+
+fn first_nodes(alloc: Global, nodes: u32, bytes: &[u8]) -> Result<Vec<NodeRecord>, Refusal>
+    requires { 16 * nodes ≤ length bytes.now }
+    ensures found { IfOk result (λ row. BeginWithNodes nodes nodes bytes.now row.items) }
+    ensures bad { IsErrOf result Refusal.BadPage → (row : List NodeRecordSpec) → BeginWithNodes nodes nodes bytes.now row → ⊥ }
+    ensures only { IfErr result (λ e. (e ≡ Refusal.BadPage) ⊎ (e ≡ Refusal.NoMemory)) }
+{
+    let Ok(mut row) = Vec::with_capacity(alloc, nodes as usize) else {
+        return Err(Refusal::NoMemory);
+    };
+    for i in 0..nodes as usize {
+        let Some(node) = node_within(nodes, &bytes[16 * i..16 * i + 16]) else {
+            return Err(Refusal::BadPage);
+        };
+        if let Err(_) = row.push(node) {
+            return Err(Refusal::NoMemory);
+        }
+    }
+    Ok(row)
+}
+
+/// The waiter nodes in their part of an area. `BadPage` where a node isn't spelled as it should be or its link leads
+/// nowhere, or where a byte behind the nodes isn't zero.
+pub(crate) fn read_nodes(alloc: Global, nodes: u32, part: &[u8]) -> Result<Vec<NodeRecord>, Refusal>
+    requires { 16 * nodes ≤ length part.now }
+    ensures found { IfOk result (λ row. AreNodes nodes part.now row.items) }
+    ensures bad { IsErrOf result Refusal.BadPage → (row : List NodeRecordSpec) → AreNodes nodes part.now row → ⊥ }
+    ensures only { IfErr result (λ e. (e ≡ Refusal.BadPage) ⊎ (e ≡ Refusal.NoMemory)) }
+{
+    if !are_zero(&part[16 * nodes as usize..]) {
+        return Err(Refusal::BadPage);
+    }
+    first_nodes(alloc, nodes, part)
+}

@@ -1,0 +1,83 @@
+//! An element's window of kept entries, and the session record that it is spelled as.
+ghost use Rattle.std.specs.Prelude.{◌≡◌, ◌<◌, ◌≤◌, ◌∷◌, ◌++◌, [], length};
+ghost use Rattle.im_types.specs.Records.{entry_at};
+ghost use Rattle.im_records.specs.Entries.{FitEntries};
+
+use im_types::{Entry, Kept, Op, WINDOW};
+use std::marker::Model;
+
+/// The most entries of a window.
+pub(crate) const PLACES: usize = WINDOW as usize;
+
+/// The entries that are kept for an element, numbered from a base on. Contracts see the base and the entries.
+///
+/// There are at most [`WINDOW`](im_types::WINDOW) of them, and they lie in the value itself: nothing is allocated.
+#[derive(Drop)]
+pub struct WindowRecord {
+    base: u64,
+    count: usize,
+    entries: [Kept; PLACES],
+}
+
+impl Model for WindowRecord {
+    ghost use Rattle.std.specs.Prelude.{take};
+    ghost use Rattle.im_types.specs.Contents.{Window};
+    ghost use Rattle.im_records.specs.Entries.{AreEntries};
+
+    ghost Value = { Window };
+
+    ghost view = { λ w. record { base = w.base; kept = take w.count w.entries } };
+
+    ghost invariant = { λ w. AreEntries w.count w.entries };
+}
+
+impl WindowRecord {
+    /// A window with no entry, numbered from a base on.
+    pub fn new(base: u64) -> WindowRecord
+        ensures { result ≡ record { base = base; kept = [] } }
+    {
+        let blank = Kept {
+            op: Op::Release(0),
+            entry: Entry::Waiting,
+        };
+        WindowRecord {
+            base,
+            count: 0,
+            entries: [blank; PLACES],
+        }
+    }
+
+    /// Keeps one more entry, under the next number.
+    pub fn push(&mut self, kept: Kept)
+        requires { length self.old.kept < WINDOW }
+        ensures { self.new ≡ record { base = self.old.base; kept = self.old.kept ++ kept ∷ [] } }
+    {
+        self.entries[self.count] = kept;
+        self.count += 1;
+    }
+
+    /// The number of the first entry.
+    pub fn base(&self) -> u64
+        ensures { result ≡ self.now.base }
+    {
+        self.base
+    }
+
+    /// The entries, in the order of their numbers.
+    pub fn kept(&self) -> &[Kept]
+        ensures entries { result.now ≡ self.now.kept }
+        ensures few { length self.now.kept ≤ WINDOW }
+        ensures fit { FitEntries self.now.kept }
+    {
+        &self.entries[..self.count]
+    }
+
+    /// The entry at a place of the ring.
+    pub(crate) fn entry_at(&self, place: usize) -> Option<Kept>
+        requires { place < WINDOW }
+        ensures { result ≡ entry_at WINDOW self.now place }
+    {
+        let past = (place + PLACES - (self.base % WINDOW) as usize) % PLACES;
+        self.kept().get(past).copied()
+    }
+}

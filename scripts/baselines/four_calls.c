@@ -1,0 +1,67 @@
+// The four calls that put a command into a journal, made in C on the file of a program that makes them too: a slot's body,
+// a sync, its gate, a sync.
+//
+// It is loaded before the C library (LD_PRELOAD). After each command of the program, which is each second sync after the
+// opening's, it makes the four calls itself, twice, into slots from the offset FOUR_CALLS_AT on. So the program's command
+// and those two meet the same disk at the same time. At the program's end the file that FOUR_CALLS_TOLD names has a line for
+// each command but the first: the nanoseconds that the program's took, those of the first four calls, those of the second.
+#include <stdio.h>
+#include <stdlib.h>
+#include <string.h>
+#include <sys/syscall.h>
+#include <time.h>
+#include <unistd.h>
+
+enum { MOST = 4096 };
+static long long taken[MOST][3];
+static int syncs, commands;
+static long long last;
+
+static long long now(void) {
+    struct timespec time;
+    clock_gettime(CLOCK_MONOTONIC, &time);
+    return time.tv_sec * 1000000000LL + time.tv_nsec;
+}
+
+static long long since_last(void) {
+    long long before = last;
+    last = now();
+    return last - before;
+}
+
+static void four_calls(int file, off_t at) {
+    static unsigned char body[63] = {1, 5};
+    static const unsigned char gate = 0xA5;
+    memcpy(body + 7, &at, sizeof at);
+    if (pwrite(file, body, sizeof body, at + 1) != sizeof body || syscall(SYS_fdatasync, file) != 0
+        || pwrite(file, &gate, 1, at) != 1 || syscall(SYS_fdatasync, file) != 0) {
+        perror("four_calls");
+        _exit(1);
+    }
+}
+
+int fdatasync(int file) {
+    int result = (int)syscall(SYS_fdatasync, file);
+    const char *from = getenv("FOUR_CALLS_AT");
+    // The first sync is the opening's, which reads the slots after it.
+    if (result != 0 || from == NULL || ++syncs == 1 || syncs % 2 == 0 || commands == MOST)
+        return result;
+    long long *times = taken[commands++];
+    off_t at = strtoll(from, NULL, 10) + 128LL * commands;
+    times[0] = since_last();
+    four_calls(file, at);
+    times[1] = since_last();
+    four_calls(file, at + 64);
+    times[2] = since_last();
+    return result;
+}
+
+// The first command's time isn't its own: it comes behind the opening.
+__attribute__((destructor)) static void tell(void) {
+    const char *path = getenv("FOUR_CALLS_TOLD");
+    FILE *out = path ? fopen(path, "w") : NULL;
+    for (int i = 1; out && i < commands; i++)
+        fprintf(out, "%lld %lld %lld\n", taken[i][0], taken[i][1], taken[i][2]);
+    if (out)
+        fclose(out);
+}
