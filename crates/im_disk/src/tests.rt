@@ -4,6 +4,7 @@ use super::*;
 use im_types::Refusal;
 use std::alloc::Global;
 use std::fs;
+use std::process::Abort;
 use std::test::Fail;
 
 #[derive(Clone, Copy)]
@@ -46,18 +47,39 @@ fn after(mut disk: MemDisk, step: Step) -> Result<MemDisk, Fail> {
     Ok(disk)
 }
 
-#[test]
-fn a_crash_leaves_what_the_model_says(rt: HostRuntime) -> Result<(), Fail> {
-    use Step::{FailCall, FailWrite, Sync, Write};
+/// What a disk of six bytes is put through, and what a crash of each kind then leaves.
+#[derive(Clone, Copy)]
+struct Story<'a> {
+    name: &'a str,
+    steps: &'a [Step<'a>],
+    kept: [u8; 6],
+    lost: [u8; 6],
+    nines: [u8; 6],
+}
 
-    #[derive(Clone, Copy)]
-    struct Story<'a> {
-        name: &'a str,
-        steps: &'a [Step<'a>],
-        kept: [u8; 6],
-        lost: [u8; 6],
-        nines: [u8; 6],
+/// Tells each story three times, and ends each with a crash of another kind.
+fn tell(rt: &impl Abort, alloc: Global, stories: &[Story]) -> Result<(), Fail> {
+    for story in stories {
+        for (crash, want) in [
+            (Crash::Kept, story.kept),
+            (Crash::Lost, story.lost),
+            (Crash::Byte(9), story.nines),
+        ] {
+            let mut disk = MemDisk::new(alloc, 6)?;
+            for step in story.steps {
+                disk = after(disk, *step)?;
+            }
+            let left = disk.crash(crash);
+            let name = story.name;
+            assert_eq!(rt; left.bytes(), want.as_slice(), "{name}, {crash:?}");
+        }
     }
+    Ok(())
+}
+
+#[test]
+fn a_crash_loses_what_no_sync_followed(rt: HostRuntime) -> Result<(), Fail> {
+    use Step::{Sync, Write};
 
     let stories = [
         Story {
@@ -95,6 +117,15 @@ fn a_crash_leaves_what_the_model_says(rt: HostRuntime) -> Result<(), Fail> {
             lost: [0, 1, 2, 3, 0, 0],
             nines: [0, 1, 2, 9, 9, 0],
         },
+    ];
+    tell(&rt, rt.alloc(), &stories)
+}
+
+#[test]
+fn a_failed_call_leaves_its_range_open(rt: HostRuntime) -> Result<(), Fail> {
+    use Step::{FailCall, FailWrite, Sync, Write};
+
+    let stories = [
         Story {
             name: "a failed write that left the bytes",
             steps: &[Write(0, &[7; 6]), Sync, FailWrite(2, 3, None)],
@@ -123,6 +154,15 @@ fn a_crash_leaves_what_the_model_says(rt: HostRuntime) -> Result<(), Fail> {
             lost: [1, 2, 0, 0, 0, 0],
             nines: [1, 2, 0, 0, 0, 0],
         },
+    ];
+    tell(&rt, rt.alloc(), &stories)
+}
+
+#[test]
+fn a_crash_goes_on_from_the_crash_before(rt: HostRuntime) -> Result<(), Fail> {
+    use Step::{Sync, Write};
+
+    let stories = [
         Story {
             name: "a crash before, and no sync since",
             steps: &[
@@ -162,22 +202,7 @@ fn a_crash_leaves_what_the_model_says(rt: HostRuntime) -> Result<(), Fail> {
             nines: [1, 8, 8, 0, 0, 0],
         },
     ];
-    for story in &stories {
-        for (crash, want) in [
-            (Crash::Kept, story.kept),
-            (Crash::Lost, story.lost),
-            (Crash::Byte(9), story.nines),
-        ] {
-            let mut disk = MemDisk::new(rt.alloc(), 6)?;
-            for step in story.steps {
-                disk = after(disk, *step)?;
-            }
-            let left = disk.crash(crash);
-            let name = story.name;
-            assert_eq!(rt; left.bytes(), want.as_slice(), "{name}, {crash:?}");
-        }
-    }
-    Ok(())
+    tell(&rt, rt.alloc(), &stories)
 }
 
 #[test]

@@ -11,7 +11,7 @@ ghost use Rattle.im_engine.specs.State.{IsImage, journal_of, MeansState, MeansEi
 use im_disk::Disk;
 use im_image::Header;
 use im_journal::Journal;
-use im_plain::PlainMemory;
+use im_memory::Memory;
 use im_types::{Command, Entry, Outcome, Refusal};
 use std::marker::Model;
 
@@ -25,7 +25,7 @@ pub struct Engine<D: Disk> {
     disk: D,
     header: Header,
     journal: Journal,
-    memory: PlainMemory,
+    memory: Memory,
     failed: bool,
 }
 
@@ -65,7 +65,7 @@ impl<D: Disk> Engine<D> {
         ensures honest { D.honest self.new.disk → D.honest self.old.disk }
     {
         if self.failed {
-            return Err(Refusal::Failed);
+            return Err(Refusal::Failed); // First of all: the disk may have more than the memory.
         }
         match self.memory.judge(command) {
             Ok(true) => self.accept(command),
@@ -102,12 +102,7 @@ impl<D: Disk> Engine<D> {
     }
 
     // An engine over a disk whose image means this.
-    pub(crate) fn started(
-        disk: D,
-        header: Header,
-        journal: Journal,
-        memory: PlainMemory,
-    ) -> Engine<D>
+    pub(crate) fn started(disk: D, header: Header, journal: Journal, memory: Memory) -> Engine<D>
         requires journal { journal ≡ journal_of (seen header) journal.count journal.room }
         requires means { D.honest disk → LeavesNow (D.now disk) (IsImage (seen header) memory journal.count journal.room) }
         ensures state { result ≡ record { disk = disk; header = seen header; memory = memory; count = journal.count; room = journal.room; failed = false } }
@@ -167,11 +162,11 @@ impl<D: Disk> Engine<D> {
         ensures failed { result ≡ self.now.failed }
         ensures means { D.honest self.now.disk → self.now.failed ≡ false → LeavesNow (D.now self.now.disk) (MeansState self.now) }
     {
-        self.failed
+        self.failed // Nothing sets it back.
     }
 
     /// The memory.
-    pub fn memory(&self) -> &PlainMemory
+    pub fn memory(&self) -> &Memory
         ensures { result.now ≡ self.now.memory }
     {
         &self.memory

@@ -15,7 +15,7 @@ use crate::engine::Engine;
 use im_disk::{DeviceFault, Disk};
 use im_image::{Header, OPEN, VERSION, image_length, new_image};
 use im_journal::Journal;
-use im_plain::PlainMemory;
+use im_memory::Memory;
 use im_types::{Limits, Refusal};
 use std::alloc::Global;
 
@@ -48,7 +48,7 @@ fn write_image<D: Disk>(disk: &mut D, image: &[u8]) -> Result<(), DeviceFault>
 }
 
 // Makes a new image of a file, and the memory that it means.
-fn lay_down<D: Disk>(alloc: Global, disk: &mut D, limits: Limits) -> Result<PlainMemory, Refusal>
+fn lay_down<D: Disk>(alloc: Global, disk: &mut D, limits: Limits) -> Result<Memory, Refusal>
     ensures empty { IfOk result (λ m. m ≡ empty_contents limits.cells limits.elements) }
     ensures written { OnOk result (D.honest disk.new → LeavesNow (D.now disk.new) (λ file. file ≡ new_image 0xA5 (sizes_of limits))) }
     ensures wrong { IsErrOf result Refusal.WrongLength → D.honest disk.new
@@ -66,7 +66,7 @@ fn lay_down<D: Disk>(alloc: Global, disk: &mut D, limits: Limits) -> Result<Plai
     if length != image_length(limits) {
         return Err(Refusal::WrongLength);
     }
-    let Ok(memory) = PlainMemory::new(alloc, limits) else {
+    let Ok(memory) = Memory::new(alloc, limits) else {
         return Err(Refusal::NoMemory);
     };
     let Ok(image) = new_image(alloc, limits) else {

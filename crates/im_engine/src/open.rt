@@ -13,12 +13,12 @@ use crate::engine::Engine;
 use im_disk::Disk;
 use im_image::{Header, read_header, read_new_area};
 use im_journal::Journal;
-use im_plain::PlainMemory;
+use im_memory::Memory;
 use im_types::{Command, Limits, Refusal};
 use std::alloc::Global;
 
 // Whether the memory would accept a command.
-fn accepts(memory: &PlainMemory, command: &Command) -> bool
+fn accepts(memory: &Memory, command: &Command) -> bool
     ensures { result ≡ is_accepted memory.now command.now }
 {
     match memory.judge(command) {
@@ -28,12 +28,12 @@ fn accepts(memory: &PlainMemory, command: &Command) -> bool
 }
 
 // The empty memory of these sizes, after commands each of which is accepted in its turn.
-fn replay(alloc: Global, limits: Limits, commands: &[Command]) -> Result<PlainMemory, Refusal>
+fn replay(alloc: Global, limits: Limits, commands: &[Command]) -> Result<Memory, Refusal>
     ensures memory { IfOk result (λ m. accept_each (empty_contents limits.cells limits.elements) commands.now ≡ Some m) }
     ensures bad { IsErrOf result Refusal.BadRecord → accept_each (empty_contents limits.cells limits.elements) commands.now ≡ None }
     ensures only { IfErr result (λ e. (e ≡ BadRecord) ⊎ (e ≡ NoMemory)) }
 {
-    let Ok(mut memory) = PlainMemory::new(alloc, limits) else {
+    let Ok(mut memory) = Memory::new(alloc, limits) else {
         return Err(Refusal::NoMemory);
     };
     for command in commands {
@@ -51,7 +51,7 @@ fn replay(alloc: Global, limits: Limits, commands: &[Command]) -> Result<PlainMe
 struct Read {
     header: Header,
     journal: Journal,
-    memory: PlainMemory,
+    memory: Memory,
 }
 
 // Reads what an image means. It syncs first, and writes nothing.

@@ -1,8 +1,11 @@
 use super::*;
-use im_disk::{FuseDisk, MemDisk, Mode};
-use im_types::{Command, Entry, Kind, LAST, Limits, Op, Outcome, Refusal, Reply, Request};
+use im_disk::{Disk, FuseDisk, MemDisk, Mode};
+use im_types::{Command, Entry, Kind, LAST, Limits, Op, Outcome, Refusal, Reply, Request, Waiter};
 use std::alloc::Global;
 use std::test::Fail;
+
+mod crashes;
+mod openings;
 
 // What a command is answered.
 type Answer = Result<Outcome, Refusal>;
@@ -21,24 +24,56 @@ fn told(reply: Reply) -> Answer {
 
 const WAITING: Answer = Ok(Outcome::Entry(Entry::Waiting));
 
-// The length of an image with the usual limits, of the least one, and of the greatest one.
-const USUAL: (u32, u16, u32, usize) = (4_096, 16, 256, 327_680);
+// The sizes of a memory and of its journal, and the length of its image.
+type Size = (u32, u16, u32, usize);
 
-const LEAST: (u32, u16, u32, usize) = (1, 1, 16, 33_792);
+// The usual memory, the least one, and the greatest one.
+const USUAL: Size = (4_096, 16, 256, 327_680);
 
-const GREATEST: (u32, u16, u32, usize) = (65_536, 64, 4_096, 4_628_480);
+const LEAST: Size = (1, 1, 16, 33_792);
 
-fn formatted(
+const GREATEST: Size = (65_536, 64, 4_096, 4_628_480);
+
+// A new memory on a disk that passes so many calls, and then fails in this mode.
+fn formatted_to_fail(
     alloc: Global,
-    size: (u32, u16, u32, usize),
+    size: Size,
     passes: u64,
+    mode: Mode,
 ) -> Result<Engine<FuseDisk>, Fail> {
     let limits = Limits::new(size.0, size.1, size.2).ok_or("limits")?;
     let disk = MemDisk::new(alloc, size.3)?;
-    match Engine::format(alloc, FuseDisk::new(disk, passes, Mode::Stop), limits) {
+    match Engine::format(alloc, FuseDisk::new(disk, passes, mode), limits) {
         Ok(engine) => Ok(engine),
         Err((refusal, _)) => Err(refusal.into()),
     }
+}
+
+// A new memory on a disk that passes so many calls, and then stops.
+fn formatted(alloc: Global, size: Size, passes: u64) -> Result<Engine<FuseDisk>, Fail> {
+    formatted_to_fail(alloc, size, passes, Mode::Stop)
+}
+
+fn opened<D: Disk + Drop>(alloc: Global, disk: D) -> Result<Engine<D>, Fail> {
+    match Engine::open(alloc, disk) {
+        Ok(engine) => Ok(engine),
+        Err((refusal, _)) => Err(refusal.into()),
+    }
+}
+
+// The first four who wait at a cell, in their order.
+fn waiters<D: Disk>(engine: &Engine<D>, cell: u32) -> [Option<Waiter>; 4] {
+    let memory = engine.memory();
+    [
+        memory.waiter(cell, 0),
+        memory.waiter(cell, 1),
+        memory.waiter(cell, 2),
+        memory.waiter(cell, 3),
+    ]
+}
+
+fn waiter(element: u16, number: u64) -> Option<Waiter> {
+    Some(Waiter { element, number })
 }
 
 #[test]
@@ -51,8 +86,16 @@ fn readers_wait_in_their_order_and_one_store_answers_them(rt: HostRuntime) -> Re
         (request(1, 2, Op::Fetch(0)), WAITING),
         (request(3, 1, Op::Store(0, 7)), told(Reply::Stored)),
     ];
-    for (command, answer) in rows {
+    let lists = [
+        [None; 4],
+        [waiter(1, 1), None, None, None],
+        [waiter(1, 1), waiter(2, 1), None, None],
+        [waiter(1, 1), waiter(2, 1), waiter(1, 2), None],
+        [None; 4],
+    ];
+    for ((command, answer), list) in rows.into_iter().zip(lists) {
         assert_eq!(rt; engine.serve(&command), answer, "{command:?}");
+        assert_eq!(rt; waiters(&engine, 0), list, "{command:?}");
     }
     for (element, number) in [(1, 1), (2, 1), (1, 2)] {
         assert_eq!(rt;
@@ -65,6 +108,53 @@ fn readers_wait_in_their_order_and_one_store_answers_them(rt: HostRuntime) -> Re
         (5, 251, false)
     );
     assert_eq!(rt; engine.window(1), Ok((1, 3)));
+    Ok(())
+}
+
+// The bytes of a slot: how they begin, the request's number, the address or length, and the value.
+fn slot_bytes(begin: [u8; 16], number: u8, address: u8, value: u8) -> [u8; 64] {
+    let mut bytes = [0; 64];
+    bytes[..16].copy_from_slice(&begin);
+    bytes[16] = number;
+    bytes[24] = address;
+    bytes[32] = value;
+    bytes
+}
+
+#[test]
+fn a_store_answers_a_deferred_fetch_and_stands_in_its_slot(rt: HostRuntime) -> Result<(), Fail> {
+    let mut engine = formatted(rt.alloc(), USUAL, LAST)?;
+    let rows = [
+        (request(0, 1, Op::Alloc(Kind::I, 2)), told(Reply::Base(0))),
+        (request(1, 1, Op::Fetch(0)), WAITING),
+        (request(2, 1, Op::Store(0, 42)), told(Reply::Stored)),
+        (request(1, 2, Op::Fetch(0)), told(Reply::Value(42))),
+    ];
+    for (command, answer) in rows {
+        assert_eq!(rt; engine.serve(&command), answer, "{command:?}");
+    }
+    assert_eq!(rt; engine.collect(1, 1), Ok(Entry::Answered(Reply::Value(42))));
+    let disk = engine.close().into_inner();
+    let slots = [
+        slot_bytes([0xA5, 1, 1, 0, 0, 0, 0, 0, 0, 0, 0, 0, 0, 0, 0, 0], 1, 2, 0),
+        slot_bytes([0xA5, 1, 4, 0, 1, 0, 0, 0, 1, 0, 0, 0, 0, 0, 0, 0], 1, 0, 0),
+        slot_bytes(
+            [0xA5, 1, 5, 0, 2, 0, 0, 0, 2, 0, 0, 0, 0, 0, 0, 0],
+            1,
+            0,
+            42,
+        ),
+        slot_bytes([0xA5, 1, 4, 0, 1, 0, 0, 0, 3, 0, 0, 0, 0, 0, 0, 0], 2, 0, 0),
+        [0; 64],
+    ];
+    for (i, expected) in slots.into_iter().enumerate() {
+        let from = 311_296 + 64 * i;
+        assert_eq!(rt;
+            disk.bytes().get(from..from + 64),
+            Some(&expected[..]),
+            "slot {i}"
+        );
+    }
     Ok(())
 }
 
@@ -89,7 +179,7 @@ fn blocks_and_addresses_have_edges(rt: HostRuntime) -> Result<(), Fail> {
 fn a_repeat_acts_once_and_makes_no_call(rt: HostRuntime) -> Result<(), Fail> {
     let mut engine = formatted(rt.alloc(), USUAL, LAST)?;
     let fetch = request(1, 1, Op::Fetch(0));
-    // Each command, its answer, and the count after it.
+    // Each command, its answer, and the count after it. The list holds the request once as long as it waits.
     let rows = [
         (
             request(0, 1, Op::Alloc(Kind::I, 1)),
@@ -108,6 +198,12 @@ fn a_repeat_acts_once_and_makes_no_call(rt: HostRuntime) -> Result<(), Fail> {
     for (command, answer, count) in rows {
         assert_eq!(rt; engine.serve(&command), answer, "{command:?}");
         assert_eq!(rt; engine.count(), count, "{command:?}");
+        let first = if count == 2 { waiter(1, 1) } else { None };
+        assert_eq!(rt;
+            waiters(&engine, 0),
+            [first, None, None, None],
+            "{command:?}"
+        );
     }
     // The format makes four calls, and each accepted command four more.
     assert_eq!(rt; engine.close().calls(), 16);
@@ -204,25 +300,6 @@ fn what_was_closed_is_opened_again(rt: HostRuntime) -> Result<(), Fail> {
     Ok(())
 }
 
-#[test]
-fn a_stopped_disk_fails_the_engine_for_good(rt: HostRuntime) -> Result<(), Fail> {
-    // The calls of the format and of one command pass, and then so many of the next one's.
-    for passes in 0..4 {
-        let mut engine = formatted(rt.alloc(), USUAL, 8 + passes)?;
-        assert_eq!(rt;
-            engine.serve(&request(0, 1, Op::Alloc(Kind::I, 1))),
-            told(Reply::Base(0))
-        );
-        let fetch = request(1, 1, Op::Fetch(0));
-        assert_eq!(rt; engine.serve(&fetch), Err(Refusal::Device), "{passes}");
-        assert_eq!(rt; engine.serve(&fetch), Err(Refusal::Failed), "{passes}");
-        assert_eq!(rt; engine.collect(0, 1), Err(Refusal::Failed), "{passes}");
-        assert_eq!(rt; engine.window(0), Err(Refusal::Failed), "{passes}");
-        assert_eq!(rt; (engine.count(), engine.failed()), (1, true), "{passes}");
-    }
-    Ok(())
-}
-
 // Twenty commands, each accepted, and its answer at the first time.
 fn script() -> [(Command, Answer); 20] {
     let forget = Command::Confirm {
@@ -263,42 +340,7 @@ const KEPT: [(u16, u64, Result<Entry, Refusal>); 6] = [
     (5, 5, Ok(Entry::Answered(Reply::Value(9)))),
 ];
 
-const SMALL: (u32, u16, u32, usize) = (3, 6, 32, 43_008);
-
-#[test]
-fn after_a_stop_at_any_call_all_is_sent_again_and_acts_once(rt: HostRuntime) -> Result<(), Fail> {
-    for passes in 0..80 {
-        let mut engine = formatted(rt.alloc(), SMALL, 4 + passes)?;
-        for (command, answer) in script() {
-            let now = engine.serve(&command);
-            if now.is_ok() {
-                assert_eq!(rt; now, answer, "{passes}: {command:?}");
-            }
-        }
-        let served = engine.count();
-        assert_eq!(rt; served, passes / 4, "{passes}");
-        let Ok(mut engine) = Engine::open(rt.alloc(), engine.close().into_inner()) else {
-            return Err("open".into());
-        };
-        let found = engine.count();
-        assert!(rt;
-            found == served || found.checked_sub(1) == Some(served),
-            "{passes}"
-        );
-        for (command, _) in script() {
-            let _answer = engine.serve(&command);
-        }
-        assert_eq!(rt; engine.count(), 20, "{passes}");
-        for (element, number, entry) in KEPT {
-            assert_eq!(rt;
-                engine.collect(element, number),
-                entry,
-                "{passes}: {element}.{number}"
-            );
-        }
-    }
-    Ok(())
-}
+const SMALL: Size = (3, 6, 32, 43_008);
 
 #[test]
 fn a_run_answers_as_its_commands_one_by_one(rt: HostRuntime) -> Result<(), Fail> {

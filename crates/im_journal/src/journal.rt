@@ -126,7 +126,7 @@ impl Journal {
         ensures count { result ≡ self.now.count }
         ensures known { IsJournal self.now }
     {
-        self.count
+        self.count // Commands are numbered from 0.
     }
 
     /// How many more commands can be appended: 0 where the count is the last one that there is, else how many slots
@@ -134,7 +134,7 @@ impl Journal {
     pub fn room(&self) -> u32
         ensures { result ≡ self.now.room }
     {
-        self.room
+        self.room // At most all slots.
     }
 
     /// Adds a command at the end of the run, by four calls of the disk: its body, a sync, its gate, a sync. At `Ok` the

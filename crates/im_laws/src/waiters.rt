@@ -36,8 +36,8 @@ pub fn put_answers_the_first_taker()
         → kept_for (after_request m r).windows first
         ≡ Some (record { op = Take a; entry = Answered (Value v) }) }
     ensures others { (m : Contents) (r : Request) (a v : ℕ) (first : Waiter)
-        (others : List Waiter) → WaitingAgrees m → IsNew m r (Put a v)
-        → waiters_at m.cells a ≡ first ∷ others
+        (rest : List Waiter) → WaitingAgrees m → IsNew m r (Put a v)
+        → waiters_at m.cells a ≡ first ∷ rest
         → kept_for m.windows first ≡ Some (record { op = Take a; entry = Waiting })
-        → waiters_at (after_request m r).cells a ≡ others }
+        → waiters_at (after_request m r).cells a ≡ rest }
 {}

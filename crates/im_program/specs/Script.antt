@@ -26,9 +26,11 @@ pub record Draft : Type 0 where
   pub names : List (List ℕ)
   pub script : Contents
 
+-- a script's setup, parts and lines, wherever they lie in memory
 abbrev pub contents_of : Script → Contents
 contents_of s = record { setup = s.setup.items; parts = s.parts.items; lines = s.lines.items }
 
+-- what a reader has read so far
 abbrev pub draft_of : Reader → Draft
 draft_of r = record { stage = r.stage; names = texts r.names.items; script = contents_of r.script }
 
@@ -75,6 +77,7 @@ counted d line = words_after d (words_of line)
 
 -- ---- all lines
 
+-- what was read once these lines are read, one after another, if each is in the grammar where it stands
 abbrev pub lines_after : Draft → List (List ℕ) → Option Draft
 lines_after d [] = Some d
 lines_after d (line ∷ lines) = option_and_then (λ e. lines_after e lines) (counted d line)

@@ -25,6 +25,7 @@ format_app = with_rule (with_rule (with_rule (with_rule (new_app (codes "format"
 abbrev pub serial_app : App
 serial_app = with_rule (with_rule (new_app (codes "serial")) (path_rule (codes "IMAGE"))) (path_rule (codes "SCRIPT"))
 
+-- imem, alone or with one of the two subcommands
 abbrev pub imem_app : App
 imem_app = with_subcommand (with_subcommand (new_app (codes "imem")) format_app.top) serial_app.top
 
@@ -36,6 +37,7 @@ pub data Task : Type 0 where
   format : (image : List ℕ) (cells elements slots : ℕ) → Task
   serial : (image script : List ℕ) → Task
 
+-- the task that a Work is
 abbrev pub task_of : Work → Task
 task_of Demonstration = demonstration
 task_of (Format image cells elements slots) = format image.now cells elements slots
@@ -49,11 +51,13 @@ number_in rows id fallback = option_map_or (number_up_to 4294967295) (first_of i
 abbrev pub path_in : List Row → Text → Text
 path_in rows id = unwrap_or (first_of id rows) []
 
+-- the task of format, where each number that is given is one
 abbrev pub format_task : List Row → Option Task
 format_task rows =
     option_and_then (λ cells. option_and_then (λ elements. option_map (λ slots. format (path_in rows (codes "IMAGE")) cells elements slots)
     (number_in rows (codes "slots") 256)) (number_in rows (codes "elements") 16)) (number_in rows (codes "cells") 4096)
 
+-- the task of serial, by its two paths
 abbrev pub serial_task : List Row → Task
 serial_task rows = serial (path_in rows (codes "IMAGE")) (path_in rows (codes "SCRIPT"))
 

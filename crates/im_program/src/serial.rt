@@ -1,13 +1,14 @@
 //! A script's requests, served one after another.
-ghost use Rattle.std.specs.Prelude.{◌≡◌, ◌≤◌, OnOk, OnErr};
+ghost use Rattle.std.specs.Prelude.{◌≡◌, ◌⊎◌, ◌≤◌, OnOk, OnErr};
 ghost use Rattle.im_disk.specs.Since.{LeavesNow};
-ghost use Rattle.im_engine.specs.State.{EngineState, MeansState};
+ghost use Rattle.im_engine.specs.State.{MeansState};
+ghost use Rattle.im_program.specs.Serving.{Closed, NotOpened, OnlyPuts, Served};
 
 use crate::replies::{add_line, add_now, add_refusal};
 use crate::script::Script;
 use im_disk::Disk;
 use im_engine::Engine;
-use im_types::{Command, Entry, Op, Refusal, Reply, Request, WINDOW};
+use im_types::{Command, Entry, Op, Outcome, Refusal, Reply, Request, WINDOW};
 use std::alloc::Global;
 
 /// A request that had to wait, with its entry as last kept.
@@ -30,7 +31,9 @@ struct Server<D: Disk> {
 
 impl<D: Disk> Server<D> {
     /// Notes what is now kept for the requests that had to wait.
-    fn learn(&mut self) {
+    fn learn(&mut self)
+        ensures same { self.new.engine ≡ self.old.engine }
+    {
         let memory = self.engine.memory();
         for waited in self.waited.iter_mut() {
             if let Some(kept) = memory.kept(waited.element, waited.number) {
@@ -49,27 +52,46 @@ impl<D: Disk> Server<D> {
         next
     }
 
+    /// Serves one command.
+    fn serve_one(&mut self, command: &Command) -> Result<Outcome, Refusal>
+        ensures puts { OnlyPuts D.now D.past D.honest self.old.engine self.new.engine }
+    {
+        self.engine.serve(command)
+    }
+
     /// Confirms the entries of a full window up to the first that still waits.
-    fn make_place(&mut self, element: u16) -> Result<(), Refusal> {
+    fn make_place(&mut self, element: u16) -> Result<(), Refusal>
+        ensures puts { OnlyPuts D.now D.past D.honest self.old.engine self.new.engine }
+    {
         let (base, next) = self.engine.window(element)?;
         if next.saturating_sub(base) < WINDOW {
             return Ok(());
         }
         let upto = self.first_waiting(element, base, next);
         self.learn();
-        self.engine.serve(&Command::Confirm { element, upto })?;
+        self.serve_one(&Command::Confirm { element, upto })?;
         Ok(())
     }
 
-    /// Serves an element's next request, and prints what is kept for it.
-    fn request(&mut self, element: u16, op: Op, out: &mut String) -> Result<Entry, Refusal> {
+    /// Serves an element's next request, and answers its number.
+    fn serve_next(&mut self, element: u16, op: Op) -> Result<u64, Refusal>
+        ensures puts { OnlyPuts D.now D.past D.honest self.old.engine self.new.engine }
+    {
         self.make_place(element)?;
         let (_, number) = self.engine.window(element)?;
-        self.engine.serve(&Command::Request(Request {
+        self.serve_one(&Command::Request(Request {
             element,
             number,
             op,
         }))?;
+        Ok(number)
+    }
+
+    /// Serves an element's next request, and prints what is kept for it.
+    fn request(&mut self, element: u16, op: Op, out: &mut String) -> Result<Entry, Refusal>
+        ensures puts { OnlyPuts D.now D.past D.honest self.old.engine self.new.engine }
+    {
+        let number = self.serve_next(element, op)?;
         let entry = self.engine.collect(element, number)?;
         add_line(out, element, number, entry).map_err(|_| Refusal::NoMemory)?;
         if entry == Entry::Waiting {
@@ -84,7 +106,9 @@ impl<D: Disk> Server<D> {
     }
 
     /// Makes the blocks of the setup. `BadScript` where one can't be made.
-    fn set_up(&mut self, script: &Script, out: &mut String) -> Result<(), Refusal> {
+    fn set_up(&mut self, script: &Script, out: &mut String) -> Result<(), Refusal>
+        ensures puts { OnlyPuts D.now D.past D.honest self.old.engine self.new.engine }
+    {
         for block in &script.setup {
             let entry = self.request(0, Op::Alloc(block.kind, block.length), out)?;
             let Entry::Answered(Reply::Base(base)) = entry else {
@@ -96,7 +120,9 @@ impl<D: Disk> Server<D> {
     }
 
     /// Serves the requests of the parts.
-    fn serve_lines(&mut self, script: &Script, out: &mut String) -> Result<(), Refusal> {
+    fn serve_lines(&mut self, script: &Script, out: &mut String) -> Result<(), Refusal>
+        ensures puts { OnlyPuts D.now D.past D.honest self.old.engine self.new.engine }
+    {
         for line in &script.lines {
             let Some(op) = line.action.op(self.bases.as_slice()) else {
                 return Err(Refusal::BadScript);
@@ -107,13 +133,17 @@ impl<D: Disk> Server<D> {
     }
 
     /// Serves the whole script, until a request is refused.
-    fn serve(&mut self, script: &Script, out: &mut String) -> Result<(), Refusal> {
+    fn serve(&mut self, script: &Script, out: &mut String) -> Result<(), Refusal>
+        ensures puts { OnlyPuts D.now D.past D.honest self.old.engine self.new.engine }
+    {
         self.set_up(script, out)?;
         self.serve_lines(script, out)
     }
 
     /// Prints what became of the requests that had to wait.
-    fn tell(&mut self, out: &mut String) -> Result<(), Refusal> {
+    fn tell(&mut self, out: &mut String) -> Result<(), Refusal>
+        ensures same { self.new.engine ≡ self.old.engine }
+    {
         self.learn();
         for waited in &self.waited {
             add_now(out, waited.element, waited.number, waited.entry).map_err(
@@ -144,11 +174,15 @@ pub fn end(done: Result<(), Refusal>, out: &mut String) -> u8
 /// Before a request of an element whose window is full, its entries before the first that still waits are confirmed.
 ///
 /// The status is 0, or 1 where something was refused: the image, at opening; a request; `BadScript` where a block of the
-/// setup can't be made; `NoMemory` where `alloc`, or `out`, refused the room for what is kept of the script. Where it is
-/// 0, all files that a crash may leave mean one and the same memory, with one and the same count.
+/// setup can't be made; `NoMemory` where `alloc`, or `out`, refused the room for what is kept of the script.
+///
+/// Where the image isn't opened, a crash leaves nothing that it couldn't leave before. From the opening on, a crash leaves
+/// the memory after a beginning of the accepted commands that were put on the image, and at the end after all of them,
+/// or after all but the last. Where the status is 0, it leaves the memory after all of them.
 pub fn serial_on<D: Disk>(alloc: Global, disk: D, script: &Script, out: &mut String) -> (u8, D)
     ensures status { result.0 ≤ 1 }
-    ensures means { result.0 ≡ 0 → D.honest result.1 → (s : EngineState D) × LeavesNow (D.now result.1) (MeansState s) }
+    ensures served { D.honest result.1 → NotOpened D.now D.past disk result.1 result.0 ⊎ Served D.now D.past disk result.1 result.0 }
+    ensures honest { D.honest result.1 → D.honest disk }
 {
     match Engine::open(alloc, disk) {
         Ok(engine) => serve_on(alloc, engine, script, out),
@@ -158,8 +192,10 @@ pub fn serial_on<D: Disk>(alloc: Global, disk: D, script: &Script, out: &mut Str
 
 /// Serves a script on an engine, and gives its disk back.
 fn serve_on<D: Disk>(alloc: Global, engine: Engine<D>, script: &Script, out: &mut String) -> (u8, D)
+    requires means { D.honest engine.disk → LeavesNow (D.now engine.disk) (MeansState engine) }
     ensures status { result.0 ≤ 1 }
-    ensures means { result.0 ≡ 0 → D.honest result.1 → (s : EngineState D) × LeavesNow (D.now result.1) (MeansState s) }
+    ensures closed { D.honest result.1 → Closed D.now D.past engine result.1 result.0 }
+    ensures honest { D.honest result.1 → D.honest engine.disk }
 {
     let mut server = Server {
         engine,

@@ -1,6 +1,7 @@
 //! Tests of the bytes of each kind of record, as the format has them, and of bytes that spell none.
 use super::*;
 use crate::layout::{cell_bytes, node_bytes};
+use crate::put::put;
 use im_types::{
     Block, CellRecord, Entry, Kept, Kind, LAST, Limits, NONE, NodeRecord, Op, PresenceTag, Refusal,
     Reply, Waiter,
@@ -213,6 +214,21 @@ fn with_byte<const N: usize>(mut bytes: [u8; N], at: usize, byte: u8) -> [u8; N]
     bytes
 }
 
+// The bytes without the last of them.
+fn but_last(bytes: &[u8]) -> &[u8] {
+    match bytes.split_last() {
+        Some((_, rest)) => rest,
+        None => bytes,
+    }
+}
+
+// Lays a part into bytes that have room for it.
+fn lay(bytes: &mut [u8], at: usize, part: &[u8]) {
+    if at <= bytes.len() && part.len() <= bytes.len() - at {
+        put(bytes, at, part);
+    }
+}
+
 #[test]
 fn ill_spelled_cells_are_refused(rt: HostRuntime) -> Result<(), Fail> {
     let full = spell_cell(&held(0, 2, Kind::I, PresenceTag::Full(42)));
@@ -257,7 +273,7 @@ fn ill_spelled_cells_are_refused(rt: HostRuntime) -> Result<(), Fail> {
         None,
         "a free cell with a tag"
     );
-    assert_eq!(rt; read_cell(&full[..31]), None, "a byte too few");
+    assert_eq!(rt; read_cell(but_last(&full)), None, "a byte too few");
     assert_eq!(rt; read_cell(&[0; 33]), None, "a byte too many");
     Ok(())
 }
@@ -419,7 +435,7 @@ fn ill_spelled_sessions_are_refused(rt: HostRuntime) -> Result<(), Fail> {
             "{name}"
         );
     }
-    assert!(rt; read_session(&bytes[..1_023]).is_none(), "a byte too few");
+    assert!(rt; read_session(but_last(&bytes)).is_none(), "a byte too few");
     assert!(rt; read_session(&[0; 1024]).is_none(), "nothing but zeros");
     let past = spell_session(&WindowRecord::new(LAST + 2));
     assert!(rt;
@@ -551,7 +567,7 @@ fn numbers_of_an_area_are_within_their_bounds(rt: HostRuntime) -> Result<(), Fai
     ];
     for (name, cell, is_read) in rows {
         let mut area = least_area();
-        area[..32].copy_from_slice(&spell_cell(&cell));
+        lay(&mut area, 0, &spell_cell(&cell));
         assert_eq!(rt;
             read(rt.alloc(), least()?, &area).is_ok(),
             is_read,
@@ -597,9 +613,9 @@ fn page_of_sessions() -> [u8; PAGE] {
 #[test]
 fn pages_are_made_record_by_record(rt: HostRuntime) -> Result<(), Fail> {
     let mut area = [0; 12_288];
-    area[..4_096].copy_from_slice(&page_of_cells());
-    area[4_096..8_192].copy_from_slice(&page_of_nodes());
-    area[8_192..].copy_from_slice(&page_of_sessions());
+    lay(&mut area, 0, &page_of_cells());
+    lay(&mut area, 4_096, &page_of_nodes());
+    lay(&mut area, 8_192, &page_of_sessions());
     assert_eq!(rt; area, least_area());
     Ok(())
 }

@@ -1,0 +1,10 @@
+pub mod RowLemmas
+pub mod MarkLemmas
+pub mod WalkLemmas
+pub mod ListLemmas
+pub mod StepLemmas
+pub mod BlockLemmas
+pub mod CountLemmas
+pub mod MarkingLemmas
+pub mod PlaceLemmas
+pub mod ContentsLemmas

@@ -1,0 +1,23 @@
+-- Who waits, counted over all cells. (Own.)
+use Rattle.std.specs.Prelude.{◌≡◌, ℕ, ◌+◌, ◌≤◌, List, [], ◌∷◌, true, Option, None, Some}
+use Rattle.im_types.specs.declared.operations.Waiter.{Waiter}
+use Rattle.im_types.specs.declared.operations.Kept.{Kept}
+use Rattle.im_types.specs.Contents.{Held, held_at, waiters_in, waiters_at}
+use Rattle.im_types.specs.Window.{is_waiting}
+use Rattle.im_types.specs.Agreement.{times, waits_in}
+use Rattle.im_types.specs.Chains.{bit}
+
+-- how often a request stands in the lists of all cells
+abbrev pub all_times : Waiter → List (Option Held) → ℕ
+all_times who [] = 0
+all_times who (cell ∷ cells) = times who (waiters_in cell) + all_times who cells
+
+-- 1 where what is kept waits
+abbrev pub waiting : Option Kept → ℕ
+waiting None = 0
+waiting (Some kept) = bit (is_waiting kept)
+
+-- who stands in a list waits for that cell; who waits stands once in all lists, and nobody else stands there
+pub record AgreeByCount (cells : List (Option Held)) (kept : Waiter → Option Kept) : Type 0 where
+  pub each : (who : Waiter) (a : ℕ) → 1 ≤ times who (waiters_at cells a) → waits_in a (held_at cells a) (kept who) ≡ true
+  pub once : (who : Waiter) → all_times who cells ≡ waiting (kept who)

@@ -1,0 +1,6 @@
+pub mod Row
+pub mod Walk
+pub mod Local
+pub mod Counting
+pub mod Marking
+pub mod Parts

@@ -1,0 +1,88 @@
+-- Following links from node to node, with a mark on each node that was visited. A walk ends, whatever the links are. (Own.)
+use Rattle.std.specs.Prelude.{ℕ, zero, suc, List, [], ◌∷◌, ◌++◌, length, replicate, Bool, true, false, ◌&&◌, not, Option, None, Some, ◌==◌, slice_index_or, slice_set, if◌then◌else◌, option_and_then}
+use Rattle.im_types.specs.declared.TheConstants.{NONE}
+use Rattle.im_types.specs.declared.operations.Waiter.{Waiter}
+use Rattle.im_types.specs.declared.records.PresenceTag.TheVariants.{Empty as TagEmpty, Waiting as TagWaiting, Full as TagFull, Clashed as TagClashed}
+use Rattle.im_types.specs.declared.records.CellRecord.{CellRecord}
+use Rattle.im_types.specs.declared.records.CellRecord.TheVariants.{Free as FreeCell, Held as BlockCell}
+use Rattle.im_types.specs.declared.records.NodeRecord.{NodeRecord}
+use Rattle.im_types.specs.declared.records.NodeRecord.TheVariants.{Free as FreeNode, Listed as ListNode}
+use Rattle.im_types.specs.Chains.{is_listed}
+
+-- the waiters that a walk has met, in their order, and the marks as it leaves them
+pub record Walked : Type 0 where
+  pub waiters : List Waiter
+  pub marks : List Bool
+
+-- what stands in a node that no walk has visited; a node that one has visited, or that isn't there, is as good as free
+abbrev pub fresh : List Bool → List NodeRecord → ℕ → NodeRecord
+fresh marks nodes at = if slice_index_or marks at true then FreeNode NONE else slice_index_or nodes at (FreeNode NONE)
+
+-- the node behind
+abbrev pub next_of : NodeRecord → ℕ
+next_of (FreeNode next) = next
+next_of (ListNode next who) = next
+
+-- what a walk has met, behind these waiters
+abbrev pub behind : List Waiter → Option Walked → Option Walked
+behind front None = None
+behind front (Some w) = Some (record { waiters = front ++ w.waiters; marks = w.marks })
+
+-- a walk from a node on, by what stands there and what the walk from the next one on meets
+abbrev pub visit : ℕ → ℕ → List Bool → NodeRecord → Option Walked → Option Walked
+visit last at marks (FreeNode next) rest = None
+visit last at marks (ListNode next who) rest =
+    if next == NONE then (if at == last then Some (record { waiters = who ∷ []; marks = marks }) else None) else behind (who ∷ []) rest
+
+-- a walk from a node on to the last one, over so many nodes at the most
+abbrev pub walk : List NodeRecord → ℕ → ℕ → List Bool → ℕ → Option Walked
+walk nodes last zero marks at = None
+walk nodes last (suc most) marks at =
+    visit last at (slice_set marks at true) (fresh marks nodes at) (walk nodes last most (slice_set marks at true) (next_of (fresh marks nodes at)))
+
+-- the walk over the list of a cell; where nobody waits there is none
+unfoldable pub walk_cell : List NodeRecord → CellRecord → List Bool → Option Walked
+walk_cell nodes (FreeCell hole next) marks = Some (record { waiters = []; marks = marks })
+walk_cell nodes (BlockCell block TagEmpty) marks = Some (record { waiters = []; marks = marks })
+walk_cell nodes (BlockCell block (TagWaiting first last)) marks = walk nodes last (length nodes) marks first
+walk_cell nodes (BlockCell block (TagFull v)) marks = Some (record { waiters = []; marks = marks })
+walk_cell nodes (BlockCell block (TagClashed v)) marks = Some (record { waiters = []; marks = marks })
+
+-- the lists of all cells, and the marks as the walks leave them
+pub record AllWalked : Type 0 where
+  pub lists : List (List Waiter)
+  pub marks : List Bool
+
+-- one more list, before the others
+abbrev pub with_list : List Waiter → Option AllWalked → Option AllWalked
+with_list waiters None = None
+with_list waiters (Some r) = Some (record { lists = waiters ∷ r.lists; marks = r.marks })
+
+-- some lists, before the others
+abbrev pub after_lists : List (List Waiter) → Option AllWalked → Option AllWalked
+after_lists front None = None
+after_lists front (Some r) = Some (record { lists = front ++ r.lists; marks = r.marks })
+
+-- the walks over the lists of all cells, one after another
+abbrev pub walk_all : List NodeRecord → List CellRecord → List Bool → Option AllWalked
+walk_all nodes [] marks = Some (record { lists = []; marks = marks })
+walk_all nodes (cell ∷ cells) marks = option_and_then (λ w. with_list w.waiters (walk_all nodes cells w.marks)) (walk_cell nodes cell marks)
+
+-- whether a mark is as it should be
+abbrev pub same_mark : Bool → Bool → Bool
+same_mark true b = b
+same_mark false b = not b
+
+-- whether the nodes that were visited are those of lists
+abbrev pub are_reached : List Bool → List NodeRecord → Bool
+are_reached [] nodes = true
+are_reached (mark ∷ marks) [] = true
+are_reached (mark ∷ marks) (node ∷ nodes) = same_mark mark (is_listed node) && are_reached marks nodes
+
+-- the lists, if no node of a list was left out
+abbrev pub lists_if_reached : List NodeRecord → AllWalked → Option (List (List Waiter))
+lists_if_reached nodes r = if are_reached r.marks nodes then Some r.lists else None
+
+-- the lists of all cells, if each walk finds one and no node of a list is left out
+unfoldable pub lists_in : List NodeRecord → List CellRecord → Option (List (List Waiter))
+lists_in nodes cells = option_and_then (lists_if_reached nodes) (walk_all nodes cells (replicate (length nodes) false))

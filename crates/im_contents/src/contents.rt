@@ -1,0 +1,93 @@
+//! Which memory records show.
+ghost use Rattle.std.specs.Prelude.{◌≡◌, ◌≤◌, ◌⊎◌, ◌↔◌, List, IfOk, IfErr, IsErrOf, IsTrue, length};
+ghost use Rattle.im_types.specs.declared.TheConstants.{NONE};
+ghost use Rattle.im_types.specs.Contents.{Contents};
+ghost use Rattle.im_types.specs.Memory.{IsWindow};
+ghost use Rattle.im_types.specs.Layout.{Sizes, sizes_of};
+ghost use Rattle.im_types.specs.Chains.{ShowLists};
+ghost use Rattle.im_types.specs.Pages.{Records, ShowsRecords, cells_shown};
+ghost use Rattle.im_contents.specs.Parts.{AreWindows, HaveParts};
+
+use crate::blocks::are_blocks;
+use crate::lists::Lists;
+use crate::waiting::agree;
+use crate::walk::read_lists;
+use im_records::WindowRecord;
+use im_types::{CellRecord, LAST, Limits, NodeRecord, Refusal};
+use std::alloc::Global;
+
+// Whether a window is within its bounds. It never has too many entries.
+fn is_window(window: &WindowRecord) -> bool
+    ensures { IsTrue result ↔ IsWindow window.now }
+{
+    let base = window.base();
+    let count = window.kept().len() as u64;
+    1 <= base && base <= LAST + 1 && base + count <= LAST + 1
+}
+
+// Whether each window is within its bounds.
+fn are_windows(windows: &[WindowRecord]) -> bool
+    ensures { IsTrue result ↔ AreWindows windows.now }
+{
+    for element in 0..windows.len() {
+        if !is_window(&windows[element]) {
+            return false;
+        }
+    }
+    true
+}
+
+// Whether there are as many cells and windows as there should be, whole blocks, and windows within their bounds.
+fn have_parts(limits: Limits, cells: &[CellRecord], windows: &[WindowRecord]) -> bool
+    ensures { IsTrue result ↔ HaveParts limits.cells limits.elements cells.now windows.now }
+{
+    if cells.len() != limits.cells as usize {
+        return false;
+    }
+    if windows.len() != limits.elements as usize {
+        return false;
+    }
+    are_windows(windows) && are_blocks(cells)
+}
+
+/// The lists of waiters of the memory that these records show: with them the cells' records stand for its cells, and the
+/// windows are its own.
+///
+/// `BadPage` where the records show no memory, `NoMemory` where there is no room for the lists. It takes a step for each
+/// record and each entry.
+pub fn read_contents(
+    alloc: Global,
+    limits: Limits,
+    cells: &[CellRecord],
+    nodes: &[NodeRecord],
+    windows: &[WindowRecord],
+) -> Result<Lists, Refusal>
+    requires { length nodes.now ≤ NONE }
+    ensures found { IfOk result (λ lists. ShowsRecords (sizes_of limits)
+        (record { cells = cells.now; nodes = nodes.now; windows = windows.now })
+        (record { cells = cells_shown cells.now lists; windows = windows.now })) }
+    ensures chained { IfOk result (λ lists. ShowLists nodes.now cells.now lists) }
+    ensures count { IfOk result (λ lists. length lists ≡ length cells.now) }
+    ensures bad { IsErrOf result Refusal.BadPage → (m : Contents) → ShowsRecords (sizes_of limits)
+        (record { cells = cells.now; nodes = nodes.now; windows = windows.now }) m → ⊥ }
+    ensures only { IfErr result (λ refusal. (refusal ≡ Refusal.BadPage) ⊎ (refusal ≡ Refusal.NoMemory)) }
+{
+    if !have_parts(limits, cells, windows) {
+        return Err(Refusal::BadPage);
+    }
+    let lists = match read_lists(alloc, nodes, cells) {
+        Ok(lists) => lists,
+        Err(refusal) => return Err(refusal),
+    };
+    match agree(alloc, cells, &lists, windows) {
+        Ok(true) => Ok(lists),
+        Ok(false) => Err(Refusal::BadPage),
+        Err(_) => Err(Refusal::NoMemory),
+    }
+}
+
+/// The same records show no two memories.
+pub fn one_memory_is_shown()
+    ensures { (s : Sizes) (r : Records) (m other : Contents) → length r.nodes ≤ NONE → ShowsRecords s r m
+        → ShowsRecords s r other → m ≡ other }
+{}

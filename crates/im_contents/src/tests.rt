@@ -1,0 +1,474 @@
+use crate::*;
+use im_records::WindowRecord;
+use im_types::{
+    Block, CellRecord, Entry, Kept, Kind, LAST, Limits, NONE, NodeRecord, Op, PresenceTag, Refusal,
+    Reply, Waiter,
+};
+use std::alloc::{AllocError, Global};
+use std::test::Fail;
+
+const FREE_CELL: CellRecord = CellRecord::Free {
+    hole: 0,
+    next: NONE,
+};
+
+const FREE_NODE: NodeRecord = NodeRecord::Free { next: NONE };
+
+// A cell of a block.
+fn cell(base: u32, length: u32, kind: Kind, tag: PresenceTag) -> CellRecord {
+    CellRecord::Held {
+        block: Block { base, length, kind },
+        tag,
+    }
+}
+
+// A cell that is a block of its own, where a list of waiters begins and ends in these nodes.
+fn waited_for(base: u32, first: u32, last: u32) -> CellRecord {
+    cell(base, 1, Kind::I, PresenceTag::Waiting { first, last })
+}
+
+fn waiter(element: u16, number: u64) -> Waiter {
+    Waiter { element, number }
+}
+
+// A node of a list.
+fn node(next: u32, element: u16, number: u64) -> NodeRecord {
+    NodeRecord::Listed {
+        next,
+        waiter: waiter(element, number),
+    }
+}
+
+// Whether these stand in a cell's list.
+fn stand(lists: &Lists, cell: usize, expected: &[Waiter]) -> bool {
+    cell < lists.len() && lists.at(cell) == expected
+}
+
+// Why no lists are read.
+fn refusal(read: Result<Lists, Refusal>) -> Option<Refusal> {
+    match read {
+        Ok(_) => None,
+        Err(refusal) => Some(refusal),
+    }
+}
+
+#[test]
+fn three_readers_of_a_cell_are_read_in_order(rt: HostRuntime) -> Result<(), Fail> {
+    let cells = [
+        FREE_CELL,
+        waited_for(1, 2, 3),
+        cell(2, 1, Kind::I, PresenceTag::Full(7)),
+    ];
+    let nodes = [node(3, 0, 2), FREE_NODE, node(0, 1, 3), node(NONE, 1, 5)];
+    let lists = read_lists(rt.alloc(), &nodes, &cells)?;
+    assert_eq!(rt; lists.len(), 3);
+    assert!(rt; stand(&lists, 0, &[]), "nobody waits for a free cell");
+    assert!(rt;
+        stand(&lists, 1, &[waiter(1, 3), waiter(0, 2), waiter(1, 5)]),
+        "nodes 2, 0, 3"
+    );
+    assert!(rt; stand(&lists, 2, &[]), "nobody waits for a full cell");
+    Ok(())
+}
+
+#[test]
+fn lists_of_several_cells_are_apart(rt: HostRuntime) -> Result<(), Fail> {
+    let cells = [waited_for(0, 3, 1), FREE_CELL, waited_for(2, 2, 2)];
+    let nodes = [FREE_NODE, node(NONE, 2, 1), node(NONE, 3, 1), node(1, 4, 1)];
+    let lists = read_lists(rt.alloc(), &nodes, &cells)?;
+    assert!(rt;
+        stand(&lists, 0, &[waiter(4, 1), waiter(2, 1)]),
+        "nodes 3, 1"
+    );
+    assert!(rt; stand(&lists, 1, &[]), "a free cell between");
+    assert!(rt; stand(&lists, 2, &[waiter(3, 1)]), "node 2");
+    Ok(())
+}
+
+#[test]
+fn an_empty_area_has_empty_lists(rt: HostRuntime) -> Result<(), Fail> {
+    let lists = read_lists(rt.alloc(), &[FREE_NODE; 16], &[FREE_CELL; 2])?;
+    assert_eq!(rt; lists.len(), 2);
+    assert!(rt; stand(&lists, 0, &[]), "cell 0");
+    assert!(rt; stand(&lists, 1, &[]), "cell 1");
+    let nothing = read_lists(rt.alloc(), &[], &[])?;
+    assert_eq!(rt; nothing.len(), 0);
+    Ok(())
+}
+
+#[test]
+fn links_that_are_no_lists_are_refused(rt: HostRuntime) {
+    let one = [waited_for(0, 0, 1), FREE_CELL];
+    let two = [waited_for(0, 0, 2), waited_for(1, 1, 2)];
+    let none = [FREE_CELL, FREE_CELL];
+    let [a, b, c] = [node(NONE, 1, 1), node(NONE, 2, 1), node(NONE, 3, 1)];
+    let free = FREE_NODE;
+    let rows = [
+        (
+            "two nodes in a circle",
+            one,
+            [node(1, 1, 1), node(0, 2, 1), free],
+        ),
+        ("a node linked to itself", one, [node(0, 1, 1), b, free]),
+        (
+            "a circle behind the last node",
+            one,
+            [node(1, 1, 1), node(2, 2, 1), node(1, 3, 1)],
+        ),
+        (
+            "two lists with one last node",
+            two,
+            [node(2, 1, 1), node(2, 2, 1), c],
+        ),
+        ("the end before the last node", one, [a, b, free]),
+        (
+            "a link at the last node",
+            one,
+            [node(1, 1, 1), node(2, 2, 1), c],
+        ),
+        ("a node that no list reaches", one, [node(1, 1, 1), b, c]),
+        ("a node, and no list", none, [free, b, free]),
+        ("a free node in a list", one, [node(1, 1, 1), free, free]),
+        ("a list that begins in a free node", one, [free, b, free]),
+        ("a link to no node", one, [node(3, 1, 1), b, free]),
+        (
+            "a list that begins nowhere",
+            [waited_for(0, NONE, NONE), FREE_CELL],
+            [free, free, free],
+        ),
+        (
+            "a list that begins past the nodes",
+            [waited_for(0, 3, 3), FREE_CELL],
+            [free, free, free],
+        ),
+        (
+            "a list read twice",
+            [waited_for(0, 0, 0), waited_for(1, 0, 0)],
+            [a, free, free],
+        ),
+    ];
+    for (what, cells, nodes) in rows {
+        let read = read_lists(rt.alloc(), &nodes, &cells);
+        assert_eq!(rt; refusal(read), Some(Refusal::BadPage), "{what}");
+    }
+}
+
+#[test]
+fn each_cell_of_a_block_says_so(rt: HostRuntime) {
+    let empty = PresenceTag::Empty;
+    let of = |base: u32, length: u32| cell(base, length, Kind::I, PresenceTag::Empty);
+    let free = FREE_CELL;
+    let rows = [
+        ("no block", [free, free, free, free], true),
+        ("a block of two", [free, of(1, 2), of(1, 2), free], true),
+        (
+            "two blocks side by side",
+            [of(0, 2), of(0, 2), of(2, 2), of(2, 2)],
+            true,
+        ),
+        (
+            "a block of all cells",
+            [of(0, 4), of(0, 4), of(0, 4), of(0, 4)],
+            true,
+        ),
+        (
+            "a second cell of another length",
+            [free, of(1, 2), of(1, 3), free],
+            false,
+        ),
+        (
+            "a second cell of another base",
+            [free, of(1, 2), of(2, 1), free],
+            false,
+        ),
+        (
+            "a second cell of another kind",
+            [free, of(1, 2), cell(1, 2, Kind::M, empty), free],
+            false,
+        ),
+        (
+            "a second cell that is free",
+            [free, of(1, 2), free, free],
+            false,
+        ),
+        (
+            "a first cell that is free",
+            [free, free, of(1, 2), free],
+            false,
+        ),
+        (
+            "a cell before its block",
+            [of(1, 2), of(1, 2), of(1, 2), free],
+            false,
+        ),
+        (
+            "a cell behind its block",
+            [free, of(1, 2), of(1, 2), of(1, 2)],
+            false,
+        ),
+        (
+            "a block past the last cell",
+            [free, free, free, of(3, 2)],
+            false,
+        ),
+        ("a block of no cell", [of(0, 0), free, free, free], false),
+        (
+            "a block that ends past all numbers",
+            [free, free, free, of(3, 0xFFFF_FFFF)],
+            false,
+        ),
+    ];
+    for (what, cells, expected) in rows {
+        assert_eq!(rt; are_blocks(&cells), expected, "{what}");
+    }
+    assert!(rt; are_blocks(&[]), "no cell");
+}
+
+#[test]
+fn without_windows_nobody_may_wait(rt: HostRuntime) -> Result<(), Fail> {
+    let nobody = read_lists(rt.alloc(), &[FREE_NODE], &[FREE_CELL])?;
+    assert!(rt;
+        agree(rt.alloc(), &[FREE_CELL], &nobody, &[])?,
+        "nobody waits"
+    );
+    let cells = [waited_for(0, 0, 0)];
+    let lists = read_lists(rt.alloc(), &[node(NONE, 0, 1)], &cells)?;
+    assert!(rt;
+        !agree(rt.alloc(), &cells, &lists, &[])?,
+        "0.1 waits, and has no entry"
+    );
+    Ok(())
+}
+
+fn kept(op: Op, entry: Entry) -> Kept {
+    Kept { op, entry }
+}
+
+fn waiting(op: Op) -> Kept {
+    kept(op, Entry::Waiting)
+}
+
+// A window with these entries, or with the first 16 of them.
+fn window(base: u64, entries: &[Kept]) -> WindowRecord {
+    let mut window = WindowRecord::new(base);
+    for entry in entries {
+        if window.kept().len() < 16 {
+            window.push(*entry);
+        }
+    }
+    window
+}
+
+// Two windows, with these bases and entries.
+fn windows(alloc: Global, rows: [(u64, &[Kept]); 2]) -> Result<Vec<WindowRecord>, AllocError> {
+    let mut windows = Vec::new(alloc);
+    for (base, entries) in rows {
+        windows.push(window(base, entries))?;
+    }
+    Ok(windows)
+}
+
+// What is read with two elements, each with the base 1.
+fn read_of_two(
+    alloc: Global,
+    cells: &[CellRecord; 2],
+    nodes: &[NodeRecord; 4],
+    first: &[Kept],
+    second: &[Kept],
+) -> Result<Lists, Refusal> {
+    let limits = Limits::new(2, 2, 16).ok_or(Refusal::BadLimits)?;
+    let windows = windows(alloc, [(1, first), (1, second)]).map_err(|_| Refusal::NoMemory)?;
+    read_contents(alloc, limits, cells, nodes, &windows)
+}
+
+#[test]
+fn who_waits_has_a_waiting_entry_for_that_cell(rt: HostRuntime) {
+    let free = FREE_NODE;
+    let i_cell = [waited_for(0, 0, 0), FREE_CELL];
+    let pair = [waited_for(0, 0, 1), FREE_CELL];
+    let m_cell = [
+        cell(0, 1, Kind::M, PresenceTag::Waiting { first: 0, last: 0 }),
+        FREE_CELL,
+    ];
+    let nobody = [cell(0, 1, Kind::I, PresenceTag::Empty), FREE_CELL];
+    let one = [node(NONE, 0, 1), free, free, free];
+    let both = [node(1, 0, 1), node(NONE, 1, 1), free, free];
+    let twice = [node(1, 0, 1), node(NONE, 0, 1), free, free];
+    let none = [free; 4];
+    let answered = kept(Op::Fetch(0), Entry::Answered(Reply::Value(3)));
+    let fetch = waiting(Op::Fetch(0));
+    let rows: [(
+        &str,
+        [CellRecord; 2],
+        [NodeRecord; 4],
+        &[Kept],
+        &[Kept],
+        bool,
+    ); 15] = [
+        ("nobody waits", nobody, none, &[answered], &[], true),
+        ("one fetch waits", i_cell, one, &[fetch], &[], true),
+        ("two fetches wait", pair, both, &[fetch], &[fetch], true),
+        (
+            "a take waits",
+            m_cell,
+            one,
+            &[waiting(Op::Take(0))],
+            &[],
+            true,
+        ),
+        (
+            "one waits and one is answered",
+            i_cell,
+            one,
+            &[fetch],
+            &[answered],
+            true,
+        ),
+        (
+            "an entry that no list holds",
+            nobody,
+            none,
+            &[fetch],
+            &[],
+            false,
+        ),
+        (
+            "an entry beside the list",
+            i_cell,
+            one,
+            &[fetch],
+            &[fetch],
+            false,
+        ),
+        (
+            "two nodes for one request",
+            pair,
+            twice,
+            &[fetch],
+            &[],
+            false,
+        ),
+        (
+            "as many nodes as entries, and one request twice",
+            pair,
+            twice,
+            &[fetch],
+            &[fetch],
+            false,
+        ),
+        (
+            "an entry for another cell",
+            i_cell,
+            one,
+            &[waiting(Op::Fetch(1))],
+            &[],
+            false,
+        ),
+        (
+            "a take at an I cell",
+            i_cell,
+            one,
+            &[waiting(Op::Take(0))],
+            &[],
+            false,
+        ),
+        ("a fetch at an M cell", m_cell, one, &[fetch], &[], false),
+        (
+            "an entry that is answered",
+            i_cell,
+            one,
+            &[answered],
+            &[],
+            false,
+        ),
+        ("a request without an entry", i_cell, one, &[], &[], false),
+        (
+            "an element without a window",
+            i_cell,
+            [node(NONE, 2, 1), free, free, free],
+            &[],
+            &[],
+            false,
+        ),
+    ];
+    for (what, cells, nodes, first, second, shown) in rows {
+        let expected = if shown { None } else { Some(Refusal::BadPage) };
+        let read = read_of_two(rt.alloc(), &cells, &nodes, first, second);
+        assert_eq!(rt; refusal(read), expected, "{what}");
+    }
+}
+
+#[test]
+fn a_memory_is_read_with_its_lists(rt: HostRuntime) -> Result<(), Fail> {
+    let fetch = waiting(Op::Fetch(1));
+    let stored = kept(Op::Store(0, 9), Entry::Answered(Reply::Stored));
+    let of = |tag: PresenceTag| cell(0, 2, Kind::I, tag);
+    let cells = [
+        of(PresenceTag::Full(9)),
+        of(PresenceTag::Waiting { first: 2, last: 0 }),
+    ];
+    let nodes = [node(NONE, 0, 2), FREE_NODE, node(0, 1, 1), FREE_NODE];
+    let lists = read_of_two(rt.alloc(), &cells, &nodes, &[stored, fetch], &[fetch])?;
+    assert_eq!(rt; lists.len(), 2);
+    assert!(rt; stand(&lists, 0, &[]), "nobody waits for the full cell");
+    assert!(rt;
+        stand(&lists, 1, &[waiter(1, 1), waiter(0, 2)]),
+        "two wait for the other"
+    );
+    Ok(())
+}
+
+#[test]
+fn windows_within_their_bounds_are_read(rt: HostRuntime) -> Result<(), Fail> {
+    let noted = kept(Op::Release(0), Entry::Answered(Reply::NoBlock));
+    let limits = Limits::new(2, 2, 16).ok_or("limits")?;
+    let full = [noted; 16];
+    let rows: [(&str, u64, &[Kept], bool); 6] = [
+        ("no entry", 1, &[], true),
+        ("16 entries", 1, &full, true),
+        ("base 0", 0, &[], false),
+        ("the last number", LAST, &[noted], true),
+        ("all numbers confirmed", LAST + 1, &[], true),
+        ("a number past the last", LAST + 1, &[noted], false),
+    ];
+    for (what, base, entries, shown) in rows {
+        let windows = windows(rt.alloc(), [(base, entries), (1, &[])])?;
+        let read = read_contents(
+            rt.alloc(),
+            limits,
+            &[FREE_CELL; 2],
+            &[FREE_NODE; 32],
+            &windows,
+        );
+        let expected = if shown { None } else { Some(Refusal::BadPage) };
+        assert_eq!(rt; refusal(read), expected, "{what}");
+    }
+    Ok(())
+}
+
+#[test]
+fn parts_that_are_no_memory_are_refused(rt: HostRuntime) -> Result<(), Fail> {
+    let limits = Limits::new(2, 2, 16).ok_or("limits")?;
+    let windows = windows(rt.alloc(), [(1, &[]), (1, &[])])?;
+    let nodes = [FREE_NODE; 32];
+    let block = cell(0, 2, Kind::I, PresenceTag::Empty);
+    let rows: [(&str, &[CellRecord], &[NodeRecord], usize); 6] = [
+        ("a cell too few", &[FREE_CELL], &nodes, 2),
+        ("a cell too many", &[FREE_CELL; 3], &nodes, 2),
+        ("a window too few", &[FREE_CELL; 2], &nodes, 1),
+        ("half a block", &[block, FREE_CELL], &nodes, 2),
+        ("a node in no list", &[FREE_CELL; 2], &[node(NONE, 0, 1)], 2),
+        (
+            "a list of a free node",
+            &[waited_for(0, 0, 0), FREE_CELL],
+            &nodes,
+            2,
+        ),
+    ];
+    for (what, cells, nodes, count) in rows {
+        let windows = windows.get(..count).ok_or("windows")?;
+        let read = read_contents(rt.alloc(), limits, cells, nodes, windows);
+        assert_eq!(rt; refusal(read), Some(Refusal::BadPage), "{what}");
+    }
+    Ok(())
+}

@@ -1,0 +1,221 @@
+//! Whether who waits at the cells is who has a waiting entry.
+ghost use Rattle.std.specs.Prelude.{◌≡◌, ◌+◌, ◌*◌, ◌≤◌, ◌<◌, ◌↔◌, ℕ, Some, None, IfOk, IsSome, IsTrue, length, replicate, false, slice_index_or, if◌then◌else◌};
+ghost use Rattle.im_types.specs.Contents.{kept_under, kept_for};
+ghost use Rattle.im_types.specs.Window.{is_waiting};
+ghost use Rattle.im_types.specs.Agreement.{awaiting, waits_for, WaitersAgree};
+ghost use Rattle.im_types.specs.Pages.{cell_shown, cells_shown};
+ghost use Rattle.im_contents.specs.Marking.{place_in, AreFew, mark_one, mark_list, mark_held, mark_all, ListMarked, AreMarked};
+
+use crate::lists::Lists;
+use im_records::WindowRecord;
+use im_types::{CellRecord, Entry, Kept, Kind, Op, PresenceTag, WINDOW, Waiter};
+use std::alloc::{AllocError, Global};
+
+// How many entries a window keeps at the most.
+const PLACES: usize = WINDOW as usize;
+
+// What is kept under a number, if it is.
+fn kept_under(window: &WindowRecord, number: u64) -> Option<Kept>
+    ensures { result ≡ kept_under window.now number }
+{
+    let base = window.base();
+    if number < base {
+        return None;
+    }
+    window.kept().get((number - base) as usize).copied()
+}
+
+// What is kept for a request, if anything is.
+fn kept_for(windows: &[WindowRecord], who: Waiter) -> Option<Kept>
+    ensures { result ≡ kept_for windows.now who }
+{
+    let element = who.element as usize;
+    if element >= windows.len() {
+        return None;
+    }
+    kept_under(&windows[element], who.number)
+}
+
+// Whether an entry waits.
+fn is_waiting(kept: &Kept) -> bool
+    ensures { result ≡ is_waiting kept.now }
+{
+    match kept.entry {
+        Entry::Waiting => true,
+        Entry::Answered(_) => false,
+    }
+}
+
+// Whether an entry waits for a cell of this kind.
+fn waits_for(kind: Kind, address: usize, kept: &Kept) -> bool
+    ensures { result ≡ waits_for (awaiting kind address) (Some kept.now) }
+{
+    match (kind, kept.op) {
+        (Kind::I, Op::Fetch(cell)) => address == cell as usize && is_waiting(kept),
+        (Kind::M, Op::Take(cell)) => address == cell as usize && is_waiting(kept),
+        _ => false,
+    }
+}
+
+// The place of a request's entry.
+fn place_of(windows: &[WindowRecord], who: Waiter) -> usize
+    requires few { AreFew windows.now }
+    requires kept { IsSome (kept_for windows.now who) }
+    ensures place { result ≡ place_in windows.now who }
+    ensures within { result < WINDOW * length windows.now }
+{
+    let element = who.element as usize;
+    PLACES * element + (who.number - windows[element].base()) as usize
+}
+
+// Marks a request's entry, if it waits for this cell and isn't marked yet. Whether it is so.
+fn mark(
+    kind: Kind,
+    address: usize,
+    who: Waiter,
+    windows: &[WindowRecord],
+    marks: &mut [bool],
+) -> bool
+    requires few { AreFew windows.now }
+    requires places { length marks.old ≡ WINDOW * length windows.now }
+    ensures { mark_one (kept_for windows.now) (place_in windows.now) kind address marks.old who
+        ≡ (if result then Some marks.new else None) }
+{
+    let Some(kept) = kept_for(windows, who) else {
+        return false;
+    };
+    if !waits_for(kind, address, &kept) {
+        return false;
+    }
+    let place = place_of(windows, who);
+    if marks[place] {
+        return false;
+    }
+    marks[place] = true;
+    true
+}
+
+// Marks the entries of those who wait at a cell.
+fn mark_list(
+    kind: Kind,
+    address: usize,
+    waiters: &[Waiter],
+    windows: &[WindowRecord],
+    marks: &mut [bool],
+) -> bool
+    requires few { AreFew windows.now }
+    requires places { length marks.old ≡ WINDOW * length windows.now }
+    ensures { mark_list (kept_for windows.now) (place_in windows.now) kind address marks.old waiters.now
+        ≡ (if result then Some marks.new else None) }
+{
+    for who in waiters {
+        if !mark(kind, address, *who, windows, marks) {
+            return false;
+        }
+    }
+    true
+}
+
+// The same for a cell: only where its presence tag says so does someone wait.
+fn mark_cell(
+    address: usize,
+    cell: &CellRecord,
+    waiters: &[Waiter],
+    windows: &[WindowRecord],
+    marks: &mut [bool],
+) -> bool
+    requires few { AreFew windows.now }
+    requires places { length marks.old ≡ WINDOW * length windows.now }
+    ensures { mark_held (kept_for windows.now) (place_in windows.now) address marks.old (cell_shown cell.now waiters.now)
+        ≡ (if result then Some marks.new else None) }
+{
+    match *cell {
+        CellRecord::Held {
+            block,
+            tag: PresenceTag::Waiting { .. },
+        } => mark_list(block.kind, address, waiters, windows, marks),
+        _ => true,
+    }
+}
+
+// The same for all cells.
+fn mark_all(
+    cells: &[CellRecord],
+    lists: &Lists,
+    windows: &[WindowRecord],
+    marks: &mut [bool],
+) -> bool
+    requires few { AreFew windows.now }
+    requires places { length marks.old ≡ WINDOW * length windows.now }
+    requires count { length lists.now ≡ length cells.now }
+    ensures { mark_all (kept_for windows.now) (place_in windows.now) 0 marks.old (cells_shown cells.now lists.now)
+        ≡ (if result then Some marks.new else None) }
+{
+    for address in 0..cells.len() {
+        if !mark_cell(address, &cells[address], lists.at(address), windows, marks) {
+            return false;
+        }
+    }
+    true
+}
+
+// Whether each waiting entry of a window is marked; the first entry's mark is at this place.
+fn is_marked(kept: &[Kept], first: usize, marks: &[bool]) -> bool
+    requires { first + length kept.now ≤ length marks.now }
+    ensures { IsTrue result ↔ ListMarked kept.now first marks.now }
+{
+    for past in 0..kept.len() {
+        if is_waiting(&kept[past]) && !marks[first + past] {
+            return false;
+        }
+    }
+    true
+}
+
+// Whether each waiting entry is marked.
+fn are_marked(windows: &[WindowRecord], marks: &[bool]) -> bool
+    requires few { AreFew windows.now }
+    requires places { length marks.now ≡ WINDOW * length windows.now }
+    ensures { IsTrue result ↔ AreMarked windows.now marks.now }
+{
+    for element in 0..windows.len() {
+        if !is_marked(windows[element].kept(), PLACES * element, marks) {
+            return false;
+        }
+    }
+    true
+}
+
+// Whether each request in a list has a waiting entry for its cell, none stands twice, and each waiting entry is of one of
+// them. No entry is marked yet.
+fn agree_by_marks(
+    cells: &[CellRecord],
+    lists: &Lists,
+    windows: &[WindowRecord],
+    marks: &mut [bool],
+) -> bool
+    requires few { AreFew windows.now }
+    requires count { length lists.now ≡ length cells.now }
+    requires unmarked { marks.old ≡ replicate (WINDOW * length windows.now) false }
+    ensures { IsTrue result ↔ WaitersAgree (cells_shown cells.now lists.now) (kept_for windows.now) }
+{
+    mark_all(cells, lists, windows, marks) && are_marked(windows, marks)
+}
+
+/// Whether who waits at the cells is who has a waiting entry: each request in a list has an entry that waits for that very
+/// cell, it stands once in all lists, and each entry that waits is that of a request in a list.
+///
+/// `AllocError` where there is no room for a mark for each entry. It takes a step for each cell, each waiter and each entry.
+pub fn agree(
+    alloc: Global,
+    cells: &[CellRecord],
+    lists: &Lists,
+    windows: &[WindowRecord],
+) -> Result<bool, AllocError>
+    requires few { AreFew windows.now }
+    requires count { length lists.now ≡ length cells.now }
+    ensures { IfOk result (λ yes. (IsTrue yes) ↔ (WaitersAgree (cells_shown cells.now lists.now) (kept_for windows.now))) }
+{
+    let mut marks = vec![in alloc; false; PLACES * windows.len()]?;
+    Ok(agree_by_marks(cells, lists, windows, &mut marks))
+}

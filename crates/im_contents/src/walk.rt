@@ -1,0 +1,152 @@
+//! Lists of waiters, read from linked nodes whatever the links are.
+ghost use Rattle.std.specs.Prelude.{◌≡◌, ◌≤◌, ◌⊎◌, List, Option, Some, None, IfOk, IfErr, IsErrOf, length, replicate, false, if◌then◌else◌};
+ghost use Rattle.im_types.specs.declared.operations.Waiter.{Waiter};
+ghost use Rattle.im_types.specs.declared.records.CellRecord.{CellRecord};
+ghost use Rattle.im_types.specs.declared.records.NodeRecord.{NodeRecord};
+ghost use Rattle.im_types.specs.Chains.{ShowLists, is_listed};
+ghost use Rattle.im_contents.specs.Walk.{fresh, behind, walk, walk_cell, are_reached, lists_in};
+
+use crate::lists::Lists;
+use im_types::{CellRecord, NONE, NodeRecord, PresenceTag, Refusal, Waiter};
+use std::alloc::{AllocError, Global};
+
+// What stands in a node that no walk has visited; a node that one has visited, or that isn't there, is as good as free.
+fn fresh(marks: &[bool], nodes: &[NodeRecord], at: u32) -> NodeRecord
+    ensures { result ≡ fresh marks.now nodes.now at }
+{
+    let at = at as usize;
+    if at < marks.len() && at < nodes.len() && !marks[at] {
+        nodes[at]
+    } else {
+        NodeRecord::Free { next: NONE }
+    }
+}
+
+// Follows the links from a first node to a last one, marks each node and keeps its waiter. Whether there is such a list.
+fn walk(
+    nodes: &[NodeRecord],
+    first: u32,
+    last: u32,
+    marks: &mut [bool],
+    waiters: &mut Vec<Waiter>,
+) -> Result<bool, AllocError>
+    requires { length marks.old ≡ length nodes.now }
+    ensures { IfOk result (λ found. behind waiters.old.items (walk nodes.now last (length nodes.now) marks.old first)
+        ≡ (if found then Some (record { waiters = waiters.new.items; marks = marks.new }) else None)) }
+{
+    let mut at = first;
+    for _step in 0..nodes.len() {
+        let NodeRecord::Listed { next, waiter } = fresh(marks, nodes, at) else {
+            return Ok(false);
+        };
+        marks[at as usize] = true;
+        waiters.push(waiter)?;
+        if next == NONE {
+            return Ok(at == last);
+        }
+        at = next;
+    }
+    Ok(false)
+}
+
+// Keeps the waiters of a cell, if its list is in order.
+#[tactic(auto, unfolding(crate::specs::Walk::walk_cell))]
+fn walk_cell(
+    nodes: &[NodeRecord],
+    cell: &CellRecord,
+    marks: &mut [bool],
+    waiters: &mut Vec<Waiter>,
+) -> Result<bool, AllocError>
+    requires { length marks.old ≡ length nodes.now }
+    ensures { IfOk result (λ found. behind waiters.old.items (walk_cell nodes.now cell.now marks.old)
+        ≡ (if found then Some (record { waiters = waiters.new.items; marks = marks.new }) else None)) }
+{
+    match *cell {
+        CellRecord::Held {
+            tag: PresenceTag::Waiting { first, last },
+            ..
+        } => walk(nodes, first, last, marks, waiters),
+        _ => Ok(true),
+    }
+}
+
+// Whether a node is one of a list.
+fn is_listed(node: &NodeRecord) -> bool
+    ensures { result ≡ is_listed node.now }
+{
+    match node {
+        NodeRecord::Free { .. } => false,
+        NodeRecord::Listed { .. } => true,
+    }
+}
+
+// Whether the nodes that were visited are those of lists.
+fn are_reached(marks: &[bool], nodes: &[NodeRecord]) -> bool
+    requires { length marks.now ≡ length nodes.now }
+    ensures { result ≡ are_reached marks.now nodes.now }
+{
+    for node in 0..marks.len() {
+        if marks[node] != is_listed(&nodes[node]) {
+            return false;
+        }
+    }
+    true
+}
+
+// The lists of all cells, if each is in order and each node of a list is in one of them. No node is marked yet.
+fn find_lists(
+    alloc: Global,
+    nodes: &[NodeRecord],
+    cells: &[CellRecord],
+    marks: &mut [bool],
+) -> Result<Option<Lists>, AllocError>
+    requires { marks.old ≡ replicate (length nodes.now) false }
+    ensures { IfOk result (λ found. found ≡ lists_in nodes.now cells.now) }
+{
+    let mut waiters = Vec::new(alloc);
+    let mut ends = Vec::with_capacity(alloc, cells.len())?;
+    for cell in cells {
+        if !walk_cell(nodes, cell, marks, &mut waiters)? {
+            return Ok(None);
+        }
+        ends.push(waiters.len())?;
+    }
+    if are_reached(marks, nodes) {
+        Ok(Some(Lists { waiters, ends }))
+    } else {
+        Ok(None)
+    }
+}
+
+/// The lists of waiters that stand in the nodes of an image, a list for each cell: each begins and ends where its cell's
+/// presence tag says, and each node that is marked as one of a list stands once in one of them.
+///
+/// `BadPage` where there are no such lists, `NoMemory` where there is no room for them. It ends whatever the links are, visits
+/// each node at most once, and takes at most a step for each cell and each node.
+pub fn read_lists(
+    alloc: Global,
+    nodes: &[NodeRecord],
+    cells: &[CellRecord],
+) -> Result<Lists, Refusal>
+    requires { length nodes.now ≤ NONE }
+    ensures found { IfOk result (λ lists. ShowLists nodes.now cells.now lists) }
+    ensures count { IfOk result (λ lists. length lists ≡ length cells.now) }
+    ensures bad { IsErrOf result Refusal.BadPage → (lists : List (List Waiter))
+        → ShowLists nodes.now cells.now lists → ⊥ }
+    ensures only { IfErr result (λ refusal. (refusal ≡ Refusal.BadPage) ⊎ (refusal ≡ Refusal.NoMemory)) }
+{
+    let Ok(mut marks) = vec![in alloc; false; nodes.len()] else {
+        return Err(Refusal::NoMemory);
+    };
+    match find_lists(alloc, nodes, cells, &mut marks) {
+        Ok(Some(lists)) => Ok(lists),
+        Ok(None) => Err(Refusal::BadPage),
+        Err(_) => Err(Refusal::NoMemory),
+    }
+}
+
+/// The same records show no two lists of waiters for a cell.
+pub fn one_list_is_shown()
+    ensures { (nodes : List NodeRecord) (cells : List CellRecord) (lists others : List (List Waiter)) → length nodes ≤ NONE
+        → ShowLists nodes cells lists → ShowLists nodes cells others → lists ≡ others }
+{}

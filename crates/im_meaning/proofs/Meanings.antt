@@ -1,0 +1,98 @@
+-- What an image reads as, by its parts.
+use Rattle.std.proofs.Common.{◌≡◌, ◌⊎◌, inl, inr, ℕ, ◌+◌, ◌*◌, ◌≤◌, ◌<◌, Bool, true, false, List, length, drop, Option, None, Some, Result, Ok, Err, MatchOption, refl, sym, ◌∙◌, ap, subst}
+use Rattle.im_types.specs.declared.commands.Command.{Command}
+use Rattle.im_types.specs.declared.refusals.Refusal.{Refusal}
+use Rattle.im_types.specs.declared.refusals.Refusal.TheVariants.{BadPage}
+use Rattle.im_types.specs.Contents.{Contents}
+use Rattle.im_types.specs.Layout.{Layout, area_of, ring_of}
+use Rattle.im_types.specs.Header.{Header, header_of, header_fault, header_place, is_open_header}
+use Rattle.im_types.specs.Journal.{Tail, tail}
+use Rattle.im_types.specs.Pages.{Shows}
+use Rattle.im_types.specs.Meaning.{Reached, IsShown, Reads, accept_each, reached_by, reached_after, read_journal}
+use Rattle.im_disk.specs.Since.{SameBut}
+use Rattle.im_meaning.specs.Images.{other, IsImage, IsRead, Follows, IsPrepared}
+use Rattle.im_meaning.proofs.Headers.{in_force, in_force_is, no_header_fault}
+use Rattle.im_meaning.proofs.Writes.{stays_closed, takes_over}
+use Rattle.im_meaning.proofs.Later.{tail_later}
+
+abbrev Outcome : Layout → List ℕ → Result Reached Refusal → Option Refusal → Type 0
+Outcome l file outcome fault = MatchOption fault
+    (((m : Contents) × IsShown l file m × (outcome ≡ read_journal l file m)) ⊎ (((m : Contents) → IsShown l file m → ⊥) × (outcome ≡ Err BadPage)))
+    (λ fault. outcome ≡ Err fault)
+
+pub image_reads : (l : Layout) (h : Header) (shown m : Contents) (commands : List Command) (room : ℕ) (c : List ℕ) → IsImage l h shown commands room c
+    → accept_each shown commands ≡ Some m → Reads l c (Ok (record { contents = m; count = h.count + length commands; room = room }))
+image_reads l h shown m commands room c it accepts =
+    let r : Reached = record { contents = m; count = h.count + length commands; room = room } in
+    let is : header_of c ≡ h = in_force_is l h c it.in_force in
+    let shows : IsShown l c shown = subst (λ (x : Header). Shows l x.sizes (area_of l x.sizes x.area c) shown) (sym is) it.shows in
+    let reads : read_journal l c shown ≡ Ok r =
+    ap (λ (x : Header). reached_after x.count shown (tail (ring_of l x.sizes) x.count c)) is
+    ∙ ap (λ (t : Option Tail). reached_after h.count shown t) it.journal
+    ∙ ap (λ (o : Option Contents). reached_by (h.count + length commands) room o) accepts in
+    subst (λ (o : Option Refusal). Outcome l c (Ok r) o) (sym (no_header_fault l h c it.in_force)) (inl (shown, shows, sym reads))
+
+-- the parts of what is read
+
+record Ran (first : ℕ) (m : Contents) (t : Option Tail) (r : Reached) : Type 0 where
+  end : Tail
+  is : t ≡ Some end
+  accepts : accept_each m end.commands ≡ Some r.contents
+  count : r.count ≡ first + length end.commands
+  room : r.room ≡ end.room
+
+ran_by : (first : ℕ) (m : Contents) (t : Tail) (r : Reached) (o : Option Contents) → accept_each m t.commands ≡ o → Ok r ≡ reached_by (first + length t.commands) t.room o → Ran first m (Some t) r
+ran_by first m t r None e is = absurd (cc)
+ran_by first m t r (Some m2) e is =
+    let same : r ≡ (let x : Reached = record { contents = m2; count = first + length t.commands; room = t.room } in x) = cc in
+    record {
+      end = t;
+      is = refl;
+      accepts = e ∙ ap (λ (x : Reached). Some x.contents) (sym same);
+      count = ap (λ (x : Reached). x.count) same;
+      room = ap (λ (x : Reached). x.room) same;
+    }
+
+ran : (first : ℕ) (m : Contents) (t : Option Tail) (r : Reached) → Ok r ≡ reached_after first m t → Ran first m t r
+ran first m None r is = absurd (cc)
+ran first m (Some t) r is = ran_by first m t r (accept_each m t.commands) refl is
+
+read_by : (l : Layout) (c : List ℕ) (r : Reached) (o : Option Refusal) → header_fault l c ≡ o → Outcome l c (Ok r) o → IsRead l c r
+read_by l c r None good (inl it) =
+    let end : Ran (header_of c).count it.0 (tail (ring_of l (header_of c).sizes) (header_of c).count c) r = ran _ _ _ r it.2 in
+    record {
+      header = header_of c;
+      shown = it.0;
+      commands = end.end.commands;
+      image = record {
+        in_force = in_force l c good;
+        shows = it.1;
+        journal = end.is ∙ ap (λ (n : ℕ). Some (let t : Tail = record { commands = end.end.commands; room = n } in t)) (sym end.room);
+      };
+      accepts = end.accepts;
+      count = end.count;
+    }
+read_by l c r None good (inr it) = let is : Ok r ≡ Err BadPage = it.1 in absurd (cc)
+read_by l c r (Some fault) good it = let is : Ok r ≡ Err fault = it in absurd (cc)
+
+pub read_image : (l : Layout) (c : List ℕ) (r : Reached) → Reads l c (Ok r) → IsRead l c r
+read_image l c r it = read_by l c r (header_fault l c) refl it
+
+-- the next header takes over
+
+module _ (l : Layout) (h next : Header) (shown after : Contents) (commands : List Command) (room k : ℕ) (c d : List ℕ) (it : IsImage l h shown commands room c)
+    (some : 0 < h.sizes.slots) (follows : Follows l h next) (ready : IsPrepared l h next after c) (but : SameBut (4096 * other h) 1 c d)
+    (count : next.count ≡ h.count + k) (low : k ≤ length commands) where
+  later : tail (ring_of l h.sizes) next.count c ≡ Some (record { commands = drop k commands; room = room })
+  later = subst (λ (n : ℕ). tail (ring_of l h.sizes) n c ≡ Some (record { commands = drop k commands; room = room })) (sym count)
+      (tail_later (ring_of l h.sizes) h.count k c commands room it.journal low)
+
+  pub opened_image : is_open_header (header_place (other h) d) ≡ true → IsImage l next after (drop k commands) room d
+  opened_image opened = takes_over l h next shown after commands (drop k commands) room c d it some follows ready but later opened
+
+  pub one_of_two : IsImage l h shown commands room d ⊎ IsImage l next after (drop k commands) room d
+  one_of_two = by_gate (is_open_header (header_place (other h) d)) refl
+    where
+      by_gate : (b : Bool) → is_open_header (header_place (other h) d) ≡ b → IsImage l h shown commands room d ⊎ IsImage l next after (drop k commands) room d
+      by_gate true opened = inr (opened_image opened)
+      by_gate false closed = inl (stays_closed l h next shown after commands (drop k commands) room c d it some follows ready but later closed)

@@ -1,0 +1,8 @@
+use Rattle.im_meaning.proofs.Sweeps.{tail_swept, no_less}
+use Rattle.im_meaning.proofs.stale_gates_may_be_closed.Goals as goal
+
+pub returns-clause-tail : goal.returns-clause-tail
+returns-clause-tail c = λ r first file written commands room known e it. tail_swept r first file written commands room e known it.same it.inside it.shut it.stale
+
+pub returns-clause-room : goal.returns-clause-room
+returns-clause-room c = λ r first file written commands room known e it. no_less r first file written commands room e known it.same it.inside it.shut it.stale

@@ -1,0 +1,56 @@
+-- An image taken apart: which header is in force, what its pages show, what its journal has. (Own.)
+use Rattle.std.specs.Prelude.{◌≡◌, ◌⊎◌, ℕ, ◌+◌, ◌-◌, ◌<◌, ◌≤◌, List, length, true, false, Some, slice_range}
+use Rattle.im_types.specs.declared.commands.Command.{Command}
+use Rattle.im_types.specs.Contents.{Contents}
+use Rattle.im_types.specs.Layout.{Layout, image_length, area_of, ring_of}
+use Rattle.im_types.specs.Header.{Header, header_in, header_place, header_body, is_open_header, is_header, generation_in, spells_header}
+use Rattle.im_formats.specs.Fitting.{FitsHeader}
+use Rattle.im_types.specs.Journal.{tail}
+use Rattle.im_types.specs.Pages.{Shows}
+use Rattle.im_types.specs.Meaning.{Reached, accept_each}
+
+-- the number of the other header, and of the other area
+abbrev pub other : Header → ℕ
+other h = 1 - h.area
+
+-- a header place is closed, or of a lower generation
+abbrev pub IsBelow : ℕ → List ℕ → Type 0
+IsBelow generation place = (is_open_header place ≡ false) ⊎ (generation_in place < generation)
+
+-- this header is the one in force, and nothing is at fault in the file's length and headers
+pub record InForce (l : Layout) (h : Header) (file : List ℕ) : Type 0 where
+  pub number : h.area ≤ 1
+  pub size : length file ≡ image_length l h.sizes
+  pub opened : is_open_header (header_place h.area file) ≡ true
+  pub fields : header_in (header_place h.area file) ≡ h
+  pub spelled : spells_header l h.area (header_place h.area file) ≡ true
+  pub below : IsBelow h.generation (header_place (other h) file)
+
+-- an image: the header in force, the memory that its pages show, the commands of its journal and the room behind them
+pub record IsImage (l : Layout) (h : Header) (shown : Contents) (commands : List Command) (room : ℕ) (file : List ℕ) : Type 0 where
+  pub in_force : InForce l h file
+  pub shows : Shows l h.sizes (area_of l h.sizes h.area file) shown
+  pub journal : tail (ring_of l h.sizes) h.count file ≡ Some (record { commands = commands; room = room })
+
+-- a header that may take this one's place: of the other area, of a later generation, and within its bounds
+pub record Follows (l : Layout) (h next : Header) : Type 0 where
+  pub area : next.area ≡ other h
+  pub later : h.generation < next.generation
+  pub sizes : next.sizes ≡ h.sizes
+  pub fits : FitsHeader next
+  pub good : is_header l next.area next ≡ true
+
+-- the other header's place is closed and has the body of the next header, and the other area shows its memory
+pub record IsPrepared (l : Layout) (h next : Header) (shown : Contents) (file : List ℕ) : Type 0 where
+  pub closed : is_open_header (header_place (other h) file) ≡ false
+  pub body : slice_range (header_place (other h) file) 1 64 ≡ header_body next
+  pub shows : Shows l h.sizes (area_of l h.sizes (other h) file) shown
+
+-- the file is an image that reads as this
+pub record IsRead (l : Layout) (file : List ℕ) (reached : Reached) : Type 0 where
+  pub header : Header
+  pub shown : Contents
+  pub commands : List Command
+  pub image : IsImage l header shown commands reached.room file
+  pub accepts : accept_each shown commands ≡ Some reached.contents
+  pub count : reached.count ≡ header.count + length commands

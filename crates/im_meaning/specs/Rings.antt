@@ -1,0 +1,11 @@
+-- A journal some of whose stale slots had their gates written. (Own.)
+use Rattle.std.specs.Prelude.{◌≡◌, ℕ, ◌+◌, ◌-◌, ◌<◌, ◌≤◌, List, false}
+use Rattle.im_types.specs.Slot.{is_open, sequence_of}
+use Rattle.im_types.specs.Journal.{Ring, slot}
+
+-- a run of n slots is the same in both files; in the second one so many gates behind it are closed, and each slot behind those is of a command before the run
+pub record HasStaleRest (r : Ring) (first n known : ℕ) (c d : List ℕ) : Type 0 where
+  pub same : (i : ℕ) → i < n → slot r (first + i) d ≡ slot r (first + i) c
+  pub inside : known ≤ r.slots - n
+  pub shut : (j : ℕ) → j < known → is_open (slot r (first + n + j) d) ≡ false
+  pub stale : (j : ℕ) → known ≤ j → j < r.slots - n → sequence_of (slot r (first + n + j) d) < first

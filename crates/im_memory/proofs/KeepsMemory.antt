@@ -1,0 +1,46 @@
+-- A step keeps a memory a memory, and what is kept there, and all of it where it is refused; the empty memory is one.
+use Rattle.std.proofs.Common.{◌≡◌, ℕ, Ok, Err, refl, sym, ◌∙◌, subst}
+use Rattle.std.specs.Prelude.{Result, OnErr, slice_get}
+use Rattle.im_types.specs.declared.commands.Command.{Command}
+use Rattle.im_types.specs.declared.commands.Command.TheVariants.{Request as Asks, Confirm}
+use Rattle.im_types.specs.declared.commands.Judged.{Judged}
+use Rattle.im_types.specs.declared.commands.Judged.TheVariants.{Fresh, Repeat}
+use Rattle.im_types.specs.declared.commands.Outcome.{Outcome}
+use Rattle.im_types.specs.declared.refusals.Refusal.{Refusal}
+use Rattle.im_types.specs.Contents.{Window, Contents, empty_contents}
+use Rattle.im_types.specs.Window.{judge, confirm_window}
+use Rattle.im_types.specs.Step.{step, step_request, step_confirm}
+use Rattle.im_types.specs.Agreement.{WaitingAgrees, KeepsEntries}
+use Rattle.im_types.specs.Memory.{IsMemory}
+use Rattle.im_laws.proofs.MemoryLemmas.{empty-memory, step-memory}
+use Rattle.im_laws.proofs.RunAgrees.{step-keeps}
+
+pub step-keeps_memory : (cells elements : ℕ) (m : Contents) (command : Command) → IsMemory cells elements m → IsMemory cells elements (step m command).contents
+step-keeps_memory = step-memory
+
+pub step-keeps_entries : (m : Contents) (command : Command) → WaitingAgrees m → KeepsEntries m command (step m command).contents
+step-keeps_entries = step-keeps
+
+pub empty-is_memory : (cells elements : ℕ) → IsMemory cells elements (empty_contents cells elements)
+empty-is_memory = empty-memory
+
+-- a refused command changes nothing
+stays_refused : (m : Contents) (command : Command) → OnErr (step m command).answer ((step m command).contents ≡ m)
+stays_refused m (Asks r) = by_judged (judge m.windows r)
+  where
+    by_judged : (j : Result Judged Refusal) → OnErr (step_request m r j).answer ((step_request m r j).contents ≡ m)
+    by_judged (Err refusal) = refl
+    by_judged (Ok (Repeat entry)) = tt
+    by_judged (Ok Fresh) = tt
+stays_refused m (Confirm element upto) = by_result (confirm_window upto (slice_get m.windows element))
+  where
+    by_result : (c : Result Window Refusal) → OnErr (step_confirm m element c).answer ((step_confirm m element c).contents ≡ m)
+    by_result (Err refusal) = refl
+    by_result (Ok window) = tt
+
+on_err : {T E P Q : Type 0} (r : Result T E) → (P → Q) → OnErr r P → OnErr r Q
+on_err (Ok x) f p = tt
+on_err (Err e) f p = f p
+
+pub step-refused : (m next : Contents) (command : Command) (answer : Result Outcome Refusal) → answer ≡ (step m command).answer → next ≡ (step m command).contents → OnErr answer (next ≡ m)
+step-refused m next command answer told is = subst (λ answer. OnErr answer (next ≡ m)) (sym told) (on_err (step m command).answer (λ same. is ∙ same) (stays_refused m command))

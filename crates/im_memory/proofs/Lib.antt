@@ -1,0 +1,13 @@
+pub mod CellsLemmas
+pub mod PresenceLemmas
+pub mod ActLemmas
+pub mod AnswerLemmas
+pub mod KeepsMemory
+pub mod ConfirmLemmas
+pub mod RoomLemmas
+pub mod MakesLemmas
+pub mod UseLemmas
+pub mod ThreadLemmas
+pub mod ShownLemmas
+pub mod RecordLemmas
+pub mod RestoreLemmas

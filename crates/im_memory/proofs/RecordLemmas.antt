@@ -1,0 +1,107 @@
+-- One record of a memory, and its bounds.
+use Rattle.std.proofs.Common.{◌≡◌, inl, ⊎_elim, ℕ, zero, suc, ◌≤◌, List, [], ◌∷◌, length, Some, None, refl, sym, ap, ◌∙◌, subst, arith}
+use Rattle.std.specs.Prelude.{Option, slice_get, slice_index_or}
+use Rattle.im_types.specs.declared.TheConstants.{NONE}
+use Rattle.im_types.specs.declared.operations.Block.{Block}
+use Rattle.im_types.specs.declared.operations.Waiter.{Waiter}
+use Rattle.im_types.specs.declared.records.CellRecord.TheVariants.{Free as FreeCell, Held as BlockCell}
+use Rattle.im_types.specs.declared.operations.Kept.{Kept}
+use Rattle.im_types.specs.Contents.{Window}
+use Rattle.im_types.specs.Layout.{layout_1}
+use Rattle.im_types.specs.Memory.{IsWindow}
+use Rattle.im_types.specs.Records.{IsLink, FitsPlace, FitsWindow}
+use Rattle.im_laws.proofs.Tests.{below_or_from, some_same}
+use Rattle.im_cell.specs.declared.slots.Cell.{Cell}
+use Rattle.im_cell.specs.declared.slots.Slot.{Slot}
+use Rattle.im_cell.specs.Slots.{slot_at, block_in, cell_in}
+use Rattle.im_arena.specs.declared.table.Ends.{Ends}
+use Rattle.im_arena.specs.declared.table.NodeRecord.{NodeRecord as Node}
+use Rattle.im_arena.specs.Lists.{Shown, Threads, IsThreaded, list_at, ends_at, first_in, last_in, free_record}
+use Rattle.im_memory.specs.Shown.{tag_of, cell_record, cell_records, AreWithin}
+use Rattle.im_memory.proofs.ThreadLemmas.{first-within, last-within, read-within}
+use Rattle.im_memory.proofs.ShownLemmas.{IsNode, On, Off, Past, each-node}
+
+pub length-cells : (slots : List (Option Slot)) (ends : List (Option Ends)) → length (cell_records slots ends) ≡ length slots
+length-cells [] ends = refl
+length-cells (slot ∷ slots) [] = ap suc (length-cells slots [])
+length-cells (slot ∷ slots) (e ∷ ends) = ap suc (length-cells slots ends)
+
+cell-at : (slots : List (Option Slot)) (ends : List (Option Ends)) (a : ℕ) → slice_index_or (cell_records slots ends) a (FreeCell 0 NONE) ≡ cell_record (slot_at slots a) (slice_index_or ends a None)
+cell-at [] ends a = refl
+cell-at (slot ∷ slots) [] zero = refl
+cell-at (slot ∷ slots) [] (suc a) = cell-at slots [] a
+cell-at (slot ∷ slots) (e ∷ ends) zero = refl
+cell-at (slot ∷ slots) (e ∷ ends) (suc a) = cell-at slots ends a
+
+free-block : (slot : Option Slot) (ends : Option Ends) → None ≡ block_in slot → FreeCell 0 NONE ≡ cell_record slot ends
+free-block None ends e = refl
+free-block (Some slot) ends e = absurd (cc)
+
+free-cell : (slot : Option Slot) (ends : Option Ends) → None ≡ cell_in slot → FreeCell 0 NONE ≡ cell_record slot ends
+free-cell None ends e = refl
+free-cell (Some slot) ends e = absurd (cc)
+
+held-cell : (slot : Option Slot) (ends : Option Ends) (block : Block) (cell : Cell) → Some block ≡ block_in slot → Some cell ≡ cell_in slot → BlockCell block (tag_of cell ends) ≡ cell_record slot ends
+held-cell None ends block cell b c = absurd (cc)
+held-cell (Some slot) ends block cell b c =
+    let one : block ≡ slot.block = cc in
+    let two : cell ≡ slot.cell = cc in
+    ap (λ block. BlockCell block (tag_of cell ends)) one ∙ ap (λ cell. BlockCell slot.block (tag_of cell ends)) two
+
+module _ (slots : List (Option Slot)) (arena : Shown) (a : ℕ) where
+  pub block-none : None ≡ block_in (slot_at slots a) → FreeCell 0 NONE ≡ slice_index_or (cell_records slots arena.links.ends) a (FreeCell 0 NONE)
+  block-none e = free-block (slot_at slots a) (ends_at arena.links a) e ∙ sym (cell-at slots arena.links.ends a)
+
+  pub cell-none : None ≡ cell_in (slot_at slots a) → FreeCell 0 NONE ≡ slice_index_or (cell_records slots arena.links.ends) a (FreeCell 0 NONE)
+  cell-none e = free-cell (slot_at slots a) (ends_at arena.links a) e ∙ sym (cell-at slots arena.links.ends a)
+
+  pub cell-some : (block : Block) (cell : Cell) → Some block ≡ block_in (slot_at slots a) → Some cell ≡ cell_in (slot_at slots a)
+      → BlockCell block (tag_of cell (ends_at arena.links a)) ≡ slice_index_or (cell_records slots arena.links.ends) a (FreeCell 0 NONE)
+  cell-some block cell b c = held-cell (slot_at slots a) (ends_at arena.links a) block cell b c ∙ sym (cell-at slots arena.links.ends a)
+
+-- the ends of a list are nodes
+ends-list : (records : List Node) (ends : Option Ends) (waiters : List Waiter) → (waiters ≡ [] → ends ≡ None) → Threads records NONE (first_in ends) (last_in ends) waiters → AreWithin (length records) ends
+ends-list records None waiters has t = tt
+ends-list records (Some ends) [] has t = let none = has refl in absurd (cc)
+ends-list records (Some ends) (w ∷ ws) has t = (first-within records w ws NONE ends.first ends.last t, last-within records w ws NONE ends.first ends.last t)
+
+none_past : (ends : List (Option Ends)) (a : ℕ) → length ends ≤ a → slice_index_or ends a None ≡ None
+none_past [] a past = refl
+none_past (e ∷ ends) zero past = absurd (omega arith)
+none_past (e ∷ ends) (suc a) past = none_past ends a (omega arith)
+
+pub ends-within : (arena : Shown) → IsThreaded arena → (a : ℕ) → AreWithin (length arena.links.records) (ends_at arena.links a)
+ends-within arena threaded a = ⊎_elim
+    (λ lt. ends-list arena.links.records (ends_at arena.links a) (list_at arena.held a) (threaded.empty a lt).1 (threaded.threads a lt))
+    (λ past. subst (AreWithin (length arena.links.records)) (sym (none_past arena.links.ends a (omega (arith, past, threaded.list_count)))) tt)
+    (below_or_from a (length arena.held.lists))
+
+pub ends-past : (arena : Shown) → IsThreaded arena → (a : ℕ) → length arena.held.lists ≤ a → None ≡ ends_at arena.links a
+ends-past arena threaded a past = sym (none_past arena.links.ends a (omega (arith, past, threaded.list_count)))
+
+-- the link of a node
+link-read : (arena : Shown) (threaded : IsThreaded arena) (n : ℕ) (node : Node) → slice_get arena.links.records n ≡ Some node → IsNode arena threaded n → IsLink (length arena.links.records) node.next
+link-read arena threaded n node e (On listed one) = subst (λ (node : Node). IsLink (length arena.links.records) node.next) (some_same _ node (sym listed.there ∙ e)) listed.link
+link-read arena threaded n node e (Off free none) = inl (ap (λ (node : Node). node.next) (some_same node free_record (sym e ∙ free)))
+link-read arena threaded n node e (Past past none) = absurd (omega (arith, past, read-within arena.links.records n node e))
+
+pub link-within : (arena : Shown) → IsThreaded arena → (n : ℕ) (node : Node) → Some node ≡ slice_get arena.links.records n → IsLink (length arena.links.records) node.next
+link-within arena threaded n node e = link-read arena threaded n node (sym e) (each-node arena threaded n)
+
+pub ends-read : (arena : Shown) (a : ℕ) (ends : Option Ends) → Some ends ≡ slice_get arena.links.ends a → ends ≡ ends_at arena.links a
+ends-read arena a ends e = by_list arena.links.ends a e
+  where
+    by_list : (all : List (Option Ends)) (a : ℕ) → Some ends ≡ slice_get all a → ends ≡ slice_index_or all a None
+    by_list [] a e = absurd (cc)
+    by_list (x ∷ all) zero e = some_same ends x e
+    by_list (x ∷ all) (suc a) e = by_list all a e
+
+-- a window of a memory fits where each of its entries does
+pub window-fits : (w : Window) → IsWindow w → ((i : ℕ) (k : Kept) → slice_get w.kept i ≡ Some k → FitsPlace (Some k)) → FitsWindow layout_1 w
+window-fits w is fields = record {
+  base_from = is.from_one;
+  base_to = omega (arith, is.to_last);
+  few = is.few;
+  numbers = is.to_last;
+  fields = fields;
+}

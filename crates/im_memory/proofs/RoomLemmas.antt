@@ -1,0 +1,181 @@
+-- A free node for each new request: each request on a list has a Waiting entry of its own, and a window has few entries.
+use Rattle.std.proofs.Common.{◌≡◌, ◌≢◌, ⊎_elim, ℕ, zero, suc, ◌+◌, ◌-◌, ◌*◌, ◌<◌, ◌≤◌, List, [], ◌∷◌, length, set, Some, None, Ok, true, false, refl, sym, ap, ◌∙◌, arith}
+use Rattle.std.specs.Prelude.{Option, slice_get}
+use Rattle.std.specs.List.{sum_by}
+use Rattle.std.proofs.lemmas.List.Sums.{sum_by-cons}
+use Rattle.im_types.specs.declared.TheConstants.{WINDOW}
+use Rattle.im_types.specs.declared.operations.Reply.{Reply}
+use Rattle.im_types.specs.declared.operations.Reply.TheVariants.{Stored}
+use Rattle.im_types.specs.declared.operations.Waiter.{Waiter}
+use Rattle.im_types.specs.declared.operations.Kept.{Kept}
+use Rattle.im_types.specs.declared.commands.Request.{Request}
+use Rattle.im_types.specs.declared.commands.Judged.TheVariants.{Fresh}
+use Rattle.im_types.specs.Contents.{Held, Window, held_at, kept_for}
+use Rattle.im_types.specs.Window.{judge, answer_at, answer_in, answer, is_waiting}
+use Rattle.im_types.specs.Agreement.{same_waiter, times, waits_in, WaitersAgree}
+use Rattle.im_types.specs.Memory.{IsWindow}
+use Rattle.im_laws.proofs.Tests.{true_or_false}
+use Rattle.im_laws.proofs.WindowLemmas.{kept_under-from, window_at, kept_for-here, kept_for-window}
+use Rattle.im_laws.proofs.AgreementLemmas.{one_if, same_waiter-equal, same_waiter-self, waits_in-other, waits_for-kept}
+use Rattle.im_laws.proofs.StepLemmas.{judge-fresh, answer-other}
+use Rattle.im_laws.proofs.StepAgrees.{one_if-true, one_if-most}
+use Rattle.im_cell.specs.declared.slots.Slot.{Slot}
+use Rattle.im_arena.specs.Lists.{Shown, free}
+use Rattle.im_istore.specs.Joined.{cells_of}
+use Rattle.im_istore.specs.Agreement.{Agree}
+use Rattle.im_istore.proofs.Cells.{list_of}
+use Rattle.im_istore.proofs.Waiters.{waiters_at-cells}
+use Rattle.im_memory.specs.MakesMemory.{MakesMemory}
+use Rattle.im_memory.proofs.AnswerLemmas.{times-same, times-more}
+
+-- how many of these entries are Waiting
+waiting_count : List Kept → ℕ
+waiting_count [] = 0
+waiting_count (k ∷ kept) = one_if (is_waiting k) + waiting_count kept
+
+waiting_counts : List Window → ℕ
+waiting_counts [] = 0
+waiting_counts (w ∷ windows) = waiting_count w.kept + waiting_counts windows
+
+waiting_count-most : (kept : List Kept) → waiting_count kept ≤ length kept
+unfolding waiting_count
+waiting_count-most [] = omega arith
+waiting_count-most (k ∷ kept) = omega (arith, one_if-most (is_waiting k), waiting_count-most kept)
+
+waiting_counts-most : (windows : List Window) → ((element : ℕ) (w : Window) → slice_get windows element ≡ Some w → IsWindow w) → waiting_counts windows ≤ WINDOW * length windows
+unfolding waiting_counts
+waiting_counts-most [] are = omega arith
+waiting_counts-most (w ∷ windows) are =
+    let few = (are 0 w refl).few in
+    omega (arith, waiting_count-most w.kept, waiting_counts-most windows (λ element v at. are (suc element) v at))
+
+-- with room for one more
+waiting_counts-less : (windows : List Window) → ((element : ℕ) (w : Window) → slice_get windows element ≡ Some w → IsWindow w)
+    → (element : ℕ) (w : Window) → slice_get windows element ≡ Some w → length w.kept < WINDOW → waiting_counts windows < WINDOW * length windows
+unfolding waiting_counts
+waiting_counts-less [] are element w at room = absurd (cc)
+waiting_counts-less (v ∷ windows) are zero w at room =
+    let same : v ≡ w = cc in
+    let kept = ap (λ (w : Window). length w.kept) same in
+    omega (arith, waiting_count-most v.kept, waiting_counts-most windows (λ element v at. are (suc element) v at))
+waiting_counts-less (v ∷ windows) are (suc element) w at room =
+    let few = (are 0 v refl).few in
+    omega (arith, waiting_count-most v.kept, waiting_counts-less windows (λ element v at. are (suc element) v at) element w at room)
+
+-- an answer leaves one Waiting entry less
+waiting_count-answer_at : (kept : List Kept) (place : ℕ) (reply : Reply) (k : Kept) → slice_get kept place ≡ Some k → is_waiting k ≡ true → waiting_count kept ≡ suc (waiting_count (answer_at place reply kept))
+unfolding waiting_count
+waiting_count-answer_at [] place reply k at waits = absurd (cc)
+waiting_count-answer_at (j ∷ kept) zero reply k at waits =
+    let same : j ≡ k = cc in
+    let one : one_if (is_waiting j) ≡ 1 = ap (λ k. one_if (is_waiting k)) same ∙ ap one_if waits in
+    omega arith
+waiting_count-answer_at (j ∷ kept) (suc place) reply k at waits = let h = waiting_count-answer_at kept place reply k at waits in omega arith
+
+waiting_counts-set : (windows : List Window) (element : ℕ) (w new : Window) → slice_get windows element ≡ Some w → waiting_count w.kept ≡ suc (waiting_count new.kept)
+    → waiting_counts windows ≡ suc (waiting_counts (set windows element new))
+unfolding waiting_counts
+waiting_counts-set [] element w new at less = absurd (cc)
+waiting_counts-set (v ∷ windows) zero w new at less =
+    let same : v ≡ w = cc in
+    let kept = ap (λ (w : Window). waiting_count w.kept) same in
+    omega arith
+waiting_counts-set (v ∷ windows) (suc element) w new at less = let h = waiting_counts-set windows element w new at less in omega arith
+
+waiting_counts-answer : (windows : List Window) (who : Waiter) (reply : Reply) (k : Kept) → kept_for windows who ≡ Some k → is_waiting k ≡ true
+    → waiting_counts windows ≡ suc (waiting_counts (answer windows who reply))
+waiting_counts-answer windows who reply k is waits =
+    let w = kept_for-window windows who k is in
+    let at : slice_get w.0.kept (who.number - w.0.base) ≡ Some k = sym (kept_under-from w.0 who.number w.2) ∙ sym (kept_for-here windows who.element w.0 who w.1 refl) ∙ is in
+    waiting_counts-set windows who.element w.0 (answer_in who.number reply w.0) w.1 (waiting_count-answer_at w.0.kept (who.number - w.0.base) reply k at waits)
+    ∙ ap (λ w. suc (waiting_counts (set windows who.element (answer_in who.number reply w)))) (sym (window_at windows who.element w.0 w.1))
+
+-- who waits for a cell has a Waiting entry, and waits for no other cell
+record AwaitsOne (cells : List (Option Held)) (a : ℕ) (kept : Option Kept) : Type 0 where
+  pub entry : Kept
+  pub is : kept ≡ Some entry
+  pub waits : is_waiting entry ≡ true
+  pub no_other : (b : ℕ) → b ≢ a → waits_in b (held_at cells b) kept ≡ false
+
+waits_in-AwaitsOne : (cells : List (Option Held)) (a : ℕ) (kept : Option Kept) (held : Option Held) → waits_in a held kept ≡ true → AwaitsOne cells a kept
+waits_in-AwaitsOne cells a kept None e = absurd (cc)
+waits_in-AwaitsOne cells a kept (Some held) e =
+    let k = waits_for-kept held.block.kind a kept e in
+    record { entry = k.0; is = k.1; waits = k.2; no_other = λ b n. waits_in-other held.block.kind a b (held_at cells b) kept n e }
+
+module _ (cells : List (Option Held)) where
+  -- a request stands on the list of a cell, from the first of these lists on, at most once, and only where its entry waits for that cell
+  abbrev AreListed : ℕ → List (List Waiter) → List Window → Type 0
+  AreListed first lists windows = (who : Waiter) (i : ℕ) → times who (list_of lists i) ≤ one_if (waits_in (first + i) (held_at cells (first + i)) (kept_for windows who))
+
+  module _ (first : ℕ) (lists : List (List Waiter)) (w : Waiter) (waiters : List Waiter) (windows : List Window) (listed : AreListed first ((w ∷ waiters) ∷ lists) windows) where
+    -- the first on the first list: it awaits its cell
+    first-awaits : AwaitsOne cells (first + 0) (kept_for windows w)
+    first-awaits = waits_in-AwaitsOne cells (first + 0) (kept_for windows w) (held_at cells (first + 0)) (one_if-true _ (omega (arith, listed w 0, times-same w w waiters (same_waiter-self w))))
+
+    gone : (i : ℕ) → times w (list_of (waiters ∷ lists) i) ≤ 0
+    gone zero = omega (arith, listed w 0, times-same w w waiters (same_waiter-self w), one_if-most (waits_in (first + 0) (held_at cells (first + 0)) (kept_for windows w)))
+    gone (suc i) =
+        let other : first + suc i ≢ first + 0 = λ e. omega arith in
+        let none : one_if (waits_in (first + suc i) (held_at cells (first + suc i)) (kept_for windows w)) ≡ 0 = ap one_if (first-awaits.no_other (first + suc i) other) in
+        omega (arith, listed w (suc i), none)
+
+    fewer : (who : Waiter) (i : ℕ) → times who (list_of (waiters ∷ lists) i) ≤ times who (list_of ((w ∷ waiters) ∷ lists) i)
+    fewer who zero = times-more who w waiters
+    fewer who (suc i) = let h : times who (list_of lists i) ≤ times who (list_of lists i) = omega arith in h
+
+    -- once it is answered the others still await theirs
+    others-listed : AreListed first (waiters ∷ lists) (answer windows w Stored)
+    others-listed who i = ⊎_elim same other (true_or_false (same_waiter who w))
+      where
+        same : same_waiter who w ≡ true → times who (list_of (waiters ∷ lists) i) ≤ one_if (waits_in (first + i) (held_at cells (first + i)) (kept_for (answer windows w Stored) who))
+        same e = omega (arith, gone i, ap (λ who. times who (list_of (waiters ∷ lists) i)) (same_waiter-equal who w e))
+
+        other : same_waiter who w ≡ false → times who (list_of (waiters ∷ lists) i) ≤ one_if (waits_in (first + i) (held_at cells (first + i)) (kept_for (answer windows w Stored) who))
+        other e =
+            let stays : one_if (waits_in (first + i) (held_at cells (first + i)) (kept_for (answer windows w Stored) who)) ≡ one_if (waits_in (first + i) (held_at cells (first + i)) (kept_for windows who)) =
+            ap (λ kept. one_if (waits_in (first + i) (held_at cells (first + i)) kept)) (answer-other windows w Stored first-awaits.entry first-awaits.is who e) in
+            omega (arith, stays, listed who i, fewer who i)
+
+  -- an empty list is passed
+  rest-listed : (first : ℕ) (lists : List (List Waiter)) (windows : List Window) → AreListed first ([] ∷ lists) windows → AreListed (suc first) lists windows
+  rest-listed first lists windows listed who i =
+      let here : first + suc i ≡ suc first + i = omega arith in
+      omega (arith, listed who (suc i), ap (λ a. one_if (waits_in a (held_at cells a) (kept_for windows who))) here)
+
+  -- those on the first list, and then the others
+  one-list : (first : ℕ) (lists : List (List Waiter)) → ((windows : List Window) → AreListed (suc first) lists windows → sum_by length lists ≤ waiting_counts windows)
+      → (waiters : List Waiter) (windows : List Window) → AreListed first (waiters ∷ lists) windows → length waiters + sum_by length lists ≤ waiting_counts windows
+  one-list first lists rest [] windows listed = omega (arith, rest windows (rest-listed first lists windows listed))
+  one-list first lists rest (w ∷ waiters) windows listed =
+      let awaits = first-awaits first lists w waiters windows listed in
+      let one_less = waiting_counts-answer windows w Stored awaits.entry awaits.is awaits.waits in
+      omega (arith, one_less, one-list first lists rest waiters (answer windows w Stored) (others-listed first lists w waiters windows listed))
+
+  all-lists : (first : ℕ) (lists : List (List Waiter)) (windows : List Window) → AreListed first lists windows → sum_by length lists ≤ waiting_counts windows
+  all-lists first [] windows listed = omega arith
+  all-lists first (waiters ∷ lists) windows listed = omega (arith, sum_by-cons length waiters lists, one-list first lists (all-lists (suc first) lists) waiters windows listed)
+
+-- in a memory
+module _ (slots : List (Option Slot)) (arena : Shown) (windows : List Window) (agree : Agree slots arena) (agrees : WaitersAgree (cells_of slots arena) (kept_for windows)) where
+  agrees-AreListed : AreListed (cells_of slots arena) 0 arena.held.lists windows
+  agrees-AreListed who a =
+      let here : 0 + a ≡ a = omega arith in
+      let listed = ap (times who) (sym (waiters_at-cells slots arena a agree)) ∙ agrees.listed who a in
+      omega (arith, listed, ap (λ a. one_if (waits_in a (held_at (cells_of slots arena) a) (kept_for windows who))) here)
+
+  -- there are as many waiters as waiting entries, or fewer
+  all-listed : sum_by length arena.held.lists ≤ waiting_counts windows
+  all-listed = all-lists (cells_of slots arena) 0 arena.held.lists windows agrees-AreListed
+
+  -- so there is a node for each of them
+  pub all-fit : ((element : ℕ) (w : Window) → slice_get windows element ≡ Some w → IsWindow w) → sum_by length arena.held.lists ≤ WINDOW * length windows
+  all-fit are = omega (arith, all-listed, waiting_counts-most windows are)
+
+-- where a request is new, a node is free
+pub room-fresh : (slots : List (Option Slot)) (arena : Shown) (windows : List Window) → MakesMemory slots arena windows → (r : Request) → judge windows r ≡ Ok Fresh → 0 < free arena.held
+room-fresh slots arena windows makes r fresh =
+    let next = judge-fresh windows r fresh in
+    let all = all-listed slots arena windows makes.agree makes.memory.agrees in
+    let less = waiting_counts-less windows makes.memory.windows r.element next.window next.there next.room in
+    omega (arith, all, less, makes.nodes)

@@ -1,0 +1,106 @@
+-- The nodes of a list, as a chain of records.
+use Rattle.std.proofs.Common.{◌≡◌, inl, inr, ℕ, zero, suc, ◌<◌, ◌≤◌, List, [], ◌∷◌, map, length, get_or, Some, refl, sym, ap, ◌∙◌, subst, arith}
+use Rattle.std.specs.Prelude.{slice_get, slice_index_or}
+use Rattle.im_types.specs.declared.TheConstants.{NONE}
+use Rattle.im_types.specs.declared.operations.Waiter.{Waiter}
+use Rattle.im_types.specs.declared.records.NodeRecord.{NodeRecord}
+use Rattle.im_types.specs.declared.records.NodeRecord.TheVariants.{Free as FreeNode, Listed as ListNode}
+use Rattle.im_types.specs.Chains.{first_of, last_of, Holds}
+use Rattle.im_types.specs.Records.{IsLink}
+use Rattle.im_arena.specs.declared.table.NodeRecord.{NodeRecord as Node}
+use Rattle.im_arena.specs.Chain.{place_from}
+use Rattle.im_arena.specs.Lists.{Threads, free_record}
+use Rattle.im_memory.specs.Shown.{node_record}
+
+-- the nodes from this one on, as many as there are waiters
+abbrev pub chain_from : (ℕ → ℕ) → ℕ → List Waiter → List ℕ
+chain_from next at [] = []
+chain_from next at (w ∷ ws) = at ∷ chain_from next (next at) ws
+
+pub length-chain : (next : ℕ → ℕ) (at : ℕ) (ws : List Waiter) → length (chain_from next at ws) ≡ length ws
+length-chain next at [] = refl
+length-chain next at (w ∷ ws) = ap suc (length-chain next (next at) ws)
+
+pub place-chain : (next : ℕ → ℕ) (at : ℕ) (ws : List Waiter) (i : ℕ) → i < length ws → get_or (chain_from next at ws) i 0 ≡ place_from next at i
+place-chain next at [] i lt = absurd (omega arith)
+place-chain next at (w ∷ ws) zero lt = refl
+place-chain next at (w ∷ ws) (suc i) lt = place-chain next (next at) ws i (omega arith)
+
+-- what is read of a node that is there
+pub record-read : (records : List Node) (n : ℕ) (node : Node) → slice_get records n ≡ Some node → slice_index_or (map node_record records) n (FreeNode NONE) ≡ node_record node
+record-read [] n node e = absurd (cc)
+record-read (x ∷ records) zero node e = let same : x ≡ node = cc in ap node_record same
+record-read (x ∷ records) (suc n) node e = record-read records n node e
+
+pub record-past : (records : List Node) (n : ℕ) → length records ≤ n → slice_index_or (map node_record records) n (FreeNode NONE) ≡ FreeNode NONE
+record-past [] n past = refl
+record-past (x ∷ records) zero past = absurd (omega arith)
+record-past (x ∷ records) (suc n) past = record-past records n (omega arith)
+
+next-read : (records : List Node) (n : ℕ) (node : Node) → slice_get records n ≡ Some node → (slice_index_or records n free_record).next ≡ node.next
+next-read [] n node e = absurd (cc)
+next-read (x ∷ records) zero node e = let same : x ≡ node = cc in ap (λ (node : Node). node.next) same
+next-read (x ∷ records) (suc n) node e = next-read records n node e
+
+pub read-within : (records : List Node) (n : ℕ) (node : Node) → slice_get records n ≡ Some node → n < length records
+read-within [] n node e = absurd (cc)
+read-within (x ∷ records) zero node e = omega arith
+read-within (x ∷ records) (suc n) node e = let h = read-within records n node e in omega arith
+
+module _ (records : List Node) where
+  abbrev next : ℕ → ℕ
+  next n = (slice_index_or records n free_record).next
+
+  abbrev nodes : List NodeRecord
+  nodes = map node_record records
+
+  -- the first node of a thread, and the rest of it
+  record Step (at last : ℕ) (w : Waiter) (ws : List Waiter) : Type 0 where
+    pub there : slice_get records at ≡ Some (record { next = next at; waiter = Some w })
+    pub rest : Threads records at (next at) last ws
+
+  step : (w : Waiter) (ws : List Waiter) (before at last : ℕ) → Threads records before at last (w ∷ ws) → Step at last w ws
+  step w ws before at last t =
+      let same : next at ≡ t.0 = next-read records at (record { next = t.0; waiter = Some w }) t.1 in
+      record {
+        there = t.1 ∙ ap (λ n. let node : Node = record { next = n; waiter = Some w } in Some node) (sym same);
+        rest = subst (λ n. Threads records at n last ws) (sym same) t.2;
+      }
+
+  pub first-chain : (ws : List Waiter) (before at last : ℕ) → Threads records before at last ws → at ≡ first_of (chain_from next at ws)
+  first-chain [] before at last t = t.0
+  first-chain (w ∷ ws) before at last t = refl
+
+  pub holds-chain : (ws : List Waiter) (before at last : ℕ) → Threads records before at last ws → Holds nodes (chain_from next at ws) ws
+  holds-chain [] before at last t = tt
+  holds-chain (w ∷ ws) before at last t =
+      let s = step w ws before at last t in
+      (record-read records at (record { next = next at; waiter = Some w }) s.there ∙ ap (λ n. ListNode n w) (first-chain ws at (next at) last s.rest), holds-chain ws at (next at) last s.rest)
+
+  pub last-chain : (w : Waiter) (ws : List Waiter) (before at last : ℕ) → Threads records before at last (w ∷ ws) → last_of (chain_from next at (w ∷ ws)) ≡ last
+  last-chain w [] before at last t = (step w [] before at last t).rest.1
+  last-chain w (v ∷ ws) before at last t = last-chain v ws at (next at) last (step w (v ∷ ws) before at last t).rest
+
+  pub first-within : (w : Waiter) (ws : List Waiter) (before at last : ℕ) → Threads records before at last (w ∷ ws) → at < length records
+  first-within w ws before at last t = read-within records at _ (step w ws before at last t).there
+
+  pub last-within : (w : Waiter) (ws : List Waiter) (before at last : ℕ) → Threads records before at last (w ∷ ws) → last < length records
+  last-within w [] before at last t = omega (arith, first-within w [] before at last t, (step w [] before at last t).rest.1)
+  last-within w (v ∷ ws) before at last t = last-within v ws at (next at) last (step w (v ∷ ws) before at last t).rest
+
+  -- the node at a place
+  pub record Listed (n : ℕ) : Type 0 where
+    pub who : Waiter
+    pub there : slice_get records n ≡ Some (record { next = next n; waiter = Some who })
+    pub link : IsLink (length records) (next n)
+
+  link-first : (ws : List Waiter) (before at last : ℕ) → Threads records before at last ws → IsLink (length records) at
+  link-first [] before at last t = inl t.0
+  link-first (w ∷ ws) before at last t = inr (first-within w ws before at last t)
+
+  pub listed-at : (ws : List Waiter) (before at last : ℕ) → Threads records before at last ws → (i : ℕ) → i < length ws → Listed (place_from next at i)
+  listed-at [] before at last t i lt = absurd (omega arith)
+  listed-at (w ∷ ws) before at last t zero lt =
+      let s = step w ws before at last t in
+      record { who = w; there = s.there; link = link-first ws at (next at) last s.rest }
+  listed-at (w ∷ ws) before at last t (suc i) lt = listed-at ws at (next at) last (step w ws before at last t).rest i (omega arith)

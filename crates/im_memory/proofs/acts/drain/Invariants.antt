@@ -1,0 +1,22 @@
+use Rattle.std.proofs.Common.{◌≡◌, ◌<◌, List, Option, length}
+use Rattle.im_types.specs.Window.{answer_each}
+use Rattle.im_cell.specs.declared.slots.Slot.{Slot}
+use Rattle.im_arena.specs.Lists.{list_at}
+use Rattle.im_istore.specs.Joined.{cells_of}
+use Rattle.im_istore.specs.Agreement.{AgreeBut}
+use Rattle.im_istore.specs.Access.{replies_to}
+use Rattle.im_memory.specs.Resuming.{AreAwaited}
+use Rattle.im_memory.proofs.acts.drain.Given as goal
+
+-- those that are left on the list still have to be answered, and then all are
+abbrev pub invariant-loop-reader : goal.invariant-loop-reader
+invariant-loop-reader l = record {
+  listed : l.a < length l.arena.held.lists;
+  awaited : AreAwaited l.sessions (replies_to (list_at l.arena.held l.a) l.value);
+  windows : answer_each l.sessions (replies_to (list_at l.arena.held l.a) l.value) ≡ answer_each l.initial.sessions (replies_to (list_at l.initial.arena.held l.a) l.value);
+  nodes : l.arena.held.nodes ≡ l.initial.arena.held.nodes;
+  draining : (slots : List (Option Slot)) → AgreeBut l.a slots l.initial.arena → AgreeBut l.a slots l.arena × (cells_of slots l.arena ≡ cells_of slots l.initial.arena);
+}
+
+abbrev pub decreases-loop-reader : goal.decreases-loop-reader
+decreases-loop-reader l = length (list_at l.arena.held l.a)

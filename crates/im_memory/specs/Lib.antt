@@ -1,0 +1,6 @@
+pub mod Presences
+pub mod Resuming
+pub mod MakesMemory
+pub mod Confirming
+pub mod Shown
+pub mod Restoring

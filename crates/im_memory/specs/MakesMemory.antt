@@ -1,0 +1,28 @@
+-- What makes a table, an arena and windows a memory. (Own.)
+use Rattle.std.specs.Prelude.{◌≡◌, ◌*◌, ◌≤◌, List, Option, length}
+use Rattle.im_types.specs.declared.TheConstants.{WINDOW, MAX_CELLS, MAX_ELEMENTS}
+use Rattle.im_types.specs.Contents.{Window, Contents}
+use Rattle.im_types.specs.Memory.{IsMemory}
+use Rattle.im_cell.specs.declared.slots.Slot.{Slot}
+use Rattle.im_arena.specs.Lists.{Shown}
+use Rattle.im_istore.specs.Joined.{cells_of}
+use Rattle.im_istore.specs.Agreement.{Agree}
+
+-- the memory that a table, an arena and windows stand for
+abbrev pub contents_of : List (Option Slot) → Shown → List Window → Contents
+contents_of slots arena windows = record { cells = cells_of slots arena; windows = windows }
+
+-- they show a memory
+pub record MakesMemory (slots : List (Option Slot)) (arena : Shown) (windows : List Window) : Type 0 where
+  -- each cell has a list, and waits exactly where somebody is on it
+  pub agree : Agree slots arena
+  -- the whole is a memory of its own lengths
+  pub memory : IsMemory (length slots) (length windows) (contents_of slots arena windows)
+  -- there is a cell
+  pub some_cell : 1 ≤ length slots
+  -- there are no more cells than a memory may have
+  pub few_cells : length slots ≤ MAX_CELLS
+  -- nor more elements
+  pub few_elements : length windows ≤ MAX_ELEMENTS
+  -- each entry of a window could have a node
+  pub nodes : arena.held.nodes ≡ WINDOW * length windows

@@ -1,0 +1,35 @@
+-- A memory that is put together from what records show of it. (Own.)
+use Rattle.std.specs.Prelude.{◌≡◌, ◌*◌, ◌≤◌, List, length}
+use Rattle.im_types.specs.declared.TheConstants.{WINDOW, MAX_CELLS, MAX_ELEMENTS}
+use Rattle.im_types.specs.declared.operations.Waiter.{Waiter}
+use Rattle.im_types.specs.declared.records.CellRecord.{CellRecord}
+use Rattle.im_types.specs.declared.records.NodeRecord.{NodeRecord}
+use Rattle.im_types.specs.Chains.{ShowLists}
+use Rattle.im_types.specs.Contents.{Window, Contents}
+use Rattle.im_types.specs.Memory.{IsMemory}
+use Rattle.im_types.specs.Pages.{cells_shown}
+use Rattle.im_arena.specs.Lists.{Shown}
+
+-- the records of the cells, who waits at each of them, and the windows
+pub record Parts : Type 0 where
+  pub cells : List CellRecord
+  pub lists : List (List Waiter)
+  pub windows : List Window
+
+-- the memory that parts stand for
+abbrev pub contents_shown : Parts → Contents
+contents_shown p = record { cells = cells_shown p.cells p.lists; windows = p.windows }
+
+-- parts that are complete: the lists stand in nodes, as the cells' records say, and the whole is a memory
+pub record AreComplete (p : Parts) : Type 0 where
+  pub nodes : List NodeRecord
+  pub chained : ShowLists nodes p.cells p.lists
+  pub memory : IsMemory (length p.cells) (length p.windows) (contents_shown p)
+
+-- there are lists for all cells and nodes for all entries, and not too many of either
+pub record HaveRoom (cells : List CellRecord) (arena : Shown) (windows : List Window) : Type 0 where
+  pub lists : length arena.held.lists ≡ length cells
+  pub nodes : arena.held.nodes ≡ WINDOW * length windows
+  pub some_cell : 1 ≤ length cells
+  pub few_cells : length cells ≤ MAX_CELLS
+  pub few_elements : length windows ≤ MAX_ELEMENTS

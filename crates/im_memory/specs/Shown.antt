@@ -1,0 +1,61 @@
+-- A memory as records, which the pages of an image spell. (Own.)
+use Rattle.std.specs.Prelude.{ℕ, ◌<◌, List, [], ◌∷◌, map, Option, None, Some}
+use Rattle.im_types.specs.declared.TheConstants.{NONE}
+use Rattle.im_types.specs.declared.operations.Waiter.{Waiter}
+use Rattle.im_types.specs.declared.records.PresenceTag.{PresenceTag}
+use Rattle.im_types.specs.declared.records.PresenceTag.TheVariants.{Empty as TagEmpty, Waiting as TagWaiting, Full as TagFull, Clashed as TagClashed}
+use Rattle.im_types.specs.declared.records.CellRecord.{CellRecord}
+use Rattle.im_types.specs.declared.records.CellRecord.TheVariants.{Free as FreeCell, Held as BlockCell}
+use Rattle.im_types.specs.declared.records.NodeRecord.{NodeRecord}
+use Rattle.im_types.specs.declared.records.NodeRecord.TheVariants.{Free as FreeNode, Listed as ListNode}
+use Rattle.im_types.specs.Contents.{Window}
+use Rattle.im_types.specs.Pages.{Records}
+use Rattle.im_cell.specs.declared.slots.Cell.{Cell}
+use Rattle.im_cell.specs.declared.slots.Cell.TheVariants.{Empty, Waiting, Full, Clashed}
+use Rattle.im_cell.specs.declared.slots.Slot.{Slot}
+use Rattle.im_arena.specs.declared.table.Ends.{Ends}
+use Rattle.im_arena.specs.declared.table.NodeRecord.{NodeRecord as Node}
+use Rattle.im_arena.specs.Lists.{Shown, IsThreaded}
+use Rattle.im_memory.specs.MakesMemory.{MakesMemory}
+
+-- the tag of a cell whose list has these ends
+abbrev pub tag_of : Cell → Option Ends → PresenceTag
+tag_of Empty ends = TagEmpty
+tag_of Waiting None = TagEmpty
+tag_of Waiting (Some ends) = TagWaiting ends.first ends.last
+tag_of (Full v) ends = TagFull v
+tag_of (Clashed v) ends = TagClashed v
+
+-- the ends of a list are among so many nodes
+abbrev pub AreWithin : ℕ → Option Ends → Type 0
+AreWithin nodes None = Unit {0}
+AreWithin nodes (Some ends) = (ends.first < nodes) × (ends.last < nodes)
+
+-- the record of a slot whose list has these ends; a free cell shows no hole
+abbrev pub cell_record : Option Slot → Option Ends → CellRecord
+cell_record None ends = FreeCell 0 NONE
+cell_record (Some slot) ends = BlockCell slot.block (tag_of slot.cell ends)
+
+-- the record of each cell
+abbrev pub cell_records : List (Option Slot) → List (Option Ends) → List CellRecord
+cell_records [] ends = []
+cell_records (slot ∷ slots) [] = cell_record slot None ∷ cell_records slots []
+cell_records (slot ∷ slots) (e ∷ ends) = cell_record slot e ∷ cell_records slots ends
+
+-- the record of a node with this link, which holds a waiter or is free
+abbrev pub node_of : ℕ → Option Waiter → NodeRecord
+node_of next None = FreeNode next
+node_of next (Some who) = ListNode next who
+
+-- the record of a node of the arena
+abbrev pub node_record : Node → NodeRecord
+node_record node = node_of node.next node.waiter
+
+-- all records of a table, an arena and windows
+abbrev pub records_of : List (Option Slot) → Shown → List Window → Records
+records_of slots arena windows = record { cells = cell_records slots arena.links.ends; nodes = map node_record arena.links.records; windows = windows }
+
+-- a memory whose links lead through its lists
+pub record IsShown (slots : List (Option Slot)) (arena : Shown) (windows : List Window) : Type 0 where
+  pub makes : MakesMemory slots arena windows
+  pub threaded : IsThreaded arena

@@ -1,0 +1,161 @@
+//! What an operation does to the cells, and who is answered by it.
+ghost use Rattle.std.specs.Prelude.{◌≡◌, ◌<◌, List, Option, length};
+ghost use Rattle.im_types.specs.Act.{act, allocate, release_block, block_with_base};
+ghost use Rattle.im_types.specs.Contents.{held_at};
+ghost use Rattle.im_types.specs.Window.{answer_each};
+ghost use Rattle.im_cell.specs.declared.slots.Slot.{Slot};
+ghost use Rattle.im_arena.specs.Lists.{list_at, free};
+ghost use Rattle.im_istore.specs.Joined.{cells_of};
+ghost use Rattle.im_istore.specs.Agreement.{Agree, AgreeBut};
+ghost use Rattle.im_istore.specs.Access.{fetched, stored, replies_to};
+ghost use Rattle.im_mstore.specs.Access.{taken, given};
+ghost use Rattle.im_memory.specs.Resuming.{replies_of, AreListed, AgreeFor, AreAwaited, HasActed};
+
+use im_arena::Arena;
+use im_cell::CellTable;
+use im_istore::{fetch, next_reader};
+use im_mstore::take;
+use im_sessions::Sessions;
+use im_types::{Entry, Kind, Op, Reply, Waiter};
+
+/// Who is answered by an operation of somebody else.
+#[derive(Clone, Copy)]
+pub enum Resumed {
+    /// Nobody.
+    Nobody,
+    /// The first who waited to take, with this value.
+    Taker(Waiter, u64),
+    /// Each reader on the list of this cell, with this value.
+    Readers(u32, u64),
+}
+
+/// What the asker is told, and who else is to be answered.
+#[derive(Clone, Copy)]
+pub struct Acted {
+    pub entry: Entry,
+    pub resumed: Resumed,
+}
+
+// The asker alone is told something.
+fn told(entry: Entry) -> Acted
+    ensures { result ≡ record { entry = entry; resumed = Resumed.Nobody } }
+{
+    Acted {
+        entry,
+        resumed: Resumed::Nobody,
+    }
+}
+
+// A store: its readers stay on the list of the cell.
+fn store(table: &mut CellTable, arena: &Arena, a: u32, value: u64) -> Acted
+    requires { Agree table.old arena.now }
+    ensures { HasActed table.new arena.now result (stored (cells_of table.old arena.now) a value) }
+{
+    let reply = im_istore::store(table, arena, a, value);
+    match reply {
+        Reply::Stored => Acted {
+            entry: Entry::Answered(reply),
+            resumed: Resumed::Readers(a, value),
+        },
+        _ => told(Entry::Answered(reply)),
+    }
+}
+
+// A put: its taker is off the list of the cell.
+fn put(table: &mut CellTable, arena: &mut Arena, a: u32, value: u64) -> Acted
+    requires { Agree table.old arena.old }
+    ensures acted { HasActed table.new arena.new result (given (cells_of table.old arena.old) a value) }
+    ensures nodes { arena.new.held.nodes ≡ arena.old.held.nodes }
+{
+    let (reply, taker) = im_mstore::put(table, arena, a, value);
+    match taker {
+        Some(taker) => Acted {
+            entry: Entry::Answered(reply),
+            resumed: Resumed::Taker(taker, value),
+        },
+        None => told(Entry::Answered(reply)),
+    }
+}
+
+// A new block.
+fn allocate(table: &mut CellTable, arena: &Arena, kind: Kind, n: u32) -> Acted
+    requires { Agree table.old arena.now }
+    ensures { HasActed table.new arena.now result (allocate (cells_of table.old arena.now) kind n) }
+{
+    if n == 0 {
+        return told(Entry::Answered(Reply::BadLength));
+    }
+    match table.place(kind, n) {
+        Some(base) => told(Entry::Answered(Reply::Base(base))),
+        None => told(Entry::Answered(Reply::NoSpace)),
+    }
+}
+
+// The end of a block.
+fn release(table: &mut CellTable, arena: &Arena, a: u32) -> Acted
+    requires { Agree table.old arena.now }
+    ensures { let cells = cells_of table.old arena.now in HasActed table.new arena.now result (release_block cells a (block_with_base a (held_at cells a))) }
+{
+    let Some(block) = table.block_of(a) else {
+        return told(Entry::Answered(Reply::NoBlock));
+    };
+    if block.base != a {
+        return told(Entry::Answered(Reply::NoBlock));
+    }
+    if table.release(a) {
+        told(Entry::Answered(Reply::Released))
+    } else {
+        told(Entry::Answered(Reply::StillWaiting))
+    }
+}
+
+/// An operation of an asker on the cells. Where it may have to wait, there is a free node for it.
+pub fn act(table: &mut CellTable, arena: &mut Arena, who: Waiter, op: Op) -> Acted
+    requires agree { Agree table.old arena.old }
+    requires room { 0 < free arena.old.held }
+    ensures acted { HasActed table.new arena.new result (act (cells_of table.old arena.old) who op) }
+    ensures nodes { arena.new.held.nodes ≡ arena.old.held.nodes }
+{
+    match op {
+        Op::Alloc(kind, n) => allocate(table, arena, kind, n),
+        Op::Release(a) => release(table, arena, a),
+        Op::Fetch(a) => told(fetch(table, arena, a, who)),
+        Op::Store(a, value) => store(table, arena, a, value),
+        Op::Take(a) => told(take(table, arena, a, who)),
+        Op::Put(a, value) => put(table, arena, a, value),
+    }
+}
+
+// Each reader on a list is answered with a value, and leaves the list.
+fn drain(sessions: &mut Sessions, arena: &mut Arena, a: u32, value: u64)
+    requires awaited { AreAwaited sessions.old (replies_to (list_at arena.old.held a) value) }
+    requires listed { a < length arena.old.held.lists }
+    ensures windows { sessions.new ≡ answer_each sessions.old (replies_to (list_at arena.old.held a) value) }
+    ensures nodes { arena.new.held.nodes ≡ arena.old.held.nodes }
+
+    // Of each table whose full cell this is.
+    ensures cells { (slots : List (Option Slot)) → AgreeBut a slots arena.old → cells_of slots arena.new ≡ cells_of slots arena.old }
+    ensures agree { (slots : List (Option Slot)) → AgreeBut a slots arena.old → Agree slots arena.new }
+{
+    while let Some(reader) = next_reader(arena, a) {
+        sessions.answer(reader, Reply::Value(value));
+    }
+}
+
+/// Answers those that an operation resumes. Then table and arena agree.
+pub fn resume(sessions: &mut Sessions, arena: &mut Arena, resumed: Resumed)
+    requires awaited { AreAwaited sessions.old (replies_of resumed arena.old) }
+    requires listed { AreListed resumed arena.old }
+    ensures windows { sessions.new ≡ answer_each sessions.old (replies_of resumed arena.old) }
+    ensures nodes { arena.new.held.nodes ≡ arena.old.held.nodes }
+
+    // Of each table that the operation may have left.
+    ensures cells { (slots : List (Option Slot)) → AgreeFor resumed slots arena.old → cells_of slots arena.new ≡ cells_of slots arena.old }
+    ensures agree { (slots : List (Option Slot)) → AgreeFor resumed slots arena.old → Agree slots arena.new }
+{
+    match resumed {
+        Resumed::Nobody => {}
+        Resumed::Taker(who, value) => sessions.answer(who, Reply::Value(value)),
+        Resumed::Readers(a, value) => drain(sessions, arena, a, value),
+    }
+}

@@ -1,0 +1,22 @@
+//! The memory: a table of cells, an arena of those that wait for them, and a window of kept replies for each element.
+//! One command is one call of [`Memory::step`].
+//!
+//! Stands on `im_cell`, `im_arena` and `im_sessions`, and on `im_istore` and `im_mstore` for the four operations on a
+//! cell. Contracts see the contents by the definitions of `im_types`; what stays true of them, and the laws of whole
+//! histories, come from `im_laws` and `im_histories`.
+#![tactic(auto)]
+
+mod acts;
+mod cells;
+mod memory;
+mod records;
+mod restore;
+mod windows;
+
+pub use cells::Presence;
+pub use memory::Memory;
+pub use records::MemoryRecords;
+pub use restore::Restoring;
+
+#[cfg(test)]
+mod tests;

@@ -1,0 +1,254 @@
+//! A memory, and one command on it.
+ghost use Rattle.std.specs.Prelude.{◌≡◌, ◌*◌, ◌≤◌, List, [], ◌∷◌, ◌++◌, length, IfOk, IfErr, OnErr, Ok, slice_get};
+ghost use Rattle.im_types.specs.declared.commands.Judged.TheVariants.{Fresh};
+ghost use Rattle.im_types.specs.declared.commands.Command.{Command};
+ghost use Rattle.im_types.specs.Contents.{empty_contents, held_at, block_at, waiters_at, kept_for};
+ghost use Rattle.im_types.specs.Window.{judge, ask, bounds};
+ghost use Rattle.im_types.specs.Step.{step, serve, asker, acceptance};
+ghost use Rattle.im_types.specs.Act.{act};
+ghost use Rattle.im_types.specs.Run.{after};
+ghost use Rattle.im_types.specs.Agreement.{WaitingAgrees, KeepsEntries};
+ghost use Rattle.im_types.specs.Memory.{IsMemory};
+ghost use Rattle.im_types.specs.History.{ValueLaw, MatchingLaw};
+ghost use Rattle.im_types.specs.Layout.{Sizes};
+ghost use Rattle.im_types.specs.Pages.{ShowsRecords};
+ghost use Rattle.im_memory.specs.Presences.{presence_in};
+ghost use Rattle.im_memory.specs.MakesMemory.{contents_of, MakesMemory};
+
+use crate::acts::{act, resume};
+use crate::cells::{Presence, presence_of};
+use crate::records::MemoryRecords;
+use crate::windows::judge_confirm;
+use im_arena::Arena;
+use im_cell::CellTable;
+use im_sessions::Sessions;
+use im_types::{
+    Block, Command, Entry, Judged, Kept, Limits, MAX_CELLS, MAX_ELEMENTS, Outcome, Refusal,
+    Request, WINDOW, Waiter,
+};
+use std::alloc::Global;
+use std::marker::Model;
+
+/// A memory. Contracts see its contents, and they are always those of a memory.
+///
+/// The room for all requests that may wait is taken by [`Memory::new`]: a request that waits is kept in its element's
+/// window, so there are never more of them than entries.
+#[derive(Drop)]
+pub struct Memory {
+    pub(crate) table: CellTable,
+    pub(crate) arena: Arena,
+    pub(crate) sessions: Sessions,
+}
+
+impl Model for Memory {
+    ghost use Rattle.im_types.specs.Contents.{Contents};
+
+    ghost Value = { Contents };
+
+    ghost use Rattle.im_memory.specs.MakesMemory.{contents_of, MakesMemory};
+
+    ghost view = { λ m. contents_of m.table m.arena m.sessions };
+
+    ghost invariant = { λ m. MakesMemory m.table m.arena m.sessions };
+}
+
+// A new request: what comes of it is done, it is kept with its entry, and those that it resumes are answered.
+fn serve(
+    table: &mut CellTable,
+    arena: &mut Arena,
+    sessions: &mut Sessions,
+    request: &Request,
+) -> Entry
+    requires memory { MakesMemory table.old arena.old sessions.old }
+    requires fresh { judge sessions.old request.now ≡ Ok Fresh }
+    ensures answer { let m = contents_of table.old arena.old sessions.old in result ≡ (act m.cells (asker request.now) request.now.op).entry }
+    ensures contents { let m = contents_of table.old arena.old sessions.old in
+        contents_of table.new arena.new sessions.new ≡ (serve m request.now (act m.cells (asker request.now) request.now.op)).contents }
+    ensures memory { MakesMemory table.new arena.new sessions.new }
+{
+    let who = Waiter {
+        element: request.element,
+        number: request.number,
+    };
+    let acted = act(table, arena, who, request.op);
+    sessions.note(request, acted.entry);
+    resume(sessions, arena, acted.resumed);
+    acted.entry
+}
+
+impl Memory {
+    /// A memory of these sizes, with no block and no entry. All memory that it will ever need is taken here; refused with
+    /// `NoMemory` where there isn't enough.
+    pub fn new(alloc: Global, limits: Limits) -> Result<Self, Refusal>
+        ensures empty { IfOk result (λ m. m ≡ empty_contents limits.cells limits.elements) }
+        ensures memory { IfOk result (λ m. IsMemory limits.cells limits.elements m) }
+        ensures refused { IfErr result (λ refusal. refusal ≡ Refusal.NoMemory) }
+    {
+        let nodes = WINDOW as u32 * limits.elements as u32;
+        let Ok(table) = CellTable::new(alloc, limits.cells) else {
+            return Err(Refusal::NoMemory);
+        };
+        let Ok(arena) = Arena::new(alloc, nodes, limits.cells) else {
+            return Err(Refusal::NoMemory);
+        };
+        let Ok(sessions) = Sessions::new(alloc, limits.elements) else {
+            return Err(Refusal::NoMemory);
+        };
+        Ok(Memory {
+            table,
+            arena,
+            sessions,
+        })
+    }
+
+    /// One command: what it comes to, or why it is refused, and then nothing changes. Refused are, with `NoElement`, a
+    /// command of an element that isn't there; a request with `Forgotten` below its window, with `Mismatch` under a
+    /// number that is kept for another operation, with `Gap` past the next number and past the last that there is, and
+    /// with `WindowFull` where 16 entries are kept; a confirmation with `Gap` past the next number, and with
+    /// `NotAnswered` where an entry that it would drop still waits. It takes no memory.
+    pub fn step(&mut self, command: &Command) -> Result<Outcome, Refusal>
+        ensures answer { result ≡ (step self.old command.now).answer }
+        ensures contents { self.new ≡ (step self.old command.now).contents }
+        ensures refused { OnErr result (self.new ≡ self.old) }
+
+        // It stays a memory, who waits has a waiting entry, and what is kept stays kept until it is confirmed.
+        ensures memory { IsMemory (length self.old.cells) (length self.old.windows) self.new }
+        ensures agrees { WaitingAgrees self.new }
+        ensures keeps { KeepsEntries self.old command.now self.new }
+
+        // After any commands from the empty memory on, and then this one, the laws of whole histories hold.
+        ensures values { let empty = empty_contents (length self.old.cells) (length self.old.windows) in
+            (commands : List Command) → self.old ≡ after empty commands → ValueLaw empty (commands ++ command.now ∷ []) }
+        ensures matching { let empty = empty_contents (length self.old.cells) (length self.old.windows) in
+            (commands : List Command) → self.old ≡ after empty commands → MatchingLaw empty (commands ++ command.now ∷ []) }
+    {
+        match command {
+            Command::Request(request) => self.request(request),
+            Command::Confirm { element, upto } => self.confirm(*element, *upto),
+        }
+    }
+
+    fn request(&mut self, request: &Request) -> Result<Outcome, Refusal>
+        ensures answer { result ≡ (step self.old (Command.Request request.now)).answer }
+        ensures contents { self.new ≡ (step self.old (Command.Request request.now)).contents }
+        ensures was_memory { IsMemory (length self.old.cells) (length self.old.windows) self.old }
+    {
+        match self.sessions.judge(request) {
+            Err(refusal) => Err(refusal),
+            Ok(Judged::Repeat(entry)) => Ok(Outcome::Entry(entry)),
+            Ok(Judged::Fresh) => {
+                let entry = serve(
+                    &mut self.table,
+                    &mut self.arena,
+                    &mut self.sessions,
+                    request,
+                );
+                Ok(Outcome::Entry(entry))
+            }
+        }
+    }
+
+    fn confirm(&mut self, element: u16, upto: u64) -> Result<Outcome, Refusal>
+        ensures answer { result ≡ (step self.old (Command.Confirm element upto)).answer }
+        ensures contents { self.new ≡ (step self.old (Command.Confirm element upto)).contents }
+        ensures was_memory { IsMemory (length self.old.cells) (length self.old.windows) self.old }
+    {
+        match self.sessions.confirm(element, upto) {
+            Ok(()) => Ok(Outcome::Confirmed),
+            Err(refusal) => Err(refusal),
+        }
+    }
+
+    /// Whether [`Memory::step`] would accept this command, which it does where the command changes the memory, or why it
+    /// would be refused.
+    pub fn judge(&self, command: &Command) -> Result<bool, Refusal>
+        ensures { result ≡ acceptance self.now command.now }
+    {
+        match command {
+            Command::Request(request) => match self.sessions.judge(request) {
+                Ok(Judged::Fresh) => Ok(true),
+                Ok(Judged::Repeat(_)) => Ok(false),
+                Err(refusal) => Err(refusal),
+            },
+            Command::Confirm { element, upto } => judge_confirm(&self.sessions, *element, *upto),
+        }
+    }
+
+    /// The entry that is kept under an element's number: refused with `NoElement`, with `Forgotten` below the window, and
+    /// with `Gap` where the number isn't used yet.
+    pub fn collect(&self, element: u16, number: u64) -> Result<Entry, Refusal>
+        ensures { result ≡ ask self.now.windows (record { element = element; number = number }) }
+    {
+        self.sessions.entry(element, number)
+    }
+
+    /// The base of an element's window, from which on its entries are numbered, and the number of its next new request:
+    /// refused with `NoElement`.
+    pub fn window(&self, element: u16) -> Result<(u64, u64), Refusal>
+        ensures { result ≡ bounds self.now.windows element }
+    {
+        self.sessions.window(element)
+    }
+
+    /// How many cells there are, at most 65,536.
+    pub fn cells(&self) -> u32
+        ensures count { result ≡ length self.now.cells }
+        ensures few { result ≤ MAX_CELLS }
+        ensures memory { IsMemory (length self.now.cells) (length self.now.windows) self.now }
+    {
+        self.arena.list_count()
+    }
+
+    /// How many elements there are, at most 64.
+    pub fn elements(&self) -> u16
+        ensures count { result ≡ length self.now.windows }
+        ensures few { result ≤ MAX_ELEMENTS }
+        ensures memory { IsMemory (length self.now.cells) (length self.now.windows) self.now }
+    {
+        self.sessions.elements() as u16
+    }
+
+    /// What the cell at an address is, or `None` where the address lies in no block.
+    pub fn cell(&self, a: u32) -> Option<Presence>
+        ensures { result ≡ presence_in (held_at self.now.cells a) }
+    {
+        match self.table.get(a) {
+            Some(cell) => Some(presence_of(cell)),
+            None => None,
+        }
+    }
+
+    /// The block that an address lies in.
+    pub fn block(&self, a: u32) -> Option<Block>
+        ensures { result ≡ block_at self.now.cells a }
+    {
+        self.table.block_of(a)
+    }
+
+    /// The request at this place, from 0, among those that wait at a cell, in their order of arrival.
+    pub fn waiter(&self, a: u32, place: usize) -> Option<Waiter>
+        ensures { result ≡ slice_get (waiters_at self.now.cells a) place }
+    {
+        if a >= self.arena.list_count() || place >= self.arena.len(a) as usize {
+            return None;
+        }
+        self.arena.at(a, place as u32)
+    }
+
+    /// What is kept under an element's number.
+    pub fn kept(&self, element: u16, number: u64) -> Option<Kept>
+        ensures { result ≡ kept_for self.now.windows (record { element = element; number = number }) }
+    {
+        self.sessions.kept(element, number)
+    }
+
+    /// The records of the memory as it is now, for the pages of an image.
+    pub fn records(&self) -> MemoryRecords<'_>
+        ensures shows { (s : Sizes) → s.cells ≡ length self.now.cells → s.elements ≡ length self.now.windows → ShowsRecords s result self.now }
+        ensures cells { length result.cells ≡ length self.now.cells }
+        ensures nodes { length result.nodes ≡ WINDOW * length self.now.windows }
+        ensures windows { result.windows ≡ self.now.windows }
+    {
+        MemoryRecords::new(&self.table, &self.arena, &self.sessions)
+    }
+}

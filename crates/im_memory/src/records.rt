@@ -1,0 +1,148 @@
+//! A memory as records, which the pages of an image spell.
+ghost use Rattle.std.specs.Prelude.{◌≡◌, ◌<◌, ◌^◌, ℕ, length, slice_get, slice_index_or, Some, None};
+ghost use Rattle.im_types.specs.declared.records.CellRecord.TheVariants.{Free as FreeCell};
+ghost use Rattle.im_types.specs.declared.records.NodeRecord.TheVariants.{Free as FreeNode};
+ghost use Rattle.im_types.specs.Layout.{Sizes};
+ghost use Rattle.im_types.specs.Pages.{ShowsRecords};
+ghost use Rattle.im_types.specs.Records.{IsLink, FitsTag, FitsCell, FitsNode};
+ghost use Rattle.im_arena.specs.Lists.{IsThreaded, ends_at};
+ghost use Rattle.im_memory.specs.MakesMemory.{contents_of, MakesMemory};
+ghost use Rattle.im_memory.specs.Shown.{tag_of, node_of, records_of, AreWithin};
+
+use im_arena::{Arena, Ends};
+use im_cell::{Cell, CellTable};
+use im_sessions::Sessions;
+use im_types::{CellRecord, NONE, NodeRecord, PresenceTag, Waiter};
+use std::marker::Model;
+
+/// The records of a memory: of each cell, and of each node for a request that waits. With the windows they show the
+/// memory as it was when they were taken. Contracts see all of them.
+#[derive(Drop)]
+pub struct MemoryRecords<'a> {
+    table: &'a CellTable,
+    arena: &'a Arena,
+    sessions: &'a Sessions,
+}
+
+impl<'a> Model for MemoryRecords<'a> {
+    ghost use Rattle.im_types.specs.Pages.{Records};
+    ghost use Rattle.im_memory.specs.Shown.{records_of, IsShown};
+
+    ghost Value = { Records };
+
+    ghost view = { λ r. records_of r.table.now r.arena.now r.sessions.now };
+
+    ghost invariant = { λ r. IsShown r.table.now r.arena.now r.sessions.now };
+}
+
+// That the links of an arena lead through its lists. It does nothing but ask for the law.
+fn are_threaded(arena: &Arena)
+    requires { 0 < length arena.now.held.lists }
+    ensures { IsThreaded arena.now }
+{
+    let _ = arena.ends(0);
+}
+
+impl<'a> MemoryRecords<'a> {
+    /// The records of the memory that a table, an arena and windows make.
+    pub(crate) fn new(
+        table: &'a CellTable,
+        arena: &'a Arena,
+        sessions: &'a Sessions,
+    ) -> MemoryRecords<'a>
+        requires { MakesMemory table.now arena.now sessions.now }
+        ensures nodes { length result.nodes ≡ arena.now.held.nodes }
+        ensures records { result ≡ records_of table.now arena.now sessions.now }
+        ensures shows { let m = contents_of table.now arena.now sessions.now in
+            (s : Sizes) → s.cells ≡ length m.cells → s.elements ≡ length m.windows → ShowsRecords s result m }
+    {
+        are_threaded(arena);
+        MemoryRecords {
+            table,
+            arena,
+            sessions,
+        }
+    }
+
+    /// What a page shows of the cell at an address; past the last cell, a free cell.
+    pub fn cell_record(&self, a: u32) -> CellRecord
+        ensures shown { result ≡ slice_index_or self.now.cells a (FreeCell 0 NONE) }
+        ensures fits { FitsCell (length self.now.cells) (length self.now.nodes) result }
+    {
+        let free = CellRecord::Free {
+            hole: 0,
+            next: NONE,
+        };
+        let Some(block) = self.table.block_of(a) else {
+            return free;
+        };
+        let Some(cell) = self.table.get(a) else {
+            return free;
+        };
+        CellRecord::Held {
+            block,
+            tag: tag_of(cell, ends_at(self.arena, a)),
+        }
+    }
+
+    /// What a page shows of a node, by its number; past the last node, a free node.
+    pub fn node_record(&self, n: u32) -> NodeRecord
+        ensures shown { result ≡ slice_index_or self.now.nodes n (FreeNode NONE) }
+        ensures fits { FitsNode (length self.now.nodes) result }
+    {
+        if n >= self.arena.node_count() {
+            return NodeRecord::Free { next: NONE };
+        }
+        let node = self.arena.node(n);
+        node_of(node.next, node.waiter)
+    }
+}
+
+// The ends of the list of a cell; none past the last cell.
+fn ends_at(arena: &Arena, a: u32) -> Option<Ends>
+    requires { IsThreaded arena.now }
+    ensures ends { result ≡ ends_at arena.now.links a }
+    ensures within { AreWithin (length arena.now.links.records) result }
+{
+    if a >= arena.list_count() {
+        return None;
+    }
+    arena.ends(a)
+}
+
+// The tag of a cell whose list has these ends.
+fn tag_of(cell: Cell, ends: Option<Ends>) -> PresenceTag
+    ensures tag { result ≡ tag_of cell ends }
+    ensures fits { (nodes : ℕ) → AreWithin nodes ends → FitsTag nodes result }
+{
+    match cell {
+        Cell::Empty => PresenceTag::Empty,
+        Cell::Waiting => waiting_tag(ends),
+        Cell::Full(value) => PresenceTag::Full(value),
+        Cell::Clashed(value) => PresenceTag::Clashed(value),
+    }
+}
+
+fn waiting_tag(ends: Option<Ends>) -> PresenceTag
+    ensures tag { result ≡ tag_of Cell.Waiting ends }
+    ensures fits { (nodes : ℕ) → AreWithin nodes ends → FitsTag nodes result }
+{
+    match ends {
+        Some(ends) => PresenceTag::Waiting {
+            first: ends.first,
+            last: ends.last,
+        },
+        None => PresenceTag::Empty,
+    }
+}
+
+// The record of a node with this link.
+fn node_of(next: u32, waiter: Option<Waiter>) -> NodeRecord
+    ensures node { result ≡ node_of next waiter }
+    ensures fits { (nodes : ℕ) → IsLink nodes next → FitsNode nodes result }
+{
+    match waiter {
+        Some(waiter) => NodeRecord::Listed { next, waiter },
+        None => NodeRecord::Free { next },
+    }
+}

@@ -1,0 +1,114 @@
+//! A memory from what the pages of an image show of it.
+ghost use Rattle.std.specs.Prelude.{◌≡◌, ◌+◌, ◌*◌, ◌<◌, ◌≤◌, [], length, replicate, slice_index_or, slice_set, IfOk, IfErr};
+ghost use Rattle.std.specs.List.{sum_by};
+ghost use Rattle.im_types.specs.declared.TheConstants.{WINDOW};
+ghost use Rattle.im_types.specs.Contents.{new_window};
+ghost use Rattle.im_types.specs.Memory.{IsWindow};
+ghost use Rattle.im_arena.specs.Lists.{list_at, with_list};
+ghost use Rattle.im_memory.specs.Restoring.{contents_shown, AreComplete};
+
+use crate::memory::Memory;
+use im_arena::Arena;
+use im_cell::CellTable;
+use im_sessions::Sessions;
+use im_types::{CellRecord, Kept, Limits, Refusal, WINDOW, Waiter};
+use std::alloc::Global;
+use std::marker::Model;
+
+/// A memory while it is put together: the records of its cells, then who waits at each, and each element's window.
+/// Contracts see these parts.
+#[derive(Drop)]
+pub struct Restoring<'a> {
+    cells: &'a [CellRecord],
+    arena: Arena,
+    sessions: Sessions,
+}
+
+impl<'a> Model for Restoring<'a> {
+    ghost use Rattle.im_memory.specs.Restoring.{Parts, HaveRoom};
+
+    ghost Value = { Parts };
+
+    ghost view = { λ r. record { cells = r.cells.now; lists = r.arena.held.lists; windows = r.sessions } };
+
+    ghost invariant = { λ r. HaveRoom r.cells.now r.arena r.sessions };
+}
+
+// Puts these waiters on an empty list, in their order.
+fn push_each(arena: &mut Arena, list: u32, waiters: &[Waiter])
+    requires list { list < length arena.old.held.lists }
+    requires empty { list_at arena.old.held list ≡ [] }
+    requires room { sum_by length arena.old.held.lists + length waiters.now ≤ arena.old.held.nodes }
+    ensures { arena.new.held ≡ with_list arena.old.held list waiters.now }
+{
+    for waiter in waiters {
+        let _pushed = arena.push_back(list, *waiter);
+    }
+}
+
+impl<'a> Restoring<'a> {
+    /// The parts of a memory of these sizes: these records of its cells, nobody who waits, and new windows. `NoMemory`
+    /// where there is no room for them.
+    pub fn new(
+        alloc: Global,
+        limits: Limits,
+        cells: &'a [CellRecord],
+    ) -> Result<Restoring<'a>, Refusal>
+        requires { length cells.now ≡ limits.cells }
+        ensures parts { IfOk result (λ r. r ≡ record { cells = cells.now; lists = replicate limits.cells []; windows = replicate limits.elements new_window }) }
+        ensures only { IfErr result (λ refusal. refusal ≡ Refusal.NoMemory) }
+    {
+        let nodes = WINDOW as u32 * limits.elements as u32;
+        let Ok(arena) = Arena::new(alloc, nodes, limits.cells) else {
+            return Err(Refusal::NoMemory);
+        };
+        let Ok(sessions) = Sessions::new(alloc, limits.elements) else {
+            return Err(Refusal::NoMemory);
+        };
+        Ok(Restoring {
+            cells,
+            arena,
+            sessions,
+        })
+    }
+
+    /// Puts those who wait at a cell, in their order, in the place of nobody. It takes a step for each.
+    pub fn put_list(&mut self, a: u32, waiters: &[Waiter])
+        requires cell { a < length self.old.lists }
+        requires empty { slice_index_or self.old.lists a [] ≡ [] }
+        requires room { sum_by length self.old.lists + length waiters.now ≤ WINDOW * length self.old.windows }
+        ensures { self.new ≡ record self.old { lists = slice_set self.old.lists a waiters.now } }
+    {
+        push_each(&mut self.arena, a, waiters);
+    }
+
+    /// Puts a window with these entries, numbered from a base on, in the place of an element's window.
+    pub fn put_window(&mut self, element: u16, base: u64, kept: &[Kept])
+        requires element { element < length self.old.windows }
+        requires window { IsWindow (record { base = base; kept = kept.now }) }
+        ensures { self.new ≡ record self.old { windows = slice_set self.old.windows element (record { base = base; kept = kept.now }) } }
+    {
+        self.sessions.restore(element, base, kept);
+    }
+
+    /// The memory that the parts stand for. `NoMemory` where there is no room for the table of its cells.
+    pub fn finish(self, alloc: Global) -> Result<Memory, Refusal>
+        requires { AreComplete self }
+        ensures memory { IfOk result (λ m. m ≡ contents_shown self.entry) }
+        ensures only { IfErr result (λ refusal. refusal ≡ Refusal.NoMemory) }
+    {
+        let Restoring {
+            cells,
+            arena,
+            sessions,
+        } = self;
+        match CellTable::restore(alloc, cells) {
+            Ok(table) => Ok(Memory {
+                table,
+                arena,
+                sessions,
+            }),
+            Err(refusal) => Err(refusal),
+        }
+    }
+}

@@ -1,0 +1,132 @@
+-- Commands put on a disk while a script is served. (Own.)
+use Rattle.std.proofs.Common.{◌≡◌, inl, ⊎_elim, ℕ, ◌+◌, Bool, true, false, ◌&&◌, List, [], ◌∷◌, ◌++◌, length, refl, sym, ap, subst, arith, if◌then◌else◌}
+use Rattle.std.specs.Prelude.{Some, None}
+use Rattle.std.proofs.lemmas.List.{append-nil, take_all}
+use Rattle.im_types.specs.declared.commands.Command.{Command}
+use Rattle.im_types.specs.Contents.{Contents}
+use Rattle.im_types.specs.Header.{Header}
+use Rattle.im_types.specs.Step.{step, is_accepted}
+use Rattle.im_types.specs.Meaning.{accept_each}
+use Rattle.im_types.specs.Run.{after}
+use Rattle.im_disk.specs.Moment.{Moment, Left}
+use Rattle.im_disk.specs.Since.{Leaves, LeavesNow}
+use Rattle.im_disk.proofs.SinceLemmas.{left_now, leaves_start, leaves_then, leaves_now}
+use Rattle.im_engine.specs.State.{EngineState, IsImage, MeansState, MeansEither}
+use Rattle.im_engine.specs.Run.{Answer, Answered, is_put, MeansAfter, MeansBeginning}
+use Rattle.im_engine.proofs.Running.{Far, one, far_on, leaves_on, now_on, now_start}
+use Rattle.im_program.specs.Serving.{HasPut, OnlyPuts, Closed, Served}
+
+-- ---- accepted commands
+
+accepted_more : (m : Contents) (put : List Command) (c : Command) → accept_each m put ≡ Some (after m put) → is_accepted (after m put) c ≡ true → accept_each m (put ++ c ∷ []) ≡ Some (after m (put ++ c ∷ []))
+accepted_more m [] c is accepted = ap (λ (b : Bool). if b then Some (step m c).contents else None) accepted
+accepted_more m (d ∷ put) c is accepted = by_test (is_accepted m d) is (λ rest. accepted_more (step m d).contents put c rest accepted)
+  where
+    by_test : (b : Bool) → (if b then accept_each (step m d).contents put else None) ≡ Some (after (step m d).contents put)
+        → (accept_each (step m d).contents put ≡ Some (after (step m d).contents put) → accept_each (step m d).contents (put ++ c ∷ []) ≡ Some (after (step m d).contents (put ++ c ∷ [])))
+        → (if b then accept_each (step m d).contents (put ++ c ∷ []) else None) ≡ Some (after (step m d).contents (put ++ c ∷ []))
+    by_test true e more = more e
+    by_test false e more = absurd (cc)
+
+accepted_on : (m : Contents) (put : List Command) (c : Command) (a : Answer) → accept_each m put ≡ Some (after m put)
+    → accept_each m (put ++ one (after m put) c a) ≡ Some (after m (put ++ one (after m put) c a))
+accepted_on m put c a is = by_test (is_accepted (after m put) c) (is_put a) refl
+  where
+    by_test : (b p : Bool) → is_accepted (after m put) c ≡ b → accept_each m (put ++ (if b && p then c ∷ [] else [])) ≡ Some (after m (put ++ (if b && p then c ∷ [] else [])))
+    by_test true true e = accepted_more m put c is e
+    by_test true false e = subst (λ (l : List Command). accept_each m l ≡ Some (after m l)) (sym (append-nil put)) is
+    by_test false p e = subst (λ (l : List Command). accept_each m l ≡ Some (after m l)) (sym (append-nil put)) is
+
+-- ---- one command more
+
+module _ {D : Type 0} (now : D → Moment) (past : D → List Moment) where
+  -- nothing is served yet
+  pub put_none : (start : EngineState D) → LeavesNow (now start.disk) (MeansState start) → HasPut now past start start []
+  put_none start means = record {
+    accepted = refl;
+    header = refl;
+    memory = λ f. refl;
+    count = λ f. omega arith;
+    leaves = leaves_start (now start.disk) (past start.disk) (MeansBeginning start []);
+    doubt = λ file left. now_start start file (means file left);
+  }
+
+  put_more : (start mid new : EngineState D) (put : List Command) (c : Command) (a : Answer) → HasPut now past start mid put → Answered mid c a new
+      → (mid.failed ≡ false → Leaves (now mid.disk) (now new.disk) (past mid.disk) (past new.disk) (MeansEither mid c))
+      → (mid.failed ≡ false → LeavesNow (now new.disk) (MeansEither mid c))
+      → HasPut now past start new (put ++ one (after start.memory put) c a)
+  put_more start mid new put c a so_far it leaves doubt =
+      let far : Far start mid put = record { header = so_far.header; memory = so_far.memory; count = so_far.count } in
+      let far_new : Far start new (put ++ one (after start.memory put) c a) = far_on start mid new put c a far it in
+      record {
+        accepted = accepted_on start.memory put c a so_far.accepted;
+        header = far_new.header;
+        memory = far_new.memory;
+        count = far_new.count;
+        leaves = leaves_on start mid new put c a far it now past so_far.leaves leaves;
+        doubt = now_on start mid new put c a far it now so_far.doubt doubt;
+      }
+
+  -- all that was put is there while the disk hasn't failed
+  put_all : (start engine : EngineState D) (put : List Command) → HasPut now past start engine put → engine.failed ≡ false → (file : List ℕ) → MeansState engine file → MeansAfter start put (length put) file
+  put_all start engine put it f file image = (
+    engine.room,
+    (subst (λ (k : List Command). IsImage start.header (after start.memory k) (start.count + length put) engine.room file) (sym (take_all (length put) put (omega arith)))
+        (subst (λ (h : Header). IsImage h (after start.memory put) (start.count + length put) engine.room file) it.header
+        (subst (λ (m : Contents). IsImage engine.header m (start.count + length put) engine.room file) (it.memory f)
+        (subst (λ (n : ℕ). IsImage engine.header engine.memory n engine.room file) (it.count f) image)))),
+  )
+
+  pub closed : (start engine : EngineState D) (put : List Command) (status : ℕ) → HasPut now past start engine put → (status ≡ 0 → engine.failed ≡ false) → (engine.failed ≡ false → LeavesNow (now engine.disk) (MeansState engine))
+      → Closed now past start engine.disk status
+  closed start engine put status it works means = record {
+    put = put;
+    accepted = it.accepted;
+    leaves = it.leaves;
+    doubt = it.doubt;
+    done = λ zero file left. put_all start engine put it (works zero) file (means (works zero) file left);
+  }
+
+  -- an opening leaves nothing new, and what it found was there
+  pub served : (old : D) (start : EngineState D) (new : D) (status : ℕ) → Leaves (now old) (now start.disk) (past old) (past start.disk) (Left (now old)) → LeavesNow (now start.disk) (MeansState start)
+      → Closed now past start new status → Served now past old new status
+  served old start new status opened means it = record {
+    start = start;
+    put = it.put;
+    found = (
+      (now start.disk).bytes,
+      ⊎_elim (λ left. left) (λ left. left) (leaves_now (now old) (now start.disk) (past old) (past start.disk) (Left (now old)) opened (now start.disk).bytes (left_now (now start.disk))),
+      means (now start.disk).bytes (left_now (now start.disk)),
+    );
+    accepted = it.accepted;
+    leaves = leaves_then (now old) (now start.disk) (now new) (past old) (past start.disk) (past new) (λ file. ⊥) (MeansBeginning start it.put) (MeansBeginning start it.put)
+        (record { later = opened.later; each = λ t c le left. ⊎_elim (λ before. inl before) (λ here. inl (inl (le, here))) (opened.each t c le left) }) it.leaves (λ file no. absurd no) (λ file is. is);
+    doubt = it.doubt;
+    done = it.done;
+  }
+
+  -- ---- engines, one after another
+
+  module _ (honest : D → Type 0) where
+    pub puts_none : (old new : EngineState D) → new ≡ old → OnlyPuts now past honest old new
+    puts_none old new same = subst (λ (s : EngineState D). OnlyPuts now past honest old s) (sym same) (λ start so_far. so_far)
+
+    pub puts_then : (old mid new : EngineState D) → OnlyPuts now past honest old mid → OnlyPuts now past honest mid new → OnlyPuts now past honest old new
+    puts_then old mid new first second = λ start so_far. second start (first start so_far)
+
+    -- commands were put, and then one is served
+    pub puts_one : (old mid new : EngineState D) (c : Command) (a : Answer) → OnlyPuts now past honest old mid → Answered mid c a new → (honest new.disk → honest mid.disk)
+        → (honest new.disk → mid.failed ≡ false → Leaves (now mid.disk) (now new.disk) (past mid.disk) (past new.disk) (MeansEither mid c))
+        → (honest new.disk → mid.failed ≡ false → LeavesNow (now new.disk) (MeansEither mid c))
+        → OnlyPuts now past honest old new
+    puts_one old mid new c a so_far it was leaves doubt = λ start serves h.
+        let before = so_far start serves (was h) in
+        (before.0, (before.1.0 ++ one (after start.memory before.1.0) c a, put_more start mid new before.1.0 c a before.1.1 it (leaves h) (doubt h)))
+
+    -- the engine is closed
+    pub ends : (start engine : EngineState D) (disk : D) (status : ℕ) → (honest start.disk → LeavesNow (now start.disk) (MeansState start)) → OnlyPuts now past honest start engine → disk ≡ engine.disk
+        → (status ≡ 0 → engine.failed ≡ false) → (honest engine.disk → engine.failed ≡ false → LeavesNow (now engine.disk) (MeansState engine)) → honest disk → honest start.disk × Closed now past start disk status
+    ends start engine disk status means puts is works here h =
+        let there : honest engine.disk = subst honest is h in
+        let it = puts start (λ was. (was, ([], put_none start (means was)))) there in
+        (it.0, subst (λ (d : D). Closed now past start d status) (sym is) (closed start engine it.1.0 status it.1.1 works (here there)))

@@ -1,0 +1,5 @@
+use Rattle.im_program.proofs.ServingLemmas.{puts_then}
+use Rattle.im_program.proofs.serial.Server.serve_next.Goals as goal
+
+pub returns : goal.returns
+returns g c = record { puts = puts_then g.D.Disk.now g.D.Disk.past g.D.Disk.honest c.args.self.now.engine c.make_place.new.self.engine c.serve_one.new.self.engine c.make_place.ensures.puts c.serve_one.ensures.puts }
