@@ -5,9 +5,10 @@
 mod blocks;
 mod cells;
 mod lists;
+mod memory;
 mod windows;
 
-use im_types::{MAX_CELLS, Refusal};
+use im_types::{Kind, MAX_CELLS, Refusal};
 use std::alloc::Global;
 use std::process::ExitCode;
 use std::{env, io};
@@ -36,6 +37,15 @@ fn checksum(alloc: Global, workload: &str, count: u32) -> Option<Result<u64, Ref
         "judge_new" => windows::judge(alloc, 0, count),
         "judge_kept" => windows::judge(alloc, MAX_CELLS, count),
         "judge_and_note" => windows::judge_and_note(alloc, count),
+        "store_and_fetch" => memory::write_and_read(alloc, Kind::I, count),
+        "put_and_take" => memory::write_and_read(alloc, Kind::M, count),
+        "fetch_and_store" => memory::read_and_write(alloc, Kind::I, count),
+        "take_and_put" => memory::read_and_write(alloc, Kind::M, count),
+        "release_and_allocate" => memory::release_and_allocate(alloc, count),
+        "memory_of_cells" => memory::cells(alloc, count),
+        "memory_of_elements" => memory::elements(alloc, count),
+        "table_of_cells" => memory::table(alloc, count),
+        "arena_of_nodes" => memory::nodes(alloc, count),
         _ => return None,
     };
     Some(sum)
