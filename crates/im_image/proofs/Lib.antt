@@ -5,3 +5,6 @@ pub mod FreshArea
 pub mod FreshImage
 pub mod BlankArea
 pub mod OpenArea
+pub mod Restored
+pub mod Encoding
+pub mod Outcomes

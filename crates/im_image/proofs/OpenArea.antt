@@ -3,7 +3,7 @@ use Rattle.std.proofs.Common.{◌≡◌, ℕ, ◌+◌, ◌-◌, List, length, ta
 use Rattle.im_types.specs.declared.refusals.Refusal.{Refusal}
 use Rattle.im_types.specs.declared.refusals.Refusal.TheVariants.{WrongLength}
 use Rattle.im_types.specs.Sizes.{AreLimits}
-use Rattle.im_types.specs.Contents.{empty_contents}
+use Rattle.im_types.specs.Contents.{Contents, empty_contents}
 use Rattle.im_types.specs.Layout.{Sizes, layout_1, area_at, area_bytes, area_of, image_length}
 use Rattle.im_types.specs.Header.{Header, header_of, header_fault, header_place, place_fault, or_else}
 use Rattle.im_types.specs.Pages.{Shows}
@@ -25,18 +25,10 @@ less a b = omega arith
 pub area_read : (s : Sizes) (number : ℕ) (file : List ℕ) → take (area_bytes layout_1 s) (drop (area_at layout_1 s number) file) ≡ area_of layout_1 s number file
 area_read s number file = ap (λ (k : ℕ). take k (drop (area_at layout_1 s number) file)) (sym (less (area_at layout_1 s number) (area_bytes layout_1 s)))
 
--- what is shown of a file whose header in force is this one
-pub shown_by : (h : Header) (file area : List ℕ) → h ≡ header_of file → area ≡ area_of layout_1 h.sizes h.area file
-    → Shows layout_1 h.sizes area (empty_contents h.sizes.cells h.sizes.elements) → IsShown layout_1 file (empty_contents h.sizes.cells h.sizes.elements)
-shown_by h file area is read shows =
-    subst (λ (k : Header). Shows layout_1 k.sizes (area_of layout_1 k.sizes k.area file) (empty_contents h.sizes.cells h.sizes.elements)) is
-    (subst (λ (l : List ℕ). Shows layout_1 h.sizes l (empty_contents h.sizes.cells h.sizes.elements)) read shows)
-
-pub shown_back : (h : Header) (file area : List ℕ) → h ≡ header_of file → area ≡ area_of layout_1 h.sizes h.area file
-    → IsShown layout_1 file (empty_contents h.sizes.cells h.sizes.elements) → Shows layout_1 h.sizes area (empty_contents h.sizes.cells h.sizes.elements)
-shown_back h file area is read shown =
-    subst (λ (l : List ℕ). Shows layout_1 h.sizes l (empty_contents h.sizes.cells h.sizes.elements)) (sym read)
-    (subst (λ (k : Header). Shows layout_1 k.sizes (area_of layout_1 k.sizes k.area file) (empty_contents h.sizes.cells h.sizes.elements)) (sym is) shown)
+-- what a file shows, the area of its header in force shows
+pub shown-in : (h : Header) (file area : List ℕ) (m : Contents) → h ≡ header_of file → area ≡ area_of layout_1 h.sizes h.area file → IsShown layout_1 file m → Shows layout_1 h.sizes area m
+shown-in h file area m is read shown =
+    subst (λ (l : List ℕ). Shows layout_1 h.sizes l m) (sym read) (subst (λ (k : Header). Shows layout_1 k.sizes (area_of layout_1 k.sizes k.area file) m) (sym is) shown)
 
 -- an image without fault has the length that its header says
 pub length_of_image : (file : List ℕ) → header_fault layout_1 file ≡ None → length file ≡ image_length layout_1 (header_of file).sizes

@@ -1,23 +1,30 @@
-//! The image of a memory: its headers, and its pages as they are made.
+//! The image of a memory: its headers, its pages as they are made and read again, and what a whole image means.
 //!
-//! Stands on `im_disk` (what a crash may leave), and on the laws of the bytes in `im_formats`. The bytes are in
-//! docs/FORMAT.md, their definitions in `im_types`. So far an area is read where it shows the empty memory alone.
+//! Stands on `im_records` and `im_contents`, which say which memory the bytes of an area show, on `im_memory`, on
+//! `im_journal` for the run of commands, and on `im_disk`, of whose calls it makes only those that read. The bytes are in
+//! docs/FORMAT.md, their definitions in `im_types`.
 #![tactic(auto)]
 
+mod area;
 mod blank;
 mod fresh;
 mod header;
 mod in_force;
 mod layout;
 mod open_area;
+mod pages;
+mod reading;
 #[cfg(test)]
 mod tests;
 
+pub use area::{areas_show_one_memory, decode};
 pub use fresh::new_image;
 pub use header::{Header, OPEN, VERSION};
 pub use in_force::read_header;
 pub use layout::{
-    area_at, area_pages, cell_pages, image_length, journal_at, node_count, node_pages,
+    PAGE, area_at, area_pages, cell_pages, image_length, journal_at, node_count, node_pages,
     session_pages,
 };
-pub use open_area::read_new_area;
+pub use open_area::{read_memory, read_new_area};
+pub use pages::{areas_show_the_memory, encode, encode_page, pages_show_the_memory};
+pub use reading::{Image, Report, inspect, read_image, replay};

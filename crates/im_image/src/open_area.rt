@@ -1,6 +1,6 @@
 //! Reading the area in force, where it shows the empty memory.
 ghost use Rattle.std.specs.Prelude.{◌≡◌, ◌⊎◌, ◌↔◌, ◌≤◌, ◌+◌, None, length, drop, take, IsTrue, IfOk, IfErr, OnOk, IsErrOf};
-ghost use Rattle.im_types.specs.Contents.{empty_contents};
+ghost use Rattle.im_types.specs.Contents.{Contents, empty_contents};
 ghost use Rattle.im_types.specs.Layout as layout;
 ghost use Rattle.im_types.specs.Layout.{layout_1, area_of};
 ghost use Rattle.im_types.specs.Header.{header_of, header_fault};
@@ -11,10 +11,12 @@ ghost use Rattle.im_disk.specs.Since.{ReadsOnly};
 ghost use Rattle.im_types.specs.Layout.{sizes_of};
 ghost use Rattle.im_image.specs.Headers.{seen};
 
+use crate::area::decode;
 use crate::blank::is_blank;
 use crate::header::Header;
 use crate::layout::{PAGE, area_at, area_pages};
 use im_disk::{DeviceFault, Disk};
+use im_memory::Memory;
 use im_types::{Limits, Refusal};
 use std::alloc::Global;
 
@@ -88,6 +90,28 @@ pub fn read_new_area<D: Disk>(alloc: Global, disk: &mut D, header: &Header) -> R
                 Err(Refusal::BadPage)
             }
         }
+        Err(refusal) => Err(refusal),
+    }
+}
+
+/// The memory that the area of a header in force shows. `BadPage` exactly where it shows none.
+///
+/// Device calls: one read of the area. Memory: as much as the area is long, at most 2,179,072 bytes, its records, and the
+/// memory; `NoMemory` where it is refused. `Device`: the read failed.
+pub fn read_memory<D: Disk>(alloc: Global, disk: &mut D, header: &Header) -> Result<Memory, Refusal>
+    requires area { header.now.area ≤ 1 }
+    requires good { D.honest disk.old → header_fault layout_1 (D.now disk.old).bytes ≡ None }
+    requires header { D.honest disk.old → seen header.now ≡ header_of (D.now disk.old).bytes }
+    ensures shown { IfOk result (λ m. D.honest disk.new → IsShown layout_1 (D.now disk.old).bytes m) }
+    ensures bad { IsErrOf result Refusal.BadPage → D.honest disk.new → (m : Contents) → IsShown layout_1 (D.now disk.old).bytes m → ⊥ }
+    ensures only { IfErr result (λ e. (e ≡ Refusal.BadPage) ⊎ (e ≡ Refusal.NoMemory) ⊎ (e ≡ Refusal.Device)) }
+    ensures reads { D.honest disk.new → ReadsOnly (D.now disk.old) (D.now disk.new) (D.past disk.old) (D.past disk.new) }
+    ensures honest { D.honest disk.new → D.honest disk.old }
+    ensures device { IsErrOf result Refusal.Device → Rises (D.failures disk.old) (D.failures disk.new) }
+    ensures steady { OnOk result (D.failures disk.new ≡ D.failures disk.old) }
+{
+    match read_area(alloc, disk, header.limits, header.area) {
+        Ok(area) => decode(alloc, &area, header.limits),
         Err(refusal) => Err(refusal),
     }
 }

@@ -7,6 +7,8 @@ use im_types::{LAST, Limits, Refusal};
 use std::alloc::Global;
 use std::test::Fail;
 
+mod memories;
+
 fn limits(cells: u32, elements: u16, slots: u32) -> Result<Limits, Refusal> {
     Limits::new(cells, elements, slots).ok_or(Refusal::BadLimits)
 }

@@ -7,8 +7,8 @@ ghost use Rattle.im_cell.specs.declared.slots.Slot.{Slot};
 ghost use Rattle.im_arena.specs.Lists.{list_at, free};
 ghost use Rattle.im_istore.specs.Joined.{cells_of};
 ghost use Rattle.im_istore.specs.Agreement.{Agree, AgreeBut};
-ghost use Rattle.im_istore.specs.Access.{fetched, stored, replies_to};
-ghost use Rattle.im_mstore.specs.Access.{taken, given};
+ghost use Rattle.im_istore.specs.Access.{stored, replies_to};
+ghost use Rattle.im_mstore.specs.Access.{given};
 ghost use Rattle.im_memory.specs.Resuming.{replies_of, AreListed, AgreeFor, AreAwaited, HasActed};
 
 use im_arena::Arena;

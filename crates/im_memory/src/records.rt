@@ -2,7 +2,10 @@
 ghost use Rattle.std.specs.Prelude.{◌≡◌, ◌<◌, ◌^◌, ℕ, length, slice_get, slice_index_or, Some, None};
 ghost use Rattle.im_types.specs.declared.records.CellRecord.TheVariants.{Free as FreeCell};
 ghost use Rattle.im_types.specs.declared.records.NodeRecord.TheVariants.{Free as FreeNode};
+ghost use Rattle.im_types.specs.Contents.{Window, kept_for};
 ghost use Rattle.im_types.specs.Layout.{Sizes};
+ghost use Rattle.im_types.specs.Memory.{IsWindow};
+ghost use Rattle.im_types.specs.Window.{bounds};
 ghost use Rattle.im_types.specs.Pages.{ShowsRecords};
 ghost use Rattle.im_types.specs.Records.{IsLink, FitsTag, FitsCell, FitsNode};
 ghost use Rattle.im_arena.specs.Lists.{IsThreaded, ends_at};
@@ -12,7 +15,7 @@ ghost use Rattle.im_memory.specs.Shown.{tag_of, node_of, records_of, AreWithin};
 use im_arena::{Arena, Ends};
 use im_cell::{Cell, CellTable};
 use im_sessions::Sessions;
-use im_types::{CellRecord, NONE, NodeRecord, PresenceTag, Waiter};
+use im_types::{CellRecord, Kept, NONE, NodeRecord, PresenceTag, Refusal, Waiter};
 use std::marker::Model;
 
 /// The records of a memory: of each cell, and of each node for a request that waits. With the windows they show the
@@ -95,6 +98,21 @@ impl<'a> MemoryRecords<'a> {
         }
         let node = self.arena.node(n);
         node_of(node.next, node.waiter)
+    }
+
+    /// The base of an element's window, and the number of its next new request: refused with `NoElement`.
+    pub fn window(&self, element: u16) -> Result<(u64, u64), Refusal>
+        ensures bounds { result ≡ bounds self.now.windows element }
+        ensures within { (e : ℕ) (w : Window) → slice_get self.now.windows e ≡ Some w → IsWindow w }
+    {
+        self.sessions.window(element)
+    }
+
+    /// What is kept under an element's number.
+    pub fn kept(&self, element: u16, number: u64) -> Option<Kept>
+        ensures { result ≡ kept_for self.now.windows (record { element = element; number = number }) }
+    {
+        self.sessions.kept(element, number)
     }
 }
 

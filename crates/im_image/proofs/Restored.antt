@@ -1,0 +1,121 @@
+-- A memory that is put together from the records of an area.
+use Rattle.std.proofs.Common.{◌≡◌, ⊎_elim, ℕ, zero, suc, ◌+◌, ◌*◌, ◌<◌, ◌≤◌, List, [], length, take, set, get_or, replicate, refl, sym, ap, ◌∙◌, subst, arith, length-set}
+use Rattle.std.specs.Prelude.{Err, IsErrOf}
+use Rattle.std.specs.List.{sum_by}
+use Rattle.std.proofs.lemmas.Bool.{cases_lt}
+use Rattle.std.proofs.lemmas.List.{get_or-set_same, get_or-set_other, length-replicate, ext_get_or}
+use Rattle.std.proofs.lemmas.List.Sums.{sum_by-set, sum_by_more, sum_by-take-le}
+use Rattle.std.proofs.lemmas.List.Folds.{sum_by-replicate}
+use Rattle.im_types.specs.declared.TheConstants.{WINDOW, NONE}
+use Rattle.im_types.specs.declared.refusals.Refusal.{Refusal}
+use Rattle.im_types.specs.declared.operations.Waiter.{Waiter}
+use Rattle.im_types.specs.declared.records.CellRecord.{CellRecord}
+use Rattle.im_types.specs.declared.records.NodeRecord.{NodeRecord}
+use Rattle.im_types.specs.Chains.{ShowLists}
+use Rattle.im_types.specs.Contents.{Window, Contents}
+use Rattle.im_types.specs.Layout.{Sizes, layout_1}
+use Rattle.im_types.specs.Memory.{IsMemory}
+use Rattle.im_types.specs.Pages.{Records, SpellsArea, ShowsRecords, Shows, cells_shown}
+use Rattle.im_types.specs.Sizes.{AreLimits}
+use Rattle.im_records.proofs.Unique.{one_area}
+use Rattle.im_contents.proofs.BlockLemmas.{length-cells_shown}
+use Rattle.im_contents.proofs.ContentsLemmas.{memory_unique}
+use Rattle.im_memory.specs.Restoring.{Parts, AreComplete}
+use Rattle.im_memory.proofs.RestoreLemmas.{lists-fit}
+
+-- a refusal of one call is that of another
+pub refused-same : {T U : Type 0} (a b : Refusal) → IsErrOf {T = T} {E = Refusal} (Err a) b → IsErrOf {T = U} {E = Refusal} (Err a) b
+refused-same a b e = let same : a ≡ b = cc in ap Err same
+
+-- the first of a list's elements stand in their places
+pub record Begun {X : Type 0} (none : X) (xs now : List X) (i : ℕ) : Type 0 where
+  pub many : length now ≡ length xs
+  pub first : (a : ℕ) → a < i → get_or now a none ≡ get_or xs a none
+
+pub begun-more : {X : Type 0} (none : X) (xs now : List X) (i : ℕ) → i < length xs → Begun none xs now i → Begun none xs (set now i (get_or xs i none)) (i + 1)
+begun-more none xs now i inside begun = record {
+  many = length-set now i (get_or xs i none) ∙ begun.many;
+  first = λ a lt. ⊎_elim
+      (λ (less : a < i). get_or-set_other now i a (get_or xs i none) none (λ e. omega arith) ∙ begun.first a less)
+      (λ (from : i ≤ a).
+      let same : a ≡ i = omega arith in
+      let here : get_or (set now i (get_or xs i none)) i none ≡ get_or xs i none = get_or-set_same now i (get_or xs i none) none (omega (arith, begun.many)) in
+      subst (λ a. get_or (set now i (get_or xs i none)) a none ≡ get_or xs a none) (sym same) here)
+      (cases_lt a i);
+}
+
+pub begun-all : {X : Type 0} (none : X) (xs now : List X) → Begun none xs now (length xs) → now ≡ xs
+begun-all none xs now begun = ext_get_or none now xs begun.many (λ a lt. begun.first a (omega (arith, begun.many)))
+
+abbrev pub nobody : List Waiter
+nobody = []
+
+-- and the other lists are empty
+pub record ListsPut (lists now : List (List Waiter)) (i : ℕ) : Type 0 where
+  pub begun : Begun [] lists now i
+  pub rest : (a : ℕ) → i ≤ a → get_or now a [] ≡ []
+  pub sum : sum_by length now ≡ sum_by length (take i lists)
+
+empty-at : (n a : ℕ) → get_or (replicate n nobody) a nobody ≡ nobody
+empty-at zero a = refl
+empty-at (suc n) zero = refl
+empty-at (suc n) (suc a) = empty-at n a
+
+pub lists-none : (lists : List (List Waiter)) (n : ℕ) → length lists ≡ n → ListsPut lists (replicate n nobody) 0
+lists-none lists n is = record {
+  begun = record { many = length-replicate n nobody ∙ sym is; first = λ a lt. absurd (omega arith) };
+  rest = λ a from. empty-at n a;
+  sum = sum_by-replicate length n nobody ∙ times_none n;
+}
+  where
+    times_none : (n : ℕ) → n * 0 ≡ 0
+    times_none n = omega arith
+
+pub lists-more : (lists now : List (List Waiter)) (i : ℕ) → i < length lists → ListsPut lists now i → ListsPut lists (set now i (get_or lists i [])) (i + 1)
+lists-more lists now i inside put = record {
+  begun = begun-more nobody lists now i inside put.begun;
+  rest = λ a from. get_or-set_other now i a (get_or lists i []) [] (λ e. omega arith) ∙ put.rest a (omega arith);
+  sum =
+      let now_sum : sum_by length (set now i (get_or lists i [])) + length (get_or now i nobody) ≡ sum_by length now + length (get_or lists i nobody) = sum_by-set length now i (get_or lists i []) [] (omega (arith, put.begun.many)) in
+      omega (arith, now_sum, put.sum, ap length (put.rest i (omega arith)), sum_by_more length lists i nobody inside);
+}
+
+pub lists-room : (lists now : List (List Waiter)) (i most : ℕ) → i < length lists → ListsPut lists now i → sum_by length lists ≤ most → sum_by length now + length (get_or lists i nobody) ≤ most
+lists-room lists now i most inside put fits = omega (arith, put.sum, sum_by_more length lists i nobody inside, sum_by-take-le length lists (i + 1))
+
+-- parts with the same of each kind are the same
+pub parts-same : (p q : Parts) → p.cells ≡ q.cells → p.lists ≡ q.lists → p.windows ≡ q.windows → p ≡ q
+parts-same p q cells lists windows = λ i. record { cells = cells i; lists = lists i; windows = windows i }
+
+pub records-same : (r : Records) (cells : List CellRecord) (nodes : List NodeRecord) (windows : List Window) → cells ≡ r.cells → nodes ≡ r.nodes → windows ≡ r.windows
+    → r ≡ record { cells = cells; nodes = nodes; windows = windows }
+records-same r cells nodes windows c n w = λ i. record { cells = (sym c) i; nodes = (sym n) i; windows = (sym w) i }
+
+-- records and lists that are a memory are complete
+pub complete-of : (elements cells : ℕ) (r : Records) (lists : List (List Waiter)) → ShowLists r.nodes r.cells lists
+    → IsMemory cells elements (record { cells = cells_shown r.cells lists; windows = r.windows }) → AreComplete (record { cells = r.cells; lists = lists; windows = r.windows })
+complete-of elements cells r lists chained memory = record {
+  nodes = r.nodes;
+  chained = chained;
+  memory =
+      let m : Contents = record { cells = cells_shown r.cells lists; windows = r.windows } in
+      subst (λ n. IsMemory n (length r.windows) m) (sym (sym (length-cells_shown r.cells lists) ∙ memory.cell_count)) (subst (λ n. IsMemory cells n m) (sym memory.window_count) memory);
+}
+
+pub records-fit : (elements cells : ℕ) (r : Records) (lists : List (List Waiter)) → ShowLists r.nodes r.cells lists
+    → IsMemory cells elements (record { cells = cells_shown r.cells lists; windows = r.windows }) → sum_by length lists ≤ WINDOW * elements
+records-fit elements cells r lists chained memory = omega (arith, lists-fit r.cells lists r.windows (complete-of elements cells r lists chained memory), memory.window_count)
+
+-- as many nodes as there may be
+pub few-nodes : (s : Sizes) (area : List ℕ) (r : Records) → AreLimits s.cells s.elements s.slots → SpellsArea layout_1 s area r → length r.nodes ≤ NONE
+few-nodes s area r limits spelled = omega (arith, limits.few_elements, spelled.nodes.many)
+
+pub one-memory : (s : Sizes) (area : List ℕ) (m other : Contents) → AreLimits s.cells s.elements s.slots → Shows layout_1 s area m → Shows layout_1 s area other → m ≡ other
+one-memory s area m other limits shows also =
+    let same : also.records ≡ shows.records = one_area s area also.records shows.records limits also.spelled shows.spelled in
+    memory_unique s shows.records m other (few-nodes s area shows.records limits shows.spelled) shows.shown (subst (λ (r : Records). ShowsRecords s r other) same also.shown)
+
+-- records that show no memory are those of an area that shows none
+pub shows-none : (s : Sizes) (area : List ℕ) (r : Records) → AreLimits s.cells s.elements s.slots → SpellsArea layout_1 s area r → ((m : Contents) → ShowsRecords s r m → ⊥)
+    → (m : Contents) → Shows layout_1 s area m → ⊥
+shows-none s area r limits spelled none m shows = none m (subst (λ (q : Records). ShowsRecords s q m) (one_area s area shows.records r limits shows.spelled spelled) shows.shown)

@@ -1,0 +1,39 @@
+use Rattle.std.proofs.Common.{◌≡◌, inl, inr, ⊎_elim, Some, None, Err, refl, sym, ap, ◌∙◌, subst}
+use Rattle.im_types.specs.declared.refusals.Refusal.{Refusal}
+use Rattle.im_types.specs.declared.refusals.Refusal.TheVariants.{NoMemory, BadPage, BadRecord, Device}
+use Rattle.im_types.specs.Header.{header_fault}
+use Rattle.im_types.specs.Layout.{layout_1}
+use Rattle.im_types.specs.Meaning.{Reached, Reads}
+use Rattle.im_disk.specs.Moment.{Moment}
+use Rattle.im_disk.proofs.SinceLemmas.{reads_then}
+use Rattle.im_image.specs.declared.reading.Image.{Image}
+use Rattle.im_image.proofs.Outcomes.{read-ok, read-err, reads-fault, reads-no-page}
+use Rattle.im_image.proofs.reading.read_behind.Goals as goal
+
+abbrev reached : Image → Reached
+reached i = record { contents = i.memory; count = i.journal.count; room = i.journal.room }
+
+pub read_run-requires-clause-good : goal.read_run-requires-clause-good
+read_run-requires-clause-good g c = λ h. subst (λ (m : Moment). header_fault layout_1 m.bytes ≡ None) (sym (c.read_memory.ensures.reads h).now) (c.requires.good (c.read_memory.ensures.honest h))
+
+pub returns-in-Ok-clause-means : goal.returns-in-Ok-clause-means
+returns-in-Ok-clause-means g c =
+    read-ok c.read_run.result reached (g.D.Disk.now c.args.disk.now) (g.D.Disk.now c.read_memory.new.disk) (g.D.Disk.honest c.read_run.new.disk) (λ h. (c.read_memory.ensures.reads (c.read_run.ensures.honest h)).now) c.read_run.ensures.means
+
+pub returns-in-Ok-clause-fault : goal.returns-in-Ok-clause-fault
+returns-in-Ok-clause-fault g c =
+    read-err c.read_run.result (g.D.Disk.now c.args.disk.now) (g.D.Disk.now c.read_memory.new.disk) (g.D.Disk.honest c.read_run.new.disk) (λ h. (c.read_memory.ensures.reads (c.read_run.ensures.honest h)).now) c.read_run.ensures.fault
+
+pub returns-in-Ok-clause-reads : goal.returns-in-Ok-clause-reads
+returns-in-Ok-clause-reads g c = λ h.
+    reads_then (g.D.Disk.now c.args.disk.now) (g.D.Disk.now c.read_memory.new.disk) (g.D.Disk.now c.read_run.new.disk) (g.D.Disk.past c.args.disk.now) (g.D.Disk.past c.read_memory.new.disk) (g.D.Disk.past c.read_run.new.disk)
+    (c.read_memory.ensures.reads (c.read_run.ensures.honest h)) (c.read_run.ensures.reads h)
+
+pub returns-in-Err-clause-fault : goal.returns-in-Err-clause-fault
+returns-in-Err-clause-fault g c =
+    elim c.in-Err.ensures.only [
+      | inl is ↦ inr (inr (λ h.
+          subst (λ (e : Refusal). Reads layout_1 (g.D.Disk.now c.args.disk.now).bytes (Err e)) (sym is)
+          (reads-no-page (g.D.Disk.now c.args.disk.now).bytes (c.requires.good (c.read_memory.ensures.honest h)) (c.in-Err.ensures.bad (ap (λ (e : Refusal). Err e) is) h))))
+      | inr more ↦ elim more [ inl none ↦ inl none | inr device ↦ inr (inl device) ]
+    ]

@@ -1,0 +1,34 @@
+use Rattle.std.proofs.Common.{◌≡◌, inl, inr, ⊎_elim, Some, None, Err, refl, sym, ap, ◌∙◌, subst}
+use Rattle.im_types.specs.declared.refusals.Refusal.{Refusal}
+use Rattle.im_types.specs.declared.refusals.Refusal.TheVariants.{NoMemory, BadPage, BadRecord, Device}
+use Rattle.im_types.specs.Header.{header_fault}
+use Rattle.im_types.specs.Layout.{layout_1}
+use Rattle.im_types.specs.Meaning.{Reached, Reads}
+use Rattle.im_disk.specs.Moment.{Moment}
+use Rattle.im_disk.proofs.SinceLemmas.{reads_then}
+use Rattle.im_image.specs.declared.reading.Image.{Image}
+use Rattle.im_image.proofs.Outcomes.{read-ok, read-err, reads-fault, reads-no-page}
+use Rattle.im_image.proofs.reading.read_image.Goals as goal
+
+abbrev reached : Image → Reached
+reached i = record { contents = i.memory; count = i.journal.count; room = i.journal.room }
+
+pub read_behind-requires-clause-good : goal.read_behind-requires-clause-good
+read_behind-requires-clause-good g c = λ h. subst (λ (m : Moment). header_fault layout_1 m.bytes ≡ None) (sym (c.read_header.ensures.reads h).now) (c.in-Ok.ensures.good h)
+
+pub returns-in-Ok-clause-means : goal.returns-in-Ok-clause-means
+returns-in-Ok-clause-means g c =
+    read-ok c.read_behind.result reached (g.D.Disk.now c.args.disk.now) (g.D.Disk.now c.read_header.new.disk) (g.D.Disk.honest c.read_behind.new.disk) (λ h. (c.read_header.ensures.reads (c.read_behind.ensures.honest h)).now) c.read_behind.ensures.means
+
+pub returns-in-Ok-clause-fault : goal.returns-in-Ok-clause-fault
+returns-in-Ok-clause-fault g c =
+    read-err c.read_behind.result (g.D.Disk.now c.args.disk.now) (g.D.Disk.now c.read_header.new.disk) (g.D.Disk.honest c.read_behind.new.disk) (λ h. (c.read_header.ensures.reads (c.read_behind.ensures.honest h)).now) c.read_behind.ensures.fault
+
+pub returns-in-Ok-clause-reads : goal.returns-in-Ok-clause-reads
+returns-in-Ok-clause-reads g c = λ h.
+    reads_then (g.D.Disk.now c.args.disk.now) (g.D.Disk.now c.read_header.new.disk) (g.D.Disk.now c.read_behind.new.disk) (g.D.Disk.past c.args.disk.now) (g.D.Disk.past c.read_header.new.disk) (g.D.Disk.past c.read_behind.new.disk)
+    (c.read_header.ensures.reads (c.read_behind.ensures.honest h)) (c.read_behind.ensures.reads h)
+
+pub returns-in-Err-clause-fault : goal.returns-in-Err-clause-fault
+returns-in-Err-clause-fault g c =
+    ⊎_elim (λ device. inr (inl device)) (λ fault. inr (inr (λ h. reads-fault (g.D.Disk.now c.args.disk.now).bytes c.in-Err.refusal (fault h)))) c.in-Err.ensures.fault

@@ -1,0 +1,91 @@
+//! Which memory the pages of an area show.
+ghost use Rattle.std.specs.Prelude.{◌≡◌, ◌⊎◌, ◌*◌, ◌≤◌, ℕ, List, [], length, replicate, slice_get, Some, IfOk, IfErr, IsErrOf};
+ghost use Rattle.std.specs.List.{sum_by};
+ghost use Rattle.im_types.specs.declared.TheConstants.{WINDOW};
+ghost use Rattle.im_types.specs.Chains.{ShowLists};
+ghost use Rattle.im_types.specs.Contents.{Window, Contents};
+ghost use Rattle.im_types.specs.Layout as layout;
+ghost use Rattle.im_types.specs.Layout.{Sizes, layout_1, sizes_of};
+ghost use Rattle.im_types.specs.Memory.{IsMemory, IsWindow};
+ghost use Rattle.im_types.specs.Pages.{Shows, cells_shown};
+ghost use Rattle.im_types.specs.Sizes.{AreLimits};
+
+use im_contents::{Lists, read_contents};
+use im_memory::{Memory, Restoring};
+use im_records::{AreaRecords, WindowRecord, read_area};
+use im_types::{Limits, Refusal};
+use std::alloc::Global;
+
+// Puts the lists of those who wait, one for each of so many cells.
+fn put_lists(restoring: &mut Restoring<'_>, cells: u32, lists: &Lists)
+    requires count { length lists.now ≡ cells }
+    requires nobody { restoring.old.lists ≡ replicate cells [] }
+    requires room { sum_by length lists.now ≤ WINDOW * length restoring.old.windows }
+    ensures { restoring.new ≡ record restoring.old { lists = lists.now } }
+{
+    for cell in 0..cells {
+        restoring.put_list(cell, lists.at(cell as usize));
+    }
+}
+
+// Puts the windows of so many elements.
+fn put_windows(restoring: &mut Restoring<'_>, elements: u16, windows: &[WindowRecord])
+    requires count { length windows.now ≡ elements }
+    requires places { length restoring.old.windows ≡ elements }
+    requires within { (element : ℕ) (w : Window) → slice_get windows.now element ≡ Some w → IsWindow w }
+    ensures { restoring.new ≡ record restoring.old { windows = windows.now } }
+{
+    for element in 0..elements {
+        let window = &windows[element as usize];
+        restoring.put_window(element, window.base(), window.kept());
+    }
+}
+
+// The memory that records stand for, with these lists of those who wait.
+fn restore(
+    alloc: Global,
+    limits: Limits,
+    records: &AreaRecords,
+    lists: &Lists,
+) -> Result<Memory, Refusal>
+    requires chained { ShowLists records.now.nodes records.now.cells lists.now }
+    requires count { length lists.now ≡ length records.now.cells }
+    requires memory { IsMemory limits.cells limits.elements (record { cells = cells_shown records.now.cells lists.now; windows = records.now.windows }) }
+    ensures memory { IfOk result (λ m. m ≡ record { cells = cells_shown records.now.cells lists.now; windows = records.now.windows }) }
+    ensures only { IfErr result (λ e. e ≡ Refusal.NoMemory) }
+{
+    let mut restoring = match Restoring::new(alloc, limits, records.cells()) {
+        Ok(restoring) => restoring,
+        Err(refusal) => return Err(refusal),
+    };
+    put_lists(&mut restoring, limits.cells, lists);
+    put_windows(&mut restoring, limits.elements, records.windows());
+    restoring.finish(alloc)
+}
+
+/// The memory that the pages of an area show. `BadPage` exactly where they show none; `NoMemory` where there is no room
+/// for the memory, or for what is read.
+///
+/// It takes a step for each byte, each record, each waiter and each entry.
+pub fn decode(alloc: Global, area: &[u8], limits: Limits) -> Result<Memory, Refusal>
+    requires { length area.now ≡ layout.area_bytes layout_1 (sizes_of limits) }
+    ensures found { IfOk result (λ m. Shows layout_1 (sizes_of limits) area.now m) }
+    ensures bad { IsErrOf result Refusal.BadPage → (m : Contents) → Shows layout_1 (sizes_of limits) area.now m → ⊥ }
+    ensures only { IfErr result (λ e. (e ≡ Refusal.BadPage) ⊎ (e ≡ Refusal.NoMemory)) }
+{
+    let records = match read_area(alloc, area, limits) {
+        Ok(records) => records,
+        Err(refusal) => return Err(refusal),
+    };
+    let (cells, nodes, windows) = (records.cells(), records.nodes(), records.windows());
+    match read_contents(alloc, limits, cells, nodes, windows) {
+        Ok(lists) => restore(alloc, limits, &records, &lists),
+        Err(refusal) => Err(refusal),
+    }
+}
+
+/// The pages of an area show no two memories.
+pub fn areas_show_one_memory()
+    ensures { (s : Sizes) (area : List ℕ) (m other : Contents) → AreLimits s.cells s.elements s.slots
+        → Shows layout_1 s area m → Shows layout_1 s area other → m ≡ other }
+{}

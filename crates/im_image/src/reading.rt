@@ -1,0 +1,179 @@
+//! What an image means: the memory of the area in force, after the run of commands in the journal.
+ghost use Rattle.std.specs.Prelude.{◌≡◌, ◌⊎◌, ◌+◌, ◌≤◌, false, None, Some, Ok, Err, IsTrue, IfOk, IfErr, OnOk, IsErrOf};
+ghost use Rattle.im_types.specs.declared.TheConstants.{LAST};
+ghost use Rattle.im_types.specs.declared.refusals.Refusal.TheVariants.{NoMemory, Device};
+ghost use Rattle.im_types.specs.Header.{header_of, header_fault};
+ghost use Rattle.im_types.specs.Layout.{layout_1, sizes_of, ring_of};
+ghost use Rattle.im_types.specs.Meaning.{IsShown, Reads, accept_each};
+ghost use Rattle.im_types.specs.Step.{is_accepted};
+ghost use Rattle.im_disk.specs.Moment.{Rises};
+ghost use Rattle.im_disk.specs.Since.{ReadsOnly};
+ghost use Rattle.im_image.specs.Headers.{seen};
+ghost use Rattle.im_image.specs.Reading.{JournalOf};
+
+use crate::header::Header;
+use crate::in_force::read_header;
+use crate::open_area::read_memory;
+use im_disk::Disk;
+use im_journal::Journal;
+use im_memory::Memory;
+use im_types::{Command, Refusal};
+use std::alloc::Global;
+
+/// What is read of an image: the header in force, the journal, and the memory after the journal's run of commands.
+#[derive(Drop)]
+pub struct Image {
+    /// The header in force.
+    pub header: Header,
+    /// The journal, whose first command is the header's count.
+    pub journal: Journal,
+    /// The memory after the journal's run.
+    pub memory: Memory,
+}
+
+/// What an inspector tells of an image.
+#[derive(Drop)]
+pub struct Report {
+    /// The header in force.
+    pub header: Header,
+    /// How many commands the journal's run has.
+    pub run: u64,
+    /// The room for more commands.
+    pub room: u32,
+    /// The memory after the journal's run.
+    pub memory: Memory,
+}
+
+// Whether a memory would accept a command.
+fn accepts(memory: &Memory, command: &Command) -> bool
+    ensures { result ≡ is_accepted memory.now command.now }
+{
+    match memory.judge(command) {
+        Ok(accepted) => accepted,
+        Err(_) => false,
+    }
+}
+
+/// Serves commands one after another, as long as the memory accepts each of them in its turn. Whether it accepts all; then
+/// it is the memory after all of them.
+pub fn replay(memory: &mut Memory, commands: &[Command]) -> bool
+    ensures yes { IsTrue result → accept_each memory.old commands.now ≡ Some memory.new }
+    ensures no { result ≡ false → accept_each memory.old commands.now ≡ None }
+{
+    for command in commands {
+        if !accepts(memory, command) {
+            return false;
+        }
+        let _answer = memory.step(command);
+    }
+    true
+}
+
+// Reads the rest of an image whose header in force and whose memory, of the area in force, are known.
+fn read_run<D: Disk>(
+    alloc: Global,
+    disk: &mut D,
+    header: Header,
+    mut memory: Memory,
+) -> Result<Image, Refusal>
+    requires last { header.count ≤ LAST }
+    requires good { D.honest disk.old → header_fault layout_1 (D.now disk.old).bytes ≡ None }
+    requires header { D.honest disk.old → seen header ≡ header_of (D.now disk.old).bytes }
+    requires shown { D.honest disk.old → IsShown layout_1 (D.now disk.old).bytes memory }
+    ensures header { IfOk result (λ i. i.header ≡ header) }
+    ensures journal { IfOk result (λ i. JournalOf (seen i.header) i.journal) }
+    ensures means { IfOk result (λ i. D.honest disk.new → Reads layout_1 (D.now disk.old).bytes (Ok (record { contents = i.memory; count = i.journal.count; room = i.journal.room }))) }
+    ensures fault { IfErr result (λ e. (e ≡ NoMemory) ⊎ (e ≡ Device) ⊎ (D.honest disk.new → Reads layout_1 (D.now disk.old).bytes (Err e))) }
+    ensures reads { D.honest disk.new → ReadsOnly (D.now disk.old) (D.now disk.new) (D.past disk.old) (D.past disk.new) }
+    ensures honest { D.honest disk.new → D.honest disk.old }
+    ensures device { IsErrOf result Refusal.Device → Rises (D.failures disk.old) (D.failures disk.new) }
+    ensures steady { OnOk result (D.failures disk.new ≡ D.failures disk.old) }
+{
+    let (journal, commands) = match Journal::read_tail(alloc, disk, header.limits, header.count) {
+        Ok(read) => read,
+        Err(refusal) => return Err(refusal),
+    };
+    if replay(&mut memory, &commands) {
+        Ok(Image {
+            header,
+            journal,
+            memory,
+        })
+    } else {
+        Err(Refusal::BadRecord)
+    }
+}
+
+// Reads the rest of an image whose header in force is known.
+fn read_behind<D: Disk>(alloc: Global, disk: &mut D, header: Header) -> Result<Image, Refusal>
+    requires area { header.area ≤ 1 }
+    requires last { header.count ≤ LAST }
+    requires good { D.honest disk.old → header_fault layout_1 (D.now disk.old).bytes ≡ None }
+    requires header { D.honest disk.old → seen header ≡ header_of (D.now disk.old).bytes }
+    ensures header { IfOk result (λ i. i.header ≡ header) }
+    ensures journal { IfOk result (λ i. JournalOf (seen i.header) i.journal) }
+    ensures means { IfOk result (λ i. D.honest disk.new → Reads layout_1 (D.now disk.old).bytes (Ok (record { contents = i.memory; count = i.journal.count; room = i.journal.room }))) }
+    ensures fault { IfErr result (λ e. (e ≡ NoMemory) ⊎ (e ≡ Device) ⊎ (D.honest disk.new → Reads layout_1 (D.now disk.old).bytes (Err e))) }
+    ensures reads { D.honest disk.new → ReadsOnly (D.now disk.old) (D.now disk.new) (D.past disk.old) (D.past disk.new) }
+    ensures honest { D.honest disk.new → D.honest disk.old }
+    ensures device { IsErrOf result Refusal.Device → Rises (D.failures disk.old) (D.failures disk.new) }
+    ensures steady { OnOk result (D.failures disk.new ≡ D.failures disk.old) }
+{
+    match read_memory(alloc, disk, &header) {
+        Ok(memory) => read_run(alloc, disk, header, memory),
+        Err(refusal) => Err(refusal),
+    }
+}
+
+/// What an image means, or its first fault. It only reads.
+///
+/// The first fault of the file: `WrongLength`, `NoHeader`, `BadHeader`, `BadPage` where the pages in force show no memory,
+/// `BadRecord` where the journal's run is at fault or a command in it isn't accepted where it stands. `NoMemory` where
+/// `alloc` refused the room for the memory, or for what is read. `Device` where a call of the disk failed.
+pub fn read_image<D: Disk>(alloc: Global, disk: &mut D) -> Result<Image, Refusal>
+    ensures header { IfOk result (λ i. D.honest disk.new → seen i.header ≡ header_of (D.now disk.old).bytes) }
+    ensures journal { IfOk result (λ i. JournalOf (seen i.header) i.journal) }
+    ensures means { IfOk result (λ i. D.honest disk.new → Reads layout_1 (D.now disk.old).bytes (Ok (record { contents = i.memory; count = i.journal.count; room = i.journal.room }))) }
+    ensures fault { IfErr result (λ e. (e ≡ NoMemory) ⊎ (e ≡ Device) ⊎ (D.honest disk.new → Reads layout_1 (D.now disk.old).bytes (Err e))) }
+    ensures reads { D.honest disk.new → ReadsOnly (D.now disk.old) (D.now disk.new) (D.past disk.old) (D.past disk.new) }
+    ensures honest { D.honest disk.new → D.honest disk.old }
+    ensures device { IsErrOf result Refusal.Device → Rises (D.failures disk.old) (D.failures disk.new) }
+    ensures steady { OnOk result (D.failures disk.new ≡ D.failures disk.old) }
+{
+    match read_header(disk) {
+        Ok(header) => read_behind(alloc, disk, header),
+        Err(refusal) => Err(refusal),
+    }
+}
+
+/// Tells what an image means, or its first fault. It reads the bytes as they are now, and neither writes nor syncs. The
+/// refusals are those of [`read_image`].
+pub fn inspect<D: Disk>(alloc: Global, disk: &mut D) -> Result<Report, Refusal>
+    ensures header { IfOk result (λ r. D.honest disk.new → seen r.header ≡ header_of (D.now disk.old).bytes) }
+    ensures means { IfOk result (λ r. D.honest disk.new → Reads layout_1 (D.now disk.old).bytes (Ok (record { contents = r.memory; count = r.header.count + r.run; room = r.room }))) }
+    ensures fault { IfErr result (λ e. (e ≡ NoMemory) ⊎ (e ≡ Device) ⊎ (D.honest disk.new → Reads layout_1 (D.now disk.old).bytes (Err e))) }
+    ensures reads { D.honest disk.new → ReadsOnly (D.now disk.old) (D.now disk.new) (D.past disk.old) (D.past disk.new) }
+    ensures honest { D.honest disk.new → D.honest disk.old }
+    ensures device { IsErrOf result Refusal.Device → Rises (D.failures disk.old) (D.failures disk.new) }
+{
+    match read_image(alloc, disk) {
+        Ok(image) => Ok(report_of(image)),
+        Err(refusal) => Err(refusal),
+    }
+}
+
+// What is told of an image that was read.
+fn report_of(image: Image) -> Report
+    requires { JournalOf (seen image.header) image.journal }
+    ensures header { result.header ≡ image.header }
+    ensures memory { result.memory ≡ image.memory }
+    ensures count { result.header.count + result.run ≡ image.journal.count }
+    ensures room { result.room ≡ image.journal.room }
+{
+    Report {
+        header: image.header,
+        run: image.journal.count() - image.header.count,
+        room: image.journal.room(),
+        memory: image.memory,
+    }
+}
