@@ -7,6 +7,7 @@ ghost use Rattle.im_types.specs.Memory.{IsWindow};
 ghost use Rattle.im_types.specs.Window.{judge, note, answer, confirm_window, ask, bounds};
 ghost use Rattle.im_sessions.specs.Windows.{AreWindows};
 
+mod place;
 mod ring;
 
 use im_types::{Entry, Judged, Kept, Refusal, Reply, Request, Waiter};

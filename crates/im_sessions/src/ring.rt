@@ -7,6 +7,7 @@ ghost use Rattle.im_types.specs.Memory.{IsWindow};
 ghost use Rattle.im_types.specs.Window.{judge_window, confirm_window, ask_window, note_in, answer_in, is_waiting, next_number, same_op};
 ghost use Rattle.im_sessions.specs.Places.{place_of};
 
+use crate::place::Place;
 use im_types::{Entry, Judged, Kept, LAST, Op, Refusal, Reply, Request, WINDOW};
 use std::marker::Model;
 
@@ -17,7 +18,7 @@ const PLACES: usize = WINDOW as usize;
 pub struct Ring {
     base: u64,
     count: u64,
-    places: [Kept; PLACES],
+    places: [Place; PLACES],
 }
 
 impl Model for Ring {
@@ -46,8 +47,8 @@ fn is_same(op: &Op, other: &Op) -> bool
 }
 
 // Whether an entry is waiting.
-fn is_waiting(kept: &Kept) -> bool
-    ensures { result ≡ is_waiting kept.now }
+fn is_waiting(kept: Kept) -> bool
+    ensures { result ≡ is_waiting kept }
 {
     matches!(kept.entry, Entry::Waiting)
 }
@@ -58,14 +59,10 @@ impl Ring {
         ensures empty { result ≡ new_window }
         ensures bounds { IsWindow result }
     {
-        let blank = Kept {
-            op: Op::Release(0),
-            entry: Entry::Waiting,
-        };
         Ring {
             base: 1,
             count: 0,
-            places: [blank; PLACES],
+            places: [Place::new(Op::Release(0), Entry::Waiting); PLACES],
         }
     }
 
@@ -134,7 +131,7 @@ impl Ring {
         if number < base || number >= next {
             None
         } else {
-            Some(*self.at(number))
+            Some(self.at(number))
         }
     }
 
@@ -159,7 +156,7 @@ impl Ring {
         ensures noted { self.new ≡ note_in op entry self.old }
         ensures bounds { IsWindow self.new }
     {
-        self.places[place_of(self.base + self.count)] = Kept { op, entry };
+        self.places[place_of(self.base + self.count)] = Place::new(op, entry);
         self.count += 1;
     }
 
@@ -170,7 +167,7 @@ impl Ring {
         ensures answered { self.new ≡ answer_in number reply self.old }
         ensures bounds { IsWindow self.new }
     {
-        self.places[place_of(number)].entry = Entry::Answered(reply);
+        self.places[place_of(number)].answer(reply);
     }
 
     /// Drops the entries below a number, if each of them is answered; where it is refused, nothing changes.
@@ -204,12 +201,12 @@ impl Ring {
     }
 
     // What is kept under a number that the window has.
-    fn at(&self, number: u64) -> &Kept
+    fn at(&self, number: u64) -> Kept
         requires from_base { self.now.base ≤ number }
         requires below_next { number < next_number self.now }
-        ensures { slice_get self.now.kept (number - self.now.base) ≡ Some result.now }
+        ensures { slice_get self.now.kept (number - self.now.base) ≡ Some result }
     {
-        &self.places[place_of(number)]
+        self.places[place_of(number)].kept()
     }
 
     // Whether one of the first entries is waiting.

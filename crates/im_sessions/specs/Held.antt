@@ -1,0 +1,66 @@
+-- An entry on one level, and what it shows.
+use Rattle.std.specs.Prelude.{◌≡◌, refl, Option, None, Some}
+use Rattle.im_types.specs.declared.operations.Reply.{Reply}
+use Rattle.im_types.specs.declared.operations.Reply.TheVariants.{Base, NoSpace, BadLength, Value, Stored, Clash, NoCell, WrongKind, Released, NoBlock, StillWaiting}
+use Rattle.im_types.specs.declared.operations.Entry.{Entry}
+use Rattle.im_types.specs.declared.operations.Entry.TheVariants.{Waiting, Answered}
+use Rattle.im_sessions.specs.declared.place.Held.{Held}
+use Rattle.im_sessions.specs.declared.place.Held.TheVariants.{Waiting as HeldWaiting, Base as HeldBase, NoSpace as HeldNoSpace, BadLength as HeldBadLength, Value as HeldValue, Stored as HeldStored, Clash as HeldClash, NoCell as HeldNoCell, WrongKind as HeldWrongKind, Released as HeldReleased, NoBlock as HeldNoBlock, StillWaiting as HeldStillWaiting}
+
+-- an answer as it is held
+abbrev pub held_by : Reply → Held
+held_by (Base base) = HeldBase base
+held_by NoSpace = HeldNoSpace
+held_by BadLength = HeldBadLength
+held_by (Value value) = HeldValue value
+held_by Stored = HeldStored
+held_by Clash = HeldClash
+held_by NoCell = HeldNoCell
+held_by WrongKind = HeldWrongKind
+held_by Released = HeldReleased
+held_by NoBlock = HeldNoBlock
+held_by StillWaiting = HeldStillWaiting
+
+-- an entry as it is held
+abbrev pub held_of : Entry → Held
+held_of Waiting = HeldWaiting
+held_of (Answered reply) = held_by reply
+
+-- the answer that is held, if there is one
+abbrev pub reply_of : Held → Option Reply
+reply_of HeldWaiting = None
+reply_of (HeldBase base) = Some (Base base)
+reply_of HeldNoSpace = Some NoSpace
+reply_of HeldBadLength = Some BadLength
+reply_of (HeldValue value) = Some (Value value)
+reply_of HeldStored = Some Stored
+reply_of HeldClash = Some Clash
+reply_of HeldNoCell = Some NoCell
+reply_of HeldWrongKind = Some WrongKind
+reply_of HeldReleased = Some Released
+reply_of HeldNoBlock = Some NoBlock
+reply_of HeldStillWaiting = Some StillWaiting
+
+-- an entry with this answer, or with none
+abbrev pub entry_with : Option Reply → Entry
+entry_with None = Waiting
+entry_with (Some reply) = Answered reply
+
+-- the entry that is held
+abbrev pub entry_of : Held → Entry
+entry_of held = entry_with (reply_of held)
+
+-- nothing is lost
+pub held_of-entry_of : (held : Held) → held_of (entry_of held) ≡ held
+held_of-entry_of HeldWaiting = refl
+held_of-entry_of (HeldBase base) = refl
+held_of-entry_of HeldNoSpace = refl
+held_of-entry_of HeldBadLength = refl
+held_of-entry_of (HeldValue value) = refl
+held_of-entry_of HeldStored = refl
+held_of-entry_of HeldClash = refl
+held_of-entry_of HeldNoCell = refl
+held_of-entry_of HeldWrongKind = refl
+held_of-entry_of HeldReleased = refl
+held_of-entry_of HeldNoBlock = refl
+held_of-entry_of HeldStillWaiting = refl
