@@ -1,5 +1,5 @@
 -- The lists that a table of nodes holds. (Own.)
-use Rattle.std.specs.Prelude.{◌≡◌, ◌≢◌, ℕ, ◌+◌, ◌-◌, ◌<◌, Bool, true, false, List, map, length, slice_index_or, slice_set, [], ◌++◌, ◌∷◌, take, Option, None, Some, ◌==◌, if◌then◌else◌, replicate}
+use Rattle.std.specs.Prelude.{◌≡◌, ◌≢◌, ℕ, zero, suc, ◌+◌, ◌-◌, ◌<◌, Bool, true, false, List, map, length, slice_index_or, slice_set, [], ◌++◌, ◌∷◌, take, Option, None, Some, ◌==◌, if◌then◌else◌, replicate}
 use Rattle.std.specs.List.{sum_by}
 use Rattle.im_types.specs.declared.TheConstants.{NONE}
 use Rattle.im_types.specs.declared.operations.Waiter.{Waiter}
@@ -14,9 +14,19 @@ use Rattle.im_arena.specs.Lists.{Lists, Shown, free_record}
 abbrev pub blank_node : Node
 blank_node = record { next = 0; element = 0; used = false; number = 0 }
 
+-- a row and how many nodes it has
+pub record Span : Type 0 where
+  pub first : ℕ
+  pub last : ℕ
+  pub count : ℕ
+
 -- a row with no node
 abbrev pub blank_row : Row
-blank_row = record { first = 0; last = 0; count = 0 }
+blank_row = record { first = 0; last = 0 }
+
+-- a span with no node
+abbrev pub blank_span : Span
+blank_span = record { first = 0; last = 0; count = 0 }
 
 -- a free node that links to none
 abbrev pub free_node : Node
@@ -41,7 +51,7 @@ record_of node = record_if node.used node
 
 -- what is shown of the ends of a row
 abbrev pub ends_of : Row → Option Ends
-ends_of row = if row.count == 0 then None else Some (record { first = row.first; last = row.last })
+ends_of row = if row.first == NONE then None else Some (record { first = row.first; last = row.last })
 
 -- the link of a node
 abbrev pub next_of : List Node → ℕ → ℕ
@@ -55,77 +65,89 @@ used_of nodes n = (slice_index_or nodes n blank_node).used
 abbrev pub waiter_of : List Node → ℕ → Waiter
 waiter_of nodes n = waiter_in (slice_index_or nodes n blank_node)
 
--- the first node of a row
-abbrev pub first_of : List Row → ℕ → ℕ
-first_of rows a = (slice_index_or rows a blank_row).first
+-- how many links lead from a node to none, where there are no more than so many
+abbrev pub steps_from : (ℕ → ℕ) → ℕ → ℕ → ℕ
+steps_from next at zero = 0
+steps_from next at (suc n) = if at == NONE then 0 else suc (steps_from next (next at) n)
 
--- the last node of a row
-abbrev pub last_of : List Row → ℕ → ℕ
-last_of rows a = (slice_index_or rows a blank_row).last
+-- a row, and how many nodes its links lead through
+abbrev pub span_of : List Node → Row → Span
+span_of nodes row = record { first = row.first; last = row.last; count = steps_from (next_of nodes) row.first (length nodes) }
 
--- how many nodes a row has
-abbrev pub count_of : List Row → ℕ → ℕ
-count_of rows a = (slice_index_or rows a blank_row).count
+-- the same of each row
+abbrev pub spans_of : List Node → List Row → List Span
+spans_of nodes rows = map (span_of nodes) rows
 
--- the waiters on a row, in order
-abbrev pub waiters_on : List Node → Row → List Waiter
-waiters_on nodes row = along (waiter_of nodes) (next_of nodes) row.first row.count
+-- the first node of a span
+abbrev pub first_of : List Span → ℕ → ℕ
+first_of spans a = (slice_index_or spans a blank_span).first
 
--- the waiters on a row
-abbrev pub row_at : List Node → List Row → ℕ → List Waiter
-row_at nodes rows a = waiters_on nodes (slice_index_or rows a blank_row)
+-- the last node of a span
+abbrev pub last_of : List Span → ℕ → ℕ
+last_of spans a = (slice_index_or spans a blank_span).last
 
--- each node is on one row, in one place of it
-pub record Sound (nodes : List Node) (rows : List Row) : Type 0 where
-  pub chains : Chains (length nodes) (length rows) NONE (next_of nodes) (used_of nodes) (first_of rows) (last_of rows) (count_of rows)
-  pub total : sum_by (λ (r : Row). r.count) rows ≡ length nodes
+-- how many nodes a span has
+abbrev pub count_of : List Span → ℕ → ℕ
+count_of spans a = (slice_index_or spans a blank_span).count
 
--- a row once a node is linked at its end
-pub record Attached (old new : List Node) (row : Row) (node : ℕ) (result : Row) : Type 0 where
-  pub count : result.count ≡ row.count + 1
-  pub last : result.last ≡ node
-  pub empty : row.last ≡ NONE → (result.first ≡ node) × (new ≡ old)
-  pub longer : row.last ≢ NONE → (result.first ≡ row.first) × (new ≡ slice_set old row.last (record (slice_index_or old row.last blank_node) { next = node }))
+-- the waiters on a span, in order
+abbrev pub waiters_on : List Node → Span → List Waiter
+waiters_on nodes span = along (waiter_of nodes) (next_of nodes) span.first span.count
 
--- a row without its first node, which led to `next`
-pub record Detached (row : Row) (next : ℕ) (result : Row) : Type 0 where
-  pub count : result.count + 1 ≡ row.count
+-- the waiters on the span of this number
+abbrev pub row_at : List Node → List Span → ℕ → List Waiter
+row_at nodes spans a = waiters_on nodes (slice_index_or spans a blank_span)
+
+-- each node is on one span, in one place of it
+pub record Sound (nodes : List Node) (spans : List Span) : Type 0 where
+  pub chains : Chains (length nodes) (length spans) NONE (next_of nodes) (used_of nodes) (first_of spans) (last_of spans) (count_of spans)
+  pub total : sum_by (λ (s : Span). s.count) spans ≡ length nodes
+
+-- a row from `first` to `last` once a node is linked at its end
+pub record Attached (old new : List Node) (first last node : ℕ) (result : Row) : Type 0 where
+  pub end : result.last ≡ node
+  pub empty : last ≡ NONE → (result.first ≡ node) × (new ≡ old)
+  pub longer : last ≢ NONE → (result.first ≡ first) × (new ≡ slice_set old last (record (slice_index_or old last blank_node) { next = node }))
+
+-- a row that ended at `last` without its first node, which led to `next`
+pub record Detached (last next : ℕ) (result : Row) : Type 0 where
   pub first : result.first ≡ next
-  pub one : row.count ≡ 1 → result.last ≡ NONE
-  pub more : 1 < row.count → result.last ≡ row.last
+  pub one : next ≡ NONE → result.last ≡ NONE
+  pub more : next ≢ NONE → result.last ≡ last
 
 -- the first node of the row `from` is now the last of the row `to`, and holds something else
 pub record Transferred (nodes nodes2 : List Node) (rows rows2 : List Row) (from to : ℕ) (content : Node) (result : Waiter) : Type 0 where
-  pub sound : Sound nodes2 rows2
+  pub sound : Sound nodes2 (spans_of nodes2 rows2)
   pub size : length rows2 ≡ length rows
   pub table : length nodes2 ≡ length nodes
-  pub front : row_at nodes rows from ≡ result ∷ row_at nodes2 rows2 from
-  pub back : row_at nodes2 rows2 to ≡ row_at nodes rows to ++ waiter_in content ∷ []
-  pub others : (b : ℕ) → b < length rows → b ≢ from → b ≢ to → row_at nodes2 rows2 b ≡ row_at nodes rows b
+  pub front : row_at nodes (spans_of nodes rows) from ≡ result ∷ row_at nodes2 (spans_of nodes2 rows2) from
+  pub back : row_at nodes2 (spans_of nodes2 rows2) to ≡ row_at nodes (spans_of nodes rows) to ++ waiter_in content ∷ []
+  pub others : (b : ℕ) → b < length rows → b ≢ from → b ≢ to → row_at nodes2 (spans_of nodes2 rows2) b ≡ row_at nodes (spans_of nodes rows) b
 
--- what callers see: the rows but for the last, which is that of the free nodes
-abbrev pub held : List Node → List Row → ℕ → Lists
-held nodes rows lists = record { nodes = length nodes; lists = take lists (map (waiters_on nodes) rows) }
+-- what callers see: the spans but for the last, which is that of the free nodes
+abbrev pub held : List Node → List Span → ℕ → Lists
+held nodes spans lists = record { nodes = length nodes; lists = take lists (map (waiters_on nodes) spans) }
 
 -- what callers see of nodes and rows
 abbrev pub shown : List Node → List Row → ℕ → Shown
 shown nodes rows lists = record {
-  held = held nodes rows lists;
+  held = held nodes (spans_of nodes rows) lists;
   links = record { records = map record_of nodes; ends = take lists (map ends_of rows) };
 }
 
--- the rows that callers see come first, and the one of the free nodes last
-pub record IsArena (nodes : List Node) (rows : List Row) (lists : ℕ) : Type 0 where
-  pub sound : Sound nodes rows
+-- the rows that callers see come first, and the one of the free nodes last; so many nodes are free
+pub record IsArena (nodes : List Node) (rows : List Row) (lists free : ℕ) : Type 0 where
+  pub sound : Sound nodes (spans_of nodes rows)
   pub size : length rows ≡ lists + 1
+  pub count : free ≡ count_of (spans_of nodes rows) lists
 
 -- a row without nodes
 abbrev pub empty_row : Row
-empty_row = record { first = NONE; last = NONE; count = 0 }
+empty_row = record { first = NONE; last = NONE }
 
 -- a row of all nodes in turn
 abbrev pub full_row : ℕ → Row
-full_row nodes = if nodes == 0 then empty_row else record { first = 0; last = nodes - 1; count = nodes }
+full_row nodes = if nodes == 0 then empty_row else record { first = 0; last = nodes - 1 }
 
 -- so many empty rows, and then one of all nodes
 abbrev pub start_rows : ℕ → ℕ → List Row

@@ -23,6 +23,8 @@ pub struct Arena {
     // The row of each list, and then that of the free nodes.
     rows: Vec<Row>,
     lists: u32,
+    // How many nodes are free: to count them would take a walk.
+    free: u32,
 }
 
 impl Model for Arena {
@@ -34,11 +36,11 @@ impl Model for Arena {
 
     ghost view = { λ a. shown a.nodes.items a.rows.items a.lists };
 
-    ghost invariant = { λ a. IsArena a.nodes.items a.rows.items a.lists };
+    ghost invariant = { λ a. IsArena a.nodes.items a.rows.items a.lists a.free };
 }
 
 impl Arena {
-    /// An arena with so many nodes, all free, and so many empty lists: 16 bytes for each node, and 12 for each list.
+    /// An arena with so many nodes, all free, and so many empty lists: 16 bytes for each node, and 8 for each list.
     /// `NoMemory` where that memory is refused.
     pub fn new(alloc: Global, nodes: u32, lists: u32) -> Result<Arena, Refusal>
         ensures nodes { IfOk result (λ a. a.held.nodes ≡ nodes) }
@@ -56,6 +58,7 @@ impl Arena {
             nodes: free_nodes(alloc, nodes)?,
             rows: rows_of(alloc, nodes, lists)?,
             lists,
+            free: nodes,
         })
     }
 
@@ -78,7 +81,7 @@ impl Arena {
         ensures free { result ≡ free self.now.held }
         ensures sum { result + sum_by length self.now.held.lists ≡ self.now.held.nodes }
     {
-        self.rows[self.lists as usize].count
+        self.free // As each push and pop counts.
     }
 
     /// Whether no node is free.
@@ -88,26 +91,44 @@ impl Arena {
         self.free_count() == 0
     }
 
-    /// How many waiters a list has.
+    /// Whether a list has no waiter.
+    pub fn is_empty(&self, list: u32) -> bool
+        requires { list < length self.now.held.lists }
+        ensures { IsTrue result ↔ (list_at self.now.held list ≡ []) }
+    {
+        self.rows[list as usize].first == NONE
+    }
+
+    /// How many waiters a list has. It takes as many steps as there are.
     pub fn len(&self, list: u32) -> u32
         requires { list < length self.now.held.lists }
         ensures { result ≡ length (list_at self.now.held list) }
     {
-        self.rows[list as usize].count
+        let mut node = self.rows[list as usize].first;
+        for count in 0..self.node_count() {
+            if node == NONE {
+                return count;
+            }
+            node = self.nodes[node as usize].next;
+        }
+        self.node_count()
     }
 
-    /// The waiter at a place of a list, counted from 0; `None` past its end. It takes as many steps as the place.
+    /// The waiter at a place of a list, counted from 0; `None` past its end. It takes as many steps as the place, and
+    /// no more than the list has waiters.
     pub fn at(&self, list: u32, place: u32) -> Option<Waiter>
         requires { list < length self.now.held.lists }
         ensures { result ≡ slice_get (list_at self.now.held list) place }
     {
-        let row = self.rows[list as usize];
-        if place >= row.count {
-            return None;
-        }
-        let mut node = row.first;
+        let mut node = self.rows[list as usize].first;
         for _step in 0..place {
+            if node == NONE {
+                return None;
+            }
             node = self.nodes[node as usize].next;
+        }
+        if node == NONE {
+            return None;
         }
         Some(self.nodes[node as usize].waiter())
     }
@@ -128,7 +149,7 @@ impl Arena {
         ensures full { result ≡ false → self.new ≡ self.old }
     {
         let free = self.lists as usize;
-        if self.rows[free].count == 0 {
+        if self.is_full() {
             return false;
         }
         let _ = transfer(
@@ -138,6 +159,7 @@ impl Arena {
             list as usize,
             Node::with(waiter),
         );
+        self.free -= 1;
         true
     }
 
@@ -149,16 +171,18 @@ impl Arena {
         ensures none { IfNone result (self.new ≡ self.old) }
     {
         let free = self.lists as usize;
-        if self.rows[list as usize].count == 0 {
+        if self.rows[list as usize].first == NONE {
             return None;
         }
-        Some(transfer(
+        let waiter = transfer(
             self.nodes.as_mut_slice(),
             self.rows.as_mut_slice(),
             list as usize,
             free,
             Node::free(),
-        ))
+        );
+        self.free += 1;
+        Some(waiter)
     }
 
     /// The first and the last node of a list; `None` where it is empty.

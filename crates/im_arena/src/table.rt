@@ -1,6 +1,6 @@
 // The table of nodes, and the rows of nodes in it.
-ghost use Rattle.std.specs.Prelude.{◌≡◌, ◌≢◌, ◌+◌, ◌-◌, ◌<◌, ◌^◌, length, nat_lt};
-ghost use Rattle.im_arena.specs.Table.{Sound, Attached, Detached, Transferred, count_of, used_node, free_node, waiter_in, record_of, ends_of, empty_row, full_row};
+ghost use Rattle.std.specs.Prelude.{◌≡◌, ◌≢◌, ◌+◌, ◌<◌, length, nat_lt};
+ghost use Rattle.im_arena.specs.Table.{Sound, Attached, Detached, Transferred, count_of, spans_of, used_node, free_node, waiter_in, record_of, ends_of, empty_row, full_row};
 
 use im_types::{NONE, Waiter};
 
@@ -33,12 +33,11 @@ pub(crate) struct Node {
     pub(crate) number: u64,
 }
 
-/// Where a row of nodes begins and ends, both NONE where it is empty, and how long it is.
+/// Where a row of nodes begins and ends, in 8 bytes; both NONE where it is empty. How long it is the links tell.
 #[derive(Clone, Copy)]
 pub(crate) struct Row {
     pub(crate) first: u32,
     pub(crate) last: u32,
-    pub(crate) count: u32,
 }
 
 impl Node {
@@ -97,7 +96,6 @@ impl Row {
         Row {
             first: NONE,
             last: NONE,
-            count: 0,
         }
     }
 
@@ -111,14 +109,13 @@ impl Row {
         Row {
             first: 0,
             last: nodes - 1,
-            count: nodes,
         }
     }
 
     pub(crate) fn ends(&self) -> Option<Ends>
         ensures { result ≡ ends_of self.now }
     {
-        if self.count == 0 {
+        if self.first == NONE {
             None
         } else {
             Some(Ends {
@@ -130,22 +127,19 @@ impl Row {
 
     // The row without its first node, which led to `next`.
     fn without_first(self, next: u32) -> Row
-        requires { 0 < self.count }
-        ensures { Detached self next result }
+        ensures { Detached self.last next result }
     {
         Row {
             first: next,
-            last: if self.count == 1 { NONE } else { self.last },
-            count: self.count - 1,
+            last: if next == NONE { NONE } else { self.last },
         }
     }
 }
 
 // Links a node behind the last one of a row.
 fn attach(nodes: &mut [Node], row: Row, node: u32) -> Row
-    requires last { row.last ≢ NONE → row.last < length nodes.old }
-    requires room { row.count + 1 < 2 ^ 32 }
-    ensures { Attached nodes.old nodes.new row node result }
+    requires { row.last ≢ NONE → row.last < length nodes.old }
+    ensures { Attached nodes.old nodes.new row.first row.last node result }
 {
     let first = if row.last == NONE {
         node
@@ -153,11 +147,7 @@ fn attach(nodes: &mut [Node], row: Row, node: u32) -> Row
         nodes[row.last as usize].next = node;
         row.first
     };
-    Row {
-        first,
-        last: node,
-        count: row.count + 1,
-    }
+    Row { first, last: node }
 }
 
 // Moves the first node of one row to the end of another, where it holds `content`, and returns the waiter that it held.
@@ -168,11 +158,11 @@ pub(crate) fn transfer(
     to: usize,
     content: Node,
 ) -> Waiter
-    requires sound { Sound nodes.old rows.old }
+    requires sound { Sound nodes.old (spans_of nodes.old rows.old) }
     requires from { from < length rows.old }
     requires to { to < length rows.old }
     requires apart { from ≢ to }
-    requires some { 0 < count_of rows.old from }
+    requires some { 0 < count_of (spans_of nodes.old rows.old) from }
     requires link { content.next ≡ NONE }
     requires mark { content.used ≡ nat_lt (to + 1) (length rows.old) }
     ensures { Transferred nodes.old nodes.new rows.old rows.new from to content result }

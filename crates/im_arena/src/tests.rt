@@ -24,12 +24,14 @@ fn lists_take_their_nodes_from_one_table(rt: HostRuntime) -> Result<(), Fail> {
     assert_eq!(rt; arena.len(0), 1);
     assert_eq!(rt; arena.front(0), Some(c));
     assert_eq!(rt; arena.len(1), 2);
+    assert!(rt; !arena.is_empty(1));
     assert_eq!(rt; arena.front(1), Some(b));
     assert_eq!(rt; arena.at(1, 1), Some(d));
     assert_eq!(rt; arena.at(1, 2), None);
     assert_eq!(rt; arena.pop_front(0), Some(c));
     assert_eq!(rt; arena.pop_front(0), None);
     assert_eq!(rt; arena.ends(0), None);
+    assert!(rt; arena.is_empty(0));
     Ok(())
 }
 
@@ -83,6 +85,7 @@ fn agrees(rt: &impl Abort, arena: &Arena, plain: &[VecDeque<Waiter>]) -> Result<
     for list in 0..arena.list_count() {
         let queue = plain.get(list as usize).ok_or("no such list")?;
         assert_eq!(rt; arena.len(list) as usize, queue.len());
+        assert_eq!(rt; arena.is_empty(list), queue.is_empty());
         assert_eq!(rt; arena.front(list), queue.front().copied());
         let mut link = arena.ends(list).map_or(NONE, |ends| ends.first);
         let mut last = NONE;

@@ -96,131 +96,186 @@ fn an_empty_area_has_empty_lists(rt: HostRuntime) -> Result<(), Fail> {
     Ok(())
 }
 
+// A cell of its own block where a list begins and ends in these nodes; a free cell where there is none.
+fn waits(base: u32, ends: Option<(u32, u32)>) -> CellRecord {
+    match ends {
+        Some((first, last)) => waited_for(base, first, last),
+        None => FREE_CELL,
+    }
+}
+
+// A node of a list, of request 1 of an element, that links to a node; a free node where there is none.
+fn linked(link: Option<(u32, u16)>) -> NodeRecord {
+    match link {
+        Some((next, element)) => node(next, element, 1),
+        None => FREE_NODE,
+    }
+}
+
+type Ends = Option<(u32, u32)>;
+
+type Link = Option<(u32, u16)>;
+
+const ONE: [Ends; 2] = [Some((0, 1)), None];
+
+const TWO: [Ends; 2] = [Some((0, 2)), Some((1, 2))];
+
+const NO_LIST: [Ends; 2] = [None, None];
+
+const A: Link = Some((NONE, 1));
+
+const B: Link = Some((NONE, 2));
+
+const C: Link = Some((NONE, 3));
+
+// What is wrong, where the lists of two cells begin and end, and where three nodes link to.
+const NO_LISTS: [(&str, [Ends; 2], [Link; 3]); 14] = [
+    (
+        "two nodes in a circle",
+        ONE,
+        [Some((1, 1)), Some((0, 2)), None],
+    ),
+    ("a node linked to itself", ONE, [Some((0, 1)), B, None]),
+    (
+        "a circle behind the last node",
+        ONE,
+        [Some((1, 1)), Some((2, 2)), Some((1, 3))],
+    ),
+    (
+        "two lists with one last node",
+        TWO,
+        [Some((2, 1)), Some((2, 2)), C],
+    ),
+    ("the end before the last node", ONE, [A, B, None]),
+    (
+        "a link at the last node",
+        ONE,
+        [Some((1, 1)), Some((2, 2)), C],
+    ),
+    ("a node that no list reaches", ONE, [Some((1, 1)), B, C]),
+    ("a node, and no list", NO_LIST, [None, B, None]),
+    ("a free node in a list", ONE, [Some((1, 1)), None, None]),
+    ("a list that begins in a free node", ONE, [None, B, None]),
+    ("a link to no node", ONE, [Some((3, 1)), B, None]),
+    (
+        "a list that begins nowhere",
+        [Some((NONE, NONE)), None],
+        [None, None, None],
+    ),
+    (
+        "a list that begins past the nodes",
+        [Some((3, 3)), None],
+        [None, None, None],
+    ),
+    (
+        "a list read twice",
+        [Some((0, 0)), Some((0, 0))],
+        [A, None, None],
+    ),
+];
+
 #[test]
 fn links_that_are_no_lists_are_refused(rt: HostRuntime) {
-    let one = [waited_for(0, 0, 1), FREE_CELL];
-    let two = [waited_for(0, 0, 2), waited_for(1, 1, 2)];
-    let none = [FREE_CELL, FREE_CELL];
-    let [a, b, c] = [node(NONE, 1, 1), node(NONE, 2, 1), node(NONE, 3, 1)];
-    let free = FREE_NODE;
-    let rows = [
-        (
-            "two nodes in a circle",
-            one,
-            [node(1, 1, 1), node(0, 2, 1), free],
-        ),
-        ("a node linked to itself", one, [node(0, 1, 1), b, free]),
-        (
-            "a circle behind the last node",
-            one,
-            [node(1, 1, 1), node(2, 2, 1), node(1, 3, 1)],
-        ),
-        (
-            "two lists with one last node",
-            two,
-            [node(2, 1, 1), node(2, 2, 1), c],
-        ),
-        ("the end before the last node", one, [a, b, free]),
-        (
-            "a link at the last node",
-            one,
-            [node(1, 1, 1), node(2, 2, 1), c],
-        ),
-        ("a node that no list reaches", one, [node(1, 1, 1), b, c]),
-        ("a node, and no list", none, [free, b, free]),
-        ("a free node in a list", one, [node(1, 1, 1), free, free]),
-        ("a list that begins in a free node", one, [free, b, free]),
-        ("a link to no node", one, [node(3, 1, 1), b, free]),
-        (
-            "a list that begins nowhere",
-            [waited_for(0, NONE, NONE), FREE_CELL],
-            [free, free, free],
-        ),
-        (
-            "a list that begins past the nodes",
-            [waited_for(0, 3, 3), FREE_CELL],
-            [free, free, free],
-        ),
-        (
-            "a list read twice",
-            [waited_for(0, 0, 0), waited_for(1, 0, 0)],
-            [a, free, free],
-        ),
-    ];
-    for (what, cells, nodes) in rows {
+    for (what, [zero, one], [a, b, c]) in NO_LISTS {
+        let cells = [waits(0, zero), waits(1, one)];
+        let nodes = [linked(a), linked(b), linked(c)];
         let read = read_lists(rt.alloc(), &nodes, &cells);
         assert_eq!(rt; refusal(read), Some(Refusal::BadPage), "{what}");
     }
 }
 
+// The base and the length of the block that an empty I cell says it lies in.
+type Said = Option<(u32, u32)>;
+
+fn said(block: Said) -> CellRecord {
+    match block {
+        Some((base, length)) => cell(base, length, Kind::I, PresenceTag::Empty),
+        None => FREE_CELL,
+    }
+}
+
+// What four cells say, and whether they lie in blocks.
+const BLOCKS: [(&str, [Said; 4], bool); 13] = [
+    ("no block", [None, None, None, None], true),
+    (
+        "a block of two",
+        [None, Some((1, 2)), Some((1, 2)), None],
+        true,
+    ),
+    (
+        "two blocks side by side",
+        [Some((0, 2)), Some((0, 2)), Some((2, 2)), Some((2, 2))],
+        true,
+    ),
+    (
+        "a block of all cells",
+        [Some((0, 4)), Some((0, 4)), Some((0, 4)), Some((0, 4))],
+        true,
+    ),
+    (
+        "a second cell of another length",
+        [None, Some((1, 2)), Some((1, 3)), None],
+        false,
+    ),
+    (
+        "a second cell of another base",
+        [None, Some((1, 2)), Some((2, 1)), None],
+        false,
+    ),
+    (
+        "a second cell that is free",
+        [None, Some((1, 2)), None, None],
+        false,
+    ),
+    (
+        "a first cell that is free",
+        [None, None, Some((1, 2)), None],
+        false,
+    ),
+    (
+        "a cell before its block",
+        [Some((1, 2)), Some((1, 2)), Some((1, 2)), None],
+        false,
+    ),
+    (
+        "a cell behind its block",
+        [None, Some((1, 2)), Some((1, 2)), Some((1, 2))],
+        false,
+    ),
+    (
+        "a block past the last cell",
+        [None, None, None, Some((3, 2))],
+        false,
+    ),
+    (
+        "a block of no cell",
+        [Some((0, 0)), None, None, None],
+        false,
+    ),
+    (
+        "a block that ends past all numbers",
+        [None, None, None, Some((3, 0xFFFF_FFFF))],
+        false,
+    ),
+];
+
 #[test]
 fn each_cell_of_a_block_says_so(rt: HostRuntime) {
-    let empty = PresenceTag::Empty;
-    let of = |base: u32, length: u32| cell(base, length, Kind::I, PresenceTag::Empty);
-    let free = FREE_CELL;
-    let rows = [
-        ("no block", [free, free, free, free], true),
-        ("a block of two", [free, of(1, 2), of(1, 2), free], true),
-        (
-            "two blocks side by side",
-            [of(0, 2), of(0, 2), of(2, 2), of(2, 2)],
-            true,
-        ),
-        (
-            "a block of all cells",
-            [of(0, 4), of(0, 4), of(0, 4), of(0, 4)],
-            true,
-        ),
-        (
-            "a second cell of another length",
-            [free, of(1, 2), of(1, 3), free],
-            false,
-        ),
-        (
-            "a second cell of another base",
-            [free, of(1, 2), of(2, 1), free],
-            false,
-        ),
-        (
-            "a second cell of another kind",
-            [free, of(1, 2), cell(1, 2, Kind::M, empty), free],
-            false,
-        ),
-        (
-            "a second cell that is free",
-            [free, of(1, 2), free, free],
-            false,
-        ),
-        (
-            "a first cell that is free",
-            [free, free, of(1, 2), free],
-            false,
-        ),
-        (
-            "a cell before its block",
-            [of(1, 2), of(1, 2), of(1, 2), free],
-            false,
-        ),
-        (
-            "a cell behind its block",
-            [free, of(1, 2), of(1, 2), of(1, 2)],
-            false,
-        ),
-        (
-            "a block past the last cell",
-            [free, free, free, of(3, 2)],
-            false,
-        ),
-        ("a block of no cell", [of(0, 0), free, free, free], false),
-        (
-            "a block that ends past all numbers",
-            [free, free, free, of(3, 0xFFFF_FFFF)],
-            false,
-        ),
-    ];
-    for (what, cells, expected) in rows {
+    for (what, [a, b, c, d], expected) in BLOCKS {
+        let cells = [said(a), said(b), said(c), said(d)];
         assert_eq!(rt; are_blocks(&cells), expected, "{what}");
     }
+}
+
+#[test]
+fn each_cell_of_a_block_has_its_kind(rt: HostRuntime) {
+    let i_cell = cell(0, 2, Kind::I, PresenceTag::Empty);
+    let m_cell = cell(0, 2, Kind::M, PresenceTag::Empty);
+    assert!(rt; are_blocks(&[m_cell, m_cell]), "a block of M cells");
+    assert!(rt;
+        !are_blocks(&[i_cell, m_cell]),
+        "a second cell of another kind"
+    );
     assert!(rt; are_blocks(&[]), "no cell");
 }
 

@@ -1,7 +1,6 @@
 -- An accepted command isn't refused.
-use Rattle.std.proofs.Common.{◌≡◌, ℕ, Bool, true, Result, Ok, Err, slice_get, refl}
+use Rattle.std.proofs.Common.{◌≡◌, true, Result, Ok, Err, slice_get, refl}
 use Rattle.std.specs.Prelude.{slice_index_or}
-use Rattle.im_types.specs.declared.commands.Request.{Request}
 use Rattle.im_types.specs.declared.commands.Command.{Command}
 use Rattle.im_types.specs.declared.commands.Command.TheVariants.{Request as Asks, Confirm}
 use Rattle.im_types.specs.declared.commands.Outcome.{Outcome}

@@ -1,4 +1,4 @@
-pub mod Images
+pub mod Keeping
 pub mod Making
 pub mod Serving
 pub mod Accepting

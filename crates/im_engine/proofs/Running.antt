@@ -1,12 +1,11 @@
 -- How far a run has come.
-use Rattle.std.proofs.Common.{◌≡◌, ◌⊎◌, inl, inr, ⊎_elim, ℕ, zero, suc, ◌+◌, ◌<◌, ◌≤◌, Bool, true, false, ◌&&◌, List, [], ◌∷◌, ◌++◌, length, take, get_or, Result, Ok, Err, refl, sym, ◌∙◌, ap, subst, arith, append_assoc, length-append, if◌then◌else◌}
+use Rattle.std.proofs.Common.{◌≡◌, ◌⊎◌, inl, inr, ⊎_elim, ℕ, zero, suc, ◌+◌, ◌<◌, ◌≤◌, Bool, true, false, ◌&&◌, List, [], ◌∷◌, ◌++◌, length, take, get_or, Result, Ok, Err, append_assoc, refl, sym, ◌∙◌, ap, subst, arith, length-append, if◌then◌else◌}
 use Rattle.std.proofs.lemmas.List.{append-nil, take_all, take_at, take-append-le, take_more, length-take-le}
 use Rattle.im_types.specs.declared.commands.Command.{Command}
 use Rattle.im_types.specs.declared.commands.Outcome.{Outcome}
 use Rattle.im_types.specs.declared.refusals.Refusal.{Refusal}
-use Rattle.im_types.specs.declared.refusals.Refusal.TheVariants.{JournalFull, Device, Failed}
+use Rattle.im_types.specs.declared.refusals.Refusal.TheVariants.{Device}
 use Rattle.im_types.specs.Contents.{Contents}
-use Rattle.im_types.specs.Header.{Header}
 use Rattle.im_types.specs.Step.{step, is_accepted}
 use Rattle.im_types.specs.Run.{after}
 use Rattle.im_laws.proofs.RunLemmas.{after-append}
@@ -14,40 +13,37 @@ use Rattle.im_disk.specs.Moment.{Moment}
 use Rattle.im_disk.specs.Since.{Leaves, LeavesNow}
 use Rattle.im_disk.proofs.SinceLemmas.{leaves_then, leaves_weaker}
 use Rattle.im_journal.specs.Holding.{room_after}
-use Rattle.im_engine.specs.State.{EngineState, IsImage, MeansState, MeansEither, with_command}
-use Rattle.im_engine.specs.Run.{Answer, Answered, AnsweredInTurn, is_put, taken, MeansAfter, MeansBeginning, MeansAllOrInDoubt}
+use Rattle.im_checkpoint.specs.declared.checkpoint.TurnDone.{TurnDone}
+use Rattle.im_checkpoint.specs.Keeping.{Means}
+use Rattle.im_engine.specs.declared.run.Event.{Event}
+use Rattle.im_engine.specs.declared.run.Event.TheVariants.{Command as Serve, Turn}
+use Rattle.im_engine.specs.declared.run.Answer.{Answer}
+use Rattle.im_engine.specs.declared.run.Answer.TheVariants.{Served, Turned as TookTurn}
+use Rattle.im_engine.specs.State.{EngineState, MeansState, MeansEither, with_command}
+use Rattle.im_engine.specs.Run.{Answered, TurnTaken, TurnAnswered, EventAnswered, AnsweredInTurn, is_put, one, put_by, taken, MeansBy, MeansAfter, MeansBeginning, MeansAllOrInDoubt}
 use Rattle.im_engine.proofs.Accepting.{Answers, accepted_answers}
 
-pub in_turn_more : {D : Type 0} (old mid new : EngineState D) (commands : List Command) (answers : List Answer) (c : Command) (a : Answer)
-    → AnsweredInTurn old commands answers mid → Answered mid c a new → AnsweredInTurn old (commands ++ c ∷ []) (answers ++ a ∷ []) new
-in_turn_more {D} old mid new [] [] c a it one = (new, subst (λ (s : EngineState D). Answered s c a new) it one, refl)
-in_turn_more old mid new [] (b ∷ answers) c a it one = absurd it
-in_turn_more old mid new (d ∷ commands) [] c a it one = absurd it
-in_turn_more old mid new (d ∷ commands) (b ∷ answers) c a it one = (it.0, it.1, in_turn_more it.0 mid new commands answers c a it.2 one)
+pub in_turn_more : {D : Type 0} (old mid new : EngineState D) (events : List Event) (answers : List Answer) (e : Event) (a : Answer)
+    → AnsweredInTurn old events answers mid → EventAnswered mid e a new → AnsweredInTurn old (events ++ e ∷ []) (answers ++ a ∷ []) new
+in_turn_more {D} old mid new [] [] e a it one = (new, subst (λ (s : EngineState D). EventAnswered s e a new) it one, refl)
+in_turn_more old mid new [] (b ∷ answers) e a it one = absurd it
+in_turn_more old mid new (d ∷ events) [] e a it one = absurd it
+in_turn_more old mid new (d ∷ events) (b ∷ answers) e a it one = (it.0, it.1, in_turn_more it.0 mid new events answers e a it.2 one)
 
--- the command, if it was put on the disk
-abbrev pub one : Contents → Command → Answer → List Command
-one m c a = if is_accepted m c && is_put a then c ∷ [] else []
+pub taken-push : (m : Contents) (events : List Event) (answers : List Answer) (e : Event) (a : Answer) → length events ≡ length answers
+    → taken m (events ++ e ∷ []) (answers ++ a ∷ []) ≡ taken m events answers ++ put_by (after m (taken m events answers)) e a
+taken-push m [] [] e a same = append-nil (put_by m e a)
+taken-push m [] (b ∷ answers) e a same = absurd (omega arith)
+taken-push m (d ∷ events) [] e a same = absurd (omega arith)
+taken-push m (d ∷ events) (b ∷ answers) e a same =
+    let p : List Command = put_by m d b in
+    let t : List Command = taken (after m (put_by m d b)) events answers in
+    ap (λ (l : List Command). put_by m d b ++ l) (taken-push (after m (put_by m d b)) events answers e a (omega arith))
+    ∙ ap (λ (x : Contents). put_by m d b ++ (taken (after m (put_by m d b)) events answers ++ put_by x e a)) (sym (after-append m (put_by m d b) (taken (after m (put_by m d b)) events answers)))
+    ∙ sym (append_assoc (put_by m d b) (taken (after m (put_by m d b)) events answers) (put_by (after m (put_by m d b ++ taken (after m (put_by m d b)) events answers)) e a))
 
-pub taken-push : (m : Contents) (commands : List Command) (answers : List Answer) (c : Command) (a : Answer) → length commands ≡ length answers
-    → taken m (commands ++ c ∷ []) (answers ++ a ∷ []) ≡ taken m commands answers ++ one (after m (taken m commands answers)) c a
-taken-push m [] [] c a same = refl
-taken-push m [] (b ∷ answers) c a same = absurd (omega arith)
-taken-push m (d ∷ commands) [] c a same = absurd (omega arith)
-taken-push m (d ∷ commands) (b ∷ answers) c a same =
-    by_test (is_accepted m d && is_put b) (taken-push (step m d).contents commands answers c a (omega arith)) (taken-push m commands answers c a (omega arith))
-  where
-    by_test : (t : Bool)
-        → taken (step m d).contents (commands ++ c ∷ []) (answers ++ a ∷ []) ≡ taken (step m d).contents commands answers ++ one (after (step m d).contents (taken (step m d).contents commands answers)) c a
-        → taken m (commands ++ c ∷ []) (answers ++ a ∷ []) ≡ taken m commands answers ++ one (after m (taken m commands answers)) c a
-        → (if t then d ∷ taken (step m d).contents (commands ++ c ∷ []) (answers ++ a ∷ []) else taken m (commands ++ c ∷ []) (answers ++ a ∷ []))
-        ≡ (if t then d ∷ taken (step m d).contents commands answers else taken m commands answers) ++ one (after m (if t then d ∷ taken (step m d).contents commands answers else taken m commands answers)) c a
-    by_test true here there = ap (λ (l : List Command). d ∷ l) here
-    by_test false here there = there
-
--- the header stands, and while the engine hasn't failed it has all that was put
+-- while the engine hasn't failed it has all that was put
 pub record Far {D : Type 0} (old now : EngineState D) (put : List Command) : Type 0 where
-  pub header : now.header ≡ old.header
   pub memory : now.failed ≡ false → now.memory ≡ after old.memory put
   pub count : now.failed ≡ false → now.count ≡ old.count + length put
 
@@ -59,7 +55,7 @@ none_or_some : (n : ℕ) → (n ≡ 0) ⊎ (0 < n)
 none_or_some zero = inl refl
 none_or_some (suc n) = inr (omega arith)
 
-not_put : (m : Contents) (c : Command) (a : Answer) → is_put a ≡ false → one m c a ≡ []
+not_put : (m : Contents) (c : Command) (a : Result Outcome Refusal) → is_put a ≡ false → one m c a ≡ []
 not_put m c a e = by_test (is_accepted m c) (is_put a) e
   where
     by_test : (b p : Bool) → p ≡ false → (if b && p then c ∷ [] else []) ≡ []
@@ -67,18 +63,32 @@ not_put m c a e = by_test (is_accepted m c) (is_put a) e
     by_test true false e = refl
     by_test false false e = refl
 
-not_accepted : (m : Contents) (c : Command) (a : Answer) → is_accepted m c ≡ false → one m c a ≡ []
+not_accepted : (m : Contents) (c : Command) (a : Result Outcome Refusal) → is_accepted m c ≡ false → one m c a ≡ []
 not_accepted m c a e = ap (λ (b : Bool). if b && is_put a then c ∷ [] else []) e
 
-is_one : (m : Contents) (c : Command) (a : Answer) → is_accepted m c ≡ true → is_put a ≡ true → one m c a ≡ c ∷ []
+is_one : (m : Contents) (c : Command) (a : Result Outcome Refusal) → is_accepted m c ≡ true → is_put a ≡ true → one m c a ≡ c ∷ []
 is_one m c a e p = ap (λ (b : Bool). if b && is_put a then c ∷ [] else []) e ∙ ap (λ (b : Bool). if b then c ∷ [] else []) p
+
+-- what is meant is meant with no room
+some_room : (m : Contents) (count room : ℕ) (file : List ℕ) → Means m count room file → Means m count 0 file
+some_room m count room file it = (it.0, omega arith, it.2)
+
+-- what the engine is after all that was put
+all_put : {D : Type 0} (old mid : EngineState D) (put : List Command) → Far old mid put → mid.failed ≡ false → (file : List ℕ) → MeansState mid file → Means (after old.memory put) (old.count + length put) 0 file
+all_put old mid put far f file means =
+    subst (λ (m : Contents). Means m (old.count + length put) 0 file) (far.memory f)
+    (subst (λ (n : ℕ). Means mid.memory n 0 file) (far.count f) (some_room mid.memory mid.count mid.room file means))
+
+pub means_all : {D : Type 0} (old mid : EngineState D) (put : List Command) → Far old mid put → mid.failed ≡ false → (file : List ℕ) → MeansState mid file → MeansAfter old put (length put) file
+means_all old mid put far f file means =
+    subst (λ (k : List Command). Means (after old.memory k) (old.count + length put) 0 file) (sym (take_all (length put) put (omega arith))) (all_put old mid put far f file means)
 
 -- a call did nothing, or its command was put
 abbrev pub Went : {D : Type 0} → EngineState D → EngineState D → Command → List Command → Type 0
 Went mid new c more = ((new ≡ mid) × (more ≡ []))
-    ⊎ ((more ≡ c ∷ []) × (mid.failed ≡ false) × (new.header ≡ mid.header) × (new.failed ≡ false → (new.memory ≡ (step mid.memory c).contents) × (new.count ≡ mid.count + 1)))
+    ⊎ ((more ≡ c ∷ []) × (mid.failed ≡ false) × (new.failed ≡ false → (new.memory ≡ (step mid.memory c).contents) × (new.count ≡ mid.count + 1)))
 
-module _ {D : Type 0} (old mid new : EngineState D) (put : List Command) (c : Command) (a : Answer) (far : Far old mid put) (it : Answered mid c a new) where
+module _ {D : Type 0} (old mid new : EngineState D) (put : List Command) (c : Command) (a : Result Outcome Refusal) (far : Far old mid put) (it : Answered mid c a new) where
   abbrev more : List Command
   more = one (after old.memory put) c a
 
@@ -90,22 +100,22 @@ module _ {D : Type 0} (old mid new : EngineState D) (put : List Command) (c : Co
       → Went mid new c more
   put_more f accepted (inl done) =
       let answers : Answers (step mid.memory c).answer = accepted_answers mid.memory c accepted in
-      let is : is_put a ≡ true = ap (λ (x : Answer). is_put x) (done.0 ∙ answers.1) in
-      inr (sym (same_one f) ∙ is_one mid.memory c a accepted is, f, ap (λ (s : EngineState D). s.header) done.1, λ g. (ap (λ (s : EngineState D). s.memory) done.1, ap (λ (s : EngineState D). s.count) done.1))
+      let is : is_put a ≡ true = ap (λ (x : Result Outcome Refusal). is_put x) (done.0 ∙ answers.1) in
+      inr (sym (same_one f) ∙ is_one mid.memory c a accepted is, f, λ g. (ap (λ (s : EngineState D). s.memory) done.1, ap (λ (s : EngineState D). s.count) done.1))
   put_more f accepted (inr fault) =
-      let is : is_put a ≡ true = ap (λ (x : Answer). is_put x) fault.0 in
+      let is : is_put a ≡ true = ap (λ (x : Result Outcome Refusal). is_put x) fault.0 in
       let dead : new.failed ≡ true = ap (λ (s : EngineState D). s.failed) fault.1 in
-      inr (sym (same_one f) ∙ is_one mid.memory c a accepted is, f, ap (λ (s : EngineState D). s.header) fault.1, λ g. absurd (cc))
+      inr (sym (same_one f) ∙ is_one mid.memory c a accepted is, f, λ g. absurd (cc))
 
   accepted_went : mid.failed ≡ false → is_accepted mid.memory c ≡ true → Went mid new c more
   accepted_went f accepted = ⊎_elim
-      (λ none. inl ((it.full f accepted none).1, not_put (after old.memory put) c a (ap (λ (x : Answer). is_put x) (it.full f accepted none).0)))
+      (λ none. inl ((it.full f accepted none).1, not_put (after old.memory put) c a (ap (λ (x : Result Outcome Refusal). is_put x) (it.full f accepted none).0)))
       (λ some. put_more f accepted (it.put f accepted some))
       (none_or_some mid.room)
 
   pub went : Went mid new c more
   went = ⊎_elim
-      (λ dead. inl ((it.dead dead).1, not_put (after old.memory put) c a (ap (λ (x : Answer). is_put x) (it.dead dead).0)))
+      (λ dead. inl ((it.dead dead).1, not_put (after old.memory put) c a (ap (λ (x : Result Outcome Refusal). is_put x) (it.dead dead).0)))
       (λ f. ⊎_elim
       (λ accepted. accepted_went f accepted)
       (λ un. inl ((it.unaccepted f un).1, sym (same_one f) ∙ not_accepted mid.memory c a un))
@@ -119,9 +129,8 @@ module _ {D : Type 0} (old mid new : EngineState D) (put : List Command) (c : Co
   far_on = elim went [
     | inl same ↦ subst (λ (l : List Command). Far old new (put ++ l)) (sym same.1) (subst (λ (l : List Command). Far old new l) (sym (append-nil put)) (subst (λ (s : EngineState D). Far old s put) (sym same.0) far))
     | inr on ↦ subst (λ (l : List Command). Far old new (put ++ l)) (sym on.0) (record {
-      header = on.2 ∙ far.header;
-      memory = λ f. (on.3 f).0 ∙ one_more on.1;
-      count = λ f. let a : new.count ≡ mid.count + 1 = (on.3 f).1 in let b : mid.count ≡ old.count + length put = far.count on.1 in omega (arith, length-append put (c ∷ []));
+      memory = λ f. (on.2 f).0 ∙ one_more on.1;
+      count = λ f. let a : new.count ≡ mid.count + 1 = (on.2 f).1 in let b : mid.count ≡ old.count + length put = far.count on.1 in omega (arith, length-append put (c ∷ []));
     })
   ]
 
@@ -130,32 +139,21 @@ module _ {D : Type 0} (old mid new : EngineState D) (put : List Command) (c : Co
       let within : means.0 ≤ length put = means.1 in (
         means.0,
         omega (arith, length-append put l),
-        (
-          means.2.0,
-          subst (λ (k : List Command). IsImage old.header (after old.memory k) (old.count + means.0) means.2.0 file) (sym (take-append-le means.0 put l within)) means.2.1,
-        ),
+        subst (λ (k : List Command). Means (after old.memory k) (old.count + means.0) 0 file) (sym (take-append-le means.0 put l within)) means.2,
       )
 
   before : mid.failed ≡ false → (file : List ℕ) → MeansState mid file → MeansAfter old (put ++ c ∷ []) (length put) file
-  before f file image = (
-    mid.room,
-    (subst (λ (k : List Command). IsImage old.header (after old.memory k) (old.count + length put) mid.room file) (sym (take_at put (c ∷ []) (length put) refl))
-        (subst (λ (h : Header). IsImage h (after old.memory put) (old.count + length put) mid.room file) far.header
-        (subst (λ (m : Contents). IsImage mid.header m (old.count + length put) mid.room file) (far.memory f)
-        (subst (λ (n : ℕ). IsImage mid.header mid.memory n mid.room file) (far.count f) image)))),
-  )
+  before f file means =
+      subst (λ (k : List Command). Means (after old.memory k) (old.count + length put) 0 file) (sym (take_at put (c ∷ []) (length put) refl))
+      (all_put old mid put far f file means)
 
   with_it : mid.failed ≡ false → (file : List ℕ) → MeansState (with_command mid c) file → MeansAfter old (put ++ c ∷ []) (length (put ++ c ∷ [])) file
-  with_it f file image =
-      let room : ℕ = room_after mid.count mid.room in
+  with_it f file means =
       let many : ℕ = length (put ++ c ∷ []) in
-      let count : mid.count + 1 ≡ old.count + length (put ++ c ∷ []) = (let b : mid.count ≡ old.count + length put = far.count f in omega (arith, length-append put (c ∷ []))) in (
-        room_after mid.count mid.room,
-        (subst (λ (k : List Command). IsImage old.header (after old.memory k) (old.count + length (put ++ c ∷ [])) (room_after mid.count mid.room) file) (sym (take_all (length (put ++ c ∷ [])) (put ++ c ∷ []) (omega arith)))
-            (subst (λ (h : Header). IsImage h (after old.memory (put ++ c ∷ [])) (old.count + length (put ++ c ∷ [])) (room_after mid.count mid.room) file) far.header
-            (subst (λ (m : Contents). IsImage mid.header m (old.count + length (put ++ c ∷ [])) (room_after mid.count mid.room) file) (one_more f)
-            (subst (λ (n : ℕ). IsImage mid.header (step mid.memory c).contents n (room_after mid.count mid.room) file) count image)))),
-      )
+      let count : mid.count + 1 ≡ old.count + length (put ++ c ∷ []) = (let b : mid.count ≡ old.count + length put = far.count f in omega (arith, length-append put (c ∷ []))) in
+      subst (λ (k : List Command). Means (after old.memory k) (old.count + length (put ++ c ∷ [])) 0 file) (sym (take_all (length (put ++ c ∷ [])) (put ++ c ∷ []) (omega arith)))
+      (subst (λ (m : Contents). Means m (old.count + length (put ++ c ∷ [])) 0 file) (one_more f)
+      (subst (λ (n : ℕ). Means (step mid.memory c).contents n 0 file) count (some_room (step mid.memory c).contents (mid.count + 1) (room_after mid.count mid.room) file means)))
 
   either : mid.failed ≡ false → (file : List ℕ) → MeansEither mid c file → MeansAllOrInDoubt old (put ++ c ∷ []) file
   either f file (inl image) = (length put, inr (length-append put (c ∷ [])), before f file image)
@@ -188,48 +186,108 @@ module _ {D : Type 0} (old mid new : EngineState D) (put : List Command) (c : Co
     | inr on ↦ subst (λ (l : List Command). LeavesNow (now new.disk) (MeansAllOrInDoubt old (put ++ l))) (sym on.0) (λ file left. either on.1 file (call on.1 file left))
   ]
 
--- a run that has served nothing yet
+-- one turn more
+
+module _ {D : Type 0} (old mid new : EngineState D) (put : List Command) (a : Result TurnDone Refusal) (far : Far old mid put) (it : TurnAnswered mid a new) where
+  turn_alive : mid.failed ≡ false → ((done : TurnDone) × (a ≡ Ok done) × TurnTaken mid done new) ⊎ ((a ≡ Err Device) × (new ≡ record mid { disk = new.disk; failed = true })) → Far old new put
+  turn_alive f (inl done) = record { memory = λ g. done.2.memory ∙ far.memory f; count = λ g. done.2.count ∙ far.count f }
+  turn_alive f (inr fault) =
+      let dead : new.failed ≡ true = ap (λ (s : EngineState D). s.failed) fault.1 in
+      record { memory = λ g. absurd (cc); count = λ g. absurd (cc) }
+
+  pub far_turned : Far old new put
+  far_turned = ⊎_elim
+      (λ dead. subst (λ (s : EngineState D). Far old s put) (sym (it.dead dead).1) far)
+      (λ f. turn_alive f (it.alive f))
+      (bool_cases mid.failed)
+
+  pub leaves_turned : (now : D → Moment) (past : D → List Moment)
+      → Leaves (now old.disk) (now mid.disk) (past old.disk) (past mid.disk) (MeansBeginning old put)
+      → (mid.failed ≡ false → Leaves (now mid.disk) (now new.disk) (past mid.disk) (past new.disk) (MeansState mid))
+      → Leaves (now old.disk) (now new.disk) (past old.disk) (past new.disk) (MeansBeginning old put)
+  leaves_turned now past so_far call = ⊎_elim
+      (λ dead. subst (λ (s : EngineState D). Leaves (now old.disk) (now s.disk) (past old.disk) (past s.disk) (MeansBeginning old put)) (sym (it.dead dead).1) so_far)
+      (λ f. leaves_then (now old.disk) (now mid.disk) (now new.disk) (past old.disk) (past mid.disk) (past new.disk) (MeansBeginning old put) (MeansState mid) (MeansBeginning old put) so_far (call f)
+      (λ file is. is) (λ file means. (length put, omega arith, means_all old mid put far f file means)))
+      (bool_cases mid.failed)
+
+  pub now_turned : (now : D → Moment) → LeavesNow (now mid.disk) (MeansAllOrInDoubt old put) → (mid.failed ≡ false → LeavesNow (now new.disk) (MeansState mid)) → LeavesNow (now new.disk) (MeansAllOrInDoubt old put)
+  now_turned now so_far call = ⊎_elim
+      (λ dead. subst (λ (s : EngineState D). LeavesNow (now s.disk) (MeansAllOrInDoubt old put)) (sym (it.dead dead).1) so_far)
+      (λ f file left. (length put, inl refl, means_all old mid put far f file (call f file left)))
+      (bool_cases mid.failed)
+
+-- one event more
+
+pub far_by : {D : Type 0} (old mid new : EngineState D) (put : List Command) (e : Event) (a : Answer) → Far old mid put → EventAnswered mid e a new → Far old new (put ++ put_by (after old.memory put) e a)
+far_by old mid new put (Serve c) (Served a) far it = far_on old mid new put c a far it
+far_by old mid new put (Serve c) (TookTurn a) far it = absurd it
+far_by old mid new put Turn (Served a) far it = absurd it
+far_by old mid new put Turn (TookTurn a) far it = subst (λ (l : List Command). Far old new l) (sym (append-nil put)) (far_turned old mid new put a far it)
+
+module _ {D : Type 0} (now : D → Moment) (past : D → List Moment) where
+  leaves_by : (old mid new : EngineState D) (put : List Command) (e : Event) (a : Answer) → Far old mid put → EventAnswered mid e a new
+      → Leaves (now old.disk) (now mid.disk) (past old.disk) (past mid.disk) (MeansBeginning old put)
+      → (mid.failed ≡ false → Leaves (now mid.disk) (now new.disk) (past mid.disk) (past new.disk) (MeansBy mid e))
+      → Leaves (now old.disk) (now new.disk) (past old.disk) (past new.disk) (MeansBeginning old (put ++ put_by (after old.memory put) e a))
+  leaves_by old mid new put (Serve c) (Served a) far it so_far call = leaves_on old mid new put c a far it now past so_far call
+  leaves_by old mid new put (Serve c) (TookTurn a) far it so_far call = absurd it
+  leaves_by old mid new put Turn (Served a) far it so_far call = absurd it
+  leaves_by old mid new put Turn (TookTurn a) far it so_far call =
+      subst (λ (l : List Command). Leaves (now old.disk) (now new.disk) (past old.disk) (past new.disk) (MeansBeginning old l)) (sym (append-nil put))
+      (leaves_turned old mid new put a far it now past so_far call)
+
+  now_by : (old mid new : EngineState D) (put : List Command) (e : Event) (a : Answer) → Far old mid put → EventAnswered mid e a new
+      → LeavesNow (now mid.disk) (MeansAllOrInDoubt old put) → (mid.failed ≡ false → LeavesNow (now new.disk) (MeansBy mid e))
+      → LeavesNow (now new.disk) (MeansAllOrInDoubt old (put ++ put_by (after old.memory put) e a))
+  now_by old mid new put (Serve c) (Served a) far it so_far call = now_on old mid new put c a far it now so_far call
+  now_by old mid new put (Serve c) (TookTurn a) far it so_far call = absurd it
+  now_by old mid new put Turn (Served a) far it so_far call = absurd it
+  now_by old mid new put Turn (TookTurn a) far it so_far call =
+      subst (λ (l : List Command). LeavesNow (now new.disk) (MeansAllOrInDoubt old l)) (sym (append-nil put)) (now_turned old mid new put a far it now so_far call)
+
+-- a run that has done nothing yet
 pub far_start : {D : Type 0} (s : EngineState D) → Far s s []
-far_start s = record { header = refl; memory = λ f. refl; count = λ f. omega arith }
+far_start s = record { memory = λ f. refl; count = λ f. omega arith }
 
 pub now_start : {D : Type 0} (s : EngineState D) (file : List ℕ) → MeansState s file → MeansAllOrInDoubt s [] file
-now_start s file image = (0, inl refl, (s.room, subst (λ (n : ℕ). IsImage s.header s.memory n s.room file) (none s.count) image))
+now_start s file means = (0, inl refl, subst (λ (n : ℕ). Means s.memory n 0 file) (none s.count) (some_room s.memory s.count s.room file means))
   where
     none : (n : ℕ) → n ≡ n + 0
     none n = omega arith
 
--- one command more of a run
+-- one event more of a run
 
-module _ {D : Type 0} (old mid new : EngineState D) (commands : List Command) (answers longer_answers : List Answer) (i : ℕ) (d : Command) (a : Answer)
-    (lt : i < length commands) (size : length answers ≡ i) (items : longer_answers ≡ answers ++ a ∷ []) (it : Answered mid (get_or commands i d) a new) where
+module _ {D : Type 0} (old mid new : EngineState D) (events : List Event) (answers longer_answers : List Answer) (i : ℕ) (d : Event) (a : Answer)
+    (lt : i < length events) (size : length answers ≡ i) (items : longer_answers ≡ answers ++ a ∷ []) (it : EventAnswered mid (get_or events i d) a new) where
   abbrev put : List Command
-  put = taken old.memory (take i commands) answers
+  put = taken old.memory (take i events) answers
 
-  stepped : take (i + 1) commands ≡ take i commands ++ get_or commands i d ∷ []
-  stepped = take_more commands i d lt
+  stepped : take (i + 1) events ≡ take i events ++ get_or events i d ∷ []
+  stepped = take_more events i d lt
 
-  grown : taken old.memory (take (i + 1) commands) longer_answers ≡ put ++ one (after old.memory put) (get_or commands i d) a
+  grown : taken old.memory (take (i + 1) events) longer_answers ≡ put ++ put_by (after old.memory put) (get_or events i d) a
   grown = (λ k. taken old.memory (stepped k) (items k))
-      ∙ taken-push old.memory (take i commands) answers (get_or commands i d) a (let n : length (take i commands) ≡ i = length-take-le i commands (omega arith) in omega arith)
+      ∙ taken-push old.memory (take i events) answers (get_or events i d) a (let n : length (take i events) ≡ i = length-take-le i events (omega arith) in omega arith)
 
-  pub answers_step : AnsweredInTurn old (take i commands) answers mid → AnsweredInTurn old (take (i + 1) commands) longer_answers new
-  answers_step so_far = subst (λ (l : List Command). AnsweredInTurn old l longer_answers new) (sym stepped)
-      (subst (λ (l : List Answer). AnsweredInTurn old (take i commands ++ get_or commands i d ∷ []) l new) (sym items) (in_turn_more old mid new (take i commands) answers (get_or commands i d) a so_far it))
+  pub answers_step : AnsweredInTurn old (take i events) answers mid → AnsweredInTurn old (take (i + 1) events) longer_answers new
+  answers_step so_far = subst (λ (l : List Event). AnsweredInTurn old l longer_answers new) (sym stepped)
+      (subst (λ (l : List Answer). AnsweredInTurn old (take i events ++ get_or events i d ∷ []) l new) (sym items) (in_turn_more old mid new (take i events) answers (get_or events i d) a so_far it))
 
   module _ (far : Far old mid put) where
-    pub far_step : Far old new (taken old.memory (take (i + 1) commands) longer_answers)
-    far_step = subst (λ (l : List Command). Far old new l) (sym grown) (far_on old mid new put (get_or commands i d) a far it)
+    pub far_step : Far old new (taken old.memory (take (i + 1) events) longer_answers)
+    far_step = subst (λ (l : List Command). Far old new l) (sym grown) (far_by old mid new put (get_or events i d) a far it)
 
     pub leaves_step_on : (now : D → Moment) (past : D → List Moment)
         → Leaves (now old.disk) (now mid.disk) (past old.disk) (past mid.disk) (MeansBeginning old put)
-        → (mid.failed ≡ false → Leaves (now mid.disk) (now new.disk) (past mid.disk) (past new.disk) (MeansEither mid (get_or commands i d)))
-        → Leaves (now old.disk) (now new.disk) (past old.disk) (past new.disk) (MeansBeginning old (taken old.memory (take (i + 1) commands) longer_answers))
+        → (mid.failed ≡ false → Leaves (now mid.disk) (now new.disk) (past mid.disk) (past new.disk) (MeansBy mid (get_or events i d)))
+        → Leaves (now old.disk) (now new.disk) (past old.disk) (past new.disk) (MeansBeginning old (taken old.memory (take (i + 1) events) longer_answers))
     leaves_step_on now past so_far call =
         subst (λ (l : List Command). Leaves (now old.disk) (now new.disk) (past old.disk) (past new.disk) (MeansBeginning old l)) (sym grown)
-        (leaves_on old mid new put (get_or commands i d) a far it now past so_far call)
+        (leaves_by now past old mid new put (get_or events i d) a far it so_far call)
 
-    pub now_step_on : (now : D → Moment) → LeavesNow (now mid.disk) (MeansAllOrInDoubt old put)
-        → (mid.failed ≡ false → LeavesNow (now new.disk) (MeansEither mid (get_or commands i d)))
-        → LeavesNow (now new.disk) (MeansAllOrInDoubt old (taken old.memory (take (i + 1) commands) longer_answers))
-    now_step_on now so_far call =
-        subst (λ (l : List Command). LeavesNow (now new.disk) (MeansAllOrInDoubt old l)) (sym grown) (now_on old mid new put (get_or commands i d) a far it now so_far call)
+    pub now_step_on : (now : D → Moment) (past : D → List Moment) → LeavesNow (now mid.disk) (MeansAllOrInDoubt old put)
+        → (mid.failed ≡ false → LeavesNow (now new.disk) (MeansBy mid (get_or events i d)))
+        → LeavesNow (now new.disk) (MeansAllOrInDoubt old (taken old.memory (take (i + 1) events) longer_answers))
+    now_step_on now past so_far call =
+        subst (λ (l : List Command). LeavesNow (now new.disk) (MeansAllOrInDoubt old l)) (sym grown) (now_by now past old mid new put (get_or events i d) a far it so_far call)

@@ -1,23 +1,24 @@
 -- How one command is served.
-use Rattle.std.proofs.Common.{OnOk, arith, ◌≡◌, ◌⊎◌, ℕ, ◌+◌, ◌<◌, ◌≤◌, Bool, true, false, List, Result, Ok, Err, refl, sym, ◌∙◌, ap, subst}
+use Rattle.std.proofs.Common.{◌≡◌, ℕ, ◌≤◌, [], Bool, true, false, List, length, Result, Ok, Err, refl, sym, ◌∙◌, ap, subst, arith}
 use Rattle.im_types.specs.declared.commands.Command.{Command}
 use Rattle.im_types.specs.declared.commands.Outcome.{Outcome}
 use Rattle.im_types.specs.declared.refusals.Refusal.{Refusal}
-use Rattle.im_types.specs.declared.refusals.Refusal.TheVariants.{JournalFull, Device, Failed}
-use Rattle.im_types.specs.Refusals.{number_of}
 use Rattle.im_types.specs.Contents.{Contents}
 use Rattle.im_types.specs.Header.{Header}
-use Rattle.im_types.specs.Journal.{Ring}
-use Rattle.im_types.specs.Layout.{layout_1, ring_of}
+use Rattle.im_types.specs.Journal.{slot_at}
 use Rattle.im_types.specs.Step.{step, is_accepted, unless_refused, acceptance}
 use Rattle.im_laws.proofs.AcceptLemmas.{unaccepted-leaves}
+use Rattle.im_laws.proofs.MemoryLemmas.{step-cell_count, step-window_count}
 use Rattle.im_disk.specs.Moment.{Moment, Left}
-use Rattle.im_disk.specs.Since.{LeavesNow}
-use Rattle.im_journal.specs.Holding.{JournalState, AllHold, room_after, longer, Appended, MayAppend}
-use Rattle.im_engine.specs.State.{EngineState, IsImage, journal_of, with_command}
-use Rattle.im_engine.specs.Run.{Answer, Answered}
+use Rattle.im_disk.specs.Since.{SameBut}
+use Rattle.im_disk.proofs.SinceLemmas.{left_now}
+use Rattle.im_journal.specs.Holding.{JournalState, Holds, AllHold, longer, Appended}
+use Rattle.im_checkpoint.specs.Step.{Taken, Step, NoCheckpoint, PagesLeft, PagesDone, Synced, CheckpointState}
+use Rattle.im_checkpoint.specs.Keeping.{IsBetween, StepFits, Fits, IsKept}
+use Rattle.im_engine.specs.State.{EngineState}
+use Rattle.im_engine.specs.Run.{Answered}
 use Rattle.im_engine.proofs.Accepting.{Answers, accepted_answers}
-use Rattle.im_engine.proofs.Images.{all_hold, may_append_means, appended_means}
+use Rattle.im_engine.proofs.Keeping.{kept_longer}
 
 -- the judgement, taken apart
 pub judged_is : (accepts b : Bool) (answer : Result Outcome Refusal) → unless_refused accepts answer ≡ Ok b → accepts ≡ b
@@ -34,32 +35,38 @@ accepts m command b r is e = judged_is (is_accepted m command) b (step m command
 pub unaccepted_same : (m new : Contents) (command : Command) → new ≡ (step m command).contents → is_accepted m command ≡ false → new ≡ m
 unaccepted_same m new command is un = is ∙ unaccepted-leaves m command un
 
--- a journal that stays in its place
-pub longer_of : (h : Header) (old new : JournalState) → old ≡ journal_of h old.count old.room → new ≡ longer old → new ≡ journal_of h new.count new.room
-longer_of h old new is more =
-    let ring : new.ring ≡ ring_of layout_1 h.sizes = ap (λ (j : JournalState). j.ring) more ∙ ap (λ (j : JournalState). j.ring) is in
-    let first : new.first ≡ h.count = ap (λ (j : JournalState). j.first) more ∙ ap (λ (j : JournalState). j.first) is in
-    (λ i. record { ring = ring i; first = first i; count = new.count; room = new.room })
+-- a memory and a journal of the sizes of a header, with a command more
+pub fits_longer : (c : CheckpointState) (m new : Contents) (j longer_j : JournalState) (command : Command) → Fits c m j → new ≡ (step m command).contents → longer_j ≡ longer j → Fits c new longer_j
+fits_longer c m new j longer_j command it is more = record {
+  cells = ap (λ (x : Contents). length x.cells) is ∙ step-cell_count m command ∙ it.cells;
+  elements = ap (λ (x : Contents). length x.windows) is ∙ step-window_count m command ∙ it.elements;
+  ring = ap (λ (x : JournalState). x.ring) more ∙ it.ring;
+  first = ap (λ (x : JournalState). x.first) more ∙ it.first;
+  step = subst (λ (x : JournalState). StepFits c.header x c.step) (sym more) (step_longer c.header j c.step it.step);
+}
+  where
+    later : (h : Header) (j : JournalState) (taken : Taken) → IsBetween h j taken → IsBetween h (longer j) taken
+    later h j taken it = record { from = it.from; to = (let to : taken.count ≤ j.count = it.to in omega arith) }
 
-module _ (h : Header) (m : Contents) (j : JournalState) (is : j ≡ journal_of h j.count j.room) (now : Moment) (all : LeavesNow now (IsImage h m j.count j.room)) where
-  pub journal_holds : AllHold j now
-  journal_holds = subst (λ (x : JournalState). AllHold x now) (sym is) (all_hold h m j.count j.room now all)
+    step_longer : (h : Header) (j : JournalState) (s : Step) → StepFits h j s → StepFits h (longer j) s
+    step_longer h j NoCheckpoint it = tt
+    step_longer h j (PagesLeft taken left) it = later h j taken it
+    step_longer h j (PagesDone taken) it = later h j taken it
+    step_longer h j (Synced taken) it = later h j taken it
 
-  pub either : (command : Command) → is_accepted m command ≡ true → (file : List ℕ) → MayAppend j command now file
-      → IsImage h m j.count j.room file ⊎ IsImage h (step m command).contents (j.count + 1) (room_after j.count j.room) file
-  either command accepted file may = may_append_means h m j.count j.room command accepted now all file (subst (λ (x : JournalState). MayAppend x command now file) is may)
-
-  pub with_it : (command : Command) → is_accepted m command ≡ true → (m2 : Contents) → m2 ≡ (step m command).contents → (j2 : JournalState) → j2 ≡ longer j
-      → (file : List ℕ) → Appended j command now file → IsImage h m2 j2.count j2.room file
-  with_it command accepted m2 e j2 more file it =
-      let image : IsImage h (step m command).contents (j.count + 1) (room_after j.count j.room) file = appended_means h m j.count j.room command accepted now all file (subst (λ (x : JournalState). Appended x command now file) is it) in
-      subst (λ (x : Contents). IsImage h x j2.count j2.room file) (sym e)
-      (subst (λ (n : ℕ). IsImage h (step m command).contents n j2.room file) (sym (ap (λ (x : JournalState). x.count) more))
-      (subst (λ (n : ℕ). IsImage h (step m command).contents (j.count + 1) n file) (sym (ap (λ (x : JournalState). x.room) more)) image))
+-- a disk that keeps a memory keeps it with a command more, once that is appended
+module _ (c : CheckpointState) (m : Contents) (j : JournalState) (now : Moment) (kept : IsKept c m j now) (command : Command) (accepted : is_accepted m command ≡ true) where
+  pub kept_with_it : (new : Contents) → new ≡ (step m command).contents → (longer_j : JournalState) → longer_j ≡ longer j → (after : Moment) → SameBut (slot_at j.ring j.count) 64 now.bytes after.bytes → after.ranges ≡ []
+      → ((file : List ℕ) → Left after file → Appended j command now file) → AllHold longer_j after → IsKept c new longer_j after
+  kept_with_it new is longer_j more after but calm added holds =
+      subst (λ (x : Contents). IsKept c x longer_j after) (sym is)
+      (subst (λ (x : JournalState). IsKept c (step m command).contents x after) (sym more)
+      (kept_longer c m j now kept command accepted after but calm (added after.bytes (left_now after))
+      (subst (λ (x : JournalState). Holds x after.bytes) more (holds after.bytes (left_now after)))))
 
 -- an answer to a command, by what the engine is
 
-pub answered_unaccepted : {D : Type 0} (old new : EngineState D) (command : Command) (answer : Answer) → old.failed ≡ false → is_accepted old.memory command ≡ false
+pub answered_unaccepted : {D : Type 0} (old new : EngineState D) (command : Command) (answer : Result Outcome Refusal) → old.failed ≡ false → is_accepted old.memory command ≡ false
     → answer ≡ (step old.memory command).answer → new ≡ old → Answered old command answer new
 answered_unaccepted old new command answer alive un is same = record {
   dead = λ e. absurd (cc);

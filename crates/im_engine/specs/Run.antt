@@ -1,5 +1,5 @@
--- Commands one after another, and what the files mean that a crash may leave. (Own.)
-use Rattle.std.specs.Prelude.{◌≡◌, ◌⊎◌, ℕ, ◌+◌, ◌<◌, ◌≤◌, Bool, true, false, ◌&&◌, ◌==◌, List, [], ◌∷◌, length, take, Result, Ok, Err, if◌then◌else◌}
+-- Commands and turns one after another, and what the files mean that a crash may leave. (Own.)
+use Rattle.std.specs.Prelude.{◌≡◌, ◌⊎◌, ℕ, ◌+◌, ◌<◌, ◌≤◌, Bool, true, false, ◌&&◌, ◌==◌, List, [], ◌∷◌, ◌++◌, length, take, Result, Ok, Err, if◌then◌else◌}
 use Rattle.im_types.specs.declared.commands.Command.{Command}
 use Rattle.im_types.specs.declared.commands.Outcome.{Outcome}
 use Rattle.im_types.specs.declared.refusals.Refusal.{Refusal}
@@ -8,14 +8,17 @@ use Rattle.im_types.specs.Refusals.{number_of}
 use Rattle.im_types.specs.Contents.{Contents}
 use Rattle.im_types.specs.Step.{step, is_accepted}
 use Rattle.im_types.specs.Run.{after}
-use Rattle.im_engine.specs.State.{EngineState, IsImage, with_command}
-
--- the answer to a command
-abbrev pub Answer : Type 0
-Answer = Result Outcome Refusal
+use Rattle.im_checkpoint.specs.declared.checkpoint.TurnDone.{TurnDone}
+use Rattle.im_checkpoint.specs.Turns.{Turned}
+use Rattle.im_checkpoint.specs.Keeping.{Means}
+use Rattle.im_engine.specs.State.{EngineState, MeansState, MeansEither, with_command, journal_in, checkpoint_in}
+use Rattle.im_engine.specs.declared.run.Event.{Event}
+use Rattle.im_engine.specs.declared.run.Event.TheVariants.{Command as Serve, Turn}
+use Rattle.im_engine.specs.declared.run.Answer.{Answer}
+use Rattle.im_engine.specs.declared.run.Answer.TheVariants.{Served, Turned as TookTurn}
 
 -- an engine's answer to one command, and what it comes to, on any disk
-pub record Answered {D : Type 0} (old : EngineState D) (command : Command) (answer : Answer) (new : EngineState D) : Type 0 where
+pub record Answered {D : Type 0} (old : EngineState D) (command : Command) (answer : Result Outcome Refusal) (new : EngineState D) : Type 0 where
   pub dead : old.failed ≡ true → (answer ≡ Err Failed) × (new ≡ old)
   pub unaccepted : old.failed ≡ false → is_accepted old.memory command ≡ false → (answer ≡ (step old.memory command).answer) × (new ≡ old)
   pub full : old.failed ≡ false → is_accepted old.memory command ≡ true → old.room ≡ 0 → (answer ≡ Err JournalFull) × (new ≡ old)
@@ -23,28 +26,63 @@ pub record Answered {D : Type 0} (old : EngineState D) (command : Command) (answ
       ((answer ≡ (step old.memory command).answer) × (new ≡ record (with_command old command) { disk = new.disk }))
       ⊎ ((answer ≡ Err Device) × (new ≡ record old { disk = new.disk; failed = true }))
 
--- the answers to commands, one after another
-abbrev pub AnsweredInTurn : {D : Type 0} → EngineState D → List Command → List Answer → EngineState D → Type 0
+-- a turn that was done: memory, count and life stay, and the rest is as the table of turns says
+pub record TurnTaken {D : Type 0} (old : EngineState D) (done : TurnDone) (new : EngineState D) : Type 0 where
+  pub memory : new.memory ≡ old.memory
+  pub count : new.count ≡ old.count
+  pub alive : new.failed ≡ false
+  pub turned : Turned (checkpoint_in old) (journal_in old) old.memory done (checkpoint_in new) (journal_in new)
+
+-- an engine's answer to one turn, and what it comes to, on any disk
+pub record TurnAnswered {D : Type 0} (old : EngineState D) (answer : Result TurnDone Refusal) (new : EngineState D) : Type 0 where
+  pub dead : old.failed ≡ true → (answer ≡ Err Failed) × (new ≡ old)
+  pub alive : old.failed ≡ false →
+      ((done : TurnDone) × (answer ≡ Ok done) × TurnTaken old done new)
+      ⊎ ((answer ≡ Err Device) × (new ≡ record old { disk = new.disk; failed = true }))
+
+-- an engine's answer to one event
+abbrev pub EventAnswered : {D : Type 0} → EngineState D → Event → Answer → EngineState D → Type 0
+EventAnswered old (Serve command) (Served answer) new = Answered old command answer new
+EventAnswered old Turn (TookTurn answer) new = TurnAnswered old answer new
+EventAnswered old (Serve command) (TookTurn answer) new = ⊥
+EventAnswered old Turn (Served answer) new = ⊥
+
+-- what a file means that is left within an event
+abbrev pub MeansBy : {D : Type 0} → EngineState D → Event → List ℕ → Type 0
+MeansBy old (Serve command) file = MeansEither old command file
+MeansBy old Turn file = MeansState old file
+
+-- the answers to events, one after another
+abbrev pub AnsweredInTurn : {D : Type 0} → EngineState D → List Event → List Answer → EngineState D → Type 0
 AnsweredInTurn old [] [] new = new ≡ old
 AnsweredInTurn old [] (answer ∷ answers) new = ⊥
-AnsweredInTurn old (command ∷ commands) [] new = ⊥
-AnsweredInTurn {D} old (command ∷ commands) (answer ∷ answers) new = (mid : EngineState D) × Answered old command answer mid × AnsweredInTurn mid commands answers new
+AnsweredInTurn old (event ∷ events) [] new = ⊥
+AnsweredInTurn {D} old (event ∷ events) (answer ∷ answers) new = (mid : EngineState D) × EventAnswered old event answer mid × AnsweredInTurn mid events answers new
 
 -- the answer says that a command was put on the disk, or is in doubt
-abbrev pub is_put : Answer → Bool
+abbrev pub is_put : Result Outcome Refusal → Bool
 is_put (Ok outcome) = true
 is_put (Err refusal) = number_of refusal == 8
 
+-- the command, if it was accepted and put on the disk, the one in doubt too
+abbrev pub one : Contents → Command → Result Outcome Refusal → List Command
+one m command answer = if is_accepted m command && is_put answer then command ∷ [] else []
+
+-- the same, of an event
+abbrev pub put_by : Contents → Event → Answer → List Command
+put_by m (Serve command) (Served answer) = one m command answer
+put_by m (Serve command) (TookTurn answer) = []
+put_by m Turn answer = []
+
 -- the accepted commands that were put on the disk, the one in doubt among them, by what each was answered
-abbrev pub taken : Contents → List Command → List Answer → List Command
+abbrev pub taken : Contents → List Event → List Answer → List Command
 taken m [] answers = []
-taken m (command ∷ commands) [] = []
-taken m (command ∷ commands) (answer ∷ answers) =
-    if is_accepted m command && is_put answer then command ∷ taken (step m command).contents commands answers else taken m commands answers
+taken m (event ∷ events) [] = []
+taken m (event ∷ events) (answer ∷ answers) = put_by m event answer ++ taken (after m (put_by m event answer)) events answers
 
 -- the file means what the engine is after this many of these commands
 abbrev pub MeansAfter : {D : Type 0} → EngineState D → List Command → ℕ → List ℕ → Type 0
-MeansAfter s commands many file = (room : ℕ) × IsImage s.header (after s.memory (take many commands)) (s.count + many) room file
+MeansAfter s commands many file = Means (after s.memory (take many commands)) (s.count + many) 0 file
 
 -- the file means what the engine is after a beginning of these commands
 abbrev pub MeansBeginning : {D : Type 0} → EngineState D → List Command → List ℕ → Type 0

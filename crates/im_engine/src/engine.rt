@@ -4,12 +4,14 @@ ghost use Rattle.im_types.specs.Window.{ask, bounds};
 ghost use Rattle.im_types.specs.Step.{step, is_accepted};
 ghost use Rattle.im_disk.specs.Moment.{Rises};
 ghost use Rattle.im_disk.specs.Since.{Leaves, LeavesNow};
-ghost use Rattle.im_image.specs.Headers.{seen};
-ghost use Rattle.im_engine.specs.Run.{Answered};
-ghost use Rattle.im_engine.specs.State.{IsImage, journal_of, MeansState, MeansEither, with_command};
+ghost use Rattle.im_checkpoint.specs.Keeping.{Fits, IsKept};
+ghost use Rattle.im_checkpoint.specs.Step.{IsUnderWay, turns_left};
+ghost use Rattle.im_checkpoint.specs.Turns.{most_calls};
+ghost use Rattle.im_engine.specs.Run.{Answered, TurnAnswered};
+ghost use Rattle.im_engine.specs.State.{MeansState, MeansEither, with_command};
 
+use im_checkpoint::{Checkpoint, TurnDone};
 use im_disk::Disk;
-use im_image::Header;
 use im_journal::Journal;
 use im_memory::Memory;
 use im_types::{Command, Entry, Outcome, Refusal};
@@ -17,13 +19,13 @@ use std::marker::Model;
 
 /// A memory that a disk keeps.
 ///
-/// Contracts see its disk, the header in force, the memory, the count of all accepted commands, the room for more, and
-/// whether the disk has failed it. While it hasn't failed, each file that a crash may leave means this memory and this
-/// count.
+/// Contracts see its disk, the header in force, how far the next checkpoint has come, the memory, the count of all
+/// accepted commands, the room for more, and whether the disk has failed it. While it hasn't failed, each file that a crash
+/// may leave means this memory and this count.
 #[derive(Drop)]
 pub struct Engine<D: Disk> {
     disk: D,
-    header: Header,
+    checkpoint: Checkpoint,
     journal: Journal,
     memory: Memory,
     failed: bool,
@@ -31,16 +33,15 @@ pub struct Engine<D: Disk> {
 
 impl<D: Disk> Model for Engine<D> {
     ghost use Rattle.std.specs.Prelude.{◌≡◌, false};
-    ghost use Rattle.im_image.specs.Headers.{seen};
-    ghost use Rattle.im_disk.specs.Since.{LeavesNow};
-    ghost use Rattle.im_engine.specs.State.{EngineState, IsImage, journal_of};
+    ghost use Rattle.im_checkpoint.specs.Keeping.{Fits, IsKept};
+    ghost use Rattle.im_engine.specs.State.{EngineState};
 
     ghost Value = { EngineState D };
 
-    ghost view = { λ e. record { disk = e.disk; header = seen e.header; memory = e.memory; count = e.journal.count; room = e.journal.room; failed = e.failed } };
+    ghost view = { λ e. record { disk = e.disk; header = e.checkpoint.header; step = e.checkpoint.step; memory = e.memory; count = e.journal.count; room = e.journal.room; failed = e.failed } };
 
-    ghost invariant = { λ e. (e.journal ≡ journal_of (seen e.header) e.journal.count e.journal.room)
-        × (D.honest e.disk → e.failed ≡ false → LeavesNow (D.now e.disk) (IsImage (seen e.header) e.memory e.journal.count e.journal.room)) };
+    ghost invariant = { λ e. Fits e.checkpoint e.memory e.journal
+        × (D.honest e.disk → e.failed ≡ false → IsKept e.checkpoint e.memory e.journal (D.now e.disk)) };
 }
 
 impl<D: Disk> Engine<D> {
@@ -95,25 +96,64 @@ impl<D: Disk> Engine<D> {
         }
         // A stop in it leaves the command on the disk, whole, or not at all: its answer isn't given before.
         if let Err(_) = self.journal.append(&mut self.disk, command) {
-            self.failed = true;
+            self.failed = true; // The command is there, or not.
             return Err(Refusal::Device);
         }
         self.memory.step(command)
     }
 
-    // An engine over a disk whose image means this.
-    pub(crate) fn started(disk: D, header: Header, journal: Journal, memory: Memory) -> Engine<D>
-        requires journal { journal ≡ journal_of (seen header) journal.count journal.room }
-        requires means { D.honest disk → LeavesNow (D.now disk) (IsImage (seen header) memory journal.count journal.room) }
-        ensures state { result ≡ record { disk = disk; header = seen header; memory = memory; count = journal.count; room = journal.room; failed = false } }
+    // An engine over a disk that keeps this.
+    pub(crate) fn started(
+        disk: D,
+        checkpoint: Checkpoint,
+        journal: Journal,
+        memory: Memory,
+    ) -> Engine<D>
+        requires fits { Fits checkpoint memory journal }
+        requires kept { D.honest disk → IsKept checkpoint memory journal (D.now disk) }
+        ensures state { result ≡ record { disk = disk; header = checkpoint.header; step = checkpoint.step; memory = memory; count = journal.count; room = journal.room; failed = false } }
         ensures means { D.honest result.disk → LeavesNow (D.now result.disk) (MeansState result) }
     {
         Engine {
             disk,
-            header,
+            checkpoint,
             journal,
             memory,
             failed: false,
+        }
+    }
+
+    /// Makes one turn of a checkpoint: at most four calls of the disk, and what its answer says. The memory and the count
+    /// stay. It takes no memory.
+    ///
+    /// `Failed` exactly where an earlier call failed on the disk. `Device` where a call of the disk failed: then the engine
+    /// has failed, no command is in doubt, and the image has to be opened again.
+    pub fn turn(&mut self) -> Result<TurnDone, Refusal>
+        ensures answered { TurnAnswered self.old result self.new }
+        // A checkpoint that is under way comes nearer to its end, and nothing else takes it back.
+        ensures nearer { OnOk result (IsUnderWay self.old.step → turns_left self.old.step ≡ turns_left self.new.step + 1) }
+        ensures calls { IfOk result (λ done. D.honest self.new.disk → length (D.past self.new.disk) ≤ length (D.past self.old.disk) + most_calls done) }
+        ensures device { IsErrOf result Refusal.Device → Rises (D.failures self.old.disk) (D.failures self.new.disk) }
+        // Each file that a crash may leave, from the start on, and now.
+        ensures leaves { D.honest self.new.disk → self.old.failed ≡ false
+            → Leaves (D.now self.old.disk) (D.now self.new.disk) (D.past self.old.disk) (D.past self.new.disk) (MeansState self.old) }
+        ensures now { D.honest self.new.disk → self.old.failed ≡ false → LeavesNow (D.now self.new.disk) (MeansState self.old) }
+        ensures means { D.honest self.new.disk → self.new.failed ≡ false → LeavesNow (D.now self.new.disk) (MeansState self.new) }
+        ensures honest { D.honest self.new.disk → D.honest self.old.disk }
+    {
+        if self.failed {
+            return Err(Refusal::Failed);
+        }
+        // A stop in it leaves the memory as it is: by the header in force, or by the next one.
+        match self
+            .checkpoint
+            .turn(&mut self.disk, &self.memory, &mut self.journal)
+        {
+            Ok(done) => Ok(done),
+            Err(refusal) => {
+                self.failed = true; // No command is in doubt.
+                Err(refusal)
+            }
         }
     }
 
@@ -156,7 +196,7 @@ impl<D: Disk> Engine<D> {
         self.journal.count()
     }
 
-    /// Whether a call of the disk has failed. From then on `serve`, `collect` and `window` only answer `Failed`. While none
+    /// Whether a call of the disk has failed. From then on `serve`, `turn`, `collect` and `window` only answer `Failed`. While none
     /// has, each file that a crash may leave means the memory and the count.
     pub fn failed(&self) -> bool
         ensures failed { result ≡ self.now.failed }

@@ -1,5 +1,5 @@
 //! How an image is made of a file.
-ghost use Rattle.std.specs.Prelude.{◌≡◌, ◌≢◌, false, ◌⊎◌, ◌∷◌, ◌<◌, length, drop, IfOk, IfErr, OnOk, IsErrOf, MatchResult};
+ghost use Rattle.std.specs.Prelude.{◌≡◌, ◌≢◌, false, ◌⊎◌, [], ◌∷◌, ◌<◌, length, drop, IfOk, IfErr, OnOk, IsErrOf, MatchResult};
 ghost use Rattle.im_types.specs.declared.refusals.Refusal.TheVariants.{WrongLength, NoMemory, Device};
 ghost use Rattle.im_types.specs.Contents.{empty_contents};
 ghost use Rattle.im_types.specs.Layout.{layout_1, image_length};
@@ -9,9 +9,11 @@ ghost use Rattle.im_disk.specs.Since.{LeavesNow};
 ghost use Rattle.im_types.specs.Layout.{sizes_of};
 ghost use Rattle.im_image.specs.Headers.{seen};
 ghost use Rattle.im_image.specs.Fresh.{new_header, new_image};
+ghost use Rattle.im_checkpoint.specs.Step.{NoCheckpoint};
 ghost use Rattle.im_engine.specs.State.{MeansState};
 
 use crate::engine::Engine;
+use im_checkpoint::Checkpoint;
 use im_disk::{DeviceFault, Disk};
 use im_image::{Header, OPEN, VERSION, image_length, new_image};
 use im_journal::Journal;
@@ -36,7 +38,8 @@ fn new_header(limits: Limits) -> Header
 fn write_image<D: Disk>(disk: &mut D, image: &[u8]) -> Result<(), DeviceFault>
     requires some { 0 < length image.now }
     requires size { D.honest disk.old → length image.now ≡ length (D.now disk.old).bytes }
-    ensures written { OnOk result (D.honest disk.new → LeavesNow (D.now disk.new) (λ file. file ≡ 0xA5 ∷ drop 1 image.now)) }
+    ensures written { OnOk result (D.honest disk.new → (D.now disk.new).bytes ≡ 0xA5 ∷ drop 1 image.now) }
+    ensures calm { OnOk result (D.honest disk.new → (D.now disk.new).ranges ≡ []) }
     ensures honest { D.honest disk.new → D.honest disk.old }
     ensures failures { Counts result (D.failures disk.old) (D.failures disk.new) }
 {
@@ -47,13 +50,19 @@ fn write_image<D: Disk>(disk: &mut D, image: &[u8]) -> Result<(), DeviceFault>
     Ok(())
 }
 
-// Makes a new image of a file, and the memory that it means.
-fn lay_down<D: Disk>(alloc: Global, disk: &mut D, limits: Limits) -> Result<Memory, Refusal>
-    ensures empty { IfOk result (λ m. m ≡ empty_contents limits.cells limits.elements) }
-    ensures written { OnOk result (D.honest disk.new → LeavesNow (D.now disk.new) (λ file. file ≡ new_image 0xA5 (sizes_of limits))) }
+// Makes a new image of a file: the memory that it means, and no checkpoint yet.
+fn lay_down<D: Disk>(
+    alloc: Global,
+    disk: &mut D,
+    limits: Limits,
+) -> Result<(Memory, Checkpoint), Refusal>
+    ensures empty { IfOk result (λ r. r.0 ≡ empty_contents limits.cells limits.elements) }
+    ensures idle { IfOk result (λ r. r.1 ≡ record { header = new_header (sizes_of limits); step = NoCheckpoint }) }
+    ensures written { OnOk result (D.honest disk.new → (D.now disk.new).bytes ≡ new_image 0xA5 (sizes_of limits)) }
+    ensures calm { OnOk result (D.honest disk.new → (D.now disk.new).ranges ≡ []) }
     ensures wrong { IsErrOf result Refusal.WrongLength → D.honest disk.new
         → (length (D.now disk.old).bytes ≢ image_length layout_1 (sizes_of limits)) × (D.now disk.new ≡ D.now disk.old) × (D.past disk.new ≡ D.past disk.old) }
-    ensures right { MatchResult result (λ m. D.honest disk.new → length (D.now disk.old).bytes ≡ image_length layout_1 (sizes_of limits))
+    ensures right { MatchResult result (λ r. D.honest disk.new → length (D.now disk.old).bytes ≡ image_length layout_1 (sizes_of limits))
         (λ e. e ≡ NoMemory → D.honest disk.new
         → (length (D.now disk.old).bytes ≡ image_length layout_1 (sizes_of limits)) × (D.now disk.new ≡ D.now disk.old) × (D.past disk.new ≡ D.past disk.old)) }
     ensures device { IsErrOf result Refusal.Device → Rises (D.failures disk.old) (D.failures disk.new) }
@@ -72,11 +81,14 @@ fn lay_down<D: Disk>(alloc: Global, disk: &mut D, limits: Limits) -> Result<Memo
     let Ok(image) = new_image(alloc, limits) else {
         return Err(Refusal::NoMemory);
     };
+    let Ok(checkpoint) = Checkpoint::idle(alloc, &new_header(limits)) else {
+        return Err(Refusal::NoMemory);
+    };
     // A stop in it leaves no image before the whole of the new one is on the disk.
     if let Err(_) = write_image(disk, &image) {
         return Err(Refusal::Device);
     }
-    Ok(memory)
+    Ok((memory, checkpoint))
 }
 
 impl<D: Disk> Engine<D> {
@@ -84,8 +96,8 @@ impl<D: Disk> Engine<D> {
     /// the journal closed. What the file held is gone. One write of the whole image, a sync, one of its gate alone, a sync.
     ///
     /// Each refusal gives the disk back. `WrongLength` exactly where the file's length isn't that of such an image, and
-    /// `NoMemory` where `alloc` refused the room for the image and the memory: then nothing was written. `Device` where a
-    /// call of the disk failed: then the file may hold no image.
+    /// `NoMemory` where `alloc` refused the room for the image, the memory and the pages of a checkpoint: then nothing was
+    /// written. `Device` where a call of the disk failed: then the file may hold no image.
     pub fn format(alloc: Global, mut disk: D, limits: Limits) -> Result<Engine<D>, (Refusal, D)>
         ensures empty { IfOk result (λ e. (e.memory ≡ empty_contents limits.cells limits.elements) × (e.count ≡ 0) × (e.room ≡ limits.slots)
             × (e.header ≡ new_header (sizes_of limits))) }
@@ -102,9 +114,9 @@ impl<D: Disk> Engine<D> {
         ensures honest { MatchResult result (λ e. D.honest e.disk → D.honest disk) (λ e. D.honest e.1 → D.honest disk) }
     {
         match lay_down(alloc, &mut disk, limits) {
-            Ok(memory) => Ok(Engine::started(
+            Ok((memory, checkpoint)) => Ok(Engine::started(
                 disk,
-                new_header(limits),
+                checkpoint,
                 Journal::fresh(limits),
                 memory,
             )),

@@ -8,6 +8,7 @@ mod open;
 mod run;
 
 pub use engine::Engine;
+pub use run::{Answer, Event};
 
 #[cfg(test)]
 mod tests;

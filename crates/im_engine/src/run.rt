@@ -1,46 +1,75 @@
-//! How commands are served one after another.
+//! How commands and turns follow one another.
 ghost use Rattle.std.specs.Prelude.{◌≡◌, ◌+◌, ◌≤◌, length, true, false, IfOk, IfErr, OnErr};
 ghost use Rattle.im_types.specs.declared.refusals.Refusal.TheVariants.{NoMemory};
 ghost use Rattle.im_types.specs.Run.{after};
 ghost use Rattle.im_disk.specs.Since.{Leaves, LeavesNow};
-ghost use Rattle.im_engine.specs.Run.{AnsweredInTurn, taken, MeansBeginning, MeansAllOrInDoubt};
+ghost use Rattle.im_engine.specs.Run.{EventAnswered, AnsweredInTurn, taken, MeansBy, MeansBeginning, MeansAllOrInDoubt};
 
 use crate::engine::Engine;
+use im_checkpoint::TurnDone;
 use im_disk::Disk;
 use im_types::{Command, Outcome, Refusal};
 use std::alloc::Global;
 
+/// What is done to an engine.
+#[derive(Clone, Copy, Debug, PartialEq, Eq)]
+pub enum Event {
+    /// A command is served.
+    Command(Command),
+    /// A turn of a checkpoint is made.
+    Turn,
+}
+
+/// What an event is answered.
+#[derive(Clone, Copy, Debug, PartialEq, Eq)]
+pub enum Answer {
+    /// The answer to a command.
+    Served(Result<Outcome, Refusal>),
+    /// The answer to a turn.
+    Turned(Result<TurnDone, Refusal>),
+}
+
 impl<D: Disk> Engine<D> {
-    /// Serves these commands in their order, and gives the answer to each.
+    // Serves a command, or makes a turn.
+    fn take(&mut self, event: &Event) -> Answer
+        ensures answered { EventAnswered self.old event.now result self.new }
+        ensures leaves { D.honest self.new.disk → self.old.failed ≡ false
+            → Leaves (D.now self.old.disk) (D.now self.new.disk) (D.past self.old.disk) (D.past self.new.disk) (MeansBy self.old event.now) }
+        ensures doubt { D.honest self.new.disk → self.old.failed ≡ false → LeavesNow (D.now self.new.disk) (MeansBy self.old event.now) }
+        ensures honest { D.honest self.new.disk → D.honest self.old.disk }
+    {
+        match event {
+            Event::Command(command) => Answer::Served(self.serve(command)),
+            Event::Turn => Answer::Turned(self.turn()),
+        }
+    }
+
+    /// Serves commands and makes turns in their order, and gives the answer to each.
     ///
     /// Whenever it is stopped, a crash leaves the memory after a beginning of the accepted commands that were put on the
     /// disk, and at its return after all of them: but for the last one where that was answered `Device`, which may be there
-    /// or not. `NoMemory` where `alloc` refused the room for the answers: then no command was served.
-    pub fn run(
-        &mut self,
-        alloc: Global,
-        commands: &[Command],
-    ) -> Result<Vec<Result<Outcome, Refusal>>, Refusal>
-        ensures answers { IfOk result (λ v. AnsweredInTurn self.old commands.now v.items self.new) }
+    /// or not. `NoMemory` where `alloc` refused the room for the answers: then nothing was done.
+    pub fn run(&mut self, alloc: Global, events: &[Event]) -> Result<Vec<Answer>, Refusal>
+        ensures answers { IfOk result (λ v. AnsweredInTurn self.old events.now v.items self.new) }
         ensures leaves { IfOk result (λ v. D.honest self.new.disk → self.old.failed ≡ false
-            → Leaves (D.now self.old.disk) (D.now self.new.disk) (D.past self.old.disk) (D.past self.new.disk) (MeansBeginning self.old (taken self.old.memory commands.now v.items))) }
+            → Leaves (D.now self.old.disk) (D.now self.new.disk) (D.past self.old.disk) (D.past self.new.disk) (MeansBeginning self.old (taken self.old.memory events.now v.items))) }
         ensures now { IfOk result (λ v. D.honest self.new.disk → self.old.failed ≡ false
-            → LeavesNow (D.now self.new.disk) (MeansAllOrInDoubt self.old (taken self.old.memory commands.now v.items))) }
+            → LeavesNow (D.now self.new.disk) (MeansAllOrInDoubt self.old (taken self.old.memory events.now v.items))) }
         // Where it hasn't failed, the memory and the count are those after all of them.
-        ensures memory { IfOk result (λ v. self.old.failed ≡ false → self.new.failed ≡ false → self.new.memory ≡ after self.old.memory (taken self.old.memory commands.now v.items)) }
-        ensures count { IfOk result (λ v. self.old.failed ≡ false → self.new.failed ≡ false → self.new.count ≡ self.old.count + length (taken self.old.memory commands.now v.items)) }
+        ensures memory { IfOk result (λ v. self.old.failed ≡ false → self.new.failed ≡ false → self.new.memory ≡ after self.old.memory (taken self.old.memory events.now v.items)) }
+        ensures count { IfOk result (λ v. self.old.failed ≡ false → self.new.failed ≡ false → self.new.count ≡ self.old.count + length (taken self.old.memory events.now v.items)) }
         ensures refused { IfErr result (λ e. e ≡ NoMemory) }
         ensures same { OnErr result (self.new ≡ self.old) }
         ensures honest { D.honest self.new.disk → D.honest self.old.disk }
     {
-        let Ok(mut answers) = Vec::with_capacity(alloc, commands.len()) else {
+        let Ok(mut answers) = Vec::with_capacity(alloc, events.len()) else {
             return Err(Refusal::NoMemory);
         };
         // So that it is known below what the files left at the start mean.
         let _failed = self.failed();
-        for command in commands {
-            // A stop in it leaves the command on the disk, or not; those before it are there.
-            let answer = self.serve(command);
+        for event in events {
+            // A stop in it leaves its command on the disk, or not; those before it are there.
+            let answer = self.take(event);
             if let Err(_) = answers.push(answer) {
                 unreachable!()
             }

@@ -1,14 +1,16 @@
 use super::*;
 use im_disk::{Disk, FuseDisk, MemDisk, Mode};
+use im_memory::Memory;
 use im_types::{Command, Entry, Kind, LAST, Limits, Op, Outcome, Refusal, Reply, Request, Waiter};
 use std::alloc::Global;
 use std::test::Fail;
 
 mod crashes;
 mod openings;
+mod turns;
 
 // What a command is answered.
-type Answer = Result<Outcome, Refusal>;
+type Said = Result<Outcome, Refusal>;
 
 fn request(element: u16, number: u64, op: Op) -> Command {
     Command::Request(Request {
@@ -18,11 +20,11 @@ fn request(element: u16, number: u64, op: Op) -> Command {
     })
 }
 
-fn told(reply: Reply) -> Answer {
+fn told(reply: Reply) -> Said {
     Ok(Outcome::Entry(Entry::Answered(reply)))
 }
 
-const WAITING: Answer = Ok(Outcome::Entry(Entry::Waiting));
+const WAITING: Said = Ok(Outcome::Entry(Entry::Waiting));
 
 // The sizes of a memory and of its journal, and the length of its image.
 type Size = (u32, u16, u32, usize);
@@ -74,6 +76,16 @@ fn waiters<D: Disk>(engine: &Engine<D>, cell: u32) -> [Option<Waiter>; 4] {
 
 fn waiter(element: u16, number: u64) -> Option<Waiter> {
     Some(Waiter { element, number })
+}
+
+// An allocation of one cell, and three who wait for it.
+fn three_readers() -> [(Command, Said); 4] {
+    [
+        (request(0, 1, Op::Alloc(Kind::I, 1)), told(Reply::Base(0))),
+        (request(1, 1, Op::Fetch(0)), WAITING),
+        (request(2, 1, Op::Fetch(0)), WAITING),
+        (request(1, 2, Op::Fetch(0)), WAITING),
+    ]
 }
 
 #[test]
@@ -301,7 +313,7 @@ fn what_was_closed_is_opened_again(rt: HostRuntime) -> Result<(), Fail> {
 }
 
 // Twenty commands, each accepted, and its answer at the first time.
-fn script() -> [(Command, Answer); 20] {
+fn script() -> [(Command, Said); 20] {
     let forget = Command::Confirm {
         element: 1,
         upto: 4,
@@ -345,13 +357,14 @@ const SMALL: Size = (3, 6, 32, 43_008);
 #[test]
 fn a_run_answers_as_its_commands_one_by_one(rt: HostRuntime) -> Result<(), Fail> {
     let mut engine = formatted(rt.alloc(), SMALL, LAST)?;
-    let mut commands = Vec::new(rt.alloc());
+    let mut events = Vec::new(rt.alloc());
     for (command, _) in script() {
-        commands.push(command)?;
+        events.push(Event::Command(command))?;
     }
-    let answers = engine.run(rt.alloc(), &commands)?;
+    let answers = engine.run(rt.alloc(), &events)?;
     for (i, (command, answer)) in script().into_iter().enumerate() {
-        assert_eq!(rt; answers.get(i), Some(&answer), "{command:?}");
+        let expected = Answer::Served(answer);
+        assert_eq!(rt; answers.get(i), Some(&expected), "{command:?}");
     }
     assert_eq!(rt; (engine.count(), engine.room()), (20, 12));
     Ok(())

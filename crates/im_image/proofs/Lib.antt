@@ -3,7 +3,6 @@ pub mod Beginning
 pub mod Rows
 pub mod FreshArea
 pub mod FreshImage
-pub mod BlankArea
 pub mod OpenArea
 pub mod Restored
 pub mod Encoding

@@ -2,21 +2,15 @@
 use Rattle.std.proofs.Common.{◌≡◌, ℕ, ◌+◌, ◌-◌, List, length, take, drop, ◌==◌, nat_lt, Bool, true, false, Option, None, Some, if◌then◌else◌, refl, sym, ap, subst, ◌∙◌, arith}
 use Rattle.im_types.specs.declared.refusals.Refusal.{Refusal}
 use Rattle.im_types.specs.declared.refusals.Refusal.TheVariants.{WrongLength}
-use Rattle.im_types.specs.Sizes.{AreLimits}
-use Rattle.im_types.specs.Contents.{Contents, empty_contents}
+use Rattle.im_types.specs.Contents.{Contents}
 use Rattle.im_types.specs.Layout.{Sizes, layout_1, area_at, area_bytes, area_of, image_length}
 use Rattle.im_types.specs.Header.{Header, header_of, header_fault, header_place, place_fault, or_else}
 use Rattle.im_types.specs.Pages.{Shows}
 use Rattle.im_types.specs.Meaning.{IsShown}
-use Rattle.im_laws.proofs.MemoryLemmas.{empty-memory}
-use Rattle.im_image.specs.Blank.{IsBlank}
-use Rattle.im_image.proofs.BlankArea.{blank_shows, shows_blank, eq_true}
+use Rattle.std.proofs.lemmas.Bool.Decides.{nat_tests}
 
-pub blank_shows_empty : (s : Sizes) (area : List ℕ) → IsBlank s area → Shows layout_1 s area (empty_contents s.cells s.elements)
-blank_shows_empty s area blank = blank_shows s area (empty-memory s.cells s.elements) blank
-
-pub empty_is_blank : (s : Sizes) (area : List ℕ) → AreLimits s.cells s.elements s.slots → Shows layout_1 s area (empty_contents s.cells s.elements) → IsBlank s area
-empty_is_blank s area limits shows = shows_blank s area (omega (arith, limits.few_cells)) (omega (arith, limits.few_elements)) shows
+eq_true : (m n : ℕ) → (m == n) ≡ true → m ≡ n
+eq_true m n is = grind (arith, nat_tests)
 
 less : (a b : ℕ) → (a + b) - a ≡ b
 less a b = omega arith

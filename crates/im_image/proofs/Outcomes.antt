@@ -1,10 +1,7 @@
 -- What an image means, from the parts that are read of it.
-use Rattle.std.proofs.Common.{◌≡◌, ◌⊎◌, inl, inr, ⊎_elim, ℕ, suc, ◌+◌, ◌*◌, ◌<◌, ◌≤◌, Bool, true, false, List, length, drop, get_or, Option, None, Some, Result, Ok, Err, MatchOption, if◌then◌else◌, refl, sym, ap, ◌∙◌, subst, arith}
-use Rattle.std.specs.Prelude.{IsOk, IfOk, IfErr}
-use Rattle.std.proofs.Math.Seq.{drop-cons}
-use Rattle.std.proofs.lemmas.List.{drop_all}
+use Rattle.std.proofs.Common.{◌≡◌, ◌⊎◌, inl, inr, ⊎_elim, ℕ, ◌+◌, ◌*◌, ◌≤◌, Bool, true, false, List, [], ◌∷◌, length, Option, None, Some, Result, Ok, Err, MatchOption, if◌then◌else◌, refl, sym, ap, ◌∙◌, subst, arith}
+use Rattle.std.specs.Prelude.{IfOk, IfErr, unwrap_or}
 use Rattle.im_types.specs.declared.commands.Command.{Command}
-use Rattle.im_types.specs.declared.commands.Outcome.{Outcome}
 use Rattle.im_types.specs.declared.refusals.Refusal.{Refusal}
 use Rattle.im_types.specs.declared.refusals.Refusal.TheVariants.{NoMemory, Device, BadPage, BadRecord}
 use Rattle.im_types.specs.Contents.{Contents}
@@ -12,10 +9,10 @@ use Rattle.im_types.specs.Header.{Header, header_of, header_fault}
 use Rattle.im_types.specs.Layout.{layout_1, ring_of, image_length}
 use Rattle.im_types.specs.Journal.{Tail, tail}
 use Rattle.im_types.specs.Meaning.{Reached, IsShown, Reads, accept_each, reached_by, reached_after, read_journal}
-use Rattle.im_types.specs.Step.{step, is_accepted, acceptance, unless_refused}
-use Rattle.im_laws.proofs.AcceptLemmas.{accepted-ok, acceptance-refused}
-use Rattle.im_laws.proofs.Tests.{true_or_false, true_false}
+use Rattle.im_types.specs.Step.{step, is_accepted}
+use Rattle.im_laws.proofs.MemoryLemmas.{step-cell_count, step-window_count}
 use Rattle.im_disk.specs.Moment.{Moment}
+use Rattle.im_journal.specs.Holding.{JournalState, Holds}
 use Rattle.im_image.proofs.OpenArea.{length_of_image}
 
 -- the outcome of reading a file, by the fault of its headers
@@ -64,6 +61,11 @@ pub read-ok : {T : Type 0} (r : Result T Refusal) (reached : T → Reached) (old
 read-ok (Ok x) reached old mid Honest same means = λ h. subst (λ (m : Moment). Reads layout_1 m.bytes (Ok (reached x))) (same h) (means h)
 read-ok (Err e) reached old mid Honest same means = means
 
+pub read-holds : {T : Type 0} (r : Result T Refusal) (journal : T → JournalState) (old mid : Moment) (Honest : Type 0) → (Honest → mid ≡ old)
+    → IfOk r (λ x. Honest → Holds (journal x) mid.bytes) → IfOk r (λ x. Honest → Holds (journal x) old.bytes)
+read-holds (Ok x) journal old mid Honest same holds = λ h. subst (λ (m : Moment). Holds (journal x) m.bytes) (same h) (holds h)
+read-holds (Err e) journal old mid Honest same holds = holds
+
 pub read-err : {T : Type 0} (r : Result T Refusal) (old mid : Moment) (Honest : Type 0) → (Honest → mid ≡ old)
     → IfErr r (λ e. (e ≡ NoMemory) ⊎ (e ≡ Device) ⊎ (Honest → Reads layout_1 mid.bytes (Err e))) → IfErr r (λ e. (e ≡ NoMemory) ⊎ (e ≡ Device) ⊎ (Honest → Reads layout_1 old.bytes (Err e)))
 read-err (Ok x) old mid Honest same fault = fault
@@ -79,3 +81,17 @@ pub reads-same : (file : List ℕ) (a b : Reached) → a.contents ≡ b.contents
 reads-same file a b contents count room reads =
     let same : a ≡ b = (λ i. record { contents = contents i; count = count i; room = room i }) in
     subst (λ (r : Reached). Reads layout_1 file (Ok r)) same reads
+
+-- accepted commands keep the numbers of cells and of windows
+pub accepted-sizes : (m new : Contents) (commands : List Command) → accept_each m commands ≡ Some new → (length new.cells ≡ length m.cells) × (length new.windows ≡ length m.windows)
+accepted-sizes m new [] e = let same : m ≡ new = some-same e in (sym (ap (λ (c : Contents). length c.cells) same), sym (ap (λ (c : Contents). length c.windows) same))
+  where
+    some-same : {A : Type 0} {a b : A} → Some a ≡ Some b → a ≡ b
+    some-same {A} {a} {b} e = ap (λ (o : Option A). unwrap_or o a) e
+accepted-sizes m new (command ∷ commands) e = by_test (is_accepted m command) e (λ rest. accepted-sizes (step m command).contents new commands rest)
+  where
+    by_test : (b : Bool) → (if b then accept_each (step m command).contents commands else None) ≡ Some new
+        → (accept_each (step m command).contents commands ≡ Some new → (length new.cells ≡ length (step m command).contents.cells) × (length new.windows ≡ length (step m command).contents.windows))
+        → (length new.cells ≡ length m.cells) × (length new.windows ≡ length m.windows)
+    by_test true is rest = ((rest is).0 ∙ step-cell_count m command, (rest is).1 ∙ step-window_count m command)
+    by_test false is rest = absurd (cc)

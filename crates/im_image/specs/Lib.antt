@@ -1,6 +1,5 @@
 pub mod Headers
 pub mod Beginning
 pub mod Fresh
-pub mod Blank
 pub mod Encoding
 pub mod Reading

@@ -10,9 +10,8 @@ ghost use Rattle.im_image.specs.Fresh.{repeated, new_cell, new_node, new_row, ne
 ghost use Rattle.im_types.specs.declared.refusals.Refusal.TheVariants.{NoMemory};
 
 use crate::header::{Header, VERSION};
-use crate::layout::{
-    PAGE, SLOT, area_pages, cell_pages, image_length, node_count, node_pages, session_pages,
-};
+use crate::layout::{SLOT, image_length};
+use im_records::{PAGE, area_pages, cell_pages, node_count, node_pages, session_pages};
 use im_types::{Limits, Refusal};
 use std::alloc::{AllocError, Global};
 
@@ -45,7 +44,11 @@ pub(crate) fn new_session() -> [u8; 1024]
 
 // Puts bytes behind others, so many times.
 #[tactic(auto, using(crate::proofs::Rows::pushes))]
-fn push_repeated(image: &mut Vec<u8>, bytes: &[u8], count: usize) -> Result<(), AllocError>
+pub(crate) fn push_repeated(
+    image: &mut Vec<u8>,
+    bytes: &[u8],
+    count: usize,
+) -> Result<(), AllocError>
     ensures items { OnOk result (image.new.items ≡ image.old.items ++ repeated count bytes.now) }
     ensures longer { OnOk result (length image.new.items ≡ length image.old.items + length bytes.now * count) }
 {

@@ -10,9 +10,10 @@ ghost use Rattle.im_image.specs.Beginning.{IsBeginning};
 ghost use Rattle.im_types.specs.declared.TheConstants.{LAST};
 
 use crate::header::{Header, OPEN};
-use crate::layout::{PAGE, image_length};
+use crate::layout::image_length;
 use byteorder::{ByteOrder, LittleEndian};
 use im_disk::{DeviceFault, Disk};
+use im_records::PAGE;
 use im_types::Refusal;
 
 fn is_open(place: &[u8; 64]) -> bool

@@ -1,4 +1,4 @@
-//! Reading the area in force, where it shows the empty memory.
+//! Reading the area in force.
 ghost use Rattle.std.specs.Prelude.{◌≡◌, ◌⊎◌, ◌↔◌, ◌≤◌, ◌+◌, None, length, drop, take, IsTrue, IfOk, IfErr, OnOk, IsErrOf};
 ghost use Rattle.im_types.specs.Contents.{Contents, empty_contents};
 ghost use Rattle.im_types.specs.Layout as layout;
@@ -12,21 +12,14 @@ ghost use Rattle.im_types.specs.Layout.{sizes_of};
 ghost use Rattle.im_image.specs.Headers.{seen};
 
 use crate::area::decode;
-use crate::blank::is_blank;
+use crate::fresh::push_repeated;
 use crate::header::Header;
-use crate::layout::{PAGE, area_at, area_pages};
+use crate::layout::area_at;
 use im_disk::{DeviceFault, Disk};
 use im_memory::Memory;
+use im_records::{PAGE, area_pages};
 use im_types::{Limits, Refusal};
-use std::alloc::Global;
-
-// Whether the pages of an area show the empty memory.
-fn shows_empty(area: &[u8], limits: Limits) -> bool
-    requires { length area.now ≡ layout.area_bytes layout_1 (sizes_of limits) }
-    ensures { IsTrue result ↔ Shows layout_1 (sizes_of limits) area.now (empty_contents limits.cells limits.elements) }
-{
-    is_blank(area, limits)
-}
+use std::alloc::{AllocError, Global};
 
 // Reads a part of a file.
 fn read_part<D: Disk>(disk: &mut D, at: usize, part: &mut [u8]) -> Result<(), DeviceFault>
@@ -38,6 +31,16 @@ fn read_part<D: Disk>(disk: &mut D, at: usize, part: &mut [u8]) -> Result<(), De
 {
     // A read changes nothing, so a stop before or within it leaves what was there.
     disk.read(at, part)
+}
+
+// As many zeros as an area has bytes. They are copied, so many at a time: an instruction that fills a long buffer counts
+// once for each byte in some tools, and gains no time.
+fn zero_area(alloc: Global, limits: Limits) -> Result<Vec<u8>, AllocError>
+    ensures { IfOk result (λ v. length v.items ≡ layout.area_bytes layout_1 (sizes_of limits)) }
+{
+    let mut area = Vec::with_capacity(alloc, PAGE * area_pages(limits))?;
+    push_repeated(&mut area, &[0; 1024], 4 * area_pages(limits))?;
+    Ok(area)
 }
 
 // Reads an area.
@@ -57,40 +60,12 @@ fn read_area<D: Disk>(
     ensures device { IsErrOf result Refusal.Device → Rises (D.failures disk.old) (D.failures disk.new) }
     ensures steady { OnOk result (D.failures disk.new ≡ D.failures disk.old) }
 {
-    let Ok(mut area) = vec![in alloc; 0; PAGE * area_pages(limits)] else {
+    let Ok(mut area) = zero_area(alloc, limits) else {
         return Err(Refusal::NoMemory);
     };
     match read_part(disk, area_at(limits, number as usize), area.as_mut_slice()) {
         Ok(()) => Ok(area),
         Err(_) => Err(Refusal::Device),
-    }
-}
-
-/// Whether the area of a header in force shows the empty memory: `BadPage` where it doesn't.
-///
-/// Device calls: one read of the area. Memory: as much as the area is long, at most 2,179,072 bytes; `NoMemory` where it is
-/// refused. `Device`: the read failed.
-pub fn read_new_area<D: Disk>(alloc: Global, disk: &mut D, header: &Header) -> Result<(), Refusal>
-    requires area { header.now.area ≤ 1 }
-    requires good { D.honest disk.old → header_fault layout_1 (D.now disk.old).bytes ≡ None }
-    requires header { D.honest disk.old → seen header.now ≡ header_of (D.now disk.old).bytes }
-    ensures shown { OnOk result (D.honest disk.new → IsShown layout_1 (D.now disk.old).bytes (empty_contents header.now.limits.cells header.now.limits.elements)) }
-    ensures bad { IsErrOf result Refusal.BadPage → D.honest disk.new → IsShown layout_1 (D.now disk.old).bytes (empty_contents header.now.limits.cells header.now.limits.elements) → ⊥ }
-    ensures only { IfErr result (λ e. (e ≡ Refusal.BadPage) ⊎ (e ≡ Refusal.NoMemory) ⊎ (e ≡ Refusal.Device)) }
-    ensures reads { D.honest disk.new → ReadsOnly (D.now disk.old) (D.now disk.new) (D.past disk.old) (D.past disk.new) }
-    ensures honest { D.honest disk.new → D.honest disk.old }
-    ensures device { IsErrOf result Refusal.Device → Rises (D.failures disk.old) (D.failures disk.new) }
-    ensures steady { OnOk result (D.failures disk.new ≡ D.failures disk.old) }
-{
-    match read_area(alloc, disk, header.limits, header.area) {
-        Ok(area) => {
-            if shows_empty(&area, header.limits) {
-                Ok(())
-            } else {
-                Err(Refusal::BadPage)
-            }
-        }
-        Err(refusal) => Err(refusal),
     }
 }
 
@@ -103,6 +78,8 @@ pub fn read_memory<D: Disk>(alloc: Global, disk: &mut D, header: &Header) -> Res
     requires good { D.honest disk.old → header_fault layout_1 (D.now disk.old).bytes ≡ None }
     requires header { D.honest disk.old → seen header.now ≡ header_of (D.now disk.old).bytes }
     ensures shown { IfOk result (λ m. D.honest disk.new → IsShown layout_1 (D.now disk.old).bytes m) }
+    ensures cells { IfOk result (λ m. length m.cells ≡ header.now.limits.cells) }
+    ensures elements { IfOk result (λ m. length m.windows ≡ header.now.limits.elements) }
     ensures bad { IsErrOf result Refusal.BadPage → D.honest disk.new → (m : Contents) → IsShown layout_1 (D.now disk.old).bytes m → ⊥ }
     ensures only { IfErr result (λ e. (e ≡ Refusal.BadPage) ⊎ (e ≡ Refusal.NoMemory) ⊎ (e ≡ Refusal.Device)) }
     ensures reads { D.honest disk.new → ReadsOnly (D.now disk.old) (D.now disk.new) (D.past disk.old) (D.past disk.new) }

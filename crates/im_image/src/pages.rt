@@ -12,12 +12,11 @@ ghost use Rattle.im_records.specs.Paging.{joined, bytes_or_zeros};
 ghost use Rattle.im_records.specs.Placed.{placed};
 ghost use Rattle.im_image.specs.Encoding.{AreCounted, SpellsCells, SpellsNodes, SpellsSessions, IsAreaPage};
 
-use crate::layout::{
-    CELLS_ON_A_PAGE, NODES_ON_A_PAGE, PAGE, SESSIONS_ON_A_PAGE, area_pages, cell_pages, node_count,
-    node_pages,
-};
 use im_memory::{Memory, MemoryRecords};
-use im_records::{WindowRecord, put_cell, put_node, put_session};
+use im_records::{
+    CELLS_ON_A_PAGE, NODES_ON_A_PAGE, PAGE, SESSIONS_ON_A_PAGE, WindowRecord, area_pages,
+    cell_pages, node_count, node_pages, put_cell, put_node, put_session,
+};
 use im_types::{CellRecord, Limits, NodeRecord};
 
 // The record of the cell at an address, if there is one.

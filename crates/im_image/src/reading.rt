@@ -1,5 +1,5 @@
 //! What an image means: the memory of the area in force, after the run of commands in the journal.
-ghost use Rattle.std.specs.Prelude.{◌≡◌, ◌⊎◌, ◌+◌, ◌≤◌, false, None, Some, Ok, Err, IsTrue, IfOk, IfErr, OnOk, IsErrOf};
+ghost use Rattle.std.specs.Prelude.{◌≡◌, ◌⊎◌, ◌+◌, ◌≤◌, length, false, None, Some, Ok, Err, IsTrue, IfOk, IfErr, OnOk, IsErrOf};
 ghost use Rattle.im_types.specs.declared.TheConstants.{LAST};
 ghost use Rattle.im_types.specs.declared.refusals.Refusal.TheVariants.{NoMemory, Device};
 ghost use Rattle.im_types.specs.Header.{header_of, header_fault};
@@ -8,6 +8,7 @@ ghost use Rattle.im_types.specs.Meaning.{IsShown, Reads, accept_each};
 ghost use Rattle.im_types.specs.Step.{is_accepted};
 ghost use Rattle.im_disk.specs.Moment.{Rises};
 ghost use Rattle.im_disk.specs.Since.{ReadsOnly};
+ghost use Rattle.im_journal.specs.Holding.{Holds};
 ghost use Rattle.im_image.specs.Headers.{seen};
 ghost use Rattle.im_image.specs.Reading.{JournalOf};
 
@@ -80,8 +81,13 @@ fn read_run<D: Disk>(
     requires good { D.honest disk.old → header_fault layout_1 (D.now disk.old).bytes ≡ None }
     requires header { D.honest disk.old → seen header ≡ header_of (D.now disk.old).bytes }
     requires shown { D.honest disk.old → IsShown layout_1 (D.now disk.old).bytes memory }
+    requires cells { length memory.cells ≡ header.limits.cells }
+    requires elements { length memory.windows ≡ header.limits.elements }
     ensures header { IfOk result (λ i. i.header ≡ header) }
+    ensures cells { IfOk result (λ i. length i.memory.cells ≡ header.limits.cells) }
+    ensures elements { IfOk result (λ i. length i.memory.windows ≡ header.limits.elements) }
     ensures journal { IfOk result (λ i. JournalOf (seen i.header) i.journal) }
+    ensures holds { IfOk result (λ i. D.honest disk.new → Holds i.journal (D.now disk.old).bytes) }
     ensures means { IfOk result (λ i. D.honest disk.new → Reads layout_1 (D.now disk.old).bytes (Ok (record { contents = i.memory; count = i.journal.count; room = i.journal.room }))) }
     ensures fault { IfErr result (λ e. (e ≡ NoMemory) ⊎ (e ≡ Device) ⊎ (D.honest disk.new → Reads layout_1 (D.now disk.old).bytes (Err e))) }
     ensures reads { D.honest disk.new → ReadsOnly (D.now disk.old) (D.now disk.new) (D.past disk.old) (D.past disk.new) }
@@ -111,7 +117,10 @@ fn read_behind<D: Disk>(alloc: Global, disk: &mut D, header: Header) -> Result<I
     requires good { D.honest disk.old → header_fault layout_1 (D.now disk.old).bytes ≡ None }
     requires header { D.honest disk.old → seen header ≡ header_of (D.now disk.old).bytes }
     ensures header { IfOk result (λ i. i.header ≡ header) }
+    ensures cells { IfOk result (λ i. length i.memory.cells ≡ i.header.limits.cells) }
+    ensures elements { IfOk result (λ i. length i.memory.windows ≡ i.header.limits.elements) }
     ensures journal { IfOk result (λ i. JournalOf (seen i.header) i.journal) }
+    ensures holds { IfOk result (λ i. D.honest disk.new → Holds i.journal (D.now disk.old).bytes) }
     ensures means { IfOk result (λ i. D.honest disk.new → Reads layout_1 (D.now disk.old).bytes (Ok (record { contents = i.memory; count = i.journal.count; room = i.journal.room }))) }
     ensures fault { IfErr result (λ e. (e ≡ NoMemory) ⊎ (e ≡ Device) ⊎ (D.honest disk.new → Reads layout_1 (D.now disk.old).bytes (Err e))) }
     ensures reads { D.honest disk.new → ReadsOnly (D.now disk.old) (D.now disk.new) (D.past disk.old) (D.past disk.new) }
@@ -132,7 +141,11 @@ fn read_behind<D: Disk>(alloc: Global, disk: &mut D, header: Header) -> Result<I
 /// `alloc` refused the room for the memory, or for what is read. `Device` where a call of the disk failed.
 pub fn read_image<D: Disk>(alloc: Global, disk: &mut D) -> Result<Image, Refusal>
     ensures header { IfOk result (λ i. D.honest disk.new → seen i.header ≡ header_of (D.now disk.old).bytes) }
+    ensures area { IfOk result (λ i. i.header.area ≤ 1) }
+    ensures cells { IfOk result (λ i. length i.memory.cells ≡ i.header.limits.cells) }
+    ensures elements { IfOk result (λ i. length i.memory.windows ≡ i.header.limits.elements) }
     ensures journal { IfOk result (λ i. JournalOf (seen i.header) i.journal) }
+    ensures holds { IfOk result (λ i. D.honest disk.new → Holds i.journal (D.now disk.old).bytes) }
     ensures means { IfOk result (λ i. D.honest disk.new → Reads layout_1 (D.now disk.old).bytes (Ok (record { contents = i.memory; count = i.journal.count; room = i.journal.room }))) }
     ensures fault { IfErr result (λ e. (e ≡ NoMemory) ⊎ (e ≡ Device) ⊎ (D.honest disk.new → Reads layout_1 (D.now disk.old).bytes (Err e))) }
     ensures reads { D.honest disk.new → ReadsOnly (D.now disk.old) (D.now disk.new) (D.past disk.old) (D.past disk.new) }

@@ -1,7 +1,5 @@
 //! Tests of what no clause says: the bytes of worked examples, and the order of faults on files made by hand.
 use super::*;
-use crate::blank::is_free_cell;
-use crate::fresh::new_cell;
 use im_disk::{Disk, MemDisk};
 use im_types::{LAST, Limits, Refusal};
 use std::alloc::Global;
@@ -99,83 +97,85 @@ fn disk_of(alloc: Global, bytes: &[u8]) -> Result<MemDisk, Refusal> {
     Ok(disk)
 }
 
+// Sets a byte, if there is one at this place.
+fn set(image: &mut [u8], at: usize, byte: u8) {
+    if let Some(place) = image.get_mut(at) {
+        *place = byte;
+    }
+}
+
+// Sets bytes at their places.
+fn set_each(image: &mut [u8], changes: &[(usize, u8)]) {
+    for (at, byte) in changes {
+        set(image, *at, *byte);
+    }
+}
+
+// What a file is refused with at its length or its headers, if it is.
+fn first_fault(alloc: Global, image: &[u8]) -> Result<Option<Refusal>, Refusal> {
+    match read_header(&mut disk_of(alloc, image)?) {
+        Ok(_) => Ok(None),
+        Err(refusal) => Ok(Some(refusal)),
+    }
+}
+
+// What changes on a new image of the least size, and its first fault then.
+const FAULTS: [(&str, &[(usize, u8)], Option<Refusal>); 5] = [
+    ("both gates closed", &[], Some(Refusal::NoHeader)),
+    ("an open gate", &[(0, OPEN)], None),
+    (
+        "a slot more than the file has",
+        &[(0, OPEN), (32, 17)],
+        Some(Refusal::WrongLength),
+    ),
+    (
+        "two open headers of one generation",
+        &[(0, OPEN), (4_096, OPEN), (4_104, 1)],
+        Some(Refusal::BadHeader),
+    ),
+    (
+        "a greater generation, which is no header",
+        &[(0, OPEN), (4_096, OPEN), (4_104, 2)],
+        Some(Refusal::BadHeader),
+    ),
+];
+
 #[test]
 fn faults_of_length_and_headers_come_in_their_order(rt: HostRuntime) -> Result<(), Fail> {
-    let least = limits(1, 1, 16)?;
-    let mut image = new_image(rt.alloc(), least)?;
-    // Shorter than two header places, whatever stands there.
-    assert_eq!(rt;
-        read_header(&mut disk_of(rt.alloc(), &image[..8_191])?),
-        Err(Refusal::WrongLength)
-    );
-    // Both gates closed.
-    assert_eq!(rt;
-        read_header(&mut disk_of(rt.alloc(), &image)?),
-        Err(Refusal::NoHeader)
-    );
-    image[0] = OPEN;
-    let header = read_header(&mut disk_of(rt.alloc(), &image)?)?;
-    assert_eq!(rt;
-        (header.area, header.generation, header.count, header.limits),
-        (0, 1, 0, least)
-    );
-    // A header that asks for a slot more than the file has.
-    image[32] = 17;
-    assert_eq!(rt;
-        read_header(&mut disk_of(rt.alloc(), &image)?),
-        Err(Refusal::WrongLength)
-    );
-    image[32] = 16;
-    // Two open headers of one generation, then a second one of a greater generation, which is no header.
-    image[4_096] = OPEN;
-    image[4_104] = 1;
-    assert_eq!(rt;
-        read_header(&mut disk_of(rt.alloc(), &image)?),
-        Err(Refusal::BadHeader)
-    );
-    image[4_104] = 2;
-    assert_eq!(rt;
-        read_header(&mut disk_of(rt.alloc(), &image)?),
-        Err(Refusal::BadHeader)
-    );
-    // A second one that is a header, and in force.
+    for (what, changes, expected) in FAULTS {
+        let mut image = new_image(rt.alloc(), limits(1, 1, 16)?)?;
+        set_each(&mut image, changes);
+        assert_eq!(rt; first_fault(rt.alloc(), &image)?, expected, "{what}");
+    }
+    let image = new_image(rt.alloc(), limits(1, 1, 16)?)?;
+    let short = image.get(..8_191).ok_or("shorter than two header places")?;
+    assert_eq!(rt; first_fault(rt.alloc(), short)?, Some(Refusal::WrongLength));
+    Ok(())
+}
+
+#[test]
+fn the_header_of_the_greater_generation_is_in_force(rt: HostRuntime) -> Result<(), Fail> {
+    let first = Header {
+        version: VERSION,
+        area: 0,
+        generation: 1,
+        count: 0,
+        limits: limits(1, 1, 16)?,
+    };
+    let mut image = new_image(rt.alloc(), first.limits)?;
+    set(&mut image, 0, OPEN);
+    assert_eq!(rt; read_header(&mut disk_of(rt.alloc(), &image)?), Ok(first));
     let second = Header {
         version: VERSION,
         area: 1,
         generation: 2,
         count: LAST,
-        limits: least,
+        limits: first.limits,
     };
-    image[4_096..4_160].copy_from_slice(&second.spell());
-    assert_eq!(rt; read_header(&mut disk_of(rt.alloc(), &image)?), Ok(second));
-    Ok(())
-}
-
-// A byte of the record of a free cell, what it is set to, and whether the record is still that of a free cell, of one.
-const CELL_BYTES: [(usize, u8, bool); 8] = [
-    (0, 1, false), // a tag
-    (1, 1, false), // a kind
-    (4, 1, true), // the hole has one cell
-    (4, 2, false), // the hole has more cells than there are
-    (8, 0, false), // the next hole is past the last cell
-    (12, 0, false), // a waiter node
-    (19, 0, false), // a waiter node
-    (31, 1, false), // a value
-];
-
-#[test]
-fn free_cells_have_any_short_hole_and_no_more(rt: HostRuntime) -> Result<(), Fail> {
-    assert!(rt; is_free_cell(1, &new_cell()));
-    for (at, byte, is_free) in CELL_BYTES {
-        let mut record = new_cell();
-        if let Some(place) = record.get_mut(at) {
-            *place = byte;
-        }
-        assert_eq!(rt; is_free_cell(1, &record), is_free);
+    let bytes = second.spell();
+    for i in 0..64usize {
+        set(&mut image, 4_096 + i, bytes[i]);
     }
-    // The hole that follows a cell may be that cell itself.
-    let mut record = new_cell();
-    record[8..12].fill(0);
-    assert!(rt; is_free_cell(1, &record));
+    assert_eq!(rt; read_header(&mut disk_of(rt.alloc(), &image)?), Ok(second));
     Ok(())
 }

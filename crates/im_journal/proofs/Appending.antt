@@ -1,17 +1,18 @@
 -- What a slot that is written, or may be, does to the tail.
-use Rattle.std.proofs.Common.{◌≡◌, ◌≢◌, inl, inr, ⊎_elim, ℕ, ◌+◌, ◌*◌, ◌<◌, ◌≤◌, List, [], ◌∷◌, ◌++◌, Some, option_map, length, get_or, take, drop, refl, sym, ◌∙◌, ap, subst, arith, length-append}
+use Rattle.std.proofs.Common.{◌≡◌, ◌≢◌, inl, inr, ⊎_elim, ℕ, ◌+◌, ◌-◌, ◌*◌, ◌<◌, ◌≤◌, ◌==◌, Bool, true, false, List, [], ◌∷◌, ◌++◌, Some, option_map, length, get_or, take, drop, refl, sym, ◌∙◌, ap, subst, arith, length-append, if◌then◌else◌}
 use Rattle.std.proofs.lemmas.Bool.{cases_eq}
 use Rattle.im_types.specs.declared.TheConstants.{LAST}
 use Rattle.im_types.specs.declared.commands.Command.{Command}
 use Rattle.im_types.specs.Bytes.{open_gate}
-use Rattle.im_types.specs.Slot.{slot_body, FitsCommand}
-use Rattle.im_types.specs.Journal.{slot_at, Tail, tail}
+use Rattle.im_types.specs.Slot.{slot_body, sequence_of, FitsCommand}
+use Rattle.im_types.specs.Journal.{slot_at, slot, Tail, tail}
 use Rattle.im_disk.specs.Moment.{Moment}
 use Rattle.im_disk.specs.Since.{SameBut, Leaves}
 use Rattle.im_disk.proofs.SinceLemmas.{left_now, leaves_weaker}
-use Rattle.im_journal.specs.Holding.{JournalState, IsJournal, Holds, AllHold, longer, longer_tail, Appended, MayAppend}
+use Rattle.im_journal.specs.Holding.{JournalState, IsJournal, Holds, AllHold, room_after, longer, longer_tail, Appended, MayAppend}
 use Rattle.im_journal.specs.Gates.{IsClosed, Written, MayWrite}
-use Rattle.im_journal.proofs.Slots.{slot_inside, slot_is}
+use Rattle.im_journal.proofs.Slots.{slot_inside, slot_is, same_slot, away_after}
+use Rattle.im_journal.proofs.Rings.{other_number}
 use Rattle.im_journal.proofs.Tails.{Parts, parts_of, next_closed, tail_kept, tail_added}
 
 module _ (j : JournalState) (known : IsJournal j) (command : Command) (fits : FitsCommand command) (m0 : Moment) (all : AllHold j m0) (some : 0 < j.room) where
@@ -35,7 +36,10 @@ module _ (j : JournalState) (known : IsJournal j) (command : Command) (fits : Fi
 
   module _ (d : List ℕ) (held : Holds j d) where
     abbrev t : Tail
-    t = record { commands = held.commands; room = j.room }
+    t = record { commands = held.commands; room = held.there }
+
+    some_there : 0 < held.there
+    some_there = omega (arith, held.enough)
 
     parts : Parts j.ring j.first d t
     parts = parts_of j.ring j.first d t held.reads
@@ -44,13 +48,13 @@ module _ (j : JournalState) (known : IsJournal j) (command : Command) (fits : Fi
     none_changed = record { size = refl; same = λ i out. refl }
 
     gate_shut : get_or d at 0 ≢ open_gate
-    gate_shut = next_closed j.ring some_slots j.first j.count d d t parts held.count some none_changed
+    gate_shut = next_closed j.ring some_slots j.first j.count d d t parts held.count some_there none_changed
 
     kept : (c : List ℕ) → SameBut at 64 d c → get_or c at 0 ≢ open_gate → tail j.ring j.first c ≡ tail j.ring j.first d
-    kept c same shut = tail_kept j.ring some_slots j.first j.count d c t parts held.count some same shut ∙ sym held.reads
+    kept c same shut = tail_kept j.ring some_slots j.first j.count d c t parts held.count some_there same shut ∙ sym held.reads
 
     added : (c : List ℕ) → SameBut at 64 d c → take 64 (drop at c) ≡ bytes → tail j.ring j.first c ≡ Some (longer_tail j.count command t)
-    added c same is = tail_added j.ring some_slots j.first j.count d c t parts held.count some same command fits known.begun low (slot_is j.ring j.count c bytes is)
+    added c same is = tail_added j.ring some_slots j.first j.count d c t parts held.count some_there same command fits known.begun low (slot_is j.ring j.count c bytes is)
 
     added_to : (c : List ℕ) → SameBut at 64 d c → take 64 (drop at c) ≡ bytes → tail j.ring j.first c ≡ option_map (longer_tail j.count command) (tail j.ring j.first d)
     added_to c same is = added c same is ∙ ap (λ o. option_map (longer_tail j.count command) o) (sym held.reads)
@@ -59,10 +63,31 @@ module _ (j : JournalState) (known : IsJournal j) (command : Command) (fits : Fi
     longer_held c same is = record {
       size = subst (λ (n : ℕ). j.ring.base + 64 * j.ring.slots ≤ n) (sym same.size) held.size;
       commands = held.commands ++ command ∷ [];
+      there = room_after j.count held.there;
       reads = added c same is;
       count = one_more j.count j.first (length held.commands) (length (held.commands ++ command ∷ [])) held.count (length-append held.commands (command ∷ []));
+      enough = less_room (j.count + 1 == LAST) held.enough;
+      behind = still_behind;
     }
       where
+        less_room : (b : Bool) → j.room ≤ held.there → (if b then 0 else j.room - 1) ≤ (if b then 0 else held.there - 1)
+        less_room true le = omega arith
+        less_room false le = omega (arith, le)
+
+        -- the slots behind the known room stay: they are others of the ring
+        slot_kept : (k : ℕ) → j.room ≤ k + 1 → k + 1 < j.ring.slots - (j.count - j.first) → sequence_of (slot j.ring (j.count + (k + 1)) c) < j.first
+        slot_kept k low_k high =
+            let is_same : slot j.ring (j.count + (k + 1)) c ≡ slot j.ring (j.count + (k + 1)) d =
+            same_slot j.ring (j.count + (k + 1)) c d same.size (λ i lo hi. same.same i (away_after j.ring some_slots (j.count + (k + 1)) j.count i (omega arith) (omega (arith, high)) lo hi)) in
+            subst (λ (l : List ℕ). sequence_of l < j.first) (sym is_same) (held.behind low (k + 1) low_k high)
+
+        still_behind : j.count + 1 < LAST → (k : ℕ) → room_after j.count j.room ≤ k → k < j.ring.slots - (j.count + 1 - j.first) → sequence_of (slot j.ring (j.count + 1 + k) c) < j.first
+        still_behind lower k from to =
+            let not_last : (j.count + 1 == LAST) ≡ false = other_number (j.count + 1) LAST (λ last. absurd (omega (arith, lower, last))) in
+            let less : room_after j.count j.room ≡ j.room - 1 = ap (λ (b : Bool). if b then 0 else j.room - 1) not_last in
+            let there : j.count + (k + 1) ≡ j.count + 1 + k = omega arith in
+            subst (λ (m : ℕ). sequence_of (slot j.ring m c) < j.first) there (slot_kept k (omega (arith, from, less)) (omega (arith, to, known.begun)))
+
         one_more : (n first k l : ℕ) → n ≡ first + k → l ≡ k + 1 → n + 1 ≡ first + l
         one_more n first k l e f = omega arith
 

@@ -152,6 +152,11 @@ module _ {at : ℕ} {slot : List ℕ} {m0 : Moment} {body gate : List ℕ} (r : 
       pub is_there : Written at slot m0 c
       is_there = record { from = m0.bytes; left = left_now m0; same = gate_same c final_same; bytes = gate_slot c final_same final_gate }
 
+    -- at the end the bytes elsewhere are the same
+    module _ (m3 m4 : Moment) (is_opened : m3 ≡ written at gate m2) (is_kept : m4 ≡ synced m3) where
+      pub elsewhere : SameBut at 64 m0.bytes m4.bytes
+      elsewhere = gate_same m4.bytes (final_same m3 m4 is_opened is_kept m4.bytes (left_now m4))
+
   abbrev P : List ℕ → Type 0
   P = MayWrite at slot m0
 

@@ -1,11 +1,13 @@
 -- What a journal's owner may rely on while other parts of the file are written.
-use Rattle.std.proofs.Common.{◌≡◌, ◌⊎◌, inl, inr, ℕ, ◌+◌, ◌*◌, ◌<◌, ◌≤◌, List, length, get_or, sym, ◌∙◌, subst, arith}
+use Rattle.std.proofs.Common.{◌≡◌, ◌⊎◌, inl, inr, ⊎_elim, ℕ, ◌+◌, ◌*◌, ◌<◌, ◌≤◌, List, length, get_or, sym, ◌∙◌, subst, arith}
 use Rattle.im_types.specs.Bytes.{open_gate}
-use Rattle.im_types.specs.Journal.{Ring}
+use Rattle.im_types.specs.Slot.{sequence_of}
+use Rattle.im_types.specs.Journal.{Ring, slot}
 use Rattle.im_disk.specs.Moment.{Moment, Left, Torn, Shaken, MayTick, synced}
 use Rattle.im_disk.specs.Since.{SameBut}
 use Rattle.im_disk.proofs.SinceLemmas.{left_torn, left_sync, left_synced}
 use Rattle.im_journal.specs.Holding.{JournalState, IsJournal, Holds, AllHold, AreClosed}
+use Rattle.im_journal.proofs.Slots.{slot_inside, same_slot}
 use Rattle.im_journal.proofs.Tails.{tail_elsewhere}
 
 -- a range before the ring, or behind it
@@ -25,13 +27,22 @@ module _ (j : JournalState) (known : IsJournal j) where
   some : 0 < j.ring.slots
   some = omega (arith, known.enough_slots)
 
+  slot_elsewhere : (at n : ℕ) (d c : List ℕ) → IsElsewhere j.ring at n → SameBut at n d c → (s : ℕ) → slot j.ring s c ≡ slot j.ring s d
+  slot_elsewhere at n d c beside same s = same_slot j.ring s c d same.size (λ i low high. same.same i (⊎_elim
+      (λ before. inr (omega arith))
+      (λ after. let end = slot_inside j.ring some s in inl (omega arith))
+      beside))
+
   -- a file that differs elsewhere has the same journal
   pub holds_elsewhere : (at n : ℕ) (d c : List ℕ) → IsElsewhere j.ring at n → SameBut at n d c → Holds j d → Holds j c
   holds_elsewhere at n d c beside same held = record {
     size = subst (λ (l : ℕ). j.ring.base + 64 * j.ring.slots ≤ l) (sym same.size) held.size;
     commands = held.commands;
+    there = held.there;
     reads = tail_elsewhere j.ring j.first at n d c some beside same ∙ held.reads;
     count = held.count;
+    enough = held.enough;
+    behind = λ low k from to. subst (λ (l : List ℕ). sequence_of l < j.first) (sym (slot_elsewhere at n d c beside same (j.count + k))) (held.behind low k from to);
   }
 
   -- so a write elsewhere, failed or not, leaves it

@@ -125,7 +125,7 @@ module _ (q r : Ring) (c d : List ℕ) (same : (i : ℕ) → slot q i c ≡ slot
       ∙ ap (λ (b : Bool). nat_lt (sequence_of (slot r s d)) first && b) (stale_moved n (s + 1) first)
 
 -- the commands of slots
-firsts : (o : Option Command) (rest : Option (List Command)) (cs : List Command) → with_first o rest ≡ Some cs → (c : Command) × (ds : List Command) × (o ≡ Some c) × (rest ≡ Some ds) × (cs ≡ c ∷ ds)
+pub firsts : (o : Option Command) (rest : Option (List Command)) (cs : List Command) → with_first o rest ≡ Some cs → (c : Command) × (ds : List Command) × (o ≡ Some c) × (rest ≡ Some ds) × (cs ≡ c ∷ ds)
 firsts None rest cs e = absurd (cc)
 firsts (Some c) None cs e = absurd (cc)
 firsts (Some c) (Some ds) cs e = (c, ds, refl, refl, cc)

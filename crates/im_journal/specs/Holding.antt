@@ -4,7 +4,7 @@ use Rattle.im_types.specs.declared.TheConstants.{LAST, MIN_SLOTS, MAX_SLOTS}
 use Rattle.im_types.specs.declared.commands.Command.{Command}
 use Rattle.im_types.specs.declared.sizes.Limits.{Limits}
 use Rattle.im_types.specs.Bytes.{open_gate}
-use Rattle.im_types.specs.Slot.{slot_body}
+use Rattle.im_types.specs.Slot.{slot_body, sequence_of}
 use Rattle.im_types.specs.Journal.{Ring, slot_at, slot, Tail, tail}
 use Rattle.im_types.specs.Layout.{layout_1, ring_of}
 use Rattle.im_disk.specs.Moment.{Moment, Left}
@@ -13,6 +13,10 @@ use Rattle.im_disk.specs.Since.{SameBut}
 -- the ring of an image with these limits
 abbrev pub ring_under : Limits → Ring
 ring_under limits = ring_of layout_1 (record { cells = limits.cells; elements = limits.elements; slots = limits.slots })
+
+-- the ring of so many slots at this offset
+abbrev pub ring_at : ℕ → ℕ → Ring
+ring_at base slots = record { base = base; slots = slots }
 
 -- a ring by itself
 abbrev pub ring_alone : ℕ → Ring
@@ -39,12 +43,17 @@ pub record IsJournal (j : JournalState) : Type 0 where
   pub to_last : j.count ≤ LAST
   pub full_at_last : j.count ≡ LAST → j.room ≡ 0
 
--- the journal is the tail of the file
+-- The journal is the tail of the file. The room that it knows of may be less than reading the file finds. Each slot
+-- behind the known room is of a command before the run, whatever its gate is.
 pub record Holds (j : JournalState) (file : List ℕ) : Type 0 where
   pub size : j.ring.base + 64 * j.ring.slots ≤ length file
   pub commands : List Command
-  pub reads : tail j.ring j.first file ≡ Some (record { commands = commands; room = j.room })
+  pub there : ℕ
+  pub reads : tail j.ring j.first file ≡ Some (record { commands = commands; room = there })
   pub count : j.count ≡ j.first + length commands
+  pub enough : j.room ≤ there
+  pub behind : j.count < LAST → (k : ℕ) → j.room ≤ k → k < j.ring.slots - (j.count - j.first)
+      → sequence_of (slot j.ring (j.count + k) file) < j.first
 
 -- it is the tail of each file that a crash at this moment may leave
 abbrev pub AllHold : JournalState → Moment → Type 0
@@ -57,6 +66,10 @@ room_after count room = if count + 1 == LAST then 0 else room - 1
 -- with one command more
 abbrev pub longer : JournalState → JournalState
 longer j = record j { count = j.count + 1; room = room_after j.count j.room }
+
+-- how many slots are neither of the run nor of the known room; at the last count there is none to be made room
+abbrev pub to_sweep : JournalState → ℕ
+to_sweep j = if j.count == LAST then 0 else j.ring.slots - (j.count - j.first) - j.room
 
 -- a tail with one command more
 abbrev pub longer_tail : ℕ → Command → Tail → Tail
@@ -76,6 +89,28 @@ pub record MayAppend (j : JournalState) (command : Command) (m : Moment) (file :
   pub left : Left m from
   pub same : SameBut (slot_at j.ring j.count) 64 from file
   pub reads : (tail j.ring j.first file ≡ tail j.ring j.first from) ⊎ (tail j.ring j.first file ≡ option_map (longer_tail j.count command) (tail j.ring j.first from))
+
+-- with so much room more
+abbrev pub with_room : JournalState → ℕ → JournalState
+with_room j more = record j { room = j.room + more }
+
+-- The files agree outside the ring, and both have the same commands in the journal's run. The second one holds the journal
+-- still, so it has the known room, or more.
+pub record SameRun (j : JournalState) (c d : List ℕ) : Type 0 where
+  pub same : SameBut j.ring.base (64 * j.ring.slots) c d
+  pub commands : List Command
+  pub there : ℕ
+  pub before : tail j.ring j.first c ≡ Some (record { commands = commands; room = there })
+  pub found : ℕ
+  pub after : tail j.ring j.first d ≡ Some (record { commands = commands; room = found })
+  pub enough : j.room ≤ found
+  pub holds : Holds j d
+
+-- the file has the run of one that could be left
+pub record MaySweep (j : JournalState) (m : Moment) (file : List ℕ) : Type 0 where
+  pub from : List ℕ
+  pub left : Left m from
+  pub run : SameRun j from file
 
 -- the gates of a ring are closed
 abbrev pub AreClosed : Ring → List ℕ → Type 0

@@ -1,18 +1,20 @@
-//! The journal as its owner sees it: how far its run of commands has come, and how a command is added.
-ghost use Rattle.std.specs.Prelude.{◌≡◌, ◌↔◌, ◌⊎◌, ◌+◌, ◌*◌, ◌-◌, ◌≤◌, ◌<◌, ◌^◌, List, ℕ, length, Some, None, OnOk, OnErr, IfOk, IfErr, IsErrOf};
-ghost use Rattle.im_types.specs.Journal.{tail};
+//! The journal as its owner sees it: how far its run of commands has come, how a command is added, and how the slots of
+//! commands before the run become room again.
+ghost use Rattle.std.specs.Prelude.{◌≡◌, ◌↔◌, ◌⊎◌, ◌+◌, ◌*◌, ◌-◌, ◌≤◌, ◌<◌, ◌^◌, List, [], ℕ, length, drop, min, Some, None, OnOk, OnErr, IfOk, IfErr, IsErrOf};
+ghost use Rattle.im_types.specs.Journal.{slot_at, tail};
 ghost use Rattle.im_disk.specs.Moment.{Left, Counts, Rises};
-ghost use Rattle.im_disk.specs.Since.{Leaves, ReadsOnly};
-ghost use Rattle.im_journal.specs.Holding.{ring_under, IsJournal, Holds, AllHold, room_after, longer, Appended, MayAppend, AreClosed};
+ghost use Rattle.im_disk.specs.Since.{SameBut, Leaves, ReadsOnly};
+ghost use Rattle.im_journal.specs.Holding.{ring_under, IsJournal, Holds, AllHold, room_after, to_sweep, with_room, longer, SameRun, MaySweep, Appended, MayAppend, AreClosed};
 
 use crate::bytes::read_bytes;
-use crate::gate::write_slot;
+use crate::gate::{close_gates, write_slot};
 use crate::layout::ring_base;
 use crate::ring::tail_in;
 use crate::slot::spell;
 use im_disk::Disk;
 use im_types::{Command, LAST, Limits, Refusal};
 use std::alloc::Global;
+use std::cmp::min;
 use std::marker::Model;
 
 /// The journal of an image: where its ring of slots is, and how far the run of commands in it has come. The command
@@ -43,6 +45,13 @@ fn room_after(count: u64, room: u32) -> u32
     ensures { result ≡ room_after count room }
 {
     if count + 1 == LAST { 0 } else { room - 1 }
+}
+
+// How many of so many slots are swept in one turn: it makes four calls of the disk at most.
+fn in_a_turn(slots: u32) -> u32
+    ensures { result ≡ min 3 slots }
+{
+    min(3, slots)
 }
 
 impl Journal {
@@ -118,7 +127,7 @@ impl Journal {
     pub fn first(&self) -> u64
         ensures { result ≡ self.now.first }
     {
-        self.first
+        self.first // A run of no commands begins at the count.
     }
 
     /// The sequence number of the next command: how many there have been.
@@ -137,6 +146,31 @@ impl Journal {
         self.room // At most all slots.
     }
 
+    /// How many slots are neither of the run nor known to be room: their commands lie before the run, and their gates may
+    /// be open. 0 where the count is the last one that there is.
+    pub fn to_sweep(&self) -> u32
+        ensures { result ≡ to_sweep self.now }
+    {
+        if self.count == LAST {
+            return 0;
+        }
+        self.slots - (self.count - self.first) as u32 - self.room
+    }
+
+    /// Begins the run at a later command, once the pages of the header in force hold the effects of those before it. Their
+    /// slots are then to be swept, before they are room. It makes no call of the disk.
+    pub fn begin_later(&mut self, first: u64)
+        requires later { self.old.first ≤ first }
+        requires counted { first ≤ self.old.count }
+        ensures state { self.new ≡ record self.old { first = first } }
+        ensures holds { (file : List ℕ) → Holds self.old file → Holds self.new file }
+        // The commands that are left of the run.
+        ensures tail { (file : List ℕ) → (held : Holds self.old file) → tail self.old.ring first file
+            ≡ Some (record { commands = drop (first - self.old.first) held.commands; room = held.there }) }
+    {
+        self.first = first;
+    }
+
     /// Adds a command at the end of the run, by four calls of the disk: its body, a sync, its gate, a sync. At `Ok` the
     /// command is on the disk. It takes no memory.
     ///
@@ -153,6 +187,10 @@ impl Journal {
         ensures added { OnOk result (D.honest disk.new → (file : List ℕ) → Left (D.now disk.new) file
             → Appended self.old command.now (D.now disk.old) file) }
         ensures holds { OnOk result (D.honest disk.new → AllHold self.new (D.now disk.new)) }
+        // The bytes elsewhere stay, and all bytes are on the disk.
+        ensures kept { OnOk result (D.honest disk.new → SameBut (slot_at self.old.ring self.old.count) 64
+            (D.now disk.old).bytes (D.now disk.new).bytes) }
+        ensures calm { OnOk result (D.honest disk.new → (D.now disk.new).ranges ≡ []) }
         ensures calls { OnOk result (D.honest disk.new → length (D.past disk.new) ≡ length (D.past disk.old) + 4) }
         ensures longer { OnOk result (self.new ≡ longer self.old) }
         ensures same { OnErr result (self.new ≡ self.old) }
@@ -176,5 +214,43 @@ impl Journal {
         self.count += 1;
         self.room = room;
         Ok(())
+    }
+
+    /// Closes the gates of the oldest slots that are to be swept, three at most: a write of one byte for each of them,
+    /// and a sync. Once it is done, the slots are room. It answers how many there were. It takes no memory.
+    ///
+    /// `Device` where a call of the disk failed; then the journal is as it was, and so is each command of the run and the
+    /// known room behind it on the disk.
+    pub fn sweep_turn<D: Disk>(&mut self, disk: &mut D) -> Result<u32, Refusal>
+        requires some { 0 < to_sweep self.old }
+        requires holds { D.honest disk.old → AllHold self.old (D.now disk.old) }
+        // Each file that a crash may leave from the start on has the run and the known room.
+        ensures leaves { D.honest disk.new → Leaves (D.now disk.old) (D.now disk.new) (D.past disk.old)
+            (D.past disk.new) (MaySweep self.old (D.now disk.old)) }
+        ensures now { D.honest disk.new → (file : List ℕ) → Left (D.now disk.new) file
+            → MaySweep self.old (D.now disk.old) file }
+        ensures swept { IfOk result (λ n. n ≡ min 3 (to_sweep self.old)) }
+        ensures room { IfOk result (λ n. self.new ≡ with_room self.old n) }
+        ensures same { OnErr result (self.new ≡ self.old) }
+        // Once it is done, the room is on the disk.
+        ensures holds { OnOk result (D.honest disk.new → AllHold self.new (D.now disk.new)) }
+        ensures run { OnOk result (D.honest disk.new
+            → SameRun self.old (D.now disk.old).bytes (D.now disk.new).bytes) }
+        ensures calm { OnOk result (D.honest disk.new → (D.now disk.new).ranges ≡ []) }
+        ensures calls { IfOk result (λ n. D.honest disk.new
+            → length (D.past disk.new) ≡ length (D.past disk.old) + n + 1) }
+        ensures only { IfErr result (λ e. e ≡ Refusal.Device) }
+        ensures device { OnErr result (Rises (D.failures disk.old) (D.failures disk.new)
+            × (D.failures disk.old ≤ D.failures disk.new)) }
+        ensures passes { OnOk result (D.failures disk.new ≡ D.failures disk.old) }
+        ensures honest { D.honest disk.new → D.honest disk.old }
+    {
+        let next = self.count + self.room as u64;
+        let turn = in_a_turn(self.to_sweep());
+        if let Err(_) = close_gates(disk, self.base, self.slots, next, turn) {
+            return Err(Refusal::Device);
+        }
+        self.room += turn;
+        Ok(turn)
     }
 }

@@ -10,6 +10,9 @@ use im_types::{Command, Kind, Op, Request};
 /// The byte of an open gate.
 pub(crate) const OPEN: u8 = 0xA5;
 
+/// The byte of a gate that was closed.
+pub(crate) const CLOSED: u8 = 0;
+
 /// The code of a confirmation.
 const CONFIRM: u8 = 8;
 

@@ -344,3 +344,85 @@ fn a_failed_read_is_told(rt: HostRuntime) -> Result<(), Fail> {
     assert_eq!(rt; journal.room(), 16, "the next read passes");
     Ok(())
 }
+
+/// A full ring of sixteen commands, whose run begins at this one.
+fn full(alloc: Global, passes: u64, first: u64) -> Result<(Blind, Journal), Fail> {
+    let mut disk = blank(alloc, LEAST_LENGTH, passes, Mode::Stop)?;
+    let mut journal = Journal::fresh(least()?);
+    for number in 1..17 {
+        journal.append(&mut disk, &request(0, number, Op::Fetch(0)))?;
+    }
+    if journal.first() <= first && first <= journal.count() {
+        journal.begin_later(first);
+    }
+    Ok((disk, journal))
+}
+
+/// A turn of the sweep, where there is one to make.
+fn sweep(disk: &mut Blind, journal: &mut Journal) -> Result<u32, Refusal> {
+    if journal.to_sweep() == 0 {
+        return Ok(0);
+    }
+    journal.sweep_turn(disk)
+}
+
+#[test]
+fn a_full_ring_is_swept_in_six_turns(rt: HostRuntime) -> Result<(), Fail> {
+    let (mut disk, mut journal) = full(rt.alloc(), LAST, 16)?;
+    assert_eq!(rt; (journal.to_sweep(), journal.room()), (16, 0));
+    for gates in [3, 3, 3, 3, 3, 1] {
+        assert_eq!(rt; sweep(&mut disk, &mut journal)?, gates);
+    }
+    assert_eq!(rt; (journal.to_sweep(), journal.room()), (0, 16));
+    assert_eq!(rt;
+        disk.disk.calls(),
+        86,
+        "five turns of four calls, and one of two"
+    );
+    Ok(())
+}
+
+#[test]
+fn what_was_swept_is_room_for_the_next(rt: HostRuntime) -> Result<(), Fail> {
+    let (mut disk, mut journal) = full(rt.alloc(), LAST, 14)?;
+    assert_eq!(rt; sweep(&mut disk, &mut journal)?, 3);
+    let more = request(0, 17, Op::Fetch(0));
+    journal.append(&mut disk, &more)?;
+    assert_eq!(rt; (journal.room(), journal.to_sweep()), (2, 11));
+    let (journal, read) = Journal::read_tail(rt.alloc(), &mut disk, least()?, 14)?;
+    assert_eq!(rt; (read.len(), journal.room()), (3, 2));
+    Ok(())
+}
+
+/// How many commands, and how much room, an opening finds after a turn of the sweep, and a crash, past so many calls.
+fn found_after(alloc: Global, passes: u64, crash: Crash) -> Result<(usize, u32), Fail> {
+    let (mut disk, mut journal) = full(alloc, passes, 14)?;
+    let _ = sweep(&mut disk, &mut journal);
+    let mut disk = Blind {
+        disk: FuseDisk::new(disk.disk.into_inner().crash(crash), LAST, Mode::Stop),
+        failures: 0,
+    };
+    let (journal, read) = Journal::read_tail(alloc, &mut disk, least()?, 14)?;
+    Ok((read.len(), journal.room()))
+}
+
+#[test]
+fn a_stopped_sweep_keeps_the_run(rt: HostRuntime) -> Result<(), Fail> {
+    // How many calls pass, of which the appends make 64, and the room that is found then.
+    let rows = [
+        (64, Crash::Kept, 0),
+        (65, Crash::Kept, 1),
+        (65, Crash::Lost, 0),
+        (65, Crash::Byte(0xA5), 0),
+        (67, Crash::Kept, 3),
+        (67, Crash::Lost, 0),
+        (67, Crash::Byte(7), 3),
+        (68, Crash::Lost, 3),
+        (68, Crash::Byte(0xA5), 3),
+    ];
+    for (passes, crash, room) in rows {
+        let found = found_after(rt.alloc(), passes, crash)?;
+        assert_eq!(rt; found, (2, room), "{passes} {crash:?}");
+    }
+    Ok(())
+}

@@ -13,7 +13,7 @@ use Rattle.im_disk.specs.Since.{SameBut}
 use Rattle.im_meaning.specs.Images.{other, IsImage, IsRead, Follows, IsPrepared}
 use Rattle.im_meaning.proofs.Headers.{in_force, in_force_is, no_header_fault}
 use Rattle.im_meaning.proofs.Writes.{stays_closed, takes_over}
-use Rattle.im_meaning.proofs.Later.{tail_later}
+use Rattle.im_journal.proofs.Later.{tail_later}
 
 abbrev Outcome : Layout → List ℕ → Result Reached Refusal → Option Refusal → Type 0
 Outcome l file outcome fault = MatchOption fault

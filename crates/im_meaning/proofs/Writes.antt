@@ -5,7 +5,7 @@ use Rattle.byteorder.specs.Endian.{little_number}
 use Rattle.im_types.specs.declared.commands.Command.{Command}
 use Rattle.im_types.specs.Bytes.{open_gate}
 use Rattle.im_types.specs.Contents.{Contents}
-use Rattle.im_types.specs.Layout.{Layout, Sizes, area_at, area_bytes, area_of, image_length, ring_of}
+use Rattle.im_types.specs.Layout.{Layout, Sizes, area_at, area_bytes, area_of, journal_at, image_length, ring_of}
 use Rattle.im_types.specs.Header.{Header, header_in, header_place, header_body, is_open_header, generation_in, spells_header}
 use Rattle.im_types.specs.Journal.{tail}
 use Rattle.im_types.specs.Pages.{Shows}
@@ -55,6 +55,11 @@ inside_areas bytes zero le at n to = omega (arith, to)
 inside_areas bytes (suc zero) le at n to = omega (arith, to)
 inside_areas bytes (suc (suc k)) le at n to = absurd (omega (arith, le))
 
+before_journal : (bytes area : ℕ) → area ≤ 1 → (at : ℕ) → 8192 + bytes * 2 ≤ at → 8192 + bytes * area + bytes ≤ at
+before_journal bytes zero le at far = omega (arith, far)
+before_journal bytes (suc zero) le at far = omega (arith, far)
+before_journal bytes (suc (suc k)) le at far = absurd (omega (arith, le))
+
 high : (k n : ℕ) → 4096 * k + 64 ≤ 8192 → 8192 ≤ n → 4096 * k + 64 ≤ n
 high k n le from = omega (arith, le, from)
 
@@ -82,6 +87,18 @@ module _ (l : Layout) (h : Header) (shown : Contents) (commands : List Command) 
       (slice_outside at n (area_at l h.sizes h.area) (area_at l h.sizes h.area + area_bytes l h.sizes) c d but
       (apart_areas (area_bytes l h.sizes) h.area it.in_force.number at n from to))
       (tail_elsewhere (ring_of l h.sizes) h.count at n c d some (inl (inside_areas (area_bytes l h.sizes) h.area it.in_force.number at n to)) but)
+
+  -- what is written in the journal changes the journal alone
+  pub write_in_journal : journal_at l h.sizes ≤ at → (later : List Command) (there : ℕ) → tail (ring_of l h.sizes) h.count d ≡ Some (record { commands = later; room = there })
+      → IsImage l h shown later there d
+  write_in_journal far later there journal =
+      let same : area_of l h.sizes h.area d ≡ area_of l h.sizes h.area c = slice_outside at n (area_at l h.sizes h.area) (area_at l h.sizes h.area + area_bytes l h.sizes) c d but
+      (inl (before_journal (area_bytes l h.sizes) h.area it.in_force.number at far)) in
+      record {
+        in_force = headers_stay (omega (arith, far));
+        shows = subst (λ (bytes : List ℕ). Shows l h.sizes bytes shown) (sym same) it.shows;
+        journal = journal;
+      }
 
 -- the bytes of a header place, by those of the file
 inside_place : (p a b : ℕ) (c d : List ℕ) → length d ≡ length c → b ≤ 64 → ((i : ℕ) → a ≤ i → i < b → slice_index d (p + i) ≡ slice_index c (p + i))

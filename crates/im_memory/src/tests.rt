@@ -70,11 +70,41 @@ fn plays(rt: &impl Abort, m: &mut Memory, rows: &[(&str, Call, Answer)]) -> u32 
     let mut accepted: u32 = 0;
     for (what, call, expected) in rows {
         if is_accepted(m, call) {
-            accepted = accepted.wrapping_add(1);
+            accepted = accepted.saturating_add(1);
         }
         assert_eq!(rt; answer(m, call), *expected, "{what}");
     }
     accepted
+}
+
+// The calls are answered so, and as many commands are accepted.
+fn accepts(rt: &impl Abort, m: &mut Memory, rows: &[(&str, Call, Answer)], expected: u32) {
+    assert_eq!(rt; plays(rt, m, rows), expected, "so many are accepted");
+}
+
+// What a cell is.
+fn cell_is(rt: &impl Abort, m: &Memory, a: u32, expected: Option<Presence>) {
+    assert_eq!(rt; m.cell(a), expected, "cell {a}");
+}
+
+// The block that an address lies in.
+fn block_is(rt: &impl Abort, m: &Memory, a: u32, expected: Option<Block>) {
+    assert_eq!(rt; m.block(a), expected, "the block at {a}");
+}
+
+// The bounds of a window.
+fn window_is(rt: &impl Abort, m: &Memory, element: u16, expected: Result<(u64, u64), Refusal>) {
+    assert_eq!(rt; m.window(element), expected, "window {element}");
+}
+
+// What is kept under a number.
+fn kept_is(rt: &impl Abort, m: &Memory, element: u16, number: u64, expected: Option<Kept>) {
+    assert_eq!(rt; m.kept(element, number), expected, "{element}.{number}");
+}
+
+// Who waits at a place of a cell's list.
+fn waiter_is(rt: &impl Abort, m: &Memory, a: u32, place: usize, expected: Option<Waiter>) {
+    assert_eq!(rt; m.waiter(a, place), expected, "cell {a}, place {place}");
 }
 
 // Those that wait at a cell are these, in this order.
@@ -85,10 +115,10 @@ fn waiters_are(rt: &impl Abort, m: &Memory, a: u32, expected: &[(u16, u64)]) {
             element: *element,
             number: *number,
         };
-        assert_eq!(rt; m.waiter(a, place), Some(who), "at place {place}");
-        place = place.wrapping_add(1);
+        waiter_is(rt, m, a, place, Some(who));
+        place = place.saturating_add(1);
     }
-    assert_eq!(rt; m.waiter(a, place), None, "behind the last");
+    waiter_is(rt, m, a, place, None);
 }
 
 #[test]
@@ -102,7 +132,7 @@ fn one_store_answers_all_readers(rt: HostRuntime) -> Result<(), Fail> {
     ];
     plays(&rt, &mut m, &before);
     waiters_are(&rt, &m, 0, &[(1, 1), (2, 1), (1, 2)]);
-    assert_eq!(rt; m.cell(0), Some(Presence::Waiting), "before the store");
+    cell_is(&rt, &m, 0, Some(Presence::Waiting));
     let after = [
         ("the store", asks(3, 1, Store(0, 7)), told(Stored)),
         ("the first reader", collects(1, 1), told(Value(7))),
@@ -111,7 +141,7 @@ fn one_store_answers_all_readers(rt: HostRuntime) -> Result<(), Fail> {
     ];
     plays(&rt, &mut m, &after);
     waiters_are(&rt, &m, 0, &[]);
-    assert_eq!(rt; m.cell(0), Some(Presence::Full(7)), "after the store");
+    cell_is(&rt, &m, 0, Some(Presence::Full(7)));
     Ok(())
 }
 
@@ -127,7 +157,7 @@ fn a_second_store_clashes(rt: HostRuntime) -> Result<(), Fail> {
         ("what was read stands", collects(1, 2), told(Value(5))),
     ];
     plays(&rt, &mut m, &rows);
-    assert_eq!(rt; m.cell(0), Some(Presence::Clashed(5)));
+    cell_is(&rt, &m, 0, Some(Presence::Clashed(5)));
     Ok(())
 }
 
@@ -148,7 +178,7 @@ fn takers_are_served_in_their_order(rt: HostRuntime) -> Result<(), Fail> {
         ("the third taker again", collects(2, 1), told(Value(30))),
     ];
     plays(&rt, &mut m, &rows);
-    assert_eq!(rt; m.cell(0), Some(Presence::Empty));
+    cell_is(&rt, &m, 0, Some(Presence::Empty));
     Ok(())
 }
 
@@ -162,7 +192,7 @@ fn a_put_on_a_full_cell_clashes(rt: HostRuntime) -> Result<(), Fail> {
         ("a take after it", asks(1, 3, Take(0)), told(Clash)),
     ];
     plays(&rt, &mut m, &rows);
-    assert_eq!(rt; m.cell(0), Some(Presence::Clashed(1)));
+    cell_is(&rt, &m, 0, Some(Presence::Clashed(1)));
     Ok(())
 }
 
@@ -208,9 +238,9 @@ fn the_least_hole_is_taken(rt: HostRuntime) -> Result<(), Fail> {
         length: 4,
         kind: I,
     };
-    assert_eq!(rt; m.block(10), Some(four), "the last cell of the four");
-    assert_eq!(rt; m.block(11), None, "the first cell behind them");
-    assert_eq!(rt; m.cell(11), None, "a cell in no block");
+    block_is(&rt, &m, 10, Some(four));
+    block_is(&rt, &m, 11, None);
+    cell_is(&rt, &m, 11, None);
     Ok(())
 }
 
@@ -228,7 +258,7 @@ fn a_block_with_a_waiting_cell_stays(rt: HostRuntime) -> Result<(), Fail> {
     ];
     plays(&rt, &mut m, &before);
     waiters_are(&rt, &m, 0, &[(1, 1)]);
-    assert_eq!(rt; m.cell(0), Some(Presence::Waiting), "it still waits");
+    cell_is(&rt, &m, 0, Some(Presence::Waiting));
     let after = [
         ("a store", asks(2, 1, Store(0, 9)), told(Stored)),
         ("now the block goes", asks(0, 3, Release(0)), told(Released)),
@@ -259,25 +289,23 @@ fn a_request_that_comes_again_acts_once(rt: HostRuntime) -> Result<(), Fail> {
         ("number 0", asks(1, 0, Fetch(0)), Err(Forgotten)),
         ("no such element", asks(16, 1, Fetch(0)), Err(NoElement)),
     ];
-    assert_eq!(rt; plays(&rt, &mut m, &before), 2, "accepted before the store");
+    accepts(&rt, &mut m, &before, 2);
     waiters_are(&rt, &m, 0, &[(1, 1)]);
     let after = [
         ("the store", asks(2, 1, Store(0, 3)), told(Stored)),
         ("the reader again", asks(1, 1, Fetch(0)), told(Value(3))),
     ];
-    assert_eq!(rt; plays(&rt, &mut m, &after), 1, "accepted after it");
-    assert_eq!(rt; m.window(1), Ok((1, 2)), "one entry is kept");
+    accepts(&rt, &mut m, &after, 1);
+    window_is(&rt, &m, 1, Ok((1, 2)));
     Ok(())
 }
 
-// Sixteen fetches of one cell, one after another, all of which wait.
-fn sixteen_fetches(rt: &impl Abort, m: &mut Memory, element: u16) -> u32 {
-    let mut accepted: u32 = 0;
-    for number in 1..17 {
-        let rows = [("sixteen readers", asks(element, number, Fetch(0)), WAITS)];
-        accepted = accepted.wrapping_add(plays(rt, m, &rows));
+// Fetches of cell 0 under the numbers from one to another, all of which are accepted and wait.
+fn fetches_wait(rt: &impl Abort, m: &mut Memory, element: u16, first: u64, last: u64) {
+    for number in first..=last {
+        let row = [("a reader", asks(element, number, Fetch(0)), WAITS)];
+        accepts(rt, m, &row, 1);
     }
-    accepted
 }
 
 #[test]
@@ -295,42 +323,32 @@ fn seventeen_fetches_need_one_confirmation(rt: HostRuntime) -> Result<(), Fail> 
         ("leave given before", confirms(1, 1), CONFIRMED),
         ("no such element", confirms(16, 1), Err(NoElement)),
     ];
-    let accepted = [
-        plays(&rt, &mut m, &block),
-        sixteen_fetches(&rt, &mut m, 1),
-        plays(&rt, &mut m, &rows),
-    ];
-    assert_eq!(rt; accepted, [1, 16, 3], "accepted: twenty in all");
-    assert_eq!(rt; m.window(1), Ok((17, 18)), "one entry is kept");
-    assert_eq!(rt; m.window(16), Err(NoElement), "no such element");
+    // Accepted are 1, 16 and 3: twenty in all.
+    accepts(&rt, &mut m, &block, 1);
+    fetches_wait(&rt, &mut m, 1, 1, 16);
+    accepts(&rt, &mut m, &rows, 3);
+    window_is(&rt, &m, 1, Ok((17, 18)));
+    window_is(&rt, &m, 16, Err(NoElement));
     Ok(())
 }
 
 #[test]
 fn every_entry_of_every_window_can_wait(rt: HostRuntime) -> Result<(), Fail> {
     let mut m = memory(&rt, 1, 3)?;
-    let block = [("an I cell", asks(0, 1, Alloc(I, 1)), told(Base(0)))];
-    plays(&rt, &mut m, &block);
-    plays(
-        &rt,
-        &mut m,
-        &[("its entry is dropped", confirms(0, 2), CONFIRMED)],
-    );
-    for number in 2..18 {
-        let rows = [("the first element", asks(0, number, Fetch(0)), WAITS)];
-        plays(&rt, &mut m, &rows);
-    }
-    sixteen_fetches(&rt, &mut m, 1);
-    for number in 1..16 {
-        let rows = [("the third element", asks(2, number, Fetch(0)), WAITS)];
-        plays(&rt, &mut m, &rows);
-    }
+    let before = [
+        ("an I cell", asks(0, 1, Alloc(I, 1)), told(Base(0))),
+        ("its entry is dropped", confirms(0, 2), CONFIRMED),
+    ];
+    plays(&rt, &mut m, &before);
+    fetches_wait(&rt, &mut m, 0, 2, 17);
+    fetches_wait(&rt, &mut m, 1, 1, 16);
+    fetches_wait(&rt, &mut m, 2, 1, 15);
     let last = Waiter {
         element: 2,
         number: 15,
     };
-    assert_eq!(rt; m.waiter(0, 46), Some(last), "47 wait");
-    assert_eq!(rt; m.waiter(0, 47), None, "and no more");
+    waiter_is(&rt, &m, 0, 46, Some(last));
+    waiter_is(&rt, &m, 0, 47, None);
     let rows = [
         (
             "the last that has room",
@@ -366,32 +384,43 @@ fn the_least_memory_serves(rt: HostRuntime) -> Result<(), Fail> {
         op: Store(0, 0),
         entry: Entry::Answered(Stored),
     };
-    assert_eq!(rt; m.kept(0, 3), Some(kept), "what is kept");
-    assert_eq!(rt; m.kept(0, 4), None, "under the next number");
+    kept_is(&rt, &m, 0, 3, Some(kept));
+    kept_is(&rt, &m, 0, 4, None);
     Ok(())
+}
+
+// What a page shows of a node.
+fn node_record_is(rt: &impl Abort, m: &Memory, n: u32, expected: NodeRecord) {
+    assert_eq!(rt; m.records().node_record(n), expected, "node {n}");
+}
+
+// The node behind this one in its list.
+fn next_of(m: &Memory, n: u32) -> u32 {
+    match m.records().node_record(n) {
+        NodeRecord::Listed { next, .. } => next,
+        NodeRecord::Free { next } => next,
+    }
 }
 
 // The nodes from one on hold these requests, in this order, and the last of them is the one that is named.
 fn nodes_are(rt: &impl Abort, m: &Memory, first: u32, last: u32, expected: &[(u16, u64)]) {
-    let records = m.records();
     let mut at = first;
     let mut before = NONE;
     for (element, number) in expected {
-        let who = Waiter {
+        let waiter = Waiter {
             element: *element,
             number: *number,
         };
-        match records.node_record(at) {
-            NodeRecord::Listed { next, waiter } => {
-                assert_eq!(rt; waiter, who, "in node {at}");
-                before = at;
-                at = next;
-            }
-            NodeRecord::Free { .. } => panic!(rt; "node {at} is free"),
-        }
+        let next = next_of(m, at);
+        node_record_is(rt, m, at, NodeRecord::Listed { next, waiter });
+        before = at;
+        at = next;
     }
-    assert_eq!(rt; at, NONE, "the last link");
-    assert_eq!(rt; before, last, "the last node");
+    assert_eq!(rt;
+        (at, before),
+        (NONE, last),
+        "the last link, and the last node"
+    );
 }
 
 // How many nodes are in a list.
@@ -400,15 +429,14 @@ fn listed(m: &Memory, nodes: u32) -> u32 {
     let mut count: u32 = 0;
     for n in 0..nodes {
         if let NodeRecord::Listed { .. } = records.node_record(n) {
-            count = count.wrapping_add(1);
+            count = count.saturating_add(1);
         }
     }
     count
 }
 
-#[test]
-fn records_show_cells_and_their_lists(rt: HostRuntime) -> Result<(), Fail> {
-    let mut m = memory(&rt, 4, 3)?;
+// Of four cells one has three readers, one is an empty M cell, one a full one, and one is free.
+fn fill(rt: &impl Abort, m: &mut Memory) {
     let rows = [
         ("an I cell", asks(0, 1, Alloc(I, 1)), told(Base(0))),
         ("two M cells", asks(0, 2, Alloc(M, 2)), told(Base(1))),
@@ -417,38 +445,60 @@ fn records_show_cells_and_their_lists(rt: HostRuntime) -> Result<(), Fail> {
         ("of the first again", asks(1, 2, Fetch(0)), WAITS),
         ("a put", asks(0, 3, Put(2, 9)), told(Stored)),
     ];
-    plays(&rt, &mut m, &rows);
-    let two = Block {
+    plays(rt, m, &rows);
+}
+
+// What a page shows of a cell.
+fn cell_record_is(rt: &impl Abort, m: &Memory, a: u32, expected: CellRecord) {
+    assert_eq!(rt; m.records().cell_record(a), expected, "cell {a}");
+}
+
+// What a page shows of the two M cells.
+fn of_the_two(tag: PresenceTag) -> CellRecord {
+    let block = Block {
         base: 1,
         length: 2,
         kind: M,
     };
-    let empty = CellRecord::Held {
-        block: two,
-        tag: PresenceTag::Empty,
-    };
-    let full = CellRecord::Held {
-        block: two,
-        tag: PresenceTag::Full(9),
-    };
+    CellRecord::Held { block, tag }
+}
+
+#[test]
+fn records_show_each_cell(rt: HostRuntime) -> Result<(), Fail> {
+    let mut m = memory(&rt, 4, 3)?;
+    fill(&rt, &mut m);
     let free = CellRecord::Free {
         hole: 0,
         next: NONE,
     };
-    assert_eq!(rt; m.records().cell_record(1), empty, "an empty cell");
-    assert_eq!(rt; m.records().cell_record(2), full, "a full cell");
-    assert_eq!(rt; m.records().cell_record(3), free, "a free cell");
-    assert_eq!(rt; m.records().cell_record(4), free, "past the cells");
-    match m.records().cell_record(0) {
+    cell_record_is(&rt, &m, 1, of_the_two(PresenceTag::Empty));
+    cell_record_is(&rt, &m, 2, of_the_two(PresenceTag::Full(9)));
+    cell_record_is(&rt, &m, 3, free);
+
+    // Past the cells.
+    cell_record_is(&rt, &m, 4, free);
+    Ok(())
+}
+
+// The first and the last node of the list of a cell, if its record says that somebody waits.
+fn ends(m: &Memory, a: u32) -> Option<(u32, u32)> {
+    match m.records().cell_record(a) {
         CellRecord::Held {
             tag: PresenceTag::Waiting { first, last },
             ..
-        } => nodes_are(&rt, &m, first, last, &[(1, 1), (2, 1), (1, 2)]),
-        _ => panic!(&rt; "the first cell waits"),
+        } => Some((first, last)),
+        _ => None,
     }
+}
+
+#[test]
+fn records_show_who_waits(rt: HostRuntime) -> Result<(), Fail> {
+    let mut m = memory(&rt, 4, 3)?;
+    fill(&rt, &mut m);
+    let (first, last) = ends(&m, 0).ok_or("the first cell waits")?;
+    nodes_are(&rt, &m, first, last, &[(1, 1), (2, 1), (1, 2)]);
     assert_eq!(rt; listed(&m, 48), 3, "all other nodes are free");
-    let past = NodeRecord::Free { next: NONE };
-    assert_eq!(rt; m.records().node_record(48), past, "past the nodes");
+    node_record_is(&rt, &m, 48, NodeRecord::Free { next: NONE });
     Ok(())
 }
 
@@ -524,7 +574,7 @@ fn times_at(m: &Memory, a: u32, who: Waiter) -> u32 {
     let mut times: u32 = 0;
     for place in 0..48 {
         if m.waiter(a, place) == Some(who) {
-            times = times.wrapping_add(1);
+            times = times.saturating_add(1);
         }
     }
     times
@@ -539,6 +589,14 @@ fn awaited(m: &Memory, kept: Kept) -> Option<u32> {
     }
 }
 
+// A request waits once at a cell, and at no other.
+fn waits_at(rt: &impl Abort, m: &Memory, who: Waiter, cell: Option<u32>) {
+    for a in 0..m.cells() {
+        let times = if cell == Some(a) { 1 } else { 0 };
+        assert_eq!(rt; times_at(m, a, who), times, "{who:?} at {a}");
+    }
+}
+
 // Each request waits once at the cell that its entry waits for, and at no other.
 fn waiters_agree(rt: &impl Abort, m: &Memory) {
     for element in 0..m.elements() {
@@ -549,10 +607,7 @@ fn waiters_agree(rt: &impl Abort, m: &Memory) {
                 .kept(element, number)
                 .expect(rt, "each number of a window is kept");
             let cell = awaited(m, kept);
-            for a in 0..m.cells() {
-                let times = if cell == Some(a) { 1 } else { 0 };
-                assert_eq!(rt; times_at(m, a, who), times, "{element}.{number} at {a}");
-            }
+            waits_at(rt, m, who, cell);
         }
     }
 }
@@ -570,17 +625,22 @@ fn tags_agree(rt: &impl Abort, m: &Memory) {
     }
 }
 
+// One command: it is accepted exactly where it changes something of its element's window.
+fn turn(rt: &impl Abort, m: &mut Memory, command: &Command) {
+    let judged = m.judge(command);
+    let before = seen(m, command);
+    let answer = m.step(command);
+    let changed = seen(m, command) != before;
+    assert_eq!(rt; judged, answer.map(|_| changed), "{command:?}");
+}
+
 #[test]
 fn a_random_walk_stays_in_order(rt: HostRuntime) -> Result<(), Fail> {
     let mut m = memory(&rt, 8, 3)?;
     let mut dice = Dice { state: 1 };
-    for turn in 0..400 {
+    for _ in 0..400 {
         let command = any_command(&mut dice, &m);
-        let judged = m.judge(&command);
-        let before = seen(&m, &command);
-        let answer = m.step(&command);
-        let changed = seen(&m, &command) != before;
-        assert_eq!(rt; judged, answer.map(|_| changed), "{turn}: {command:?}");
+        turn(&rt, &mut m, &command);
         waiters_agree(&rt, &m);
         tags_agree(&rt, &m);
     }

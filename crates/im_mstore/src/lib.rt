@@ -23,7 +23,7 @@ fn open_cell(arena: &Arena, list: u32) -> Cell
     requires { list < length arena.now.held.lists }
     ensures { result ≡ open_cell (list_at arena.now.held list) }
 {
-    if arena.len(list) == 0 {
+    if arena.is_empty(list) {
         Cell::Empty
     } else {
         Cell::Waiting

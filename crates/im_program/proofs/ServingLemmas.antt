@@ -1,19 +1,21 @@
 -- Commands put on a disk while a script is served. (Own.)
 use Rattle.std.proofs.Common.{◌≡◌, inl, ⊎_elim, ℕ, ◌+◌, Bool, true, false, ◌&&◌, List, [], ◌∷◌, ◌++◌, length, refl, sym, ap, subst, arith, if◌then◌else◌}
-use Rattle.std.specs.Prelude.{Some, None}
+use Rattle.std.specs.Prelude.{Some, None, Result}
 use Rattle.std.proofs.lemmas.List.{append-nil, take_all}
 use Rattle.im_types.specs.declared.commands.Command.{Command}
 use Rattle.im_types.specs.Contents.{Contents}
-use Rattle.im_types.specs.Header.{Header}
 use Rattle.im_types.specs.Step.{step, is_accepted}
 use Rattle.im_types.specs.Meaning.{accept_each}
 use Rattle.im_types.specs.Run.{after}
 use Rattle.im_disk.specs.Moment.{Moment, Left}
 use Rattle.im_disk.specs.Since.{Leaves, LeavesNow}
 use Rattle.im_disk.proofs.SinceLemmas.{left_now, leaves_start, leaves_then, leaves_now}
-use Rattle.im_engine.specs.State.{EngineState, IsImage, MeansState, MeansEither}
-use Rattle.im_engine.specs.Run.{Answer, Answered, is_put, MeansAfter, MeansBeginning}
-use Rattle.im_engine.proofs.Running.{Far, one, far_on, leaves_on, now_on, now_start}
+use Rattle.im_checkpoint.specs.declared.checkpoint.TurnDone.{TurnDone}
+use Rattle.im_types.specs.declared.commands.Outcome.{Outcome}
+use Rattle.im_types.specs.declared.refusals.Refusal.{Refusal}
+use Rattle.im_engine.specs.State.{EngineState, MeansState, MeansEither}
+use Rattle.im_engine.specs.Run.{Answered, TurnAnswered, is_put, one, MeansAfter, MeansBeginning}
+use Rattle.im_engine.proofs.Running.{Far, far_on, leaves_on, now_on, now_start, far_turned, leaves_turned, now_turned, means_all}
 use Rattle.im_program.specs.Serving.{HasPut, OnlyPuts, Closed, Served}
 
 -- ---- accepted commands
@@ -28,7 +30,7 @@ accepted_more m (d ∷ put) c is accepted = by_test (is_accepted m d) is (λ res
     by_test true e more = more e
     by_test false e more = absurd (cc)
 
-accepted_on : (m : Contents) (put : List Command) (c : Command) (a : Answer) → accept_each m put ≡ Some (after m put)
+accepted_on : (m : Contents) (put : List Command) (c : Command) (a : Result Outcome Refusal) → accept_each m put ≡ Some (after m put)
     → accept_each m (put ++ one (after m put) c a) ≡ Some (after m (put ++ one (after m put) c a))
 accepted_on m put c a is = by_test (is_accepted (after m put) c) (is_put a) refl
   where
@@ -44,38 +46,45 @@ module _ {D : Type 0} (now : D → Moment) (past : D → List Moment) where
   pub put_none : (start : EngineState D) → LeavesNow (now start.disk) (MeansState start) → HasPut now past start start []
   put_none start means = record {
     accepted = refl;
-    header = refl;
     memory = λ f. refl;
     count = λ f. omega arith;
     leaves = leaves_start (now start.disk) (past start.disk) (MeansBeginning start []);
     doubt = λ file left. now_start start file (means file left);
   }
 
-  put_more : (start mid new : EngineState D) (put : List Command) (c : Command) (a : Answer) → HasPut now past start mid put → Answered mid c a new
+  put_more : (start mid new : EngineState D) (put : List Command) (c : Command) (a : Result Outcome Refusal) → HasPut now past start mid put → Answered mid c a new
       → (mid.failed ≡ false → Leaves (now mid.disk) (now new.disk) (past mid.disk) (past new.disk) (MeansEither mid c))
       → (mid.failed ≡ false → LeavesNow (now new.disk) (MeansEither mid c))
       → HasPut now past start new (put ++ one (after start.memory put) c a)
   put_more start mid new put c a so_far it leaves doubt =
-      let far : Far start mid put = record { header = so_far.header; memory = so_far.memory; count = so_far.count } in
+      let far : Far start mid put = record { memory = so_far.memory; count = so_far.count } in
       let far_new : Far start new (put ++ one (after start.memory put) c a) = far_on start mid new put c a far it in
       record {
         accepted = accepted_on start.memory put c a so_far.accepted;
-        header = far_new.header;
         memory = far_new.memory;
         count = far_new.count;
         leaves = leaves_on start mid new put c a far it now past so_far.leaves leaves;
         doubt = now_on start mid new put c a far it now so_far.doubt doubt;
       }
 
+  put_turn : (start mid new : EngineState D) (put : List Command) (a : Result TurnDone Refusal) → HasPut now past start mid put → TurnAnswered mid a new
+      → (mid.failed ≡ false → Leaves (now mid.disk) (now new.disk) (past mid.disk) (past new.disk) (MeansState mid))
+      → (mid.failed ≡ false → LeavesNow (now new.disk) (MeansState mid))
+      → HasPut now past start new put
+  put_turn start mid new put a so_far it leaves means =
+      let far : Far start mid put = record { memory = so_far.memory; count = so_far.count } in
+      let far_new : Far start new put = far_turned start mid new put a far it in
+      record {
+        accepted = so_far.accepted;
+        memory = far_new.memory;
+        count = far_new.count;
+        leaves = leaves_turned start mid new put a far it now past so_far.leaves leaves;
+        doubt = now_turned start mid new put a far it now so_far.doubt means;
+      }
+
   -- all that was put is there while the disk hasn't failed
   put_all : (start engine : EngineState D) (put : List Command) → HasPut now past start engine put → engine.failed ≡ false → (file : List ℕ) → MeansState engine file → MeansAfter start put (length put) file
-  put_all start engine put it f file image = (
-    engine.room,
-    (subst (λ (k : List Command). IsImage start.header (after start.memory k) (start.count + length put) engine.room file) (sym (take_all (length put) put (omega arith)))
-        (subst (λ (h : Header). IsImage h (after start.memory put) (start.count + length put) engine.room file) it.header
-        (subst (λ (m : Contents). IsImage engine.header m (start.count + length put) engine.room file) (it.memory f)
-        (subst (λ (n : ℕ). IsImage engine.header engine.memory n engine.room file) (it.count f) image)))),
-  )
+  put_all start engine put it f file means = means_all start engine put (record { memory = it.memory; count = it.count }) f file means
 
   pub closed : (start engine : EngineState D) (put : List Command) (status : ℕ) → HasPut now past start engine put → (status ≡ 0 → engine.failed ≡ false) → (engine.failed ≡ false → LeavesNow (now engine.disk) (MeansState engine))
       → Closed now past start engine.disk status
@@ -115,13 +124,22 @@ module _ {D : Type 0} (now : D → Moment) (past : D → List Moment) where
     puts_then old mid new first second = λ start so_far. second start (first start so_far)
 
     -- commands were put, and then one is served
-    pub puts_one : (old mid new : EngineState D) (c : Command) (a : Answer) → OnlyPuts now past honest old mid → Answered mid c a new → (honest new.disk → honest mid.disk)
+    pub puts_one : (old mid new : EngineState D) (c : Command) (a : Result Outcome Refusal) → OnlyPuts now past honest old mid → Answered mid c a new → (honest new.disk → honest mid.disk)
         → (honest new.disk → mid.failed ≡ false → Leaves (now mid.disk) (now new.disk) (past mid.disk) (past new.disk) (MeansEither mid c))
         → (honest new.disk → mid.failed ≡ false → LeavesNow (now new.disk) (MeansEither mid c))
         → OnlyPuts now past honest old new
     puts_one old mid new c a so_far it was leaves doubt = λ start serves h.
         let before = so_far start serves (was h) in
         (before.0, (before.1.0 ++ one (after start.memory before.1.0) c a, put_more start mid new before.1.0 c a before.1.1 it (leaves h) (doubt h)))
+
+    -- commands were put, and then a turn is made
+    pub puts_turn : (old mid new : EngineState D) (a : Result TurnDone Refusal) → OnlyPuts now past honest old mid → TurnAnswered mid a new → (honest new.disk → honest mid.disk)
+        → (honest new.disk → mid.failed ≡ false → Leaves (now mid.disk) (now new.disk) (past mid.disk) (past new.disk) (MeansState mid))
+        → (honest new.disk → mid.failed ≡ false → LeavesNow (now new.disk) (MeansState mid))
+        → OnlyPuts now past honest old new
+    puts_turn old mid new a so_far it was leaves means = λ start serves h.
+        let before = so_far start serves (was h) in
+        (before.0, (before.1.0, put_turn start mid new before.1.0 a before.1.1 it (leaves h) (means h)))
 
     -- the engine is closed
     pub ends : (start engine : EngineState D) (disk : D) (status : ℕ) → (honest start.disk → LeavesNow (now start.disk) (MeansState start)) → OnlyPuts now past honest start engine → disk ≡ engine.disk

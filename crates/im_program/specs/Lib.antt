@@ -4,3 +4,5 @@ pub mod Lines
 pub mod Script
 pub mod Words
 pub mod Serving
+pub mod Report
+pub mod Inspecting

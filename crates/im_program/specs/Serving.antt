@@ -14,7 +14,6 @@ use Rattle.im_engine.specs.Run.{MeansAfter, MeansBeginning, MeansAllOrInDoubt}
 -- beginning of them, and now after all of them or all but the last.
 pub record HasPut {D : Type 0} (now : D → Moment) (past : D → List Moment) (start engine : EngineState D) (put : List Command) : Type 0 where
   pub accepted : accept_each start.memory put ≡ Some (after start.memory put)
-  pub header : engine.header ≡ start.header
   pub memory : engine.failed ≡ false → engine.memory ≡ after start.memory put
   pub count : engine.failed ≡ false → engine.count ≡ start.count + length put
   pub leaves : Leaves (now start.disk) (now engine.disk) (past start.disk) (past engine.disk) (MeansBeginning start put)

@@ -1,9 +1,41 @@
 //! What is printed of requests and refusals.
-use im_types::{Entry, Refusal, Reply};
+ghost use Rattle.std.specs.Prelude.{◌≡◌, ◌++◌, OnOk, codes, decimal, string_bytes};
+ghost use Rattle.im_program.specs.Report.{entry_text, kind_text, line_feed, op_text, reply_text};
+
+use im_types::{Entry, Kind, Op, Refusal, Reply};
 use std::alloc::AllocError;
 
+/// The letter of a kind.
+pub fn kind_text(kind: Kind) -> &'static str
+    ensures { result.now ≡ kind_text kind }
+{
+    match kind {
+        Kind::I => "i",
+        Kind::M => "m",
+    }
+}
+
+/// Adds the text of an operation.
+pub fn add_op(out: &mut String, op: Op) -> Result<(), AllocError>
+    ensures { OnOk result (string_bytes out.new ≡ string_bytes out.old ++ op_text op) }
+{
+    match op {
+        Op::Alloc(kind, length) => {
+            let kind = kind_text(kind);
+            write!(out, "alloc {kind} {length}")
+        }
+        Op::Release(a) => write!(out, "release {a}"),
+        Op::Fetch(a) => write!(out, "fetch {a}"),
+        Op::Store(a, value) => write!(out, "store {a} {value}"),
+        Op::Take(a) => write!(out, "take {a}"),
+        Op::Put(a, value) => write!(out, "put {a} {value}"),
+    }
+}
+
 /// Adds the text of an answer.
-fn add_reply(out: &mut String, reply: Reply) -> Result<(), AllocError> {
+fn add_reply(out: &mut String, reply: Reply) -> Result<(), AllocError>
+    ensures { OnOk result (string_bytes out.new ≡ string_bytes out.old ++ reply_text reply) }
+{
     match reply {
         Reply::Base(base) => write!(out, "base {base}"),
         Reply::NoSpace => out.push_str("nospace"),
@@ -20,7 +52,9 @@ fn add_reply(out: &mut String, reply: Reply) -> Result<(), AllocError> {
 }
 
 /// Adds the text of what is kept for a request.
-fn add_entry(out: &mut String, entry: Entry) -> Result<(), AllocError> {
+pub fn add_entry(out: &mut String, entry: Entry) -> Result<(), AllocError>
+    ensures { OnOk result (string_bytes out.new ≡ string_bytes out.old ++ entry_text entry) }
+{
     match entry {
         Entry::Waiting => out.push_str("waiting"),
         Entry::Answered(reply) => add_reply(out, reply),
@@ -28,24 +62,18 @@ fn add_entry(out: &mut String, entry: Entry) -> Result<(), AllocError> {
 }
 
 /// Adds the line `K.N REPLY` of a request that was served.
-pub fn add_line(
-    out: &mut String,
-    element: u16,
-    number: u64,
-    entry: Entry,
-) -> Result<(), AllocError> {
+pub fn add_line(out: &mut String, element: u16, number: u64, entry: Entry) -> Result<(), AllocError>
+    ensures { OnOk result (string_bytes out.new ≡ string_bytes out.old ++ decimal element ++ codes "." ++ decimal number ++ codes " " ++ entry_text entry ++ line_feed) }
+{
     write!(out, "{element}.{number} ")?;
     add_entry(out, entry)?;
     out.push_str("\n")
 }
 
 /// Adds the line `K.N now REPLY` of a request that had to wait.
-pub fn add_now(
-    out: &mut String,
-    element: u16,
-    number: u64,
-    entry: Entry,
-) -> Result<(), AllocError> {
+pub fn add_now(out: &mut String, element: u16, number: u64, entry: Entry) -> Result<(), AllocError>
+    ensures { OnOk result (string_bytes out.new ≡ string_bytes out.old ++ decimal element ++ codes "." ++ decimal number ++ codes " now " ++ entry_text entry ++ line_feed) }
+{
     write!(out, "{element}.{number} now ")?;
     add_entry(out, entry)?;
     out.push_str("\n")

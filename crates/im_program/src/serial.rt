@@ -1,11 +1,12 @@
 //! A script's requests, served one after another.
-ghost use Rattle.std.specs.Prelude.{◌≡◌, ◌⊎◌, ◌≤◌, OnOk, OnErr};
+ghost use Rattle.std.specs.Prelude.{◌≡◌, ◌⊎◌, ◌≤◌, OnOk, OnErr, string_bytes};
 ghost use Rattle.im_disk.specs.Since.{LeavesNow};
 ghost use Rattle.im_engine.specs.State.{MeansState};
 ghost use Rattle.im_program.specs.Serving.{Closed, NotOpened, OnlyPuts, Served};
 
 use crate::replies::{add_line, add_now, add_refusal};
 use crate::script::Script;
+use im_checkpoint::TurnDone;
 use im_disk::Disk;
 use im_engine::Engine;
 use im_types::{Command, Entry, Op, Outcome, Refusal, Reply, Request, WINDOW};
@@ -18,6 +19,9 @@ struct Waited {
     number: u64,
     entry: Entry,
 }
+
+// More turns than a checkpoint and a sweep take: an area has at most 532 pages.
+const MOST_TURNS: u32 = 1_024;
 
 /// An engine that serves a script.
 #[derive(Drop)]
@@ -59,6 +63,28 @@ impl<D: Disk> Server<D> {
         self.engine.serve(command)
     }
 
+    /// Takes turns of a checkpoint while there is no room for a command, and something is left to do.
+    fn make_room(&mut self) -> Result<(), Refusal>
+        ensures puts { OnlyPuts D.now D.past D.honest self.old.engine self.new.engine }
+    {
+        for _turn in 0..MOST_TURNS {
+            if self.engine.room() > 0 {
+                return Ok(());
+            }
+            if let TurnDone::Idle = self.take_turn()? {
+                return Ok(());
+            }
+        }
+        Ok(())
+    }
+
+    /// Takes one turn of a checkpoint.
+    fn take_turn(&mut self) -> Result<TurnDone, Refusal>
+        ensures puts { OnlyPuts D.now D.past D.honest self.old.engine self.new.engine }
+    {
+        self.engine.turn()
+    }
+
     /// Confirms the entries of a full window up to the first that still waits.
     fn make_place(&mut self, element: u16) -> Result<(), Refusal>
         ensures puts { OnlyPuts D.now D.past D.honest self.old.engine self.new.engine }
@@ -69,6 +95,7 @@ impl<D: Disk> Server<D> {
         }
         let upto = self.first_waiting(element, base, next);
         self.learn();
+        self.make_room()?;
         self.serve_one(&Command::Confirm { element, upto })?;
         Ok(())
     }
@@ -79,6 +106,7 @@ impl<D: Disk> Server<D> {
     {
         self.make_place(element)?;
         let (_, number) = self.engine.window(element)?;
+        self.make_room()?;
         self.serve_one(&Command::Request(Request {
             element,
             number,
@@ -158,6 +186,7 @@ impl<D: Disk> Server<D> {
 pub fn end(done: Result<(), Refusal>, out: &mut String) -> u8
     ensures done { OnOk done (result ≡ 0) }
     ensures refused { OnErr done (result ≡ 1) }
+    ensures same { OnOk done (string_bytes out.new ≡ string_bytes out.old) }
 {
     match done {
         Ok(()) => 0,
@@ -172,6 +201,7 @@ pub fn end(done: Result<(), Refusal>, out: &mut String) -> u8
 /// `K.N REPLY` for each request, in order, K being its element and N its number, then `K.N now REPLY` for each that had
 /// to wait, with its entry as last kept, and at last `refused N NAME` where something was refused. That ends the script.
 /// Before a request of an element whose window is full, its entries before the first that still waits are confirmed.
+/// Before each request and each confirmation turns of a checkpoint are taken while there is no room for a command.
 ///
 /// The status is 0, or 1 where something was refused: the image, at opening; a request; `BadScript` where a block of the
 /// setup can't be made; `NoMemory` where `alloc`, or `out`, refused the room for what is kept of the script.

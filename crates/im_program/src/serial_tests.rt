@@ -6,11 +6,11 @@ use std::alloc::Global;
 use std::test::Fail;
 
 // A new image with this many slots, 4,096 cells and 16 elements, and its length.
-const USUAL: (u32, usize) = (256, 327_680);
+pub(crate) const USUAL: (u32, usize) = (256, 327_680);
 
 const LEAST: (u32, usize) = (16, 312_320);
 
-fn image(alloc: Global, size: (u32, usize)) -> Result<MemDisk, Fail> {
+pub(crate) fn image(alloc: Global, size: (u32, usize)) -> Result<MemDisk, Fail> {
     let limits = Limits::new(4_096, 16, size.0).ok_or("limits")?;
     match Engine::format(alloc, MemDisk::new(alloc, size.1)?, limits) {
         Ok(engine) => Ok(engine.close()),
@@ -19,7 +19,11 @@ fn image(alloc: Global, size: (u32, usize)) -> Result<MemDisk, Fail> {
 }
 
 // Serves a script on a disk: the status, the text, and the disk.
-fn serve(alloc: Global, disk: MemDisk, text: &str) -> Result<(u8, String, MemDisk), Fail> {
+pub(crate) fn serve(
+    alloc: Global,
+    disk: MemDisk,
+    text: &str,
+) -> Result<(u8, String, MemDisk), Fail> {
     let script = read_script(alloc, text.as_bytes())?;
     let mut out = String::new(alloc);
     let (status, disk) = serial_on(alloc, disk, &script, &mut out);
@@ -207,7 +211,7 @@ fn a_disk_without_an_image_is_refused(rt: HostRuntime) -> Result<(), Fail> {
 }
 
 // Work that touches no file, what it prints, and its status.
-const WORKS: [(Work<'static>, &str, u8); 4] = [
+const WORKS: [(Work<'static>, &str, u8); 6] = [
     (
         Work::Demonstration,
         "0.1 base 0\n1.1 waiting\n2.1 stored\n1.1 now value 42\n",
@@ -241,6 +245,23 @@ const WORKS: [(Work<'static>, &str, u8); 4] = [
         "refused 18 BadScript\n",
         1,
     ),
+    (
+        Work::Format {
+            image: "no_such_folder/a.img",
+            cells: 1,
+            elements: 1,
+            slots: 16,
+        },
+        "refused 8 Device\n",
+        1,
+    ),
+    (
+        Work::Inspect {
+            image: "no_such_folder/a.img",
+        },
+        "refused 8 Device\n",
+        1,
+    ),
 ];
 
 #[test]
@@ -250,15 +271,6 @@ fn work_is_done_or_refused(rt: HostRuntime) -> Result<(), Fail> {
         assert_eq!(rt; act(&rt, &work, &mut out), ending, "{work:?}");
         assert_eq!(rt; out.as_str(), text, "{work:?}");
     }
-    let nowhere = Work::Format {
-        image: "no_such_folder/a.img",
-        cells: 1,
-        elements: 1,
-        slots: 16,
-    };
-    let mut out = String::new(rt.alloc());
-    assert_eq!(rt; act(&rt, &nowhere, &mut out), 1);
-    assert_eq!(rt; out.as_str(), "refused 8 Device\n");
     Ok(())
 }
 

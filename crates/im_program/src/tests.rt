@@ -376,6 +376,18 @@ fn words_ask_for_their_subcommand(rt: HostRuntime) {
     );
 }
 
+#[test]
+fn words_ask_to_inspect(rt: HostRuntime) {
+    let words = ["imem", "inspect", "a.img"];
+    wants(
+        &rt,
+        rt.alloc(),
+        words.as_slice(),
+        Work::Inspect { image: "a.img" },
+        "inspect",
+    );
+}
+
 fn refuses(
     rt: &impl Abort,
     alloc: Global,
@@ -431,6 +443,14 @@ fn bad_words_are_refused_with_status_2(rt: HostRuntime) -> Result<(), Fail> {
         )?;
     }
     Ok(())
+}
+
+#[test]
+fn inspect_takes_one_path(rt: HostRuntime) -> Result<(), Fail> {
+    let alloc = rt.alloc();
+    refuses(&rt, alloc, ["imem", "inspect"].as_slice(), 2, "IMAGE")?;
+    let help = ["imem", "inspect", "--help"];
+    refuses(&rt, alloc, help.as_slice(), 0, "imem inspect a.img")
 }
 
 #[test]

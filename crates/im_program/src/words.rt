@@ -4,7 +4,7 @@ ghost use Rattle.std.specs.Option.{option_map};
 ghost use Rattle.clap.specs.Words.{app_of, fault_of, found_of, kind_of, rows_of, rule_of, subcommand_rows_of, takes};
 ghost use Rattle.clap.specs.declared.builder.command.Command.TheViews.{out-Command};
 ghost use Rattle.im_program.specs.Grammar.{texts};
-ghost use Rattle.im_program.specs.Words.{asked, format_app, format_task, imem_app, number_in, option_rule, path_in, path_rule, serial_app, serial_task, task_in, task_of};
+ghost use Rattle.im_program.specs.Words.{asked, format_app, format_task, imem_app, inspect_app, inspect_task, number_in, option_rule, path_in, path_rule, serial_app, serial_task, task_in, task_of};
 
 use crate::grammar::read_u32;
 use clap::error::ErrorKind;
@@ -43,6 +43,11 @@ pub enum Work<'a> {
         /// The script's path.
         script: &'a str,
     },
+    /// Tell what an image means.
+    Inspect {
+        /// The image's path.
+        image: &'a str,
+    },
 }
 
 /// Why the words say no work.
@@ -62,6 +67,7 @@ const EXAMPLES: &str =
 Example:
   imem format a.img
   imem serial a.img fetch.script
+  imem inspect a.img
 
 Exit status: 0 done; 1 refused, with 'refused N NAME' as the last line; 2 a bad command line.";
 
@@ -98,6 +104,24 @@ PLACE is an address, NAME or NAME+OFFSET.
 Example: the lines 'setup', 'alloc x i 1', 'element 1', 'fetch x', 'element 2', 'store x 5' in the
 file fetch.script, served on the image a.img
   imem serial a.img fetch.script";
+
+const INSPECT: &str = "Print what an image means, and change nothing";
+
+const INSPECT_EXAMPLES: &str = "The lines, in this order:
+  version V
+  limits CELLS ELEMENTS SLOTS
+  header H generation G area H count C    the header in force
+  journal J room R                        commands behind the header, and room for more
+  block BASE KIND LENGTH                  each block, by its base
+  cell A full V                           each cell that isn't empty, by its address
+  cell A clashed V                        written again while it was full
+  cell A waiting K.N K.N ..               the requests that wait, in their order
+  element K base B kept N                 each element that has asked something
+  entry K.N OPERATION -> REPLY            what is kept for it, by numbers
+An image that isn't whole is refused: 'refused N NAME' names its first fault.
+
+Example: the image a.img after 'imem format a.img'
+  imem inspect a.img";
 
 /// An option that takes a number.
 fn number_option<'a>(alloc: Global, id: &'a str, help: &'a str) -> Arg<'a>
@@ -161,6 +185,19 @@ fn serial_command<'a>(alloc: Global) -> Result<Command<'a>, AllocError>
     Ok(two)
 }
 
+/// The subcommand `inspect`.
+fn inspect_command<'a>(alloc: Global) -> Result<Command<'a>, AllocError>
+    ensures app { IfOk result (λ c. app_of c ≡ inspect_app) }
+    ensures local { IfOk result (λ c. (out-Command c).has_globals ≡ false) }
+{
+    let empty = Command::new(alloc, "inspect")
+        .about(INSPECT)
+        .after_help(INSPECT_EXAMPLES);
+    let image = path_argument(alloc, "IMAGE", "The image, made by 'imem format'");
+    let one = empty.arg(image)?;
+    Ok(one)
+}
+
 /// The whole command line.
 fn imem_command<'a>(alloc: Global) -> Result<Command<'a>, AllocError>
     ensures app { IfOk result (λ c. app_of c ≡ imem_app) }
@@ -170,9 +207,11 @@ fn imem_command<'a>(alloc: Global) -> Result<Command<'a>, AllocError>
         .after_help(EXAMPLES);
     let format = format_command(alloc)?;
     let serial = serial_command(alloc)?;
+    let inspect = inspect_command(alloc)?;
     let one = empty.subcommand(format)?;
     let two = one.subcommand(serial)?;
-    Ok(two)
+    let three = two.subcommand(inspect)?;
+    Ok(three)
 }
 
 /// The number of an option, or `fallback` where it is not given. `None` where it is no decimal number of a u32.
@@ -220,6 +259,14 @@ fn serial_work<'a>(found: &ArgMatches<'a>) -> Work<'a>
     Work::Serial { image, script }
 }
 
+/// What `inspect` is asked for.
+fn inspect_work<'a>(found: &ArgMatches<'a>) -> Work<'a>
+    ensures { task_of result ≡ inspect_task (rows_of (found_of found.now)) }
+{
+    let image = path_of(found, "IMAGE");
+    Work::Inspect { image }
+}
+
 /// What the words ask for. `None` where a number is no decimal number of a u32.
 fn work_of<'a>(matches: &ArgMatches<'a>) -> Option<Work<'a>>
     ensures { option_map task_of result ≡ task_in (subcommand_rows_of matches.now) }
@@ -229,8 +276,10 @@ fn work_of<'a>(matches: &ArgMatches<'a>) -> Option<Work<'a>>
         Some((name, found)) => {
             if name == "format" {
                 format_work(found)
-            } else {
+            } else if name == "serial" {
                 Some(serial_work(found))
+            } else {
+                Some(inspect_work(found))
             }
         }
     }

@@ -2,6 +2,7 @@
 ghost use Rattle.std.specs.Prelude.{◌≡◌, ◌↔◌, ◌≤◌, IsOk, IfOk, IfErr};
 ghost use Rattle.im_types.specs.Sizes.{AreLimits};
 
+use crate::inspecting::inspect_on;
 use crate::script::{Script, read_script};
 use crate::serial::{end, serial_on};
 use crate::words::{DEFAULT_CELLS, DEFAULT_ELEMENTS, DEFAULT_SLOTS, Work};
@@ -75,6 +76,19 @@ fn serve_file<R: Files<File = File> + AllocGlobal>(
     Ok(status)
 }
 
+/// Tells what the image of a file means.
+fn inspect_file<R: Files<File = File> + AllocGlobal>(
+    rt: &R,
+    image: &str,
+    out: &mut String,
+) -> Result<u8, Refusal>
+    ensures status { IfOk result (λ status. status ≤ 1) }
+{
+    let disk = FileDisk::open(rt, image)?;
+    let (status, _) = inspect_on(rt.alloc(), disk, out);
+    Ok(status)
+}
+
 /// An image of the usual limits in memory.
 fn usual_image(alloc: Global) -> Result<MemDisk, Refusal> {
     let limits = limits_of(DEFAULT_CELLS, DEFAULT_ELEMENTS, DEFAULT_SLOTS)?;
@@ -128,7 +142,7 @@ fn format_image<R: Files<File = File> + AllocGlobal>(
 ///
 /// Refused are: `BadLimits` for an image with a number out of its range, and then no file is made; `BadScript` for a
 /// script that can't be read, and then the image isn't opened; `Device` for an image that can't be made or opened;
-/// what [`Engine::format`] and [`serial_on`] refuse.
+/// what [`Engine::format`], [`serial_on`] and [`inspect_on`] refuse.
 pub fn act<R: Files<File = File> + AllocGlobal>(rt: &R, work: &Work, out: &mut String) -> u8
     ensures status { result ≤ 1 }
 {
@@ -141,6 +155,7 @@ pub fn act<R: Files<File = File> + AllocGlobal>(rt: &R, work: &Work, out: &mut S
             slots,
         } => format_image(rt, image, cells, elements, slots),
         Work::Serial { image, script } => serve_file(rt, image, script, out),
+        Work::Inspect { image } => inspect_file(rt, image, out),
     };
     status_of(done, out)
 }

@@ -61,7 +61,7 @@ fn cells_of(alloc: Global, limits: Limits, part: &[u8]) -> Result<Vec<CellRecord
     ensures bad { IsErrOf result Refusal.BadPage → (row : List CellRecordSpec) → AreCells limits.cells (layout.node_count layout_1 (sizes_of limits)) part.now row → ⊥ }
     ensures only { IfErr result (λ e. (e ≡ Refusal.BadPage) ⊎ (e ≡ Refusal.NoMemory)) }
 {
-    read_cells(alloc, limits.cells, node_count(limits), part)
+    read_cells(alloc, limits.cells, node_count(limits) as u32, part)
 }
 
 fn nodes_of(alloc: Global, limits: Limits, part: &[u8]) -> Result<Vec<NodeRecord>, Refusal>
@@ -70,7 +70,7 @@ fn nodes_of(alloc: Global, limits: Limits, part: &[u8]) -> Result<Vec<NodeRecord
     ensures bad { IsErrOf result Refusal.BadPage → (row : List NodeRecordSpec) → AreNodes (layout.node_count layout_1 (sizes_of limits)) part.now row → ⊥ }
     ensures only { IfErr result (λ e. (e ≡ Refusal.BadPage) ⊎ (e ≡ Refusal.NoMemory)) }
 {
-    read_nodes(alloc, node_count(limits), part)
+    read_nodes(alloc, node_count(limits) as u32, part)
 }
 
 fn windows_of(alloc: Global, limits: Limits, part: &[u8]) -> Result<Vec<WindowRecord>, Refusal>

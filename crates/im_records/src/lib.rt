@@ -20,7 +20,10 @@ mod window;
 
 pub use area::{AreaRecords, read_area};
 pub use laws::{areas_spell_one_list_of_records, joined_pages_are_an_area, pages_are_an_area};
-pub use layout::PAGE;
+pub use layout::{
+    CELLS_ON_A_PAGE, NODES_ON_A_PAGE, PAGE, SESSIONS_ON_A_PAGE, area_pages, cell_pages, node_count,
+    node_pages, session_pages,
+};
 pub use page::{put_cell, put_node, put_session};
 pub use read::{read_cell, read_node, read_place};
 pub use session::{read_session, spell_session};

@@ -1,6 +1,5 @@
 //! Tests of the bytes of each kind of record, as the format has them, and of bytes that spell none.
 use super::*;
-use crate::layout::{cell_bytes, node_bytes};
 use crate::put::put;
 use im_types::{
     Block, CellRecord, Entry, Kept, Kind, LAST, Limits, NONE, NodeRecord, Op, PresenceTag, Refusal,
@@ -24,116 +23,141 @@ fn answered(op: Op, reply: Reply) -> Kept {
     kept(op, Entry::Answered(reply))
 }
 
+const CELLS: [(&str, CellRecord, [u8; 32]); 6] = [
+    (
+        "free",
+        CellRecord::Free {
+            hole: 3,
+            next: NONE,
+        },
+        [
+            0, 0, 0, 0, 3, 0, 0, 0, 0xFF, 0xFF, 0xFF, 0xFF, 0xFF, 0xFF, 0xFF, 0xFF, 0xFF, 0xFF,
+            0xFF, 0xFF, 0, 0, 0, 0, 0, 0, 0, 0, 0, 0, 0, 0,
+        ],
+    ),
+    (
+        "free, with a next hole",
+        CellRecord::Free {
+            hole: 0x0403_0201,
+            next: 7,
+        },
+        [
+            0, 0, 0, 0, 1, 2, 3, 4, 7, 0, 0, 0, 0xFF, 0xFF, 0xFF, 0xFF, 0xFF, 0xFF, 0xFF, 0xFF, 0,
+            0, 0, 0, 0, 0, 0, 0, 0, 0, 0, 0,
+        ],
+    ),
+    (
+        "empty I cell",
+        CellRecord::Held {
+            block: Block {
+                base: 2,
+                length: 5,
+                kind: Kind::I,
+            },
+            tag: PresenceTag::Empty,
+        },
+        [
+            1, 1, 0, 0, 2, 0, 0, 0, 5, 0, 0, 0, 0xFF, 0xFF, 0xFF, 0xFF, 0xFF, 0xFF, 0xFF, 0xFF, 0,
+            0, 0, 0, 0, 0, 0, 0, 0, 0, 0, 0,
+        ],
+    ),
+    (
+        "waiting M cell",
+        CellRecord::Held {
+            block: Block {
+                base: 0,
+                length: 1,
+                kind: Kind::M,
+            },
+            tag: PresenceTag::Waiting {
+                first: 9,
+                last: 0x0A0B,
+            },
+        },
+        [
+            2, 2, 0, 0, 0, 0, 0, 0, 1, 0, 0, 0, 9, 0, 0, 0, 0x0B, 0x0A, 0, 0, 0, 0, 0, 0, 0, 0, 0,
+            0, 0, 0, 0, 0,
+        ],
+    ),
+    (
+        "full I cell",
+        CellRecord::Held {
+            block: Block {
+                base: 0,
+                length: 2,
+                kind: Kind::I,
+            },
+            tag: PresenceTag::Full(0x0807_0605_0403_0201),
+        },
+        [
+            3, 1, 0, 0, 0, 0, 0, 0, 2, 0, 0, 0, 0xFF, 0xFF, 0xFF, 0xFF, 0xFF, 0xFF, 0xFF, 0xFF, 0,
+            0, 0, 0, 1, 2, 3, 4, 5, 6, 7, 8,
+        ],
+    ),
+    (
+        "clashed I cell",
+        CellRecord::Held {
+            block: Block {
+                base: 0x0001_0000,
+                length: 1,
+                kind: Kind::I,
+            },
+            tag: PresenceTag::Clashed(42),
+        },
+        [
+            4, 1, 0, 0, 0, 0, 1, 0, 1, 0, 0, 0, 0xFF, 0xFF, 0xFF, 0xFF, 0xFF, 0xFF, 0xFF, 0xFF, 0,
+            0, 0, 0, 42, 0, 0, 0, 0, 0, 0, 0,
+        ],
+    ),
+];
+
 #[test]
 fn cells_have_these_bytes(rt: HostRuntime) -> Result<(), Fail> {
-    let rows = [
-        (
-            "free",
-            CellRecord::Free {
-                hole: 3,
-                next: NONE,
-            },
-            [
-                0, 0, 0, 0, 3, 0, 0, 0, 0xFF, 0xFF, 0xFF, 0xFF, 0xFF, 0xFF, 0xFF, 0xFF, 0xFF, 0xFF,
-                0xFF, 0xFF, 0, 0, 0, 0, 0, 0, 0, 0, 0, 0, 0, 0,
-            ],
-        ),
-        (
-            "free, with a next hole",
-            CellRecord::Free {
-                hole: 0x0403_0201,
-                next: 7,
-            },
-            [
-                0, 0, 0, 0, 1, 2, 3, 4, 7, 0, 0, 0, 0xFF, 0xFF, 0xFF, 0xFF, 0xFF, 0xFF, 0xFF, 0xFF,
-                0, 0, 0, 0, 0, 0, 0, 0, 0, 0, 0, 0,
-            ],
-        ),
-        (
-            "empty I cell",
-            held(2, 5, Kind::I, PresenceTag::Empty),
-            [
-                1, 1, 0, 0, 2, 0, 0, 0, 5, 0, 0, 0, 0xFF, 0xFF, 0xFF, 0xFF, 0xFF, 0xFF, 0xFF, 0xFF,
-                0, 0, 0, 0, 0, 0, 0, 0, 0, 0, 0, 0,
-            ],
-        ),
-        (
-            "waiting M cell",
-            held(
-                0,
-                1,
-                Kind::M,
-                PresenceTag::Waiting {
-                    first: 9,
-                    last: 0x0A0B,
-                },
-            ),
-            [
-                2, 2, 0, 0, 0, 0, 0, 0, 1, 0, 0, 0, 9, 0, 0, 0, 0x0B, 0x0A, 0, 0, 0, 0, 0, 0, 0, 0,
-                0, 0, 0, 0, 0, 0,
-            ],
-        ),
-        (
-            "full I cell",
-            held(0, 2, Kind::I, PresenceTag::Full(0x0807_0605_0403_0201)),
-            [
-                3, 1, 0, 0, 0, 0, 0, 0, 2, 0, 0, 0, 0xFF, 0xFF, 0xFF, 0xFF, 0xFF, 0xFF, 0xFF, 0xFF,
-                0, 0, 0, 0, 1, 2, 3, 4, 5, 6, 7, 8,
-            ],
-        ),
-        (
-            "clashed I cell",
-            held(0x0001_0000, 1, Kind::I, PresenceTag::Clashed(42)),
-            [
-                4, 1, 0, 0, 0, 0, 1, 0, 1, 0, 0, 0, 0xFF, 0xFF, 0xFF, 0xFF, 0xFF, 0xFF, 0xFF, 0xFF,
-                0, 0, 0, 0, 42, 0, 0, 0, 0, 0, 0, 0,
-            ],
-        ),
-    ];
-    for (name, cell, bytes) in rows {
+    for (name, cell, bytes) in CELLS {
         assert_eq!(rt; spell_cell(&cell), bytes, "{name}");
         assert_eq!(rt; read_cell(&bytes), Some(cell), "{name}");
     }
     Ok(())
 }
 
+const NODES: [(&str, NodeRecord, [u8; 16]); 4] = [
+    (
+        "the last free node",
+        NodeRecord::Free { next: NONE },
+        [0xFF, 0xFF, 0xFF, 0xFF, 0, 0, 0, 0, 0, 0, 0, 0, 0, 0, 0, 0],
+    ),
+    (
+        "a free node",
+        NodeRecord::Free { next: 0x0102 },
+        [2, 1, 0, 0, 0, 0, 0, 0, 0, 0, 0, 0, 0, 0, 0, 0],
+    ),
+    (
+        "the last node of a list",
+        NodeRecord::Listed {
+            next: NONE,
+            waiter: Waiter {
+                element: 1,
+                number: 3,
+            },
+        },
+        [0xFF, 0xFF, 0xFF, 0xFF, 1, 0, 1, 0, 3, 0, 0, 0, 0, 0, 0, 0],
+    ),
+    (
+        "a node of a list",
+        NodeRecord::Listed {
+            next: 5,
+            waiter: Waiter {
+                element: 0x0203,
+                number: LAST,
+            },
+        },
+        [5, 0, 0, 0, 3, 2, 1, 0, 0, 0, 0, 0, 0, 0, 0, 0x40],
+    ),
+];
+
 #[test]
 fn nodes_have_these_bytes(rt: HostRuntime) -> Result<(), Fail> {
-    let rows = [
-        (
-            "the last free node",
-            NodeRecord::Free { next: NONE },
-            [0xFF, 0xFF, 0xFF, 0xFF, 0, 0, 0, 0, 0, 0, 0, 0, 0, 0, 0, 0],
-        ),
-        (
-            "a free node",
-            NodeRecord::Free { next: 0x0102 },
-            [2, 1, 0, 0, 0, 0, 0, 0, 0, 0, 0, 0, 0, 0, 0, 0],
-        ),
-        (
-            "the last node of a list",
-            NodeRecord::Listed {
-                next: NONE,
-                waiter: Waiter {
-                    element: 1,
-                    number: 3,
-                },
-            },
-            [0xFF, 0xFF, 0xFF, 0xFF, 1, 0, 1, 0, 3, 0, 0, 0, 0, 0, 0, 0],
-        ),
-        (
-            "a node of a list",
-            NodeRecord::Listed {
-                next: 5,
-                waiter: Waiter {
-                    element: 0x0203,
-                    number: LAST,
-                },
-            },
-            [5, 0, 0, 0, 3, 2, 1, 0, 0, 0, 0, 0, 0, 0, 0, 0x40],
-        ),
-    ];
-    for (name, node, bytes) in rows {
+    for (name, node, bytes) in NODES {
         assert_eq!(rt; spell_node(&node), bytes, "{name}");
         assert_eq!(rt; read_node(&bytes), Some(node), "{name}");
     }
@@ -151,53 +175,67 @@ fn place(code: u8, reply: u8, address: u8, value: u8, number: u8) -> [u8; 32] {
     bytes
 }
 
+// An operation and what came of it, and the numbers of its place.
+const PLACES: [(Op, Entry, [u8; 5]); 12] = [
+    (
+        Op::Alloc(Kind::I, 9),
+        Entry::Answered(Reply::Base(4)),
+        [1, 1, 9, 0, 4],
+    ),
+    (
+        Op::Alloc(Kind::M, 9),
+        Entry::Answered(Reply::NoSpace),
+        [2, 2, 9, 0, 0],
+    ),
+    (
+        Op::Alloc(Kind::I, 0),
+        Entry::Answered(Reply::BadLength),
+        [1, 3, 0, 0, 0],
+    ),
+    (
+        Op::Release(7),
+        Entry::Answered(Reply::Released),
+        [3, 9, 7, 0, 0],
+    ),
+    (
+        Op::Release(7),
+        Entry::Answered(Reply::NoBlock),
+        [3, 10, 7, 0, 0],
+    ),
+    (
+        Op::Release(7),
+        Entry::Answered(Reply::StillWaiting),
+        [3, 11, 7, 0, 0],
+    ),
+    (
+        Op::Fetch(5),
+        Entry::Answered(Reply::Value(42)),
+        [4, 4, 5, 0, 42],
+    ),
+    (
+        Op::Store(5, 42),
+        Entry::Answered(Reply::Stored),
+        [5, 5, 5, 42, 0],
+    ),
+    (
+        Op::Store(5, 42),
+        Entry::Answered(Reply::Clash),
+        [5, 6, 5, 42, 0],
+    ),
+    (Op::Take(6), Entry::Answered(Reply::NoCell), [6, 7, 6, 0, 0]),
+    (
+        Op::Put(6, 3),
+        Entry::Answered(Reply::WrongKind),
+        [7, 8, 6, 3, 0],
+    ),
+    (Op::Fetch(5), Entry::Waiting, [4, 0, 5, 0, 0]),
+];
+
 #[test]
 fn places_have_these_bytes(rt: HostRuntime) -> Result<(), Fail> {
-    let rows = [
-        (
-            answered(Op::Alloc(Kind::I, 9), Reply::Base(4)),
-            place(1, 1, 9, 0, 4),
-        ),
-        (
-            answered(Op::Alloc(Kind::M, 9), Reply::NoSpace),
-            place(2, 2, 9, 0, 0),
-        ),
-        (
-            answered(Op::Alloc(Kind::I, 0), Reply::BadLength),
-            place(1, 3, 0, 0, 0),
-        ),
-        (
-            answered(Op::Release(7), Reply::Released),
-            place(3, 9, 7, 0, 0),
-        ),
-        (
-            answered(Op::Release(7), Reply::NoBlock),
-            place(3, 10, 7, 0, 0),
-        ),
-        (
-            answered(Op::Release(7), Reply::StillWaiting),
-            place(3, 11, 7, 0, 0),
-        ),
-        (kept(Op::Fetch(5), Entry::Waiting), place(4, 0, 5, 0, 0)),
-        (
-            answered(Op::Fetch(5), Reply::Value(42)),
-            place(4, 4, 5, 0, 42),
-        ),
-        (
-            answered(Op::Store(5, 42), Reply::Stored),
-            place(5, 5, 5, 42, 0),
-        ),
-        (
-            answered(Op::Store(5, 42), Reply::Clash),
-            place(5, 6, 5, 42, 0),
-        ),
-        (answered(Op::Take(6), Reply::NoCell), place(6, 7, 6, 0, 0)),
-        (
-            answered(Op::Put(6, 3), Reply::WrongKind),
-            place(7, 8, 6, 3, 0),
-        ),
-    ];
-    for (entry, bytes) in rows {
+    for (op, entry, [code, reply, address, value, number]) in PLACES {
+        let entry = kept(op, entry);
+        let bytes = place(code, reply, address, value, number);
         assert_eq!(rt; spell_place(Some(entry)), bytes, "{entry:?}");
         assert_eq!(rt; read_place(&bytes), Some(Some(entry)), "{entry:?}");
     }
@@ -229,103 +267,106 @@ fn lay(bytes: &mut [u8], at: usize, part: &[u8]) {
     }
 }
 
+const FREE: CellRecord = CellRecord::Free { hole: 1, next: 0 };
+
+const PAIR: Block = Block {
+    base: 0,
+    length: 2,
+    kind: Kind::I,
+};
+
+const EMPTY: CellRecord = CellRecord::Held {
+    block: PAIR,
+    tag: PresenceTag::Empty,
+};
+
+const FULL: CellRecord = CellRecord::Held {
+    block: PAIR,
+    tag: PresenceTag::Full(42),
+};
+
+// A cell, its bytes from one up to another, and what each of them is set to.
+const BAD_CELLS: [(&str, CellRecord, usize, usize, u8); 10] = [
+    ("a byte that has to be zero", FULL, 2, 4, 1),
+    ("a byte that has to be zero", FULL, 20, 24, 1),
+    ("a full cell links nowhere", FULL, 12, 20, 0),
+    ("tag 0", FULL, 0, 1, 0),
+    ("tag 5", FULL, 0, 1, 5),
+    ("kind 0", FULL, 1, 2, 0),
+    ("kind 3", FULL, 1, 2, 3),
+    ("a value of an empty cell", EMPTY, 24, 32, 1),
+    ("a byte of a free cell", FREE, 12, 32, 1),
+    ("a free cell with a tag", FREE, 0, 1, 1),
+];
+
 #[test]
 fn ill_spelled_cells_are_refused(rt: HostRuntime) -> Result<(), Fail> {
-    let full = spell_cell(&held(0, 2, Kind::I, PresenceTag::Full(42)));
-    for at in [2, 3, 20, 21, 22, 23] {
-        assert_eq!(rt;
-            read_cell(&with_byte(full, at, 1)),
-            None,
-            "byte {at} has to be zero"
-        );
+    for (name, cell, from, to, byte) in BAD_CELLS {
+        for at in from..to {
+            let bytes = with_byte(spell_cell(&cell), at, byte);
+            assert_eq!(rt; read_cell(&bytes), None, "{name}, {at}");
+        }
     }
-    for at in 12..20 {
-        assert_eq!(rt;
-            read_cell(&with_byte(full, at, 0)),
-            None,
-            "byte {at} of a full cell links nowhere"
-        );
-    }
-    for tag in [0, 5] {
-        assert_eq!(rt; read_cell(&with_byte(full, 0, tag)), None, "tag {tag}");
-    }
-    for kind in [0, 3] {
-        assert_eq!(rt; read_cell(&with_byte(full, 1, kind)), None, "kind {kind}");
-    }
-    let empty = spell_cell(&held(0, 2, Kind::I, PresenceTag::Empty));
-    for at in 24..32 {
-        assert_eq!(rt;
-            read_cell(&with_byte(empty, at, 1)),
-            None,
-            "byte {at} of an empty cell has to be zero"
-        );
-    }
-    let free = spell_cell(&CellRecord::Free { hole: 1, next: 0 });
-    for at in 12..32 {
-        assert_eq!(rt;
-            read_cell(&with_byte(free, at, 1)),
-            None,
-            "byte {at} of a free cell"
-        );
-    }
-    assert_eq!(rt;
-        read_cell(&with_byte(free, 0, 1)),
-        None,
-        "a free cell with a tag"
-    );
-    assert_eq!(rt; read_cell(but_last(&full)), None, "a byte too few");
-    assert_eq!(rt; read_cell(&[0; 33]), None, "a byte too many");
+    assert_eq!(rt; read_cell(but_last(&spell_cell(&FULL))), None, "31 bytes");
+    assert_eq!(rt; read_cell(&[0; 33]), None, "33 bytes");
     Ok(())
 }
 
-#[test]
-fn ill_spelled_nodes_are_refused(rt: HostRuntime) -> Result<(), Fail> {
-    let free = spell_node(&NodeRecord::Free { next: 3 });
-    for at in 4..16 {
-        assert_eq!(rt;
-            read_node(&with_byte(free, at, 2)),
-            None,
-            "byte {at} of a free node"
-        );
-    }
-    let waiter = Waiter {
+const FREE_NODE: NodeRecord = NodeRecord::Free { next: 3 };
+
+const LISTED: NodeRecord = NodeRecord::Listed {
+    next: 3,
+    waiter: Waiter {
         element: 1,
         number: 1,
-    };
-    let listed = spell_node(&NodeRecord::Listed { next: 3, waiter });
-    assert_eq!(rt; read_node(&with_byte(listed, 6, 2)), None, "a mark of 2");
-    assert_eq!(rt; read_node(&with_byte(listed, 7, 1)), None, "a mark of 257");
-    assert_eq!(rt;
-        read_node(&with_byte(listed, 6, 0)),
-        None,
-        "a free node with a waiter"
-    );
+    },
+};
+
+// The same of a waiter node.
+const BAD_NODES: [(&str, NodeRecord, usize, usize, u8); 4] = [
+    ("a byte of a free node", FREE_NODE, 4, 16, 2),
+    ("a mark of 2", LISTED, 6, 7, 2),
+    ("a mark of 257", LISTED, 7, 8, 1),
+    ("a free node with a waiter", LISTED, 6, 7, 0),
+];
+
+#[test]
+fn ill_spelled_nodes_are_refused(rt: HostRuntime) -> Result<(), Fail> {
+    for (name, node, from, to, byte) in BAD_NODES {
+        for at in from..to {
+            let bytes = with_byte(spell_node(&node), at, byte);
+            assert_eq!(rt; read_node(&bytes), None, "{name}, {at}");
+        }
+    }
     assert_eq!(rt; read_node(&[0; 15]), None, "a byte too few");
     Ok(())
 }
 
+// What is wrong with a place of a fetch that waits: a byte, and what it is set to.
+const FETCH_BYTES: [(usize, u8); 13] = [
+    (1, 1), // bytes that have to be zero
+    (3, 1),
+    (8, 1),
+    (15, 1),
+    (16, 1),
+    (23, 1),
+    (24, 1),
+    (31, 1),
+    (0, 0), // no operation code
+    (0, 8),
+    (0, 0xFF),
+    (2, 12), // no reply code
+    (2, 0xFF),
+];
+
 #[test]
 fn ill_spelled_places_are_refused(rt: HostRuntime) -> Result<(), Fail> {
     let fetch = place(4, 0, 5, 0, 0);
-    for at in [1, 3, 8, 15, 16, 23, 24, 31] {
+    for (at, byte) in FETCH_BYTES {
         assert_eq!(rt;
-            read_place(&with_byte(fetch, at, 1)),
+            read_place(&with_byte(fetch, at, byte)),
             None,
-            "byte {at} of a waiting fetch has to be zero"
-        );
-    }
-    for code in [0, 8, 0xFF] {
-        assert_eq!(rt;
-            read_place(&with_byte(fetch, 0, code)),
-            None,
-            "operation code {code}"
-        );
-    }
-    for reply in [12, 0xFF] {
-        assert_eq!(rt;
-            read_place(&with_byte(fetch, 2, reply)),
-            None,
-            "reply code {reply}"
+            "{byte} in byte {at}"
         );
     }
     let base = place(1, 1, 9, 0, 4);
@@ -410,26 +451,28 @@ fn a_full_window_is_read_back(rt: HostRuntime) -> Result<(), Fail> {
     Ok(())
 }
 
+// What is wrong with a session record: a byte, and what it is set to.
+const SESSION_BYTES: [(&str, usize, u8); 14] = [
+    ("base 0", 0, 0),
+    ("a base past the last number", 7, 0x40),
+    ("the base of another place", 0, 16),
+    ("an entry too many", 8, 4),
+    ("an entry too few", 8, 2),
+    ("more entries than places", 8, 17),
+    ("a byte behind the count", 9, 1),
+    ("the last byte of the head", 31, 1),
+    ("an entry that is none", 32, 0),
+    ("an ill-spelled entry", 33, 1),
+    ("a byte of a place with no entry", 96, 1),
+    ("the last byte of the places", 543, 1),
+    ("the first byte behind the places", 544, 1),
+    ("the last byte", 1_023, 1),
+];
+
 #[test]
 fn ill_spelled_sessions_are_refused(rt: HostRuntime) -> Result<(), Fail> {
-    let rows = [
-        ("base 0", 0, 0),
-        ("a base past the last number", 7, 0x40),
-        ("the base of another place", 0, 16),
-        ("an entry too many", 8, 4),
-        ("an entry too few", 8, 2),
-        ("more entries than places", 8, 17),
-        ("a byte behind the count", 9, 1),
-        ("the last byte of the head", 31, 1),
-        ("an entry that is none", 32, 0),
-        ("an ill-spelled entry", 33, 1),
-        ("a byte of a place with no entry", 96, 1),
-        ("the last byte of the places", 543, 1),
-        ("the first byte behind the places", 544, 1),
-        ("the last byte", 1_023, 1),
-    ];
     let bytes = wrapped_bytes();
-    for (name, at, byte) in rows {
+    for (name, at, byte) in SESSION_BYTES {
         assert!(rt;
             read_session(&with_byte(bytes, at, byte)).is_none(),
             "{name}"
@@ -437,6 +480,11 @@ fn ill_spelled_sessions_are_refused(rt: HostRuntime) -> Result<(), Fail> {
     }
     assert!(rt; read_session(but_last(&bytes)).is_none(), "a byte too few");
     assert!(rt; read_session(&[0; 1024]).is_none(), "nothing but zeros");
+    Ok(())
+}
+
+#[test]
+fn sessions_past_the_last_number_are_refused(rt: HostRuntime) -> Result<(), Fail> {
     let past = spell_session(&WindowRecord::new(LAST + 2));
     assert!(rt;
         read_session(&past).is_none(),
@@ -476,8 +524,7 @@ fn least_area() -> [u8; 12_288] {
 }
 
 fn read(alloc: Global, limits: Limits, area: &[u8]) -> Result<AreaRecords, Refusal> {
-    let sessions = PAGE * ((limits.elements as usize + 3) / 4);
-    if area.len() != cell_bytes(limits) + node_bytes(limits) + sessions {
+    if area.len() != PAGE * area_pages(limits) {
         return Err(Refusal::WrongLength);
     }
     read_area(alloc, area, limits)
@@ -486,22 +533,16 @@ fn read(alloc: Global, limits: Limits, area: &[u8]) -> Result<AreaRecords, Refus
 #[test]
 fn the_least_area_is_read(rt: HostRuntime) -> Result<(), Fail> {
     let records = read(rt.alloc(), least()?, &least_area())?;
-    assert_eq!(rt;
-        records.cells(),
-        &[CellRecord::Free {
-            hole: 1,
-            next: NONE
-        }][..]
-    );
+    let free = CellRecord::Free {
+        hole: 1,
+        next: NONE,
+    };
+    assert_eq!(rt; records.cells(), &[free][..]);
     assert_eq!(rt; records.nodes().len(), 16);
-    assert_eq!(rt;
-        records.nodes().get(3).copied(),
-        Some(NodeRecord::Free { next: 4 })
-    );
-    assert_eq!(rt;
-        records.nodes().get(15).copied(),
-        Some(NodeRecord::Free { next: NONE })
-    );
+    for (i, next) in [(3usize, 4), (15, NONE)] {
+        let node = NodeRecord::Free { next };
+        assert_eq!(rt; records.nodes().get(i).copied(), Some(node));
+    }
     assert_eq!(rt; records.windows().len(), 1);
     if let Some(window) = records.windows().get(0) {
         assert_eq!(rt; window.base(), 1);

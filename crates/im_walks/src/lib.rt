@@ -1,4 +1,5 @@
-//! Random commands, and what two memories have in common after each: tests that hold the memory against the plain one.
+//! Random commands, and what two memories have in common after each: tests that hold the memory, and an engine that is
+//! stopped again and again, against the plain one.
 #![tactic(auto)]
 
 ghost use Rattle.std.specs.Prelude.{◌<◌};

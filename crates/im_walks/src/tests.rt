@@ -5,6 +5,9 @@ use im_types::Limits;
 use std::process::Abort;
 use std::test::Fail;
 
+mod crashes;
+mod torn;
+
 const CELLS: u32 = 24;
 
 const ELEMENTS: u16 = 4;

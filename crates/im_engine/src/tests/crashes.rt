@@ -95,7 +95,7 @@ fn no_crash_takes_away_what_an_opening_found(rt: HostRuntime) -> Result<(), Fail
 }
 
 // What is kept for a command of the script, by its place from 0, once so many of them have acted.
-fn kept_later() -> [(usize, u64, Answer); 9] {
+fn kept_later() -> [(usize, u64, Said); 9] {
     [
         (1, 5, told(Reply::Value(7))),
         (2, 5, told(Reply::Value(7))),
@@ -110,7 +110,7 @@ fn kept_later() -> [(usize, u64, Answer); 9] {
 }
 
 // What a command of the script is answered once so many of them have acted: as at first, or by what was kept since.
-fn answer_after(place: usize, first: Answer, count: u64) -> Answer {
+fn answer_after(place: usize, first: Said, count: u64) -> Said {
     let mut answer = first;
     for (of, from, later) in kept_later() {
         if of == place && from <= count {
@@ -278,9 +278,13 @@ fn a_run_goes_on_after_a_refusal_and_after_a_fault(rt: HostRuntime) -> Result<()
     ];
     // The format, two commands, and the write of the third one's body.
     let mut engine = formatted(rt.alloc(), SMALL, 4 + 8 + 1)?;
-    let answers = engine.run(rt.alloc(), &rows.map(|(command, _)| command))?;
+    let answers = engine.run(
+        rt.alloc(),
+        &rows.map(|(command, _)| Event::Command(command)),
+    )?;
     for (i, (command, answer)) in rows.into_iter().enumerate() {
-        assert_eq!(rt; answers.get(i), Some(&answer), "{command:?}");
+        let expected = Answer::Served(answer);
+        assert_eq!(rt; answers.get(i), Some(&expected), "{command:?}");
     }
     assert_eq!(rt; answers.len(), 8);
     assert_eq!(rt; (engine.count(), engine.room()), (2, 30));

@@ -1,4 +1,6 @@
 use super::*;
+use im_image::{PAGE, area_pages, encode};
+use std::process::Abort;
 
 // The least image: header places of 4,096 bytes, two areas of three pages, and a journal of 16 slots.
 const AREA: usize = 8_192;
@@ -41,174 +43,119 @@ fn told_of(alloc: Global, disk: MemDisk) -> (u8, u64, u32) {
     }
 }
 
-#[derive(Clone, Copy)]
-struct Damage<'a> {
-    name: &'a str,
-    bytes: &'a [(usize, u8)],
-    expected: (u8, u64, u32),
+// What is changed on the least image, and what is told of it then.
+type Damage = (&'static str, &'static [(usize, u8)], (u8, u64, u32));
+
+const FRESH: (u8, u64, u32) = (0, 0, 16);
+
+const FIFTH: usize = JOURNAL + 5 * 64;
+
+const SEVENTH: usize = JOURNAL + 7 * 64;
+
+const ENTRIES: usize = AREA + 2 * 4_096 + 8;
+
+// Headers that are refused.
+const BAD_HEADERS: [Damage; 10] = [
+    ("no open header", &[(0, 0)], (13, 0, 0)),
+    ("the other header's area", &[(1, 1)], (14, 0, 0)),
+    ("generation 0", &[(8, 0)], (14, 0, 0)),
+    ("past the last generation", &[(15, 0x40)], (14, 0, 0)),
+    ("no cells", &[(24, 0)], (14, 0, 0)),
+    ("15 slots", &[(32, 15)], (14, 0, 0)),
+    ("behind the slots", &[(36, 1)], (14, 0, 0)),
+    ("version 9", &[(2, 9)], (14, 0, 0)),
+    (
+        "one generation twice",
+        &[(4_096, 0xA5), (4_104, 1)],
+        (14, 0, 0),
+    ),
+    ("a later header", &[(4_096, 0xA5), (4_104, 2)], (14, 0, 0)),
+];
+
+// Headers that are not.
+const GOOD_HEADERS: [Damage; 6] = [
+    ("none", &[], FRESH),
+    ("generation 2", &[(8, 2)], FRESH),
+    ("behind the header", &[(64, 1)], FRESH),
+    ("five commands", &[(16, 5)], (0, 5, 16)),
+    ("the last count", &[(23, 0x40)], (0, LAST, 0)),
+    ("the other gate", &[(4_096, 0xA5)], FRESH),
+];
+
+// Sizes that are not those of the file, and areas.
+const AREAS: [Damage; 8] = [
+    ("129 cells", &[(24, 129)], (12, 0, 0)),
+    ("17 slots", &[(32, 17)], (12, 0, 0)),
+    ("two cells", &[(24, 2)], (15, 0, 0)),
+    ("two elements", &[(28, 2)], (15, 0, 0)),
+    (
+        "a hole that leads to itself",
+        &[(AREA + 8, 0), (AREA + 9, 0), (AREA + 10, 0), (AREA + 11, 0)],
+        FRESH,
+    ),
+    (
+        "a block past the last cell",
+        &[
+            (AREA, 1),
+            (AREA + 1, 1),
+            (AREA + 4, 0),
+            (AREA + 8, 2),
+            (AREA + 9, 0),
+            (AREA + 10, 0),
+            (AREA + 11, 0),
+        ],
+        (15, 0, 0),
+    ),
+    ("17 entries", &[(ENTRIES, 17)], (15, 0, 0)),
+    ("the other area", &[(OTHER_AREA, 1)], FRESH),
+];
+
+// The journal.
+const RUNS: [Damage; 3] = [
+    (
+        "a slot before its time",
+        &[(FIFTH, 0xA5), (FIFTH + 8, 5)],
+        (16, 0, 0),
+    ),
+    (
+        "a stale slot at once",
+        &[(FIFTH, 0xA5), (FIFTH + 8, 5), (16, 21)],
+        (0, 21, 0),
+    ),
+    (
+        "a slot behind it isn't stale",
+        &[(FIFTH, 0xA5), (FIFTH + 8, 5), (16, 21), (SEVENTH + 8, 200)],
+        (16, 0, 0),
+    ),
+];
+
+// Opens the least image with each damage.
+fn are_told(rt: &impl Abort, alloc: Global, rows: &[Damage]) -> Result<(), Fail> {
+    for (name, bytes, expected) in rows {
+        let disk = damaged(alloc, bytes)?;
+        assert_eq!(rt; told_of(alloc, disk), *expected, "{name}");
+    }
+    Ok(())
 }
 
 #[test]
-fn each_damage_is_told_by_its_first_fault(rt: HostRuntime) -> Result<(), Fail> {
-    let fresh = (0, 0, 16);
-    let fifth = JOURNAL + 5 * 64;
-    let seventh = JOURNAL + 7 * 64;
-    let cell = AREA;
-    let entries = AREA + 2 * 4_096 + 8;
-    let rows = [
-        Damage {
-            name: "none",
-            bytes: &[],
-            expected: fresh,
-        },
-        Damage {
-            name: "no open header",
-            bytes: &[(0, 0)],
-            expected: (13, 0, 0),
-        },
-        Damage {
-            name: "the other header's area",
-            bytes: &[(1, 1)],
-            expected: (14, 0, 0),
-        },
-        Damage {
-            name: "generation 0",
-            bytes: &[(8, 0)],
-            expected: (14, 0, 0),
-        },
-        Damage {
-            name: "past the last generation",
-            bytes: &[(15, 0x40)],
-            expected: (14, 0, 0),
-        },
-        Damage {
-            name: "no cells",
-            bytes: &[(24, 0)],
-            expected: (14, 0, 0),
-        },
-        Damage {
-            name: "15 slots",
-            bytes: &[(32, 15)],
-            expected: (14, 0, 0),
-        },
-        Damage {
-            name: "behind the slots",
-            bytes: &[(36, 1)],
-            expected: (14, 0, 0),
-        },
-        Damage {
-            name: "version 9",
-            bytes: &[(2, 9)],
-            expected: (14, 0, 0),
-        },
-        Damage {
-            name: "generation 2",
-            bytes: &[(8, 2)],
-            expected: fresh,
-        },
-        Damage {
-            name: "behind the header",
-            bytes: &[(64, 1)],
-            expected: fresh,
-        },
-        Damage {
-            name: "five commands",
-            bytes: &[(16, 5)],
-            expected: (0, 5, 16),
-        },
-        Damage {
-            name: "the last count",
-            bytes: &[(23, 0x40)],
-            expected: (0, LAST, 0),
-        },
-        Damage {
-            name: "129 cells",
-            bytes: &[(24, 129)],
-            expected: (12, 0, 0),
-        },
-        Damage {
-            name: "17 slots",
-            bytes: &[(32, 17)],
-            expected: (12, 0, 0),
-        },
-        Damage {
-            name: "two cells",
-            bytes: &[(24, 2)],
-            expected: (15, 0, 0),
-        },
-        Damage {
-            name: "two elements",
-            bytes: &[(28, 2)],
-            expected: (15, 0, 0),
-        },
-        Damage {
-            name: "a hole that leads to itself",
-            bytes: &[(cell + 8, 0), (cell + 9, 0), (cell + 10, 0), (cell + 11, 0)],
-            expected: fresh,
-        },
-        Damage {
-            name: "a block past the last cell",
-            bytes: &[
-                (cell, 1),
-                (cell + 1, 1),
-                (cell + 4, 0),
-                (cell + 8, 2),
-                (cell + 9, 0),
-                (cell + 10, 0),
-                (cell + 11, 0),
-            ],
-            expected: (15, 0, 0),
-        },
-        Damage {
-            name: "17 entries",
-            bytes: &[(entries, 17)],
-            expected: (15, 0, 0),
-        },
-        Damage {
-            name: "the other area",
-            bytes: &[(OTHER_AREA, 1)],
-            expected: fresh,
-        },
-        Damage {
-            name: "the other gate",
-            bytes: &[(4_096, 0xA5)],
-            expected: fresh,
-        },
-        Damage {
-            name: "one generation twice",
-            bytes: &[(4_096, 0xA5), (4_104, 1)],
-            expected: (14, 0, 0),
-        },
-        Damage {
-            name: "a later header",
-            bytes: &[(4_096, 0xA5), (4_104, 2)],
-            expected: (14, 0, 0),
-        },
-        Damage {
-            name: "a slot before its time",
-            bytes: &[(fifth, 0xA5), (fifth + 8, 5)],
-            expected: (16, 0, 0),
-        },
-        Damage {
-            name: "a stale slot at once",
-            bytes: &[(fifth, 0xA5), (fifth + 8, 5), (16, 21)],
-            expected: (0, 21, 0),
-        },
-        Damage {
-            name: "a slot behind it isn't stale",
-            bytes: &[(fifth, 0xA5), (fifth + 8, 5), (16, 21), (seventh + 8, 200)],
-            expected: (16, 0, 0),
-        },
-    ];
-    for Damage {
-        name,
-        bytes,
-        expected,
-    } in rows {
-        let disk = damaged(rt.alloc(), bytes)?;
-        assert_eq!(rt; told_of(rt.alloc(), disk), expected, "{name}");
-    }
-    Ok(())
+fn a_damaged_header_is_told(rt: HostRuntime) -> Result<(), Fail> {
+    are_told(&rt, rt.alloc(), &BAD_HEADERS)
+}
+
+#[test]
+fn bytes_beside_the_header_in_force_do_not_count(rt: HostRuntime) -> Result<(), Fail> {
+    are_told(&rt, rt.alloc(), &GOOD_HEADERS)
+}
+
+#[test]
+fn a_damaged_area_is_told(rt: HostRuntime) -> Result<(), Fail> {
+    are_told(&rt, rt.alloc(), &AREAS)
+}
+
+#[test]
+fn a_damaged_journal_is_told(rt: HostRuntime) -> Result<(), Fail> {
+    are_told(&rt, rt.alloc(), &RUNS)
 }
 
 #[test]
@@ -342,6 +289,120 @@ fn an_image_of_another_length_is_refused(rt: HostRuntime) -> Result<(), Fail> {
         put(&mut disk, 0, part)?;
         let (number, _, _) = told_of(rt.alloc(), disk);
         assert_eq!(rt; number, 12, "{length}");
+    }
+    Ok(())
+}
+
+// The usual image, with a block of one cell and three who wait for it in the area in force, at count 4.
+fn image_of_three_readers(alloc: Global) -> Result<MemDisk, Fail> {
+    let limits = Limits::new(4_096, 16, 256).ok_or("limits")?;
+    let mut memory = Memory::new(alloc, limits)?;
+    for (command, _) in three_readers() {
+        let _answer = memory.step(&command)?;
+    }
+    let mut area = vec![in alloc; 0; PAGE * area_pages(limits)]?;
+    if memory.cells() != limits.cells || memory.elements() != limits.elements {
+        return Err("a memory of other sizes".into());
+    }
+    encode(&memory, limits, &mut area);
+    let mut disk = formatted(alloc, USUAL, LAST)?.close().into_inner();
+    put(&mut disk, AREA, &area)?;
+    put(&mut disk, 16, &[4])?;
+    Ok(disk)
+}
+
+// What is kept for the three readers.
+fn readers_are_told(rt: &impl Abort, engine: &Engine<MemDisk>, entry: Entry) {
+    for (element, number) in [(1, 1), (2, 1), (1, 2)] {
+        assert_eq!(rt;
+            engine.collect(element, number),
+            Ok(entry),
+            "{element}.{number}"
+        );
+    }
+}
+
+#[test]
+fn the_memory_of_an_area_is_opened(rt: HostRuntime) -> Result<(), Fail> {
+    let engine = opened(rt.alloc(), image_of_three_readers(rt.alloc())?)?;
+    assert_eq!(rt; (engine.count(), engine.room()), (4, 256));
+    assert_eq!(rt;
+        waiters(&engine, 0),
+        [waiter(1, 1), waiter(2, 1), waiter(1, 2), None]
+    );
+    assert_eq!(rt; engine.collect(0, 1), Ok(Entry::Answered(Reply::Base(0))));
+    readers_are_told(&rt, &engine, Entry::Waiting);
+    Ok(())
+}
+
+// The image of the three readers, once a repeat and a store were served.
+fn image_with_a_store(rt: &impl Abort, alloc: Global) -> Result<MemDisk, Fail> {
+    let mut engine = opened(alloc, image_of_three_readers(alloc)?)?;
+    assert_eq!(rt;
+        engine.serve(&request(1, 2, Op::Fetch(0))),
+        WAITING,
+        "a repeat"
+    );
+    let store = request(3, 1, Op::Store(0, 7));
+    assert_eq!(rt; engine.serve(&store), told(Reply::Stored));
+    Ok(engine.close())
+}
+
+#[test]
+fn the_memory_of_an_area_serves_on(rt: HostRuntime) -> Result<(), Fail> {
+    let engine = opened(rt.alloc(), image_with_a_store(&rt, rt.alloc())?)?;
+    assert_eq!(rt; (engine.count(), engine.room()), (5, 255));
+    readers_are_told(&rt, &engine, Entry::Answered(Reply::Value(7)));
+    Ok(())
+}
+
+// The byte there.
+fn byte_at(disk: &MemDisk, at: usize) -> Result<u8, Fail> {
+    let Some(byte) = disk.bytes().get(at) else {
+        return Err("past the end".into());
+    };
+    Ok(*byte)
+}
+
+#[test]
+fn a_list_that_leads_back_to_its_first_node_is_a_bad_page(rt: HostRuntime) -> Result<(), Fail> {
+    let mut disk = image_of_three_readers(rt.alloc())?;
+    // The first and the last node of cell 0. The nodes stand behind 32 pages of cells.
+    let first = byte_at(&disk, AREA + 12)?;
+    let last = byte_at(&disk, AREA + 16)?;
+    let node = AREA + 32 * 4_096 + 16 * (last as usize);
+    assert_eq!(rt; byte_at(&disk, node)?, 0xFF, "the last node leads to none");
+    put(&mut disk, node, &[first, 0, 0, 0])?;
+    assert_eq!(rt; told_of(rt.alloc(), disk), (15, 0, 0));
+    Ok(())
+}
+
+// The usual image with three commands, and one byte changed.
+fn damaged_run(alloc: Global, at: usize, byte: u8) -> Result<MemDisk, Fail> {
+    let mut engine = formatted(alloc, USUAL, LAST)?;
+    for command in [
+        request(0, 1, Op::Alloc(Kind::I, 2)),
+        request(1, 1, Op::Fetch(0)),
+        request(2, 1, Op::Store(0, 42)),
+    ] {
+        engine.serve(&command)?;
+    }
+    let mut disk = engine.close().into_inner();
+    put(&mut disk, at, &[byte])?;
+    Ok(disk)
+}
+
+#[test]
+fn the_first_fault_of_a_served_image_is_told(rt: HostRuntime) -> Result<(), Fail> {
+    // Nothing, the gate, the version, and the operation of the second command.
+    for (at, byte, expected) in [
+        (0, 0xA5, (0, 3, 253)),
+        (0, 0, (13, 0, 0)),
+        (2, 9, (14, 0, 0)),
+        (311_362, 9, (16, 0, 0)),
+    ] {
+        let disk = damaged_run(rt.alloc(), at, byte)?;
+        assert_eq!(rt; told_of(rt.alloc(), disk), expected, "{at}");
     }
     Ok(())
 }

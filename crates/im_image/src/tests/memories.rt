@@ -22,20 +22,6 @@ fn least_image(alloc: Global) -> Result<Vec<u8>, Refusal> {
     Ok(image)
 }
 
-// Sets a byte, if there is one at this place.
-fn set(image: &mut [u8], at: usize, byte: u8) {
-    if let Some(place) = image.get_mut(at) {
-        *place = byte;
-    }
-}
-
-// Sets bytes at their places.
-fn set_each(image: &mut [u8], changes: &[(usize, u8)]) {
-    for (at, byte) in changes {
-        set(image, *at, *byte);
-    }
-}
-
 type Told = Result<(u64, u64, u64, u32), Refusal>;
 
 // What changes on the least image, and what is told of it then.
@@ -106,14 +92,127 @@ fn images_are_told_or_refused_at_their_first_fault(rt: HostRuntime) -> Result<()
         set_each(&mut image, changes);
         assert_eq!(rt; told(rt.alloc(), &image), expected, "{what}");
     }
-    let image = least_image(rt.alloc())?;
-    for length in [33_791usize, 100] {
+    Ok(())
+}
+
+// What a file is refused with, if it is.
+fn refusal_of(alloc: Global, image: &[u8]) -> Option<Refusal> {
+    match told(alloc, image) {
+        Ok(_) => None,
+        Err(refusal) => Some(refusal),
+    }
+}
+
+#[test]
+fn images_of_another_length_are_refused(rt: HostRuntime) -> Result<(), Fail> {
+    let mut image = least_image(rt.alloc())?;
+    assert_eq!(rt; image.len(), 33_792);
+    for length in 0..33_792usize {
         let short = image.get(..length).ok_or("a length below the image's")?;
         assert_eq!(rt;
-            told(rt.alloc(), short),
-            Err(Refusal::WrongLength),
+            refusal_of(rt.alloc(), short),
+            Some(Refusal::WrongLength),
             "{length} bytes"
         );
+    }
+    image.push(0)?;
+    assert_eq!(rt;
+        refusal_of(rt.alloc(), &image),
+        Some(Refusal::WrongLength),
+        "a byte too many"
+    );
+    Ok(())
+}
+
+// Header bytes of the least image, from one up to another, the values that they are set to, from one up to another, and
+// what the image is refused with then.
+const HEADER_VALUES: [(usize, usize, u32, u32, Option<Refusal>); 47] = [
+    (0, 1, 0, 0xA5, Some(Refusal::NoHeader)), // gate
+    (0, 1, 0xA5, 0xA6, None),
+    (0, 1, 0xA6, 256, Some(Refusal::NoHeader)),
+    (1, 2, 0, 1, None), // area
+    (1, 2, 1, 256, Some(Refusal::BadHeader)),
+    (2, 3, 0, 1, Some(Refusal::BadHeader)), // version
+    (2, 3, 1, 2, None),
+    (2, 3, 2, 256, Some(Refusal::BadHeader)),
+    (3, 4, 0, 1, None),
+    (3, 4, 1, 256, Some(Refusal::BadHeader)),
+    (4, 5, 0, 0x49, Some(Refusal::BadHeader)), // IMEM
+    (4, 5, 0x49, 0x4A, None),
+    (4, 5, 0x4A, 256, Some(Refusal::BadHeader)),
+    (5, 6, 0, 0x4D, Some(Refusal::BadHeader)),
+    (5, 6, 0x4D, 0x4E, None),
+    (5, 6, 0x4E, 256, Some(Refusal::BadHeader)),
+    (6, 7, 0, 0x45, Some(Refusal::BadHeader)),
+    (6, 7, 0x45, 0x46, None),
+    (6, 7, 0x46, 256, Some(Refusal::BadHeader)),
+    (7, 8, 0, 0x4D, Some(Refusal::BadHeader)),
+    (7, 8, 0x4D, 0x4E, None),
+    (7, 8, 0x4E, 256, Some(Refusal::BadHeader)),
+    (8, 9, 0, 1, Some(Refusal::BadHeader)), // generation
+    (8, 9, 1, 256, None),
+    (9, 15, 0, 256, None),
+    (15, 16, 0, 0x40, None),
+    (15, 16, 0x40, 256, Some(Refusal::BadHeader)),
+    (16, 23, 0, 256, None), // count
+    (23, 24, 0, 0x41, None),
+    (23, 24, 0x41, 256, Some(Refusal::BadHeader)),
+    (24, 25, 0, 1, Some(Refusal::BadHeader)), // cells
+    (24, 25, 1, 2, None),
+    (24, 25, 2, 129, Some(Refusal::BadPage)),
+    (24, 25, 129, 256, Some(Refusal::WrongLength)),
+    (25, 26, 0, 1, None),
+    (25, 26, 1, 256, Some(Refusal::WrongLength)),
+    (28, 29, 0, 1, Some(Refusal::BadHeader)), // elements
+    (28, 29, 1, 2, None),
+    (28, 29, 2, 5, Some(Refusal::BadPage)),
+    (28, 29, 5, 65, Some(Refusal::WrongLength)),
+    (28, 29, 65, 256, Some(Refusal::BadHeader)),
+    (32, 33, 0, 16, Some(Refusal::BadHeader)), // slots
+    (32, 33, 16, 17, None),
+    (32, 33, 17, 256, Some(Refusal::WrongLength)),
+    (33, 34, 0, 1, None),
+    (33, 34, 1, 16, Some(Refusal::WrongLength)),
+    (33, 34, 16, 256, Some(Refusal::BadHeader)),
+];
+
+// How many of some values of a byte have the least image refused so.
+fn values_refused(
+    alloc: Global,
+    at: usize,
+    from: u32,
+    to: u32,
+    expected: Option<Refusal>,
+) -> Result<u32, Refusal> {
+    let mut image = least_image(alloc)?;
+    let mut count = 0u32;
+    for value in from..to {
+        set(&mut image, at, (value % 256) as u8);
+        if refusal_of(alloc, &image) == expected {
+            count = count.saturating_add(1);
+        }
+    }
+    Ok(count)
+}
+
+#[test]
+fn each_value_of_each_number_of_a_header_counts(rt: HostRuntime) -> Result<(), Fail> {
+    for (first, behind, from, to, expected) in HEADER_VALUES {
+        for at in first..behind {
+            let count = values_refused(rt.alloc(), at, from, to, expected)?;
+            assert_eq!(rt; count, to.saturating_sub(from), "byte {at} from {from} on");
+        }
+    }
+    Ok(())
+}
+
+#[test]
+fn each_zero_of_a_header_counts(rt: HostRuntime) -> Result<(), Fail> {
+    for (first, behind) in [(26usize, 28usize), (29, 32), (34, 64)] {
+        for at in first..behind {
+            let bad = values_refused(rt.alloc(), at, 1, 256, Some(Refusal::BadHeader))?;
+            assert_eq!(rt; bad, 255, "byte {at} isn't zero");
+        }
     }
     Ok(())
 }

@@ -1,4 +1,4 @@
-use Rattle.im_meaning.proofs.Sweeps.{behind_of}
+use Rattle.im_journal.proofs.Sweeps.{behind_of}
 use Rattle.im_meaning.proofs.slots_behind_the_room_are_stale.Goals as goal
 
 pub returns : goal.returns

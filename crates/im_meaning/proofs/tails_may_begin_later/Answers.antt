@@ -1,4 +1,4 @@
-use Rattle.im_meaning.proofs.Later.{tail_later}
+use Rattle.im_journal.proofs.Later.{tail_later}
 use Rattle.im_meaning.proofs.tails_may_begin_later.Goals as goal
 
 pub returns : goal.returns

@@ -1,25 +1,27 @@
-use Rattle.std.proofs.Common.{◌≡◌, arith, refl, sym, true≢false, ◌∙◌}
+use Rattle.std.proofs.Common.{◌≢◌, ◌<◌, arith, sym, subst, ◌∙◌, true≢false}
 use Rattle.std.proofs.lemmas.List.{with_items_is}
 use Rattle.im_arena.specs.Lists.{free}
-use Rattle.im_arena.proofs.Views.{free-read, length-held, held-pushed}
+use Rattle.im_arena.specs.Table.{count_of, spans_of}
+use Rattle.im_arena.proofs.Views.{inside-held, some-free, held-pushed, count-pushed}
 use Rattle.im_arena.proofs.Arena.push_back.Goals as goal
 
-pub returns-then-index-eq0-clause-room : goal.returns-then-index-eq0-clause-room
-returns-then-index-eq0-clause-room c =
-    let is = free-read _ _ _ c.self.invariant _ c.index.ensures in
-    let none : free c.args.self.now.held ≡ 0 = rw (← c.self.view_is) (is ∙ c.if-index-eq0.true) in
-    (λ h. absurd (true≢false (sym h)), λ lt. absurd (omega arith))
+pub transfer-requires-clause-some : goal.transfer-requires-clause-some
+transfer-requires-clause-some c =
+    let some : free c.args.self.now.held ≢ 0 = λ none. true≢false (sym (c.is_full.ensures.1 none) ∙ c.if-is_full.false) in
+    subst (λ ns. 0 < count_of (spans_of ns c.as_mut_slice-2.result.now) c.self.inside.lists) (sym c.as_mut_slice.ensures.value)
+    (subst (λ rs. 0 < count_of (spans_of c.self.inside.nodes.items rs) c.self.inside.lists) (sym c.as_mut_slice-2.ensures.value) (some-free _ _ _ _ c.self.invariant (rw (← c.self.view_is) at some)))
 
-pub returns-clause-room : goal.returns-clause-room
-returns-clause-room c =
-    let is = free-read _ _ _ c.self.invariant _ c.index.ensures in
-    let some : free c.args.self.now.held ≡ c.index.result.now.count = rw (← c.self.view_is) is in
-    let nonzero = c.if-index-eq0.false in
-    (λ h. omega arith, λ lt. refl)
+pub invariant_of-self : goal.invariant_of-self
+invariant_of-self c =
+    let inside = inside-held _ _ _ _ c.self.invariant _ (rw (← c.self.view_is) at c.requires) in
+    let t = rw (c.as_mut_slice.ensures.value, c.as_mut_slice-2.ensures.value) at c.transfer.ensures in
+    let fewer = count-pushed _ _ _ _ c.self.invariant _ _ _ _ _ inside t in
+    rw (with_items_is c.self.inside.nodes c.transfer.new.nodes (omega (arith, t.table)), with_items_is c.self.inside.rows c.transfer.new.rows (omega (arith, t.size)))
+    (record { sound = t.sound; size = t.size ∙ c.self.invariant.size; count = omega arith })
 
 pub returns-clause-pushed : goal.returns-clause-pushed
 returns-clause-pushed c = λ _.
+    let inside = inside-held _ _ _ _ c.self.invariant _ (rw (← c.self.view_is) at c.requires) in
     let t = rw (c.as_mut_slice.ensures.value, c.as_mut_slice-2.ensures.value, c.with.ensures) at c.transfer.ensures in
-    let inside = rw (← c.self.view_is, length-held c.self.inside.nodes.items c.self.inside.rows.items c.self.inside.lists (omega (arith, c.self.invariant.size))) at c.requires in
     rw (with_items_is c.self.inside.nodes c.transfer.new.nodes (omega (arith, t.table)), with_items_is c.self.inside.rows c.transfer.new.rows (omega (arith, t.size)), ← c.self.view_is)
-    (held-pushed _ _ _ c.self.invariant _ _ _ _ _ inside t)
+    (held-pushed _ _ _ _ c.self.invariant _ _ _ _ _ inside t)

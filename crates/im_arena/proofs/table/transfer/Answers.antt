@@ -1,30 +1,27 @@
 use Rattle.std.proofs.Common.{arith, length-set}
-use Rattle.im_arena.proofs.Tables.{first_within, last_within, last-some, two_counts, Transferred-attached}
+use Rattle.im_arena.proofs.Tables.{first_inside, last_inside, Transferred-attached}
 use Rattle.im_arena.proofs.table.transfer.Goals as goal
 
 pub overflow_cast-held : goal.overflow_cast-held
-overflow_cast-held c = omega (arith, c.requires.sound.chains.few, first_within _ _ c.requires.sound _ c.requires.from c.requires.some)
+overflow_cast-held c = omega (arith, c.requires.sound.chains.few, first_inside _ _ _ c.requires.sound c.requires.from c.requires.some)
 
 pub offset_bounds-nodes-node : goal.offset_bounds-nodes-node
-offset_bounds-nodes-node c = omega (arith, c.requires.sound.chains.few, first_within _ _ c.requires.sound _ c.requires.from c.requires.some)
+offset_bounds-nodes-node c = omega (arith, c.requires.sound.chains.few, first_inside _ _ _ c.requires.sound c.requires.from c.requires.some)
 
 pub slice_copy_out-held : goal.slice_copy_out-held
-slice_copy_out-held c = first_within _ _ c.requires.sound _ c.requires.from c.requires.some
+slice_copy_out-held c = first_inside _ _ _ c.requires.sound c.requires.from c.requires.some
 
 pub overflow_cast-content : goal.overflow_cast-content
-overflow_cast-content c = omega (arith, c.requires.sound.chains.few, first_within _ _ c.requires.sound _ c.requires.from c.requires.some)
+overflow_cast-content c = omega (arith, c.requires.sound.chains.few, first_inside _ _ _ c.requires.sound c.requires.from c.requires.some)
 
 pub offset_bounds-nodes-node-2 : goal.offset_bounds-nodes-node-2
-offset_bounds-nodes-node-2 c = omega (arith, c.requires.sound.chains.few, first_within _ _ c.requires.sound _ c.requires.from c.requires.some)
+offset_bounds-nodes-node-2 c = omega (arith, c.requires.sound.chains.few, first_inside _ _ _ c.requires.sound c.requires.from c.requires.some)
 
 pub bounds-nodes-node : goal.bounds-nodes-node
-bounds-nodes-node c = first_within _ _ c.requires.sound _ c.requires.from c.requires.some
+bounds-nodes-node c = first_inside _ _ _ c.requires.sound c.requires.from c.requires.some
 
-pub attach-taker-requires-clause-last : goal.attach-taker-requires-clause-last
-attach-taker-requires-clause-last c = λ some. rw length-set (last_within _ _ c.requires.sound _ c.requires.to (last-some _ _ c.requires.sound _ c.requires.to some))
-
-pub attach-taker-requires-clause-room : goal.attach-taker-requires-clause-room
-attach-taker-requires-clause-room c = omega (arith, c.requires.sound.chains.few, two_counts _ _ c.requires.sound _ _ c.requires.from c.requires.to c.requires.apart)
+pub attach-taker-requires : goal.attach-taker-requires
+attach-taker-requires c = λ some. rw length-set (last_inside _ _ _ c.requires.sound c.requires.to some)
 
 pub returns : goal.returns
 returns c = rw c.waiter.ensures (Transferred-attached _ _ c.requires.sound _ _ _ c.requires.from c.requires.to c.requires.apart c.requires.some c.requires.link c.requires.mark _ _ _ c.without_first.ensures c.attach-taker.ensures)

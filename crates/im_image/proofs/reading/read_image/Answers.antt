@@ -1,13 +1,11 @@
-use Rattle.std.proofs.Common.{◌≡◌, inl, inr, ⊎_elim, Some, None, Err, refl, sym, ap, ◌∙◌, subst}
-use Rattle.im_types.specs.declared.refusals.Refusal.{Refusal}
-use Rattle.im_types.specs.declared.refusals.Refusal.TheVariants.{NoMemory, BadPage, BadRecord, Device}
+use Rattle.std.proofs.Common.{◌≡◌, inl, inr, ⊎_elim, None, sym, subst}
 use Rattle.im_types.specs.Header.{header_fault}
 use Rattle.im_types.specs.Layout.{layout_1}
-use Rattle.im_types.specs.Meaning.{Reached, Reads}
+use Rattle.im_types.specs.Meaning.{Reached}
 use Rattle.im_disk.specs.Moment.{Moment}
 use Rattle.im_disk.proofs.SinceLemmas.{reads_then}
 use Rattle.im_image.specs.declared.reading.Image.{Image}
-use Rattle.im_image.proofs.Outcomes.{read-ok, read-err, reads-fault, reads-no-page}
+use Rattle.im_image.proofs.Outcomes.{read-ok, read-err, read-holds, reads-fault}
 use Rattle.im_image.proofs.reading.read_image.Goals as goal
 
 abbrev reached : Image → Reached
@@ -19,6 +17,10 @@ read_behind-requires-clause-good g c = λ h. subst (λ (m : Moment). header_faul
 pub returns-in-Ok-clause-means : goal.returns-in-Ok-clause-means
 returns-in-Ok-clause-means g c =
     read-ok c.read_behind.result reached (g.D.Disk.now c.args.disk.now) (g.D.Disk.now c.read_header.new.disk) (g.D.Disk.honest c.read_behind.new.disk) (λ h. (c.read_header.ensures.reads (c.read_behind.ensures.honest h)).now) c.read_behind.ensures.means
+
+pub returns-in-Ok-clause-holds : goal.returns-in-Ok-clause-holds
+returns-in-Ok-clause-holds g c =
+    read-holds c.read_behind.result (λ i. i.journal) (g.D.Disk.now c.args.disk.now) (g.D.Disk.now c.read_header.new.disk) (g.D.Disk.honest c.read_behind.new.disk) (λ h. (c.read_header.ensures.reads (c.read_behind.ensures.honest h)).now) c.read_behind.ensures.holds
 
 pub returns-in-Ok-clause-fault : goal.returns-in-Ok-clause-fault
 returns-in-Ok-clause-fault g c =

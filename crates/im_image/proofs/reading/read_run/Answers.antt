@@ -1,11 +1,10 @@
-use Rattle.std.proofs.Common.{◌≡◌, inl, inr, Some, None, Err, refl, sym, ap, ◌∙◌, subst, List}
+use Rattle.std.proofs.Common.{inl, inr, Err, refl, sym, ap, ◌∙◌, subst, List}
 use Rattle.im_types.specs.declared.refusals.Refusal.{Refusal}
-use Rattle.im_types.specs.declared.refusals.Refusal.TheVariants.{NoMemory, BadPage, BadRecord, Device}
 use Rattle.im_types.specs.declared.commands.Command.{Command}
 use Rattle.im_types.specs.Layout.{layout_1}
 use Rattle.im_types.specs.Meaning.{Reads, accept_each}
 use Rattle.im_image.specs.Headers.{seen}
-use Rattle.im_image.proofs.Outcomes.{in-room, reads-no-tail, reads-unaccepted, reads-all}
+use Rattle.im_image.proofs.Outcomes.{in-room, reads-no-tail, reads-unaccepted, reads-all, accepted-sizes}
 use Rattle.im_image.proofs.reading.read_run.Goals as goal
 
 pub read_tail-requires-clause-inside : goal.read_tail-requires-clause-inside
@@ -35,3 +34,13 @@ returns-else-replay-clause-fault g c = inr (inr (λ h.
     let un = ap (λ (l : List Command). accept_each c.args.memory l) (sym c.deref.ensures.value) ∙ c.if-replay.ensures.no refl in
     reads-unaccepted (g.D.Disk.now c.args.disk.now).bytes (seen c.args.header) c.args.memory (c.requires.good h0) (c.requires.header h0) (c.requires.shown h0)
     c.in-Ok.read.1.items c.in-Ok.read.0.room (c.in-Ok.ensures.tail h) un))
+
+pub returns-then-replay-clause-cells : goal.returns-then-replay-clause-cells
+returns-then-replay-clause-cells g c =
+    let accepted = ap (λ (l : List Command). accept_each c.args.memory l) (sym c.deref.ensures.value) ∙ c.if-replay.ensures.yes refl in
+    (accepted-sizes c.args.memory c.replay.new.memory c.in-Ok.read.1.items accepted).0 ∙ c.requires.cells
+
+pub returns-then-replay-clause-elements : goal.returns-then-replay-clause-elements
+returns-then-replay-clause-elements g c =
+    let accepted = ap (λ (l : List Command). accept_each c.args.memory l) (sym c.deref.ensures.value) ∙ c.if-replay.ensures.yes refl in
+    (accepted-sizes c.args.memory c.replay.new.memory c.in-Ok.read.1.items accepted).1 ∙ c.requires.elements

@@ -1,4 +1,6 @@
-use Rattle.im_journal.proofs.Gating.{ready, now1, leaves1, now2, leaves2, now3, leaves3, now4, leaves4, is_there}
+use Rattle.std.proofs.Common.{ap}
+use Rattle.im_disk.specs.Moment.{Moment}
+use Rattle.im_journal.proofs.Gating.{ready, now1, leaves1, now2, leaves2, now3, leaves3, now4, leaves4, is_there, elsewhere}
 use Rattle.im_journal.proofs.gate.write_slot.Goals as goal
 
 pub returns-in_err-write_at-clause-leaves : goal.returns-in_err-write_at-clause-leaves
@@ -106,3 +108,16 @@ returns-clause-written g c = λ h4.
     is_there (ready c.args.at c.args.slot.now (g.D.Disk.now c.args.disk.now) c.told-slot c.requires.gate (c.requires.inside h0) (c.requires.closed h0))
     (g.D.Disk.now c.write_at.new.self) (g.D.Disk.now c.sync.new.self) (c.in_ok-write_at.ensures.tick h1).now (c.in_ok-sync.ensures.tick h2).now
     (g.D.Disk.now c.write_at-2.new.self) (g.D.Disk.now c.sync-2.new.self) (c.in_ok-write_at-2.ensures.tick h3).now (c.in_ok-sync-2.ensures.tick h4).now
+
+pub returns-clause-kept : goal.returns-clause-kept
+returns-clause-kept g c = λ h4.
+    let h3 = c.sync-2.ensures.honest h4 in
+    let h2 = c.write_at-2.ensures.honest h3 in
+    let h1 = c.sync.ensures.honest h2 in
+    let h0 = c.write_at.ensures.honest h1 in
+    elsewhere (ready c.args.at c.args.slot.now (g.D.Disk.now c.args.disk.now) c.told-slot c.requires.gate (c.requires.inside h0) (c.requires.closed h0))
+    (g.D.Disk.now c.write_at.new.self) (g.D.Disk.now c.sync.new.self) (c.in_ok-write_at.ensures.tick h1).now (c.in_ok-sync.ensures.tick h2).now
+    (g.D.Disk.now c.write_at-2.new.self) (g.D.Disk.now c.sync-2.new.self) (c.in_ok-write_at-2.ensures.tick h3).now (c.in_ok-sync-2.ensures.tick h4).now
+
+pub returns-clause-calm : goal.returns-clause-calm
+returns-clause-calm g c = λ h4. ap (λ (m : Moment). m.ranges) (c.in_ok-sync-2.ensures.tick h4).now

@@ -1,38 +1,40 @@
-use Rattle.std.proofs.Common.{◌≡◌, true, false, List, ℕ, inl, inr, sym, ◌∙◌, ap, subst, ⊎_elim}
-use Rattle.im_disk.specs.Moment.{Left}
+use Rattle.std.proofs.Common.{◌≡◌, true, false, inl, ◌∙◌, ap, subst}
 use Rattle.im_disk.specs.Since.{Leaves, LeavesNow}
 use Rattle.im_disk.proofs.SinceLemmas.{leaves_weaker}
 use Rattle.im_types.specs.Step.{is_accepted}
-use Rattle.im_image.specs.Headers.{seen}
 use Rattle.im_journal.specs.Holding.{MayAppend}
 use Rattle.im_engine.specs.State.{EngineState, MeansState, MeansEither}
-use Rattle.im_engine.proofs.Serving.{journal_holds, either, with_it, longer_of}
+use Rattle.im_engine.proofs.Keeping.{all_mean, all_hold, may_append_means}
+use Rattle.im_engine.proofs.Serving.{fits_longer, kept_with_it}
 use Rattle.im_engine.proofs.engine.Engine.accept.Goals as goal
 
 pub returns-then-room-eq0-clause-doubt : goal.returns-then-room-eq0-clause-doubt
 returns-then-room-eq0-clause-doubt g c =
-    let means = subst (λ (s : EngineState g.row.D.Denot). g.D.Disk.honest s.disk → s.failed ≡ false → LeavesNow (g.D.Disk.now s.disk) (MeansState s)) c.self.view_is c.self.invariant.1 in
-    λ h file left. inl (means h c.requires.alive file left)
+    let e = c.self.inside in
+    let alive : e.failed ≡ false = ap (λ (s : EngineState g.row.D.Denot). s.failed) c.self.view_is ∙ c.requires.alive in
+    subst (λ (s : EngineState g.row.D.Denot). g.D.Disk.honest s.disk → LeavesNow (g.D.Disk.now s.disk) (MeansEither s c.args.command.now)) c.self.view_is
+    (λ h file left. inl (all_mean e.checkpoint e.memory e.journal (g.D.Disk.now e.disk) (c.self.invariant.1 h alive) file left))
 
 pub returns-then-room-eq0-clause-means : goal.returns-then-room-eq0-clause-means
 returns-then-room-eq0-clause-means g c =
-    subst (λ (s : EngineState g.row.D.Denot). g.D.Disk.honest s.disk → s.failed ≡ false → LeavesNow (g.D.Disk.now s.disk) (MeansState s)) c.self.view_is c.self.invariant.1
+    let e = c.self.inside in
+    subst (λ (s : EngineState g.row.D.Denot). g.D.Disk.honest s.disk → s.failed ≡ false → LeavesNow (g.D.Disk.now s.disk) (MeansState s)) c.self.view_is
+    (λ h f. all_mean e.checkpoint e.memory e.journal (g.D.Disk.now e.disk) (c.self.invariant.1 h f))
 
 pub append-requires : goal.append-requires
 append-requires g c =
     let e = c.self.inside in
     let alive : e.failed ≡ false = ap (λ (s : EngineState g.row.D.Denot). s.failed) c.self.view_is ∙ c.requires.alive in
-    record { holds = λ h. journal_holds (seen e.header) e.memory e.journal c.self.invariant.0 (g.D.Disk.now e.disk) (c.self.invariant.1 h alive) }
+    record { holds = λ h. all_hold e.checkpoint e.memory e.journal (g.D.Disk.now e.disk) (c.self.invariant.1 h alive) }
 
 pub returns-in-Err-clause-leaves : goal.returns-in-Err-clause-leaves
 returns-in-Err-clause-leaves g c = λ h.
     let e = c.self.inside in
     let alive : e.failed ≡ false = ap (λ (s : EngineState g.row.D.Denot). s.failed) c.self.view_is ∙ c.requires.alive in
     let accepted : is_accepted e.memory c.args.command.now ≡ true = ap (λ (s : EngineState g.row.D.Denot). is_accepted s.memory c.args.command.now) c.self.view_is ∙ c.requires.accepted in
-    let now = g.D.Disk.now e.disk in
     subst (λ (s : EngineState g.row.D.Denot). Leaves (g.D.Disk.now s.disk) (g.D.Disk.now c.append.new.disk) (g.D.Disk.past s.disk) (g.D.Disk.past c.append.new.disk) (MeansEither s c.args.command.now)) c.self.view_is
     (leaves_weaker (g.D.Disk.now e.disk) (g.D.Disk.now c.append.new.disk) (g.D.Disk.past e.disk) (g.D.Disk.past c.append.new.disk) (MayAppend e.journal c.args.command.now (g.D.Disk.now e.disk)) _ (c.append.ensures.leaves h)
-    (either (seen e.header) e.memory e.journal c.self.invariant.0 (g.D.Disk.now e.disk) (c.self.invariant.1 (c.append.ensures.honest h) alive) c.args.command.now accepted))
+    (may_append_means e.checkpoint e.memory e.journal (g.D.Disk.now e.disk) (c.self.invariant.1 (c.append.ensures.honest h) alive) c.args.command.now accepted))
 
 pub returns-in-Err-clause-doubt : goal.returns-in-Err-clause-doubt
 returns-in-Err-clause-doubt g c = λ h file left.
@@ -40,15 +42,16 @@ returns-in-Err-clause-doubt g c = λ h file left.
     let alive : e.failed ≡ false = ap (λ (s : EngineState g.row.D.Denot). s.failed) c.self.view_is ∙ c.requires.alive in
     let accepted : is_accepted e.memory c.args.command.now ≡ true = ap (λ (s : EngineState g.row.D.Denot). is_accepted s.memory c.args.command.now) c.self.view_is ∙ c.requires.accepted in
     subst (λ (s : EngineState g.row.D.Denot). MeansEither s c.args.command.now file) c.self.view_is
-    (either (seen e.header) e.memory e.journal c.self.invariant.0 (g.D.Disk.now e.disk) (c.self.invariant.1 (c.append.ensures.honest h) alive) c.args.command.now accepted file (c.append.ensures.now h file left))
+    (may_append_means e.checkpoint e.memory e.journal (g.D.Disk.now e.disk) (c.self.invariant.1 (c.append.ensures.honest h) alive) c.args.command.now accepted file (c.append.ensures.now h file left))
 
 pub invariant_of-self-2 : goal.invariant_of-self-2
 invariant_of-self-2 g c =
     let e = c.self.inside in
-    let accepted : is_accepted e.memory c.args.command.now ≡ true = ap (λ (s : EngineState g.row.D.Denot). is_accepted s.memory c.args.command.now) c.self.view_is ∙ c.requires.accepted in (
-      longer_of (seen e.header) e.journal c.append.new.self c.self.invariant.0 c.in_default.ensures.longer,
-      λ h f file left. with_it (seen e.header) e.memory e.journal c.self.invariant.0 (g.D.Disk.now e.disk) (c.self.invariant.1 (c.append.ensures.honest h) f) c.args.command.now accepted
-          c.step.new.self c.step.ensures.contents c.append.new.self c.in_default.ensures.longer file (c.in_default.ensures.added h file left),
+    let accepted : is_accepted e.memory c.args.command.now ≡ true = ap (λ (s : EngineState g.row.D.Denot). is_accepted s.memory c.args.command.now) c.self.view_is ∙ c.requires.accepted in
+    let done = c.in_default.ensures in (
+      fits_longer e.checkpoint e.memory c.step.new.self e.journal c.append.new.self c.args.command.now c.self.invariant.0 c.step.ensures.contents done.longer,
+      λ h f. kept_with_it e.checkpoint e.memory e.journal (g.D.Disk.now e.disk) (c.self.invariant.1 (c.append.ensures.honest h) f) c.args.command.now accepted
+          c.step.new.self c.step.ensures.contents c.append.new.self done.longer (g.D.Disk.now c.append.new.disk) (done.kept h) (done.calm h) (done.added h) (done.holds h),
     )
 
 pub returns-clause-leaves : goal.returns-clause-leaves
@@ -58,7 +61,7 @@ returns-clause-leaves g c = λ h.
     let accepted : is_accepted e.memory c.args.command.now ≡ true = ap (λ (s : EngineState g.row.D.Denot). is_accepted s.memory c.args.command.now) c.self.view_is ∙ c.requires.accepted in
     subst (λ (s : EngineState g.row.D.Denot). Leaves (g.D.Disk.now s.disk) (g.D.Disk.now c.append.new.disk) (g.D.Disk.past s.disk) (g.D.Disk.past c.append.new.disk) (MeansEither s c.args.command.now)) c.self.view_is
     (leaves_weaker (g.D.Disk.now e.disk) (g.D.Disk.now c.append.new.disk) (g.D.Disk.past e.disk) (g.D.Disk.past c.append.new.disk) (MayAppend e.journal c.args.command.now (g.D.Disk.now e.disk)) _ (c.append.ensures.leaves h)
-    (either (seen e.header) e.memory e.journal c.self.invariant.0 (g.D.Disk.now e.disk) (c.self.invariant.1 (c.append.ensures.honest h) alive) c.args.command.now accepted))
+    (may_append_means e.checkpoint e.memory e.journal (g.D.Disk.now e.disk) (c.self.invariant.1 (c.append.ensures.honest h) alive) c.args.command.now accepted))
 
 pub returns-clause-doubt : goal.returns-clause-doubt
 returns-clause-doubt g c = λ h file left.
@@ -66,11 +69,13 @@ returns-clause-doubt g c = λ h file left.
     let alive : e.failed ≡ false = ap (λ (s : EngineState g.row.D.Denot). s.failed) c.self.view_is ∙ c.requires.alive in
     let accepted : is_accepted e.memory c.args.command.now ≡ true = ap (λ (s : EngineState g.row.D.Denot). is_accepted s.memory c.args.command.now) c.self.view_is ∙ c.requires.accepted in
     subst (λ (s : EngineState g.row.D.Denot). MeansEither s c.args.command.now file) c.self.view_is
-    (either (seen e.header) e.memory e.journal c.self.invariant.0 (g.D.Disk.now e.disk) (c.self.invariant.1 (c.append.ensures.honest h) alive) c.args.command.now accepted file (c.append.ensures.now h file left))
+    (may_append_means e.checkpoint e.memory e.journal (g.D.Disk.now e.disk) (c.self.invariant.1 (c.append.ensures.honest h) alive) c.args.command.now accepted file (c.append.ensures.now h file left))
 
 pub returns-clause-means : goal.returns-clause-means
-returns-clause-means g c = λ h f file left.
+returns-clause-means g c = λ h f.
     let e = c.self.inside in
     let accepted : is_accepted e.memory c.args.command.now ≡ true = ap (λ (s : EngineState g.row.D.Denot). is_accepted s.memory c.args.command.now) c.self.view_is ∙ c.requires.accepted in
-    with_it (seen e.header) e.memory e.journal c.self.invariant.0 (g.D.Disk.now e.disk) (c.self.invariant.1 (c.append.ensures.honest h) f) c.args.command.now accepted
-    c.step.new.self c.step.ensures.contents c.append.new.self c.in_default.ensures.longer file (c.in_default.ensures.added h file left)
+    let done = c.in_default.ensures in
+    all_mean e.checkpoint c.step.new.self c.append.new.self (g.D.Disk.now c.append.new.disk)
+    (kept_with_it e.checkpoint e.memory e.journal (g.D.Disk.now e.disk) (c.self.invariant.1 (c.append.ensures.honest h) f) c.args.command.now accepted
+    c.step.new.self c.step.ensures.contents c.append.new.self done.longer (g.D.Disk.now c.append.new.disk) (done.kept h) (done.calm h) (done.added h) (done.holds h))

@@ -1,14 +1,15 @@
-use Rattle.std.proofs.Common.{◌≡◌, ◌+◌, ◌<◌, ◌≤◌, ◌∷◌, ◌++◌, [], List, ℕ, length, take, get_or, true, false, refl, sym, ◌∙◌, ap, subst, arith, rules}
+use Rattle.std.proofs.Common.{◌≡◌, [], List, take, refl, sym, subst, arith, rules}
 use Rattle.std.proofs.lemmas.List.{take_all}
-use Rattle.im_types.specs.declared.commands.Command.{Command}
 use Rattle.im_disk.specs.Since.{LeavesNow}
 use Rattle.im_disk.proofs.SinceLemmas.{leaves_start}
-use Rattle.im_engine.specs.Run.{Answer, AnsweredInTurn, taken, MeansBeginning, MeansAllOrInDoubt}
-use Rattle.im_engine.proofs.Running.{Far, far_start, now_start, answers_step, far_step, leaves_step_on, now_step_on}
+use Rattle.im_engine.specs.declared.run.Event.{Event}
+use Rattle.im_engine.specs.declared.run.Answer.{Answer}
+use Rattle.im_engine.specs.Run.{AnsweredInTurn, taken, MeansBeginning, MeansAllOrInDoubt}
+use Rattle.im_engine.proofs.Running.{far_start, now_start, answers_step, far_step, leaves_step_on, now_step_on}
 use Rattle.im_engine.proofs.engine.Engine.run.Goals as goal
 
-pub loop-command-init : goal.loop-command-init
-loop-command-init g c =
+pub loop-event-init : goal.loop-event-init
+loop-event-init g c =
     let s = c.args.self.now in
     let none : c.in-Ok.answers.items ≡ [] = c.in-Ok.ensures.items in
     record {
@@ -21,26 +22,26 @@ loop-command-init g c =
       now = λ h f file left. now_start c.args.self.now file (c.failed-failed.ensures.means h f file left);
     }
 
-pub loop-command-preserved : goal.loop-command-preserved
-loop-command-preserved g c =
-    let inv = c.loop-command.invariant in
-    let e = c.serve-answer.ensures in
+pub loop-event-preserved : goal.loop-event-preserved
+loop-event-preserved g c =
+    let inv = c.loop-event.invariant in
+    let e = c.take-answer.ensures in
     record {
       honest = λ h. inv.honest (e.honest h);
       size = search rules;
       room = search rules;
-      answers = answers_step c.args.self.now c.loop-command.self c.serve-answer.new.self c.args.commands.now c.loop-command.answers.items c.push.new.self.items c.loop-command.command-index _ c.serve-answer.result
-          c.loop-command-test.true inv.size c.in_default-push.ensures.items e.answered inv.answers;
-      far = λ f. far_step c.args.self.now c.loop-command.self c.serve-answer.new.self c.args.commands.now c.loop-command.answers.items c.push.new.self.items c.loop-command.command-index _ c.serve-answer.result
-          c.loop-command-test.true inv.size c.in_default-push.ensures.items e.answered (inv.far f);
-      leaves = λ h f. leaves_step_on c.args.self.now c.loop-command.self c.serve-answer.new.self c.args.commands.now c.loop-command.answers.items c.push.new.self.items c.loop-command.command-index _ c.serve-answer.result
-          c.loop-command-test.true inv.size c.in_default-push.ensures.items e.answered (inv.far f) g.D.Disk.now g.D.Disk.past (inv.leaves (e.honest h) f) (λ alive. e.leaves h alive);
-      now = λ h f. now_step_on c.args.self.now c.loop-command.self c.serve-answer.new.self c.args.commands.now c.loop-command.answers.items c.push.new.self.items c.loop-command.command-index _ c.serve-answer.result
-          c.loop-command-test.true inv.size c.in_default-push.ensures.items e.answered (inv.far f) g.D.Disk.now (inv.now (e.honest h) f) (λ alive. e.doubt h alive);
+      answers = answers_step c.args.self.now c.loop-event.self c.take-answer.new.self c.args.events.now c.loop-event.answers.items c.push.new.self.items c.loop-event.event-index _ c.take-answer.result
+          c.loop-event-test.true inv.size c.in_default-push.ensures.items e.answered inv.answers;
+      far = λ f. far_step c.args.self.now c.loop-event.self c.take-answer.new.self c.args.events.now c.loop-event.answers.items c.push.new.self.items c.loop-event.event-index _ c.take-answer.result
+          c.loop-event-test.true inv.size c.in_default-push.ensures.items e.answered (inv.far f);
+      leaves = λ h f. leaves_step_on c.args.self.now c.loop-event.self c.take-answer.new.self c.args.events.now c.loop-event.answers.items c.push.new.self.items c.loop-event.event-index _ c.take-answer.result
+          c.loop-event-test.true inv.size c.in_default-push.ensures.items e.answered (inv.far f) g.D.Disk.now g.D.Disk.past (inv.leaves (e.honest h) f) (λ alive. e.leaves h alive);
+      now = λ h f. now_step_on c.args.self.now c.loop-event.self c.take-answer.new.self c.args.events.now c.loop-event.answers.items c.push.new.self.items c.loop-event.event-index _ c.take-answer.result
+          c.loop-event-test.true inv.size c.in_default-push.ensures.items e.answered (inv.far f) g.D.Disk.now g.D.Disk.past (inv.now (e.honest h) f) (λ alive. e.doubt h alive);
     }
 
 pub returns-clause-now : goal.returns-clause-now
 returns-clause-now g c = λ h f.
-    let all : take c.loop-command.command-index c.args.commands.now ≡ c.args.commands.now = take_all c.loop-command.command-index c.args.commands.now (omega (arith, c.loop-command-test.false)) in
-    subst (λ (l : List Command). LeavesNow (g.D.Disk.now c.loop-command.self.disk) (MeansAllOrInDoubt c.args.self.now (taken c.args.self.now.memory l c.loop-command.answers.items))) all
-    (c.loop-command.invariant.now h f)
+    let all : take c.loop-event.event-index c.args.events.now ≡ c.args.events.now = take_all c.loop-event.event-index c.args.events.now (omega (arith, c.loop-event-test.false)) in
+    subst (λ (l : List Event). LeavesNow (g.D.Disk.now c.loop-event.self.disk) (MeansAllOrInDoubt c.args.self.now (taken c.args.self.now.memory l c.loop-event.answers.items))) all
+    (c.loop-event.invariant.now h f)

@@ -1,17 +1,16 @@
-use Rattle.std.proofs.Common.{◌≡◌, ◌≤◌, ◌+◌, length, take, true, false, vec_capacity}
+use Rattle.std.proofs.Common.{◌≡◌, ◌≤◌, length, take, false, vec_capacity}
 use Rattle.im_disk.specs.Since.{Leaves, LeavesNow}
-use Rattle.im_types.specs.Run.{after}
 use Rattle.im_engine.specs.Run.{AnsweredInTurn, taken, MeansBeginning, MeansAllOrInDoubt}
 use Rattle.im_engine.proofs.Running.{Far}
 use Rattle.im_engine.proofs.engine.Engine.run.Given as goal
 
-abbrev pub invariant-loop-command : goal.invariant-loop-command
-invariant-loop-command g l = record {
+abbrev pub invariant-loop-event : goal.invariant-loop-event
+invariant-loop-event g l = record {
   honest : g.D.Disk.honest l.self.disk → g.D.Disk.honest l.fn.self.disk;
-  size : length l.answers.items ≡ l.command-index;
-  room : length l.commands ≤ vec_capacity l.answers;
-  answers : AnsweredInTurn l.fn.self (take l.command-index l.commands) l.answers.items l.self;
-  far : l.fn.self.failed ≡ false → Far l.fn.self l.self (taken l.fn.self.memory (take l.command-index l.commands) l.answers.items);
-  leaves : g.D.Disk.honest l.self.disk → l.fn.self.failed ≡ false → Leaves (g.D.Disk.now l.fn.self.disk) (g.D.Disk.now l.self.disk) (g.D.Disk.past l.fn.self.disk) (g.D.Disk.past l.self.disk) (MeansBeginning l.fn.self (taken l.fn.self.memory (take l.command-index l.commands) l.answers.items));
-  now : g.D.Disk.honest l.self.disk → l.fn.self.failed ≡ false → LeavesNow (g.D.Disk.now l.self.disk) (MeansAllOrInDoubt l.fn.self (taken l.fn.self.memory (take l.command-index l.commands) l.answers.items));
+  size : length l.answers.items ≡ l.event-index;
+  room : length l.events ≤ vec_capacity l.answers;
+  answers : AnsweredInTurn l.fn.self (take l.event-index l.events) l.answers.items l.self;
+  far : l.fn.self.failed ≡ false → Far l.fn.self l.self (taken l.fn.self.memory (take l.event-index l.events) l.answers.items);
+  leaves : g.D.Disk.honest l.self.disk → l.fn.self.failed ≡ false → Leaves (g.D.Disk.now l.fn.self.disk) (g.D.Disk.now l.self.disk) (g.D.Disk.past l.fn.self.disk) (g.D.Disk.past l.self.disk) (MeansBeginning l.fn.self (taken l.fn.self.memory (take l.event-index l.events) l.answers.items));
+  now : g.D.Disk.honest l.self.disk → l.fn.self.failed ≡ false → LeavesNow (g.D.Disk.now l.self.disk) (MeansAllOrInDoubt l.fn.self (taken l.fn.self.memory (take l.event-index l.events) l.answers.items));
 }

@@ -7,4 +7,12 @@ pub returns-clause-holds : goal.returns-clause-holds
 returns-clause-holds c = λ file size closed.
     let ring : Ring = record { base = c.ring_base.result; slots = c.args.limits.slots } in
     let some : 0 < c.args.limits.slots = omega (arith, c.args.limits.in_range.enough_slots) in
-    record { size = size; commands = []; reads = tail_closed ring file some closed; count = refl }
+    record {
+      size = size;
+      commands = [];
+      there = c.args.limits.slots;
+      reads = tail_closed ring file some closed;
+      count = refl;
+      enough = omega arith;
+      behind = λ low k from to. absurd (omega (arith, from, to));
+    }

@@ -3,6 +3,7 @@ use Rattle.im_types.specs.declared.refusals.Refusal.TheVariants.{BadRecord, Devi
 use Rattle.im_types.specs.Journal.{Ring}
 use Rattle.im_journal.specs.Holding.{ring_under}
 use Rattle.im_journal.proofs.Tails.{tail_alone}
+use Rattle.im_journal.proofs.Sweeps.{behind_read}
 use Rattle.im_journal.proofs.journal.Journal.read_tail.Goals as goal
 
 pub returns-in-Err-tail_in-clause-bad : goal.returns-in-Err-tail_in-clause-bad
@@ -26,11 +27,15 @@ returns-clause-holds g c = λ h.
     let bytes : c.deref.result.now ≡ take (64 * c.args.limits.slots) (drop c.ring_base-base.result (g.D.Disk.now c.args.disk.now).bytes) = c.deref.ensures.value ∙ c.in-Ok.ensures.bytes h in
     let ring : Ring = record { base = c.ring_base-base.result; slots = c.args.limits.slots } in
     let count : c.len.result ≡ length c.in-Ok-tail_in.read.0.items = search rules in
+    let reads = sym (tail_alone ring c.args.«from» (g.D.Disk.now c.args.disk.now).bytes c.deref.result.now some bytes) ∙ c.in-Ok-tail_in.ensures.tail in
     record {
       size = subst (λ (n : ℕ). n + 64 * c.args.limits.slots ≤ length (g.D.Disk.now c.args.disk.now).bytes) (sym c.ring_base-base.ensures.base) (c.requires.inside (c.read_bytes.ensures.honest h));
       commands = c.in-Ok-tail_in.read.0.items;
-      reads = sym (tail_alone ring c.args.«from» (g.D.Disk.now c.args.disk.now).bytes c.deref.result.now some bytes) ∙ c.in-Ok-tail_in.ensures.tail;
+      there = c.in-Ok-tail_in.read.1;
+      reads = reads;
       count = ap (λ (n : ℕ). c.args.«from» + n) count;
+      enough = omega arith;
+      behind = behind_read ring c.args.«from» (g.D.Disk.now c.args.disk.now).bytes c.in-Ok-tail_in.read.0.items c.in-Ok-tail_in.read.1 reads c.len.result count;
     }
 
 pub returns-in-Err-clause-steady : goal.returns-in-Err-clause-steady

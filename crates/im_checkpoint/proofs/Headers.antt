@@ -1,0 +1,108 @@
+-- The header in force, and the one that follows it.
+use Rattle.std.proofs.Common.{◌≡◌, ℕ, zero, suc, ◌+◌, ◌-◌, ◌*◌, ◌<◌, ◌≤◌, ◌==◌, ◌&&◌, nat_le, Bool, true, false, List, refl, ◌∙◌, ap, subst, arith}
+use Rattle.std.proofs.lemmas.Bool.Decides.{nat_tests}
+use Rattle.im_types.specs.declared.TheConstants.{LAST, MAX_CELLS, MAX_ELEMENTS, MIN_SLOTS, MAX_SLOTS}
+use Rattle.im_types.specs.Layout.{Sizes, layout_1, are_sizes}
+use Rattle.im_types.specs.Sizes.{AreLimits}
+use Rattle.im_types.specs.Header.{Header, header_in, header_place, is_header}
+use Rattle.im_meaning.specs.Images.{InForce, Follows}
+use Rattle.im_checkpoint.specs.Turns.{next_header}
+
+both_true : (a b : Bool) → (a && b) ≡ true → (a ≡ true) × (b ≡ true)
+both_true true b is = (refl, is)
+both_true false b is = absurd (cc)
+
+joined : (a b : Bool) → a ≡ true → b ≡ true → (a && b) ≡ true
+joined a b first second = ap (λ (t : Bool). t && b) first ∙ second
+
+same_number : (m n : ℕ) → (m == n) ≡ true → m ≡ n
+same_number m n is = grind (arith, nat_tests)
+
+same_itself : (m n : ℕ) → m ≡ n → (m == n) ≡ true
+same_itself m n is = grind (arith, nat_tests, is)
+
+least : (m n : ℕ) → nat_le m n ≡ true → m ≤ n
+least m n is = grind (arith, nat_tests)
+
+is_least : (m n : ℕ) → m ≤ n → nat_le m n ≡ true
+is_least m n le = grind (arith, nat_tests)
+
+-- sizes in their ranges
+pub limits_of : (s : Sizes) → are_sizes layout_1 s ≡ true → AreLimits s.cells s.elements s.slots
+limits_of s are =
+    let e = both_true _ (nat_le s.slots MAX_SLOTS) are in
+    let d = both_true _ (nat_le MIN_SLOTS s.slots) e.0 in
+    let c = both_true _ (nat_le s.elements MAX_ELEMENTS) d.0 in
+    let b = both_true _ (nat_le 1 s.elements) c.0 in
+    let a = both_true (nat_le 1 s.cells) (nat_le s.cells MAX_CELLS) b.0 in
+    record {
+      some_cell = least _ _ a.0;
+      few_cells = least _ _ a.1;
+      some_element = least _ _ b.1;
+      few_elements = least _ _ c.1;
+      enough_slots = least _ _ d.1;
+      few_slots = least _ _ e.1;
+    }
+
+-- the numbers of a header in force
+pub record IsGood (h : Header) : Type 0 where
+  pub version : h.version ≡ 1
+  pub area : h.area ≤ 1
+  pub from_one : 1 ≤ h.generation
+  pub to_last : h.generation ≤ LAST
+  pub count : h.count ≤ LAST
+  pub sizes : are_sizes layout_1 h.sizes ≡ true
+  pub limits : AreLimits h.sizes.cells h.sizes.elements h.sizes.slots
+
+pub good : (h : Header) (file : List ℕ) → InForce layout_1 h file → IsGood h
+good h file it =
+    let spelled : is_header layout_1 h.area (header_in (header_place h.area file)) ≡ true = (both_true _ _ it.spelled).1 in
+    let is : is_header layout_1 h.area h ≡ true = subst (λ (x : Header). is_header layout_1 h.area x ≡ true) it.fields spelled in
+    let e = both_true _ (are_sizes layout_1 h.sizes) is in
+    let d = both_true _ (nat_le h.count LAST) e.0 in
+    let c = both_true _ (nat_le h.generation LAST) d.0 in
+    let b = both_true _ (nat_le 1 h.generation) c.0 in
+    let a = both_true (h.version == 1) (h.area == h.area) b.0 in
+    record {
+      version = same_number _ _ a.0;
+      area = it.number;
+      from_one = least _ _ b.1;
+      to_last = least _ _ c.1;
+      count = least _ _ d.1;
+      sizes = e.1;
+      limits = limits_of h.sizes e.1;
+    }
+
+-- the next header may take the place of the one in force
+pub follows : (h : Header) (count : ℕ) → IsGood h → h.generation < LAST → count ≤ LAST → Follows layout_1 h (next_header h count)
+follows h count g later few = record {
+  area = refl;
+  later = omega arith;
+  sizes = refl;
+  fits = record {
+    version = omega (arith, g.version);
+    generation = omega (arith, later);
+    count = omega (arith, few);
+    cells = omega (arith, g.limits.few_cells);
+    elements = omega (arith, g.limits.few_elements);
+    slots = omega (arith, g.limits.few_slots);
+  };
+  good = joined _ (are_sizes layout_1 h.sizes) (joined _ (nat_le count LAST) (joined _ (nat_le (h.generation + 1) LAST) (joined _ (nat_le 1 (h.generation + 1))
+      (joined (h.version == 1) (1 - h.area == 1 - h.area) (same_itself _ _ g.version) (same_itself _ _ refl)) (is_least _ _ (omega arith))) (is_least _ _ (omega (arith, later)))) (is_least _ _ few)) g.sizes;
+}
+
+-- where the other area lies
+
+pub area_from : (bytes area : ℕ) → 8192 ≤ 8192 + bytes * area
+area_from bytes area = omega arith
+
+pub area_to : (bytes area : ℕ) → 8192 + bytes * (1 - area) + bytes ≤ 8192 + bytes * 2
+area_to bytes zero = omega arith
+area_to bytes (suc n) = by_zero (1 - suc n) (omega arith)
+  where
+    by_zero : (k : ℕ) → k ≡ 0 → 8192 + bytes * k + bytes ≤ 8192 + bytes * 2
+    by_zero zero is = omega arith
+    by_zero (suc k) is = absurd (omega (arith, is))
+
+pub place_to : (area : ℕ) → 4096 * (1 - area) + 64 ≤ 8192
+place_to area = omega arith

@@ -1,0 +1,10 @@
+pub mod Bytes
+pub mod Headers
+pub mod Files
+pub mod Pages
+pub mod Takeover
+pub mod Moments
+pub mod PageLists
+pub mod Turning
+pub mod Sweeping
+pub mod Fitting

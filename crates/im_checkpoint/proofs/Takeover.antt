@@ -1,0 +1,143 @@
+-- The next header: behind its closed gate, and in force.
+use Rattle.std.proofs.Common.{◌≡◌, ◌⊎◌, inl, ⊎_elim, ℕ, ◌+◌, ◌-◌, ◌*◌, ◌<◌, ◌≤◌, ◌==◌, true, false, List, [], ◌∷◌, length, get_or, drop, slice_range, Some, refl, sym, ◌∙◌, ap, subst, arith, length-drop}
+use Rattle.std.proofs.lemmas.List.{ext_get_or}
+use Rattle.im_types.specs.Bytes.{open_gate}
+use Rattle.im_types.specs.Contents.{Contents}
+use Rattle.im_types.specs.Layout.{layout_1}
+use Rattle.im_types.specs.Header.{Header, header_place, header_body, is_open_header}
+use Rattle.im_types.specs.Pages.{Shows}
+use Rattle.im_types.specs.Meaning.{accept_each}
+use Rattle.im_disk.specs.Moment.{overlaid}
+use Rattle.im_disk.specs.Since.{SameBut}
+use Rattle.im_disk.proofs.OverlayLemmas.{overlaid_inside}
+use Rattle.im_journal.specs.Holding.{JournalState, Holds}
+use Rattle.im_meaning.specs.Images.{other, IsImage, Follows, IsPrepared}
+use Rattle.im_meaning.proofs.Meanings.{opened_image, one_of_two}
+use Rattle.im_checkpoint.specs.Step.{Taken, Step, NoCheckpoint, Synced, CheckpointState}
+use Rattle.im_checkpoint.specs.Turns.{next_header, begun_at}
+use Rattle.im_checkpoint.specs.Keeping.{MeansWith, IsTaken, other_area, KeepsStep, Keeps}
+use Rattle.im_checkpoint.proofs.Bytes.{same_overlaid, same_wider, same_then, range_byte, range_length}
+use Rattle.im_checkpoint.proofs.Headers.{follows, place_to}
+use Rattle.im_checkpoint.proofs.Files.{Still, accept_later, means_of, gate_is, facts, some, enough, size, still_means, still_behind_gate, holds_still, area_stays}
+
+module _ (c : CheckpointState) (m : Contents) (j : JournalState) (file : List ℕ) (it : Keeps c m j file) (taken : Taken) (is : c.step ≡ Synced taken) (body : List ℕ) (body_is : body ≡ header_body (next_header c.header taken.count)) (body_size : length body ≡ 63) where
+  abbrev next : Header
+  next = next_header c.header taken.count
+
+  -- where the other header stands
+  abbrev place : ℕ
+  place = 4096 * other c.header
+
+  known : IsTaken c.header it.shown it.commands taken × (other_area c.header file ≡ taken.area) × (is_open_header (header_place (other c.header) file) ≡ false)
+  known = subst (λ (s : Step). KeepsStep c.header it.shown it.commands s file) is it.step
+
+  place_low : 4096 * other c.header + 64 ≤ 8192
+  place_low = place_to c.header.area
+
+  place_fits : 4096 * other c.header + 64 ≤ length file
+  place_fits = omega (arith, place_low, size c m j file it)
+
+  pub body_fits : 4096 * other c.header + 1 + length body ≤ length file
+  body_fits = omega (arith, place_fits, body_size)
+
+  -- the body is being written, behind a closed gate
+  pub body_torn : (d : List ℕ) → SameBut (4096 * other c.header + 1) (length body) file d → MeansWith m j d
+  body_torn d but = still_means c m j file it d (still_behind_gate c m j file it d known.2 (subst (λ (n : ℕ). SameBut (4096 * other c.header + 1) n file d) body_size but))
+
+  -- the body is written
+  abbrev staged : List ℕ
+  staged = overlaid file (4096 * other c.header + 1) body
+
+  staged_but : SameBut (4096 * other c.header + 1) (length body) file staged
+  staged_but = same_overlaid file (4096 * other c.header + 1) body body_fits
+
+  staged_63 : SameBut (4096 * other c.header + 1) 63 file staged
+  staged_63 = subst (λ (n : ℕ). SameBut (4096 * other c.header + 1) n file staged) body_size staged_but
+
+  staged_still : Still c m j file it staged
+  staged_still = still_behind_gate c m j file it staged known.2 staged_63
+
+  staged_gate : is_open_header (header_place (other c.header) staged) ≡ false
+  staged_gate =
+      gate_is (other c.header) staged
+      ∙ ap (λ (b : ℕ). b == open_gate) (staged_but.same (4096 * other c.header) (inl (omega arith)))
+      ∙ sym (gate_is (other c.header) file)
+      ∙ known.2
+
+  staged_fits : 4096 * other c.header + 64 ≤ length staged
+  staged_fits = omega (arith, place_fits, staged_but.size)
+
+  staged_body : slice_range (header_place (other c.header) staged) 1 64 ≡ body
+  staged_body =
+      let whole : length (header_place (other c.header) staged) ≡ (4096 * other c.header + 64) - 4096 * other c.header = range_length staged (4096 * other c.header) (4096 * other c.header + 64) (omega arith) staged_fits in
+      let part : length (slice_range (header_place (other c.header) staged) 1 64) ≡ 64 - 1 = range_length (header_place (other c.header) staged) 1 64 (omega arith) (omega (arith, whole)) in
+      ext_get_or 0 (slice_range (header_place (other c.header) staged) 1 64) body (omega (arith, part, body_size)) (λ i lt.
+      let low : i < 63 = omega (arith, part, lt) in
+      range_byte (header_place (other c.header) staged) 1 64 i (omega (arith, low))
+      ∙ range_byte staged (4096 * other c.header) (4096 * other c.header + 64) (1 + i) (omega (arith, low))
+      ∙ overlaid_inside file (4096 * other c.header + 1) body body_fits (4096 * other c.header + (1 + i)) (omega arith) (omega (arith, low, body_size))
+      ∙ ap (λ (k : ℕ). get_or body k 0) (omega arith))
+
+  prepared : IsPrepared layout_1 c.header next known.0.memory staged
+  prepared = record {
+    closed = staged_gate;
+    body = staged_body ∙ body_is;
+    shows = subst (λ (area : List ℕ). Shows layout_1 c.header.sizes area known.0.memory) (sym (area_stays c m j file it (4096 * other c.header + 1) 63 staged staged_63 (omega (arith, place_low)) ∙ known.1)) known.0.shows;
+  }
+
+  follow : Follows layout_1 c.header next
+  follow = follows c.header taken.count (facts c m j file it) known.0.later known.0.to_last
+
+  left_over : accept_each known.0.memory (drop known.0.many it.commands) ≡ Some m
+  left_over = accept_later known.0.many it.shown known.0.memory m it.commands known.0.accepts it.accepts
+
+  left_count : j.count ≡ taken.count + length (drop known.0.many it.commands)
+  left_count = omega (arith, it.count, known.0.count, known.0.few, length-drop known.0.many it.commands)
+
+  -- the gate is being opened
+  module _ (d : List ℕ) (but : SameBut (4096 * other c.header) 1 staged d) where
+    either : IsImage layout_1 c.header it.shown it.commands it.there d ⊎ IsImage layout_1 next known.0.memory (drop known.0.many it.commands) it.there d
+    either = one_of_two layout_1 c.header next it.shown known.0.memory it.commands it.there known.0.many staged d staged_still.image (some c m j file it) follow prepared but known.0.count known.0.few
+
+    pub gate_torn : MeansWith m j d
+    gate_torn = ⊎_elim
+        (λ image. means_of c.header m j it.shown it.commands it.there d image it.accepts it.count (enough c m j file it))
+        (λ image. means_of next m j known.0.memory (drop known.0.many it.commands) it.there d image left_over left_count (enough c m j file it))
+        either
+
+  -- the gate is open
+  abbrev opened_file : List ℕ
+  opened_file = overlaid staged (4096 * other c.header) (open_gate ∷ [])
+
+  pub gate_fits : 4096 * other c.header + 1 ≤ length staged
+  gate_fits = omega (arith, staged_fits)
+
+  opened_but : SameBut (4096 * other c.header) 1 staged opened_file
+  opened_but = same_overlaid staged (4096 * other c.header) (open_gate ∷ []) gate_fits
+
+  opened_gate : is_open_header (header_place (other c.header) opened_file) ≡ true
+  opened_gate =
+      gate_is (other c.header) opened_file
+      ∙ ap (λ (b : ℕ). b == open_gate) (overlaid_inside staged (4096 * other c.header) (open_gate ∷ []) gate_fits (4096 * other c.header) (omega arith) (omega arith) ∙ ap (λ (k : ℕ). get_or (open_gate ∷ []) k 0) none)
+    where
+      none : 4096 * other c.header - 4096 * other c.header ≡ 0
+      none = omega arith
+
+  opened_place : SameBut (4096 * other c.header) 64 file opened_file
+  opened_place = same_then (4096 * other c.header) 64 file staged opened_file
+      (same_wider (4096 * other c.header + 1) 63 (4096 * other c.header) 64 file staged staged_63 (omega arith) (omega arith))
+      (same_wider (4096 * other c.header) 1 (4096 * other c.header) 64 staged opened_file opened_but (omega arith) (omega arith))
+
+  pub in_force_kept : ((f : List ℕ) → Holds j f → Holds (begun_at taken.count j) f) → Keeps (record { header = next; step = NoCheckpoint }) m (begun_at taken.count j) opened_file
+  in_force_kept later = record {
+    shown = known.0.memory;
+    commands = drop known.0.many it.commands;
+    there = it.there;
+    image = opened_image layout_1 c.header next it.shown known.0.memory it.commands it.there known.0.many staged opened_file staged_still.image (some c m j file it) follow prepared opened_but known.0.count known.0.few opened_gate;
+    accepts = left_over;
+    count = left_count;
+    ring = it.ring;
+    first = refl;
+    journal = later opened_file (holds_still c m j file it (4096 * other c.header) 64 opened_file opened_place place_low);
+    step = tt;
+  }

@@ -1,0 +1,47 @@
+use Rattle.std.proofs.Common.{List, ℕ, subst, sym}
+use Rattle.im_journal.specs.Holding.{JournalState, Holds}
+use Rattle.im_types.specs.Header.{Header}
+use Rattle.im_image.specs.Headers.{seen}
+use Rattle.im_checkpoint.specs.Step.{CheckpointState, NoCheckpoint}
+use Rattle.im_checkpoint.specs.Turns.{begun_at}
+use Rattle.im_checkpoint.specs.Keeping.{IsKept}
+use Rattle.im_checkpoint.proofs.PageLists.{state_synced}
+use Rattle.im_checkpoint.proofs.checkpoint.Checkpoint.put_in_force.Goals as goal
+
+pub returns-in-Err-clause-leaves : goal.returns-in-Err-clause-leaves
+returns-in-Err-clause-leaves g c = λ h m kept.
+    let e = c.self.inside in
+    let is = state_synced c.args.self.now (seen e.header) e.progress (record { count = e.count; area = e.area.items }) e.pages.items e.written c.self.view_is c.requires.step in
+    let before = subst (λ (s : CheckpointState). IsKept s m c.args.journal.now (g.D.Disk.now c.args.disk.now)) is kept in
+    c.open_next.ensures.leaves h (seen e.header) (record { count = e.count; area = e.area.items }) m c.args.journal.now c.next_header-next.ensures.next before
+
+pub returns-in-Err-clause-now : goal.returns-in-Err-clause-now
+returns-in-Err-clause-now g c = λ h m kept.
+    let e = c.self.inside in
+    let is = state_synced c.args.self.now (seen e.header) e.progress (record { count = e.count; area = e.area.items }) e.pages.items e.written c.self.view_is c.requires.step in
+    let before = subst (λ (s : CheckpointState). IsKept s m c.args.journal.now (g.D.Disk.now c.args.disk.now)) is kept in
+    c.open_next.ensures.now h (seen e.header) (record { count = e.count; area = e.area.items }) m c.args.journal.now c.next_header-next.ensures.next before
+
+pub returns-clause-leaves : goal.returns-clause-leaves
+returns-clause-leaves g c = λ h m kept.
+    let e = c.self.inside in
+    let is = state_synced c.args.self.now (seen e.header) e.progress (record { count = e.count; area = e.area.items }) e.pages.items e.written c.self.view_is c.requires.step in
+    let before = subst (λ (s : CheckpointState). IsKept s m c.args.journal.now (g.D.Disk.now c.args.disk.now)) is kept in
+    c.open_next.ensures.leaves h (seen e.header) (record { count = e.count; area = e.area.items }) m c.args.journal.now c.next_header-next.ensures.next before
+
+pub returns-clause-now : goal.returns-clause-now
+returns-clause-now g c = λ h m kept.
+    let e = c.self.inside in
+    let is = state_synced c.args.self.now (seen e.header) e.progress (record { count = e.count; area = e.area.items }) e.pages.items e.written c.self.view_is c.requires.step in
+    let before = subst (λ (s : CheckpointState). IsKept s m c.args.journal.now (g.D.Disk.now c.args.disk.now)) is kept in
+    c.open_next.ensures.now h (seen e.header) (record { count = e.count; area = e.area.items }) m c.args.journal.now c.next_header-next.ensures.next before
+
+pub returns-clause-kept : goal.returns-clause-kept
+returns-clause-kept g c = λ h m kept.
+    let e = c.self.inside in
+    let is = state_synced c.args.self.now (seen e.header) e.progress (record { count = e.count; area = e.area.items }) e.pages.items e.written c.self.view_is c.requires.step in
+    let before = subst (λ (s : CheckpointState). IsKept s m c.args.journal.now (g.D.Disk.now c.args.disk.now)) is kept in
+    let later : (file : List ℕ) → Holds c.args.journal.now file → Holds (begun_at e.count c.args.journal.now) file = λ file held. subst (λ (k : JournalState). Holds k file) c.begin_later.ensures.state (c.begin_later.ensures.holds file held) in
+    subst (λ (k : JournalState). IsKept (record { header = seen c.next_header-next.result; step = NoCheckpoint }) m k (g.D.Disk.now c.open_next.new.disk)) (sym c.begin_later.ensures.state)
+    (subst (λ (x : Header). IsKept (record { header = x; step = NoCheckpoint }) m (begun_at e.count c.args.journal.now) (g.D.Disk.now c.open_next.new.disk)) (sym c.next_header-next.ensures.next)
+    (c.in_default.ensures.kept h (seen e.header) (record { count = e.count; area = e.area.items }) m c.args.journal.now c.next_header-next.ensures.next before later))

@@ -1,0 +1,87 @@
+//! What a checkpoint's turns write in the place of the header that isn't in force.
+ghost use Rattle.std.specs.Prelude.{◌≡◌, ◌+◌, ◌<◌, ◌≤◌, List, ℕ, length, OnOk};
+ghost use Rattle.im_types.specs.Contents.{Contents};
+ghost use Rattle.im_types.specs.Header as definition;
+ghost use Rattle.im_disk.specs.Moment.{Counts};
+ghost use Rattle.im_disk.specs.Since.{Leaves, LeavesNow};
+ghost use Rattle.im_journal.specs.Holding.{JournalState, Holds};
+ghost use Rattle.im_image.specs.Headers.{seen};
+ghost use Rattle.im_checkpoint.specs.Step.{Taken, NoCheckpoint, PagesDone, Synced};
+ghost use Rattle.im_checkpoint.specs.Turns.{next_header, begun_at};
+ghost use Rattle.im_checkpoint.specs.Keeping.{MeansWith, IsKept};
+
+use im_disk::{DeviceFault, Disk};
+use im_image::{Header, OPEN, PAGE};
+use im_types::LAST;
+
+const CLOSED: u8 = 0;
+
+/// The header of the other area, once it has so many commands.
+pub(crate) fn next_header(header: &Header, count: u64) -> Header
+    requires area { header.now.area ≤ 1 }
+    requires later { header.now.generation < LAST }
+    ensures next { seen result ≡ next_header (seen header.now) count }
+    ensures area { result.area ≤ 1 }
+{
+    Header {
+        version: header.version,
+        area: 1 - header.area,
+        generation: header.generation + 1,
+        count,
+        limits: header.limits,
+    }
+}
+
+/// Puts all that was written on the disk, and the other header's gate is closed then. All pages are written.
+pub(crate) fn close_other<D: Disk>(disk: &mut D, header: &Header) -> Result<(), DeviceFault>
+    requires area { header.now.area ≤ 1 }
+    requires inside { D.honest disk.old → 8192 ≤ length (D.now disk.old).bytes }
+    ensures leaves { D.honest disk.new → (taken : Taken) (m : Contents) (j : JournalState)
+        → IsKept (record { header = seen header.now; step = PagesDone taken }) m j (D.now disk.old)
+        → Leaves (D.now disk.old) (D.now disk.new) (D.past disk.old) (D.past disk.new) (MeansWith m j) }
+    ensures now { D.honest disk.new → (taken : Taken) (m : Contents) (j : JournalState)
+        → IsKept (record { header = seen header.now; step = PagesDone taken }) m j (D.now disk.old)
+        → LeavesNow (D.now disk.new) (MeansWith m j) }
+    ensures kept { OnOk result (D.honest disk.new → (taken : Taken) (m : Contents) (j : JournalState)
+        → IsKept (record { header = seen header.now; step = PagesDone taken }) m j (D.now disk.old)
+        → IsKept (record { header = seen header.now; step = Synced taken }) m j (D.now disk.new)) }
+    ensures calls { OnOk result (D.honest disk.new → length (D.past disk.new) ≤ length (D.past disk.old) + 3) }
+    ensures honest { D.honest disk.new → D.honest disk.old }
+    ensures failures { Counts result (D.failures disk.old) (D.failures disk.new) }
+{
+    let at = PAGE * (1 - header.area as usize);
+    let mut gate = [0; 1];
+    disk.read(at, &mut gate)?; // A stop leaves what was there: nothing is written.
+    if gate[0] == OPEN {
+        disk.write_at(at, &[CLOSED])?; // A header of a lower generation: it isn't in force, whatever a stop leaves of its gate.
+        return disk.sync(); // The same.
+    }
+    // A closed gate isn't written: a stop within the write could open it, over what an earlier stop left of a header.
+    disk.sync() // Nobody reads what was written since the last sync.
+}
+
+/// Writes the next header behind its closed gate, and then opens the gate.
+pub(crate) fn open_next<D: Disk>(disk: &mut D, next: &Header) -> Result<(), DeviceFault>
+    requires area { next.now.area ≤ 1 }
+    requires inside { D.honest disk.old → 8192 ≤ length (D.now disk.old).bytes }
+    ensures leaves { D.honest disk.new → (h : definition.Header) (taken : Taken) (m : Contents) (j : JournalState)
+        → seen next.now ≡ next_header h taken.count → IsKept (record { header = h; step = Synced taken }) m j (D.now disk.old)
+        → Leaves (D.now disk.old) (D.now disk.new) (D.past disk.old) (D.past disk.new) (MeansWith m j) }
+    ensures now { D.honest disk.new → (h : definition.Header) (taken : Taken) (m : Contents) (j : JournalState)
+        → seen next.now ≡ next_header h taken.count → IsKept (record { header = h; step = Synced taken }) m j (D.now disk.old)
+        → LeavesNow (D.now disk.new) (MeansWith m j) }
+    ensures kept { OnOk result (D.honest disk.new → (h : definition.Header) (taken : Taken) (m : Contents) (j : JournalState)
+        → seen next.now ≡ next_header h taken.count → IsKept (record { header = h; step = Synced taken }) m j (D.now disk.old)
+        → ((file : List ℕ) → Holds j file → Holds (begun_at taken.count j) file)
+        → IsKept (record { header = next_header h taken.count; step = NoCheckpoint }) m (begun_at taken.count j) (D.now disk.new)) }
+    ensures calls { OnOk result (D.honest disk.new → length (D.past disk.new) ≡ length (D.past disk.old) + 4) }
+    ensures honest { D.honest disk.new → D.honest disk.old }
+    ensures failures { Counts result (D.failures disk.old) (D.failures disk.new) }
+{
+    let bytes = next.spell();
+    let at = PAGE * next.area as usize;
+    disk.write_at(at + 1, &bytes[1..])?; // The gate is closed on the disk: nobody reads what a stop leaves behind it.
+    disk.sync()?; // The same, until the header is on the disk, as its pages are already.
+    disk.write_at(at, &bytes[..1])?; // A stop leaves the old header in force, or the new one, which means the same.
+    disk.sync() // The same. Once this is done the new header is in force for good.
+}

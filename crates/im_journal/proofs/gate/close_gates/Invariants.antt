@@ -1,0 +1,11 @@
+use Rattle.std.proofs.Common.{◌≡◌}
+use Rattle.im_journal.specs.Holding.{ring_at}
+use Rattle.im_journal.proofs.Closing.{IsClosing}
+use Rattle.im_journal.proofs.gate.close_gates.Given as goal
+
+abbrev pub invariant-loop-i : goal.invariant-loop-i
+invariant-loop-i g l = record {
+  honest : g.D.Disk.honest l.disk → g.D.Disk.honest l.fn.disk;
+  closing : g.D.Disk.honest l.disk → IsClosing (ring_at l.base l.slots) l.«from» l.count l.i (g.D.Disk.now l.fn.disk) (g.D.Disk.now l.disk) (g.D.Disk.past l.fn.disk) (g.D.Disk.past l.disk);
+  failures : g.D.Disk.failures l.disk ≡ g.D.Disk.failures l.fn.disk;
+}
