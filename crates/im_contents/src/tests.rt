@@ -5,6 +5,7 @@ use im_types::{
     Reply, Waiter,
 };
 use std::alloc::{AllocError, Global};
+use std::process::Abort;
 use std::test::Fail;
 
 const FREE_CELL: CellRecord = CellRecord::Free {
@@ -336,121 +337,132 @@ fn read_of_two(
     read_contents(alloc, limits, cells, nodes, &windows)
 }
 
+// Two cells and four nodes in some states, and two entries.
+#[derive(Clone, Copy)]
+struct Parts {
+    i_cell: [CellRecord; 2],
+    pair: [CellRecord; 2],
+    m_cell: [CellRecord; 2],
+    nobody: [CellRecord; 2],
+    one: [NodeRecord; 4],
+    both: [NodeRecord; 4],
+    twice: [NodeRecord; 4],
+    none: [NodeRecord; 4],
+    answered: Kept,
+    fetch: Kept,
+}
+
+fn some_parts() -> Parts {
+    let free = FREE_NODE;
+    let of_m = cell(0, 1, Kind::M, PresenceTag::Waiting { first: 0, last: 0 });
+    Parts {
+        i_cell: [waited_for(0, 0, 0), FREE_CELL],
+        pair: [waited_for(0, 0, 1), FREE_CELL],
+        m_cell: [of_m, FREE_CELL],
+        nobody: [cell(0, 1, Kind::I, PresenceTag::Empty), FREE_CELL],
+        one: [node(NONE, 0, 1), free, free, free],
+        both: [node(1, 0, 1), node(NONE, 1, 1), free, free],
+        twice: [node(1, 0, 1), node(NONE, 0, 1), free, free],
+        none: [free; 4],
+        answered: kept(Op::Fetch(0), Entry::Answered(Reply::Value(3))),
+        fetch: waiting(Op::Fetch(0)),
+    }
+}
+
+// What it is, the cells, the nodes, and the entries of the first and of the second element.
+type Case<'a> = (
+    &'a str,
+    [CellRecord; 2],
+    [NodeRecord; 4],
+    &'a [Kept],
+    &'a [Kept],
+);
+
+// Reads each case, and looks whether it is refused so.
+fn are_read(rt: &impl Abort, alloc: Global, cases: &[Case<'_>], expected: Option<Refusal>) {
+    for (what, cells, nodes, first, second) in cases {
+        let read = read_of_two(alloc, cells, nodes, first, second);
+        assert_eq!(rt; refusal(read), expected, "{what}");
+    }
+}
+
 #[test]
 fn who_waits_has_a_waiting_entry_for_that_cell(rt: HostRuntime) {
-    let free = FREE_NODE;
-    let i_cell = [waited_for(0, 0, 0), FREE_CELL];
-    let pair = [waited_for(0, 0, 1), FREE_CELL];
-    let m_cell = [
-        cell(0, 1, Kind::M, PresenceTag::Waiting { first: 0, last: 0 }),
-        FREE_CELL,
+    let p = some_parts();
+    let take = waiting(Op::Take(0));
+    let cases = [
+        (
+            "nobody waits",
+            p.nobody,
+            p.none,
+            &[p.answered] as &[Kept],
+            &[] as &[Kept],
+        ),
+        ("one fetch waits", p.i_cell, p.one, &[p.fetch], &[]),
+        ("two fetches wait", p.pair, p.both, &[p.fetch], &[p.fetch]),
+        ("a take waits", p.m_cell, p.one, &[take], &[]),
+        (
+            "one waits, one is answered",
+            p.i_cell,
+            p.one,
+            &[p.fetch],
+            &[p.answered],
+        ),
     ];
-    let nobody = [cell(0, 1, Kind::I, PresenceTag::Empty), FREE_CELL];
-    let one = [node(NONE, 0, 1), free, free, free];
-    let both = [node(1, 0, 1), node(NONE, 1, 1), free, free];
-    let twice = [node(1, 0, 1), node(NONE, 0, 1), free, free];
-    let none = [free; 4];
-    let answered = kept(Op::Fetch(0), Entry::Answered(Reply::Value(3)));
-    let fetch = waiting(Op::Fetch(0));
-    let rows: [(
-        &str,
-        [CellRecord; 2],
-        [NodeRecord; 4],
-        &[Kept],
-        &[Kept],
-        bool,
-    ); 15] = [
-        ("nobody waits", nobody, none, &[answered], &[], true),
-        ("one fetch waits", i_cell, one, &[fetch], &[], true),
-        ("two fetches wait", pair, both, &[fetch], &[fetch], true),
+    are_read(&rt, rt.alloc(), &cases, None);
+}
+
+#[test]
+fn an_entry_that_no_list_holds_once_is_refused(rt: HostRuntime) {
+    let p = some_parts();
+    let cases = [
         (
-            "a take waits",
-            m_cell,
-            one,
-            &[waiting(Op::Take(0))],
-            &[],
-            true,
-        ),
-        (
-            "one waits and one is answered",
-            i_cell,
-            one,
-            &[fetch],
-            &[answered],
-            true,
-        ),
-        (
-            "an entry that no list holds",
-            nobody,
-            none,
-            &[fetch],
-            &[],
-            false,
+            "no list",
+            p.nobody,
+            p.none,
+            &[p.fetch] as &[Kept],
+            &[] as &[Kept],
         ),
         (
             "an entry beside the list",
-            i_cell,
-            one,
-            &[fetch],
-            &[fetch],
-            false,
+            p.i_cell,
+            p.one,
+            &[p.fetch],
+            &[p.fetch],
         ),
         (
             "two nodes for one request",
-            pair,
-            twice,
-            &[fetch],
+            p.pair,
+            p.twice,
+            &[p.fetch],
             &[],
-            false,
         ),
-        (
-            "as many nodes as entries, and one request twice",
-            pair,
-            twice,
-            &[fetch],
-            &[fetch],
-            false,
-        ),
-        (
-            "an entry for another cell",
-            i_cell,
-            one,
-            &[waiting(Op::Fetch(1))],
-            &[],
-            false,
-        ),
-        (
-            "a take at an I cell",
-            i_cell,
-            one,
-            &[waiting(Op::Take(0))],
-            &[],
-            false,
-        ),
-        ("a fetch at an M cell", m_cell, one, &[fetch], &[], false),
-        (
-            "an entry that is answered",
-            i_cell,
-            one,
-            &[answered],
-            &[],
-            false,
-        ),
-        ("a request without an entry", i_cell, one, &[], &[], false),
-        (
-            "an element without a window",
-            i_cell,
-            [node(NONE, 2, 1), free, free, free],
-            &[],
-            &[],
-            false,
-        ),
+        ("one request twice", p.pair, p.twice, &[p.fetch], &[p.fetch]),
+        ("an answered entry", p.i_cell, p.one, &[p.answered], &[]),
+        ("a request without an entry", p.i_cell, p.one, &[], &[]),
     ];
-    for (what, cells, nodes, first, second, shown) in rows {
-        let expected = if shown { None } else { Some(Refusal::BadPage) };
-        let read = read_of_two(rt.alloc(), &cells, &nodes, first, second);
-        assert_eq!(rt; refusal(read), expected, "{what}");
-    }
+    are_read(&rt, rt.alloc(), &cases, Some(Refusal::BadPage));
+}
+
+#[test]
+fn an_entry_for_another_cell_or_element_is_refused(rt: HostRuntime) {
+    let p = some_parts();
+    let free = FREE_NODE;
+    let stranger = [node(NONE, 2, 1), free, free, free];
+    let (other, take) = (waiting(Op::Fetch(1)), waiting(Op::Take(0)));
+    let cases = [
+        (
+            "another cell",
+            p.i_cell,
+            p.one,
+            &[other] as &[Kept],
+            &[] as &[Kept],
+        ),
+        ("a take at an I cell", p.i_cell, p.one, &[take], &[]),
+        ("a fetch at an M cell", p.m_cell, p.one, &[p.fetch], &[]),
+        ("an element without a window", p.i_cell, stranger, &[], &[]),
+    ];
+    are_read(&rt, rt.alloc(), &cases, Some(Refusal::BadPage));
 }
 
 #[test]

@@ -73,6 +73,18 @@ impl FileDisk {
             Err(_) => Err(Refusal::Device),
         }
     }
+
+    /// Opens the file at the path to read it alone: each write to it fails. Refused `Device` where that fails.
+    pub fn open_to_read<R: Files<File = File>>(rt: &R, path: &str) -> Result<FileDisk, Refusal>
+        ensures refused { IfErr result (λ refusal. refusal ≡ Refusal.Device) }
+        ensures failures { IfOk result (λ disk. ⟦<FileDisk as Disk>⟧.failures disk ≡ 0) }
+        ensures honest { IfOk result (λ disk. ⟦<FileDisk as Disk>⟧.honest disk) }
+    {
+        match OpenOptions::new().read(true).open(rt, path) {
+            Ok(file) => Ok(over(file)),
+            Err(_) => Err(Refusal::Device), // It isn't there, or may not be read.
+        }
+    }
 }
 
 // The disk over a file that was opened.

@@ -337,6 +337,20 @@ fn a_file_is_made_and_opened_again(rt: HostRuntime) -> Result<(), Fail> {
 }
 
 #[test]
+fn a_file_that_is_opened_to_be_read_is_not_written(rt: HostRuntime) -> Result<(), Fail> {
+    let _ = fs::remove_dir_all(&rt, "im_disk_reading");
+    fs::create_dir(&rt, "im_disk_reading")?;
+    fs::write(&rt, "im_disk_reading/image", b"abcd".as_slice())?;
+    let mut disk = FileDisk::open_to_read(&rt, "im_disk_reading/image")?;
+    assert_eq!(rt; disk.write_at(1, &[7]), Err(DeviceFault));
+    let mut all = [0; 4];
+    disk.read(0, &mut all)?;
+    assert_eq!(rt; all, *b"abcd");
+    fs::remove_dir_all(&rt, "im_disk_reading")?;
+    Ok(())
+}
+
+#[test]
 fn a_path_that_cannot_be_made_is_refused(rt: HostRuntime) -> Result<(), Fail> {
     assert_eq!(rt;
         FileDisk::create(&rt, "im_disk_no_folder/image", 4).err(),
@@ -344,6 +358,10 @@ fn a_path_that_cannot_be_made_is_refused(rt: HostRuntime) -> Result<(), Fail> {
     );
     assert_eq!(rt;
         FileDisk::open(&rt, "im_disk_no_folder/image").err(),
+        Some(Refusal::Device)
+    );
+    assert_eq!(rt;
+        FileDisk::open_to_read(&rt, "im_disk_no_folder/image").err(),
         Some(Refusal::Device)
     );
     Ok(())

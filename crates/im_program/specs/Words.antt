@@ -5,7 +5,7 @@ use Rattle.std.specs.Str.{bytes_eq}
 use Rattle.clap.specs.Words.{App, Row, Rule, Text, first_of, new_app, new_rule, subcommand_of, with_rule, with_subcommand}
 use Rattle.im_program.specs.declared.words.Work.{Work}
 use Rattle.im_program.specs.declared.words.Work.TheVariants.{Demonstration, Format, Serial, Inspect}
-use Rattle.im_program.specs.Grammar.{number_up_to}
+use Rattle.im_script.specs.Grammar.{number_up_to}
 
 -- ---- what a parse reads of the command line
 

@@ -5,10 +5,10 @@ ghost use Rattle.im_engine.specs.State.{MeansState};
 ghost use Rattle.im_program.specs.Serving.{Closed, NotOpened, OnlyPuts, Served};
 
 use crate::replies::{add_line, add_now, add_refusal};
-use crate::script::Script;
 use im_checkpoint::TurnDone;
 use im_disk::Disk;
 use im_engine::Engine;
+use im_script::Script;
 use im_types::{Command, Entry, Op, Outcome, Refusal, Reply, Request, WINDOW};
 use std::alloc::Global;
 

@@ -1,6 +1,7 @@
 use super::*;
 use im_disk::{FuseDisk, MemDisk, Mode};
 use im_engine::Engine;
+use im_script::read_script;
 use im_types::{Limits, Refusal};
 use std::alloc::Global;
 use std::test::Fail;
@@ -156,22 +157,25 @@ fn an_entry_that_was_confirmed_is_printed_as_it_was_last_kept(rt: HostRuntime) -
     Ok(())
 }
 
+// What is told of an image whose journal of 16 slots was full when its 17th command came.
+const WRAPPED: &str = concat!(
+    "version 1\nlimits 4096 16 16\nheader 1 generation 2 area 1 count 16\njournal 5 room 1\n",
+    "element 1 base 17 kept 4\nentry 1.17 fetch 5 -> nocell\nentry 1.18 fetch 5 -> nocell\n",
+    "entry 1.19 fetch 5 -> nocell\nentry 1.20 fetch 5 -> nocell\n"
+);
+
 #[test]
-fn a_full_journal_ends_the_script(rt: HostRuntime) -> Result<(), Fail> {
+fn a_full_journal_makes_room_by_a_checkpoint(rt: HostRuntime) -> Result<(), Fail> {
     let alloc = rt.alloc();
-    let first = "setup\nalloc x i 1\nelement 1\nfetch x\nelement 2\nstore x 9\nelement 3\n";
-    let script = with_lines(alloc, first, "fetch 5\n", 14)?;
-    let (status, out, _) = serve(alloc, image(alloc, LEAST)?, script.as_str())?;
-    let mut text = replies(
-        alloc,
-        "0.1 base 0\n1.1 waiting\n2.1 stored\n",
-        3,
-        13,
-        "nocell",
-    )?;
-    text.push_str("1.1 now value 9\nrefused 7 JournalFull\n")?;
+    let script = with_lines(alloc, "element 1\n", "fetch 5\n", 20)?;
+    let (status, out, disk) = serve(alloc, image(alloc, LEAST)?, script.as_str())?;
+    let text = replies(alloc, "", 1, 20, "nocell")?;
     assert_eq!(rt; out.as_str(), text.as_str());
-    assert_eq!(rt; status, 1);
+    assert_eq!(rt; status, 0);
+    let mut report = String::new(alloc);
+    let (status, _) = inspect_on(alloc, disk, &mut report);
+    assert_eq!(rt; report.as_str(), WRAPPED);
+    assert_eq!(rt; status, 0);
     Ok(())
 }
 

@@ -3,12 +3,12 @@ ghost use Rattle.std.specs.Prelude.{◌≡◌, [], true, false, Some, IfOk, IfEr
 ghost use Rattle.std.specs.Option.{option_map};
 ghost use Rattle.clap.specs.Words.{app_of, fault_of, found_of, kind_of, rows_of, rule_of, subcommand_rows_of, takes};
 ghost use Rattle.clap.specs.declared.builder.command.Command.TheViews.{out-Command};
-ghost use Rattle.im_program.specs.Grammar.{texts};
+ghost use Rattle.im_script.specs.Grammar.{texts};
 ghost use Rattle.im_program.specs.Words.{asked, format_app, format_task, imem_app, inspect_app, inspect_task, number_in, option_rule, path_in, path_rule, serial_app, serial_task, task_in, task_of};
 
-use crate::grammar::read_u32;
 use clap::error::ErrorKind;
 use clap::{Arg, ArgMatches, Command, Error};
+use im_script::read_u32;
 use std::alloc::{AllocError, Global};
 
 /// How many cells an image has, where the words don't say.

@@ -3,12 +3,12 @@ ghost use Rattle.std.specs.Prelude.{◌≡◌, ◌↔◌, ◌≤◌, IsOk, IfOk,
 ghost use Rattle.im_types.specs.Sizes.{AreLimits};
 
 use crate::inspecting::inspect_on;
-use crate::script::{Script, read_script};
 use crate::serial::{end, serial_on};
 use crate::words::{DEFAULT_CELLS, DEFAULT_ELEMENTS, DEFAULT_SLOTS, Work};
 use im_disk::{FileDisk, MemDisk};
 use im_engine::Engine;
 use im_image::image_length;
+use im_script::{Script, read_script};
 use im_types::{Limits, Refusal};
 use std::alloc::Global;
 use std::fs::{self, File};
@@ -84,7 +84,7 @@ fn inspect_file<R: Files<File = File> + AllocGlobal>(
 ) -> Result<u8, Refusal>
     ensures status { IfOk result (λ status. status ≤ 1) }
 {
-    let disk = FileDisk::open(rt, image)?;
+    let disk = FileDisk::open_to_read(rt, image)?;
     let (status, _) = inspect_on(rt.alloc(), disk, out);
     Ok(status)
 }

@@ -6,6 +6,7 @@ use std::process::Abort;
 use std::test::Fail;
 
 mod crashes;
+mod rows;
 mod torn;
 
 const CELLS: u32 = 24;

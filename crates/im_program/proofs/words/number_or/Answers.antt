@@ -3,7 +3,7 @@ use Rattle.std.specs.Prelude.{Option, Some, None}
 use Rattle.std.specs.Option.{option_map, option_map_or}
 use Rattle.clap.specs.Words.{Text, first_of, found_of, rows_of}
 use Rattle.clap.proofs.WalkLemmas.{first_value-rows}
-use Rattle.im_program.specs.Grammar.{number_up_to}
+use Rattle.im_script.specs.Grammar.{number_up_to}
 use Rattle.im_program.proofs.words.number_or.Goals as goal
 
 pub returns-in-Some : goal.returns-in-Some

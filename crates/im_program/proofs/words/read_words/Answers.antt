@@ -1,6 +1,6 @@
 use Rattle.std.proofs.Common.{◌≡◌, ◌∙◌, ap, true}
 use Rattle.clap.specs.Words.{App, app_of, takes}
-use Rattle.im_program.specs.Grammar.{texts}
+use Rattle.im_script.specs.Grammar.{texts}
 use Rattle.im_program.proofs.words.read_words.Goals as goal
 
 pub returns-in-Err-try_get_matches_from-clause-taken : goal.returns-in-Err-try_get_matches_from-clause-taken

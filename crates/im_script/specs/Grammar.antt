@@ -1,0 +1,67 @@
+-- The words of a script, as functions from the bytes to what they say. (Own.)
+use Rattle.std.specs.Prelude.{ℕ, ◌+◌, ◌-◌, ◌*◌, ◌^◌, ◌==◌, ◌&&◌, ◌||◌, Bool, not, nat_le, nat_lt, List, [], ◌∷◌, length, map, drop, Option, Some, None, if◌then◌else◌, codes, slice_index_or}
+use Rattle.std.specs.Borrow.{Bor}
+use Rattle.std.specs.Char.{is_ascii_digit, is_ascii_lowercase}
+use Rattle.std.specs.List.{filter, list_all, slice_split, before_first, position, position_or_len}
+use Rattle.std.specs.Option.{option_map, option_and_then, option_or}
+use Rattle.std.specs.Str.{bytes_eq, all_ascii_digits}
+use Rattle.std.specs.Str.Parse.{digits_value}
+use Rattle.im_types.specs.declared.operations.Kind.{Kind}
+use Rattle.im_types.specs.declared.operations.Kind.TheVariants.{I, M}
+use Rattle.im_script.specs.declared.places.Place.{Place}
+use Rattle.im_script.specs.declared.places.Place.TheVariants.{Address, Named}
+
+-- ---- words
+
+-- the bytes of borrowed texts
+abbrev pub texts : List (Bor (List ℕ)) → List (List ℕ)
+texts borrowed = map (λ t. t.now) borrowed
+
+-- the words of a line: its parts between spaces, but for the empty ones
+abbrev pub words_of : List ℕ → List (List ℕ)
+words_of line = filter (λ word. not (length word == 0)) (slice_split (λ byte. byte == 32) line)
+
+-- ---- numbers
+
+-- n with a digit after its own, where the byte is one and a u64 has the number
+abbrev pub digit_after : ℕ → ℕ → Option ℕ
+digit_after n digit = if is_ascii_digit digit && nat_lt (n * 10 + (digit - 48)) (2 ^ 64) then Some (n * 10 + (digit - 48)) else None
+
+-- whether a text is decimal digits, one or more and nothing else
+abbrev pub is_numeral : List ℕ → Bool
+is_numeral text = nat_lt 0 (length text) && all_ascii_digits text
+
+-- the number that a text writes in decimal digits, where it is at most `most`
+abbrev pub number_up_to : ℕ → List ℕ → Option ℕ
+number_up_to most text = if is_numeral text && nat_le (digits_value 10 text) most then Some (digits_value 10 text) else None
+
+-- ---- kinds and names
+
+-- the kind that a word names
+abbrev pub kind_of : List ℕ → Option Kind
+kind_of word = if bytes_eq word (codes "i") then Some I else (if bytes_eq word (codes "m") then Some M else None)
+
+-- a to z, or 0 to 9
+abbrev pub is_name_byte : ℕ → Bool
+is_name_byte byte = is_ascii_lowercase byte || is_ascii_digit byte
+
+-- a to z and 0 to 9, 1 to 16 of them, the first one a letter
+abbrev pub is_name : List ℕ → Bool
+is_name word = is_ascii_lowercase (slice_index_or word 0 0) && (nat_le (length word) 16 && list_all is_name_byte word)
+
+-- ---- places
+
+-- the offset that follows a name: none, or a plus and a number up to 1,048,575
+abbrev pub offset_of : List ℕ → Option ℕ
+offset_of [] = Some 0
+offset_of (plus ∷ digits) = number_up_to 1048575 digits
+
+-- a place that begins with one of the names: what stands before the first plus, or all of it, is the name
+abbrev pub place_past : List (List ℕ) → List ℕ → Option Place
+place_past names word =
+    option_and_then (λ index. option_map (Named index) (offset_of (drop (position_or_len (λ byte. byte == 43) word) word)))
+    (position (λ given. bytes_eq given (before_first (λ byte. byte == 43) word)) names)
+
+-- a place: an address, or one of the names with its offset
+abbrev pub place_of : List (List ℕ) → List ℕ → Option Place
+place_of names word = option_or (option_map Address (number_up_to 4294967295 word)) (place_past names word)

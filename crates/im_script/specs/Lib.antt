@@ -1,0 +1,4 @@
+pub mod Places
+pub mod Grammar
+pub mod Lines
+pub mod Script

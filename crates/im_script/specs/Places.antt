@@ -1,0 +1,27 @@
+-- What a place and an action come to, once the setup's bases are known. (Own.)
+use Rattle.std.specs.Prelude.{ℕ, ◌+◌, ◌^◌, nat_lt, List, Option, Some, None, slice_get, if◌then◌else◌}
+use Rattle.std.specs.Option.{option_map, option_and_then}
+use Rattle.im_types.specs.declared.operations.Op.{Op}
+use Rattle.im_types.specs.declared.operations.Op.TheVariants as op
+use Rattle.im_script.specs.declared.places.Place.{Place}
+use Rattle.im_script.specs.declared.places.Place.TheVariants.{Address, Named}
+use Rattle.im_script.specs.declared.places.Action.{Action}
+use Rattle.im_script.specs.declared.places.Action.TheVariants.{Alloc, Release, Fetch, Store, Take, Put}
+
+-- n, where a u32 has it
+abbrev pub as_u32 : ℕ → Option ℕ
+as_u32 n = if nat_lt n (2 ^ 32) then Some n else None
+
+-- the address of a place, where the setup's allocations have these bases
+abbrev pub address_of : List ℕ → Place → Option ℕ
+address_of bases (Address a) = Some a
+address_of bases (Named index offset) = option_and_then (λ base. as_u32 (base + offset)) (slice_get bases index)
+
+-- the operation of an action, where they have
+abbrev pub op_of : List ℕ → Action → Option Op
+op_of bases (Alloc kind length) = Some (op.Alloc kind length)
+op_of bases (Release place) = option_map op.Release (address_of bases place)
+op_of bases (Fetch place) = option_map op.Fetch (address_of bases place)
+op_of bases (Store place value) = option_map (λ a. op.Store a value) (address_of bases place)
+op_of bases (Take place) = option_map op.Take (address_of bases place)
+op_of bases (Put place value) = option_map (λ a. op.Put a value) (address_of bases place)

@@ -1,0 +1,160 @@
+//! The words of a line, and what one word says.
+ghost use Rattle.std.specs.Prelude.{◌≡◌, ◌==◌, ◌≤◌, IfOk, codes, drop, length};
+ghost use Rattle.std.specs.List.{before_first, list_all, position, position_or_len};
+ghost use Rattle.std.specs.Option.{option_and_then, option_map};
+ghost use Rattle.std.specs.Str.{bytes_eq};
+ghost use Rattle.im_script.specs.Grammar.{digit_after, is_name, is_name_byte, kind_of, number_up_to, offset_of, place_of, place_past, texts, words_of};
+
+use crate::places::Place;
+use crate::{MAX_NAME, MAX_OFFSET};
+use im_types::Kind;
+use std::alloc::{AllocError, Global};
+
+/// The words of a line: its parts between spaces, but for the empty ones.
+pub fn split_words<'a>(alloc: Global, line: &'a [u8]) -> Result<Vec<&'a [u8]>, AllocError>
+    ensures { IfOk result (λ words. texts words.items ≡ words_of line.entry.now) }
+{
+    line.split(|byte| *byte == b' ')
+        .filter(|word| !word.is_empty())
+        .collect(alloc)
+}
+
+/// The number whose last digit follows those of `number`. `None` where the byte is no digit, or a u64 does not have the
+/// number.
+fn append_digit(number: u64, digit: u8) -> Option<u64>
+    ensures { result ≡ digit_after number digit }
+{
+    if !digit.is_ascii_digit() {
+        return None;
+    }
+    number.checked_mul(10)?.checked_add(u64::from(digit - b'0'))
+}
+
+/// The number that a text writes in decimal digits, where it is at most `most`.
+pub fn read_number(text: &[u8], most: u64) -> Option<u64>
+    ensures { result ≡ number_up_to most text.now }
+{
+    if text.is_empty() {
+        return None;
+    }
+    let mut number = 0;
+    for digit in text {
+        number = append_digit(number, *digit)?;
+    }
+    if number <= most { Some(number) } else { None }
+}
+
+/// The number that a text writes in decimal digits, from 0 to 4,294,967,295; zeros may stand before it. `None` where the
+/// text is empty or has a byte that is no digit, or where the number is greater.
+pub fn read_u32(text: &[u8]) -> Option<u32>
+    ensures { result ≡ number_up_to u32.MAX text.now }
+{
+    match read_number(text, u32::MAX as u64) {
+        Some(number) => Some(number as u32),
+        None => None,
+    }
+}
+
+/// The kind that a word names.
+pub fn read_kind(word: &[u8]) -> Option<Kind>
+    ensures { result ≡ kind_of word.now }
+{
+    if word == b"i".as_slice() {
+        Some(Kind::I)
+    } else if word == b"m".as_slice() {
+        Some(Kind::M)
+    } else {
+        None
+    }
+}
+
+/// Whether a byte may stand in a name.
+fn may_name(byte: u8) -> bool
+    ensures { result ≡ is_name_byte byte }
+{
+    byte.is_ascii_lowercase() || byte.is_ascii_digit()
+}
+
+/// Whether each byte of a word may stand in a name.
+fn may_all_name(word: &[u8]) -> bool
+    ensures { result ≡ list_all is_name_byte word.now }
+{
+    word.iter().all(|byte| may_name(*byte))
+}
+
+/// Whether a word can be a name.
+pub fn can_name(word: &[u8]) -> bool
+    ensures { result ≡ is_name word.now }
+{
+    match word.first() {
+        Some(first) => first.is_ascii_lowercase() && word.len() <= MAX_NAME && may_all_name(word),
+        None => false,
+    }
+}
+
+/// Where a name stands among the names.
+pub fn find_name(names: &[&[u8]], name: &[u8]) -> Option<usize>
+    ensures { result ≡ position (λ given. bytes_eq given name.now) (texts names.now) }
+{
+    names.iter().position(|given| *given == name)
+}
+
+/// How many bytes of a place are its name: those before the first plus, or all.
+fn name_len(word: &[u8]) -> usize
+    ensures len { result ≡ position_or_len (λ byte. byte == 43) word.now }
+    ensures within { result ≤ length word.now }
+{
+    match word.iter().position(|byte| *byte == b'+') {
+        Some(plus) => plus,
+        None => word.len(),
+    }
+}
+
+/// The name in a place, and what follows it.
+fn split_name(word: &[u8]) -> (&[u8], &[u8])
+    ensures name { result.0.now ≡ before_first (λ byte. byte == 43) word.now }
+    ensures rest { result.1.now ≡ drop (position_or_len (λ byte. byte == 43) word.now) word.now }
+{
+    word.split_at(name_len(word))
+}
+
+/// The offset that follows a name in its place: none, or a plus and a number.
+fn read_offset(rest: &[u8]) -> Option<u32>
+    ensures { result ≡ offset_of rest.now }
+{
+    if rest.is_empty() {
+        return Some(0);
+    }
+    match read_number(&rest[1..], MAX_OFFSET) {
+        Some(offset) => Some(offset as u32),
+        None => None,
+    }
+}
+
+/// A place by a name's index and an offset, where there are both.
+fn make_place(index: Option<usize>, offset: Option<u32>) -> Option<Place>
+    ensures { result ≡ option_and_then (λ i. option_map (λ o. Place.Named i o) offset) index }
+{
+    Some(Place::Named {
+        index: index?,
+        offset: offset?,
+    })
+}
+
+/// A place that begins with one of the names.
+fn read_named(names: &[&[u8]], word: &[u8]) -> Option<Place>
+    ensures { result ≡ place_past (texts names.now) word.now }
+{
+    let (name, rest) = split_name(word);
+    make_place(find_name(names, name), read_offset(rest))
+}
+
+/// A place: an address, or one of the names with its offset.
+pub fn read_place(names: &[&[u8]], word: &[u8]) -> Option<Place>
+    ensures { result ≡ place_of (texts names.now) word.now }
+{
+    match read_u32(word) {
+        Some(address) => Some(Place::Address(address)),
+        None => read_named(names, word),
+    }
+}

@@ -1,0 +1,20 @@
+//! Scripts of requests: what a text says, line by line, and where each request acts once its names have bases.
+#![tactic(auto)]
+
+mod grammar;
+mod lines;
+mod places;
+mod script;
+
+pub use grammar::read_u32;
+pub use places::{Action, Place};
+pub use script::{Allocation, Script, ScriptLine, read_script};
+
+/// The most bytes of a name.
+pub const MAX_NAME: usize = 16;
+
+/// The most cells that a place lies past its name's base.
+pub const MAX_OFFSET: u64 = 1_048_575;
+
+#[cfg(test)]
+mod tests;

@@ -1,0 +1,114 @@
+//! What a line says, by its words.
+ghost use Rattle.std.specs.Prelude.{◌≡◌};
+ghost use Rattle.std.specs.Option.{option_map};
+ghost use Rattle.im_script.specs.Grammar.{texts};
+ghost use Rattle.im_script.specs.Lines.{action_of, action_past, block_of, named_block, part_number, plain_action, starts_setup, valued_action};
+
+use crate::grammar::{can_name, find_name, read_kind, read_number, read_place, read_u32};
+use crate::places::{Action, Place};
+use crate::script::Allocation;
+
+/// A block, by the words of its kind and its length.
+fn read_block(kind: &[u8], length: &[u8]) -> Option<Allocation>
+    ensures { result ≡ block_of kind.now length.now }
+{
+    Some(Allocation {
+        kind: read_kind(kind)?,
+        length: read_u32(length)?,
+    })
+}
+
+/// What a word asks for at a place.
+fn read_plain(word: &[u8], place: Place) -> Option<Action>
+    ensures { result ≡ plain_action word.now place }
+{
+    if word == b"fetch".as_slice() {
+        Some(Action::Fetch(place))
+    } else if word == b"take".as_slice() {
+        Some(Action::Take(place))
+    } else if word == b"release".as_slice() {
+        Some(Action::Release(place))
+    } else {
+        None
+    }
+}
+
+/// What a word asks for at a place, with a value.
+fn read_valued(word: &[u8], place: Place, value: u64) -> Option<Action>
+    ensures { result ≡ valued_action word.now place value }
+{
+    if word == b"store".as_slice() {
+        Some(Action::Store(place, value))
+    } else if word == b"put".as_slice() {
+        Some(Action::Put(place, value))
+    } else {
+        None
+    }
+}
+
+/// A request of three words: a block, or a place and a value.
+fn read_long(names: &[&[u8]], word: &[u8], first: &[u8], second: &[u8]) -> Option<Action>
+    ensures { result ≡ action_past (texts names.now) word.now first.now second.now }
+{
+    if word == b"alloc".as_slice() {
+        let block = read_block(first, second)?;
+        return Some(Action::Alloc(block.kind, block.length));
+    }
+    let place = read_place(names, first)?;
+    read_valued(word, place, read_number(second, u64::MAX)?)
+}
+
+/// A request: a line of a part.
+pub fn read_action(names: &[&[u8]], words: &[&[u8]]) -> Option<Action>
+    ensures { result ≡ action_of (texts names.now) (texts words.now) }
+{
+    match words {
+        [word, place] => read_plain(word, read_place(names, place)?),
+        [word, first, second] => read_long(names, word, first, second),
+        _ => None,
+    }
+}
+
+/// A line of the setup: a name that is not given yet, and its block.
+pub fn read_named_block<'a>(
+    names: &[&'a [u8]],
+    words: &[&'a [u8]],
+) -> Option<(&'a [u8], Allocation)>
+    ensures { option_map (λ found. (found.0.now, found.1)) result ≡ named_block (texts names.now) (texts words.now) }
+{
+    match words {
+        [word, name, kind, length] => {
+            if *word != b"alloc".as_slice() || !can_name(name) || find_name(names, name).is_some() {
+                return None;
+            }
+            Some((*name, read_block(kind, length)?))
+        }
+        _ => None,
+    }
+}
+
+/// The number of a line that begins a part.
+pub fn read_part<'a>(words: &[&'a [u8]]) -> Option<&'a [u8]>
+    ensures { option_map (λ number. number.now) result ≡ part_number (texts words.now) }
+{
+    match words {
+        [word, number] => {
+            if *word == b"element".as_slice() {
+                Some(*number)
+            } else {
+                None
+            }
+        }
+        _ => None,
+    }
+}
+
+/// Whether a line begins the setup.
+pub fn is_setup(words: &[&[u8]]) -> bool
+    ensures { result ≡ starts_setup (texts words.now) }
+{
+    match words {
+        [word] => *word == b"setup".as_slice(),
+        _ => false,
+    }
+}

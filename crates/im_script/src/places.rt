@@ -1,0 +1,66 @@
+//! Where a script's requests act.
+ghost use Rattle.std.specs.Prelude.{◌≡◌};
+ghost use Rattle.im_script.specs.Places.{address_of, op_of};
+
+use im_types::{Kind, Op};
+
+/// Where a line of a script acts: known at once, or once the setup is served.
+#[derive(Clone, Copy, Debug, PartialEq, Eq)]
+pub enum Place {
+    /// This address.
+    Address(u32),
+    /// So many cells past the base that a setup allocation is answered with.
+    Named {
+        /// Which setup allocation, from 0.
+        index: usize,
+        /// Up to 1,048,575.
+        offset: u32,
+    },
+}
+
+impl Place {
+    /// The address, where `bases` has the base of each setup allocation in order. `None` where it has none for this
+    /// name, or where the sum does not fit.
+    pub fn address(&self, bases: &[u32]) -> Option<u32>
+        ensures { result ≡ address_of bases.now self.now }
+    {
+        match *self {
+            Place::Address(address) => Some(address),
+            Place::Named { index, offset } => bases.get(index)?.checked_add(offset),
+        }
+    }
+}
+
+/// What a line of a script asks for: an operation whose place may still be a name.
+#[derive(Clone, Copy, Debug, PartialEq, Eq)]
+pub enum Action {
+    /// Makes a block of so many cells.
+    Alloc(Kind, u32),
+    /// Gives back the block with this base.
+    Release(Place),
+    /// Reads an I cell.
+    Fetch(Place),
+    /// Writes an I cell.
+    Store(Place, u64),
+    /// Empties an M cell.
+    Take(Place),
+    /// Fills an M cell.
+    Put(Place, u64),
+}
+
+impl Action {
+    /// The operation, where `bases` has the base of each setup allocation in order. `None` where its place has no
+    /// address there.
+    pub fn op(&self, bases: &[u32]) -> Option<Op>
+        ensures { result ≡ op_of bases.now self.now }
+    {
+        Some(match *self {
+            Action::Alloc(kind, length) => Op::Alloc(kind, length),
+            Action::Release(place) => Op::Release(place.address(bases)?),
+            Action::Fetch(place) => Op::Fetch(place.address(bases)?),
+            Action::Store(place, value) => Op::Store(place.address(bases)?, value),
+            Action::Take(place) => Op::Take(place.address(bases)?),
+            Action::Put(place, value) => Op::Put(place.address(bases)?, value),
+        })
+    }
+}
