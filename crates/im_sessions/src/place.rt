@@ -1,7 +1,8 @@
 //! One place of a ring: an operation, and what is kept for it.
 ghost use Rattle.std.specs.Prelude.{◌≡◌};
 ghost use Rattle.im_types.specs.declared.operations.Entry.TheVariants.{Answered};
-ghost use Rattle.im_sessions.specs.Held.{held_by, held_of, reply_of};
+ghost use Rattle.im_sessions.specs.Held.{held_by, held_of, entry_of};
+ghost use Rattle.im_types.specs.Window.{is_waiting};
 
 use im_types::{Entry, Kept, Op, Reply};
 use std::marker::Model;
@@ -74,23 +75,23 @@ fn held_of(entry: Entry) -> Held
     }
 }
 
-// The answer that is held, if there is one.
-fn reply_of(held: Held) -> Option<Reply>
-    ensures { result ≡ reply_of held }
+// What is held, as an entry.
+fn entry_of(held: Held) -> Entry
+    ensures { result ≡ entry_of held }
 {
     match held {
-        Held::Waiting => None,
-        Held::Base(base) => Some(Reply::Base(base)),
-        Held::NoSpace => Some(Reply::NoSpace),
-        Held::BadLength => Some(Reply::BadLength),
-        Held::Value(value) => Some(Reply::Value(value)),
-        Held::Stored => Some(Reply::Stored),
-        Held::Clash => Some(Reply::Clash),
-        Held::NoCell => Some(Reply::NoCell),
-        Held::WrongKind => Some(Reply::WrongKind),
-        Held::Released => Some(Reply::Released),
-        Held::NoBlock => Some(Reply::NoBlock),
-        Held::StillWaiting => Some(Reply::StillWaiting),
+        Held::Waiting => Entry::Waiting,
+        Held::Base(base) => Entry::Answered(Reply::Base(base)),
+        Held::NoSpace => Entry::Answered(Reply::NoSpace),
+        Held::BadLength => Entry::Answered(Reply::BadLength),
+        Held::Value(value) => Entry::Answered(Reply::Value(value)),
+        Held::Stored => Entry::Answered(Reply::Stored),
+        Held::Clash => Entry::Answered(Reply::Clash),
+        Held::NoCell => Entry::Answered(Reply::NoCell),
+        Held::WrongKind => Entry::Answered(Reply::WrongKind),
+        Held::Released => Entry::Answered(Reply::Released),
+        Held::NoBlock => Entry::Answered(Reply::NoBlock),
+        Held::StillWaiting => Entry::Answered(Reply::StillWaiting),
     }
 }
 
@@ -105,15 +106,35 @@ impl Place {
         }
     }
 
+    /// The operation that is kept here.
+    pub fn op(&self) -> &Op
+        ensures { result.now ≡ self.now.op }
+    {
+        &self.op
+    }
+
+    /// The entry that is kept here.
+    pub fn entry(&self) -> Entry
+        ensures { result ≡ self.now.entry }
+    {
+        entry_of(self.held)
+    }
+
     /// What is kept here.
     pub fn kept(&self) -> Kept
         ensures { result ≡ self.now }
     {
-        let entry = match reply_of(self.held) {
-            None => Entry::Waiting,
-            Some(reply) => Entry::Answered(reply),
-        };
-        Kept { op: self.op, entry }
+        Kept {
+            op: self.op,
+            entry: self.entry(),
+        }
+    }
+
+    /// Whether the entry is waiting.
+    pub fn is_waiting(&self) -> bool
+        ensures { result ≡ is_waiting self.now }
+    {
+        matches!(self.held, Held::Waiting)
     }
 
     /// The entry is now this answer.

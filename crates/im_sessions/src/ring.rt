@@ -46,13 +46,6 @@ fn is_same(op: &Op, other: &Op) -> bool
     op == other
 }
 
-// Whether an entry is waiting.
-fn is_waiting(kept: Kept) -> bool
-    ensures { result ≡ is_waiting kept }
-{
-    matches!(kept.entry, Entry::Waiting)
-}
-
 impl Ring {
     /// A window with no entry, numbered from 1 on.
     pub fn new() -> Ring
@@ -106,9 +99,9 @@ impl Ring {
             return Err(Refusal::Forgotten);
         }
         if request.number < next {
-            let kept = self.at(request.number);
-            return if is_same(&kept.op, &request.op) {
-                Ok(Judged::Repeat(kept.entry))
+            let place = self.at(request.number);
+            return if is_same(place.op(), &request.op) {
+                Ok(Judged::Repeat(place.entry()))
             } else {
                 Err(Refusal::Mismatch)
             };
@@ -131,7 +124,7 @@ impl Ring {
         if number < base || number >= next {
             None
         } else {
-            Some(self.at(number))
+            Some(self.at(number).kept())
         }
     }
 
@@ -143,7 +136,7 @@ impl Ring {
         if number < base {
             Err(Refusal::Forgotten)
         } else if number < next {
-            Ok(self.at(number).entry)
+            Ok(self.at(number).entry())
         } else {
             Err(Refusal::Gap)
         }
@@ -201,12 +194,12 @@ impl Ring {
     }
 
     // What is kept under a number that the window has.
-    fn at(&self, number: u64) -> Kept
+    fn at(&self, number: u64) -> &Place
         requires from_base { self.now.base ≤ number }
         requires below_next { number < next_number self.now }
-        ensures { slice_get self.now.kept (number - self.now.base) ≡ Some result }
+        ensures { slice_get self.now.kept (number - self.now.base) ≡ Some result.now }
     {
-        self.places[place_of(number)].kept()
+        &self.places[place_of(number)]
     }
 
     // Whether one of the first entries is waiting.
@@ -216,7 +209,7 @@ impl Ring {
     {
         let (base, _) = self.bounds();
         for past in 0..count {
-            if is_waiting(self.at(base + past)) {
+            if self.at(base + past).is_waiting() {
                 return true;
             }
         }

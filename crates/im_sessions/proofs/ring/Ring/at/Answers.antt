@@ -5,4 +5,4 @@ use Rattle.im_sessions.proofs.ring.Ring.at.Goals as goal
 pub returns : goal.returns
 returns c =
     let r = c.self.inside in
-    rw c.kept.ensures (slice_get-window r.places r.base r.count c.args.number c.place_of.result _ _ (search rules) c.self.view_is c.place_of.ensures c.requires.from_base c.requires.below_next)
+    slice_get-window r.places r.base r.count c.args.number c.place_of.result _ _ (search rules) c.self.view_is c.place_of.ensures c.requires.from_base c.requires.below_next
