@@ -74,6 +74,7 @@ impl Sessions {
     /// Whether a request is the next new one or one that was served before, with its entry, or why it is refused:
     /// `NoElement`, `Forgotten` below the window, `Mismatch` where its number is kept for another operation, `Gap`
     /// past the next number or past the last one, `WindowFull` where it is new and the window has no room.
+    #[inline(always)]
     pub fn judge(&self, request: &Request) -> Result<Judged, Refusal>
         ensures { result ≡ judge self.now request.now }
     {

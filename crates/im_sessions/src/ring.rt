@@ -91,6 +91,7 @@ impl Ring {
     }
 
     /// Whether a request is new or known, or why it is refused.
+    #[inline(always)]
     pub fn judge(&self, request: &Request) -> Result<Judged, Refusal>
         ensures { result ≡ judge_window request.now (Some self.now) }
     {

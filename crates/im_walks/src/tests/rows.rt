@@ -1,6 +1,6 @@
 //! Worked examples, served by an engine over a disk in memory.
 use super::*;
-use im_disk::{Disk, MemDisk};
+use im_disk::MemDisk;
 use im_engine::Engine;
 use im_memory::Presence;
 use im_types::{Entry, Outcome, Refusal, Reply};
@@ -196,6 +196,8 @@ fn a_full_window_takes_no_more_until_it_is_confirmed(rt: HostRuntime) -> Result<
 
 // Slot 16 of an image whose first seventeen commands are sixteen requests of element 1 and their confirmation: the gate,
 // a group of one, operation 8, the element, sequence number 16, and the number up to which it confirms.
+const SLOT_16: usize = 327_680 - 64 * 240;
+
 const CONFIRMS: [(usize, u8); 6] = [(0, 0xA5), (1, 1), (2, 8), (4, 1), (8, 16), (16, 17)];
 
 #[test]
@@ -209,11 +211,9 @@ fn a_confirmation_stands_in_its_slot(rt: HostRuntime) -> Result<(), Fail> {
         &[(1, 17, Op::Fetch(5), Told(Reply::NoCell))],
     );
     assert_eq!(rt; engine.count(), 18);
-    let mut disk = engine.close();
-    let mut slot = [0; 64];
-    disk.read(327_680 - 64 * 240, &mut slot)?;
+    let disk = engine.close();
     for (at, byte) in CONFIRMS {
-        assert_eq!(rt; slot.get(at), Some(&byte), "{at}");
+        assert_eq!(rt; disk.bytes().get(SLOT_16 + at), Some(&byte), "{at}");
     }
     Ok(())
 }
