@@ -342,6 +342,7 @@ fn a_file_that_is_opened_to_be_read_is_not_written(rt: HostRuntime) -> Result<()
     fs::create_dir(&rt, "im_disk_reading")?;
     fs::write(&rt, "im_disk_reading/image", b"abcd".as_slice())?;
     let mut disk = FileDisk::open_to_read(&rt, "im_disk_reading/image")?;
+    assert_eq!(rt; disk.len()?, 4);
     assert_eq!(rt; disk.write_at(1, &[7]), Err(DeviceFault));
     let mut all = [0; 4];
     disk.read(0, &mut all)?;
