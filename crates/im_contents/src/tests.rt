@@ -389,24 +389,27 @@ fn are_read(rt: &impl Abort, alloc: Global, cases: &[Case<'_>], expected: Option
 #[test]
 fn who_waits_has_a_waiting_entry_for_that_cell(rt: HostRuntime) {
     let p = some_parts();
+    let i_cell = p.i_cell;
+    let pair = p.pair;
+    let m_cell = p.m_cell;
+    let nobody = p.nobody;
+    let one = p.one;
+    let both = p.both;
+    let none = p.none;
+    let answered = p.answered;
+    let fetch = p.fetch;
     let take = waiting(Op::Take(0));
-    let cases = [
-        (
-            "nobody waits",
-            p.nobody,
-            p.none,
-            &[p.answered] as &[Kept],
-            &[] as &[Kept],
-        ),
-        ("one fetch waits", p.i_cell, p.one, &[p.fetch], &[]),
-        ("two fetches wait", p.pair, p.both, &[p.fetch], &[p.fetch]),
-        ("a take waits", p.m_cell, p.one, &[take], &[]),
+    let cases: [Case<'_>; 5] = [
+        ("nobody waits", nobody, none, &[answered], &[]),
+        ("one fetch waits", i_cell, one, &[fetch], &[]),
+        ("two fetches wait", pair, both, &[fetch], &[fetch]),
+        ("a take waits", m_cell, one, &[take], &[]),
         (
             "one waits, one is answered",
-            p.i_cell,
-            p.one,
-            &[p.fetch],
-            &[p.answered],
+            i_cell,
+            one,
+            &[fetch],
+            &[answered],
         ),
     ];
     are_read(&rt, rt.alloc(), &cases, None);
@@ -415,31 +418,21 @@ fn who_waits_has_a_waiting_entry_for_that_cell(rt: HostRuntime) {
 #[test]
 fn an_entry_that_no_list_holds_once_is_refused(rt: HostRuntime) {
     let p = some_parts();
-    let cases = [
-        (
-            "no list",
-            p.nobody,
-            p.none,
-            &[p.fetch] as &[Kept],
-            &[] as &[Kept],
-        ),
-        (
-            "an entry beside the list",
-            p.i_cell,
-            p.one,
-            &[p.fetch],
-            &[p.fetch],
-        ),
-        (
-            "two nodes for one request",
-            p.pair,
-            p.twice,
-            &[p.fetch],
-            &[],
-        ),
-        ("one request twice", p.pair, p.twice, &[p.fetch], &[p.fetch]),
-        ("an answered entry", p.i_cell, p.one, &[p.answered], &[]),
-        ("a request without an entry", p.i_cell, p.one, &[], &[]),
+    let i_cell = p.i_cell;
+    let pair = p.pair;
+    let nobody = p.nobody;
+    let one = p.one;
+    let twice = p.twice;
+    let none = p.none;
+    let answered = p.answered;
+    let fetch = p.fetch;
+    let cases: [Case<'_>; 6] = [
+        ("no list", nobody, none, &[fetch], &[]),
+        ("an entry beside the list", i_cell, one, &[fetch], &[fetch]),
+        ("two nodes for one request", pair, twice, &[fetch], &[]),
+        ("one request twice", pair, twice, &[fetch], &[fetch]),
+        ("an answered entry", i_cell, one, &[answered], &[]),
+        ("a request without an entry", i_cell, one, &[], &[]),
     ];
     are_read(&rt, rt.alloc(), &cases, Some(Refusal::BadPage));
 }
@@ -447,20 +440,18 @@ fn an_entry_that_no_list_holds_once_is_refused(rt: HostRuntime) {
 #[test]
 fn an_entry_for_another_cell_or_element_is_refused(rt: HostRuntime) {
     let p = some_parts();
+    let i_cell = p.i_cell;
+    let m_cell = p.m_cell;
+    let one = p.one;
+    let fetch = p.fetch;
     let free = FREE_NODE;
     let stranger = [node(NONE, 2, 1), free, free, free];
     let (other, take) = (waiting(Op::Fetch(1)), waiting(Op::Take(0)));
-    let cases = [
-        (
-            "another cell",
-            p.i_cell,
-            p.one,
-            &[other] as &[Kept],
-            &[] as &[Kept],
-        ),
-        ("a take at an I cell", p.i_cell, p.one, &[take], &[]),
-        ("a fetch at an M cell", p.m_cell, p.one, &[p.fetch], &[]),
-        ("an element without a window", p.i_cell, stranger, &[], &[]),
+    let cases: [Case<'_>; 4] = [
+        ("another cell", i_cell, one, &[other], &[]),
+        ("a take at an I cell", i_cell, one, &[take], &[]),
+        ("a fetch at an M cell", m_cell, one, &[fetch], &[]),
+        ("an element without a window", i_cell, stranger, &[], &[]),
     ];
     are_read(&rt, rt.alloc(), &cases, Some(Refusal::BadPage));
 }
