@@ -1,7 +1,8 @@
-// Reads an image and parses it: the header, each cell, node, window and journal slot of the area in force into a struct,
+// Reads an image and parses it: the header in force, and each cell, node, window and journal slot of its area into a struct,
 // with the checks of its spelling. It joins nothing and replays nothing.
 //
-// read_image IMAGE
+// read_image IMAGE          prints how many there are
+// read_image IMAGE report   prints the blocks, the cells, the elements and the entries of the area, a line for each
 #include <fcntl.h>
 #include <stdbool.h>
 #include <stdint.h>
@@ -118,17 +119,58 @@ static uint8_t *read_bytes(int file, off_t at, size_t length) {
     return bytes;
 }
 
+static const char *const OPERATIONS[] = {"", "alloc i", "alloc m", "release", "fetch", "store", "take", "put"};
+static const char *const REPLIES[] = {"waiting", "base", "nospace", "badlength", "value", "stored",
+                                      "clash", "nocell", "wrongkind", "released", "noblock", "stillwaiting"};
+
+static void print_cell(uint32_t a, const struct cell *c, const struct node *nodes) {
+    if (c->tag == 3 || c->tag == 4)
+        printf("cell %u %s %llu\n", a, c->tag == 3 ? "full" : "clashed", (unsigned long long)c->value);
+    if (c->tag != 2)
+        return;
+    printf("cell %u waiting", a);
+    for (uint32_t n = c->first; n != NONE; n = nodes[n].next)
+        printf(" %u.%llu", nodes[n].element, (unsigned long long)nodes[n].number);
+    printf("\n");
+}
+
+static void print_entry(uint32_t element, uint64_t number, const struct entry *e) {
+    printf("entry %u.%llu %s %u", element, (unsigned long long)number, OPERATIONS[e->operation], e->address);
+    if (e->operation == 5 || e->operation == 7)
+        printf(" %llu", (unsigned long long)e->value);
+    printf(" -> %s", REPLIES[e->reply]);
+    if (e->reply == 1 || e->reply == 4)
+        printf(" %llu", (unsigned long long)e->answer);
+    printf("\n");
+}
+
+static void print_report(const struct header *h, const struct cell *cells, const struct node *nodes, const struct window *windows) {
+    for (uint32_t a = 0; a < h->cells; a++)
+        if (cells[a].kind != 0 && cells[a].base == a)
+            printf("block %u %c %u\n", a, cells[a].kind == 1 ? 'i' : 'm', cells[a].length);
+    for (uint32_t a = 0; a < h->cells; a++)
+        print_cell(a, &cells[a], nodes);
+    for (uint32_t e = 0; e < h->elements; e++) {
+        const struct window *w = &windows[e];
+        printf("element %u base %llu kept %u\n", e, (unsigned long long)w->base, w->kept);
+        for (uint64_t number = w->base; number < w->base + w->kept; number++)
+            print_entry(e, number, &w->entries[number % WINDOW]);
+    }
+}
+
 int main(int argc, char **argv) {
-    int file = argc == 2 ? open(argv[1], O_RDONLY) : -1;
+    int file = argc >= 2 ? open(argv[1], O_RDONLY) : -1;
     if (file < 0)
-        fail("usage: read_image IMAGE");
+        fail("usage: read_image IMAGE [report]");
+    const uint8_t *zero = read_bytes(file, 0, 64), *one = read_bytes(file, PAGE, 64);
+    bool second = one[0] == GATE && (zero[0] != GATE || eight(zero + 8) < eight(one + 8));
     struct header h;
-    if (!read_header(read_bytes(file, 0, 64), &h))
+    if (!read_header(second ? one : zero, &h))
         fail("bad header");
     uint32_t nodes = WINDOW * h.elements;
     size_t cell_pages = (h.cells + 127) / 128, node_pages = (h.elements + 15) / 16, window_pages = (h.elements + 3) / 4;
     size_t pages = cell_pages + node_pages + window_pages;
-    const uint8_t *area = read_bytes(file, 2 * PAGE, pages * PAGE);
+    const uint8_t *area = read_bytes(file, 2 * PAGE + second * pages * PAGE, pages * PAGE);
     const uint8_t *journal = read_bytes(file, 2 * PAGE + 2 * pages * PAGE, 64 * (size_t)h.slots);
     struct cell *cells = room(h.cells, sizeof *cells);
     struct node *node = room(nodes, sizeof *node);
@@ -144,8 +186,12 @@ int main(int argc, char **argv) {
         if (!read_window(area + (cell_pages + node_pages) * PAGE + 1024 * (size_t)e, &windows[e]))
             fail("bad window");
     uint32_t run = 0;
-    while (run < h.slots && read_slot(journal + 64 * (size_t)run, h.count + run, &commands[run]))
+    while (run < h.slots && read_slot(journal + 64 * (size_t)((h.count + run) % h.slots), h.count + run, &commands[run]))
         run++;
+    if (argc == 3) {
+        print_report(&h, cells, node, windows);
+        return 0;
+    }
     uint64_t sum = cells[h.cells - 1].base + node[nodes - 1].number + windows[h.elements - 1].base;
     for (uint32_t i = 0; i < run; i++)
         sum += commands[i].address;

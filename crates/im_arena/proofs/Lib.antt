@@ -3,3 +3,4 @@ pub mod Tables
 pub mod Views
 pub mod Start
 pub mod Threads
+pub mod Walks

@@ -163,7 +163,7 @@ module _ (nodes : List Node) (rows : List Row) (lists free_nodes : ℕ) (arena :
         subst (λ (s : Span). place_from (next_of nodes) s.first i < length nodes) span-read
         (arena.sound.chains.within list i (omega (arith, span_count)) (omega (arith, steps-is)))
 
-    place-end : place_from (next_of nodes) r.first steps ≡ NONE
+    pub place-end : place_from (next_of nodes) r.first steps ≡ NONE
     place-end =
         subst (λ (s : Span). place_from (next_of nodes) s.first s.count ≡ NONE) span-read
         (end_of nodes spans arena.sound list (omega (arith, span_count)) (count_of spans list) refl)

@@ -1,5 +1,5 @@
 -- The lists that a table of nodes holds. (Own.)
-use Rattle.std.specs.Prelude.{◌≡◌, ◌≢◌, ℕ, zero, suc, ◌+◌, ◌-◌, ◌<◌, Bool, true, false, List, map, length, slice_index_or, slice_set, [], ◌++◌, ◌∷◌, take, Option, None, Some, ◌==◌, if◌then◌else◌, replicate}
+use Rattle.std.specs.Prelude.{◌≡◌, ◌≢◌, ℕ, zero, suc, ◌+◌, ◌-◌, ◌<◌, ◌≤◌, Bool, true, false, List, map, length, slice_index_or, slice_set, [], ◌++◌, ◌∷◌, take, Option, None, Some, ◌==◌, if◌then◌else◌, replicate}
 use Rattle.std.specs.List.{sum_by}
 use Rattle.im_types.specs.declared.TheConstants.{NONE}
 use Rattle.im_types.specs.declared.operations.Waiter.{Waiter}
@@ -7,7 +7,7 @@ use Rattle.im_arena.specs.declared.table.Node.{Node}
 use Rattle.im_arena.specs.declared.table.NodeRecord.{NodeRecord}
 use Rattle.im_arena.specs.declared.table.Row.{Row}
 use Rattle.im_arena.specs.declared.table.Ends.{Ends}
-use Rattle.im_arena.specs.Chain.{along, Chains}
+use Rattle.im_arena.specs.Chain.{along, place_from, Chains}
 use Rattle.im_arena.specs.Lists.{Lists, Shown, free_record}
 
 -- a node that holds nobody
@@ -97,6 +97,17 @@ waiters_on nodes span = along (waiter_of nodes) (next_of nodes) span.first span.
 -- the waiters on the span of this number
 abbrev pub row_at : List Node → List Span → ℕ → List Waiter
 row_at nodes spans a = waiters_on nodes (slice_index_or spans a blank_span)
+
+-- the waiters from a node on
+abbrev pub waiters_from : List Node → ℕ → List Waiter
+waiters_from nodes at = along (waiter_of nodes) (next_of nodes) at (steps_from (next_of nodes) at (length nodes))
+
+-- the links from a node on lead through nodes of the table, and then to none
+pub record IsWalk (nodes : List Node) (at : ℕ) : Type 0 where
+  pub few : length nodes ≤ NONE
+  pub short : steps_from (next_of nodes) at (length nodes) ≤ length nodes
+  pub within : (i : ℕ) → i < steps_from (next_of nodes) at (length nodes) → place_from (next_of nodes) at i < length nodes
+  pub end : place_from (next_of nodes) at (steps_from (next_of nodes) at (length nodes)) ≡ NONE
 
 -- each node is on one span, in one place of it
 pub record Sound (nodes : List Node) (spans : List Span) : Type 0 where

@@ -8,12 +8,14 @@ ghost use Rattle.im_arena.specs.Table.{AreFree, start_rows};
 ghost use Rattle.im_types.specs.declared.refusals.Refusal.TheVariants.{NoMemory};
 
 mod table;
+mod walk;
 
 use im_types::{NONE, Refusal, Waiter};
 use std::alloc::{AllocError, Global};
 use std::marker::Model;
 pub use table::{Ends, NodeRecord};
 use table::{Node, Row, transfer};
+pub use walk::Waiters;
 
 /// Lists of waiters over one table of nodes. A waiter on a list takes one node, and no memory is taken once the arena
 /// is made. Lists are numbered from 0 up to [`Arena::list_count`], and nodes up to [`Arena::node_count`].
@@ -131,6 +133,16 @@ impl Arena {
             return None;
         }
         Some(self.nodes[node as usize].waiter())
+    }
+
+    /// The waiters of a list, in their order; nobody where there is no such list. Each takes one step.
+    pub fn waiters(&self, list: u32) -> Waiters<'_>
+        ensures { result ≡ list_at self.now.held list }
+    {
+        if list >= self.lists {
+            return Waiters::nobody();
+        }
+        Waiters::from(&self.nodes, self.rows[list as usize].first)
     }
 
     /// The first waiter of a list; `None` where it is empty.

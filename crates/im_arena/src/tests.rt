@@ -79,7 +79,7 @@ fn draw(state: &mut u64) -> u32 {
     (*state >> 33) as u32
 }
 
-// Each list read by its places, and then by the links of its nodes.
+// Each list read by its places, by a walk, and by the links of its nodes.
 fn agrees(rt: &impl Abort, arena: &Arena, plain: &[VecDeque<Waiter>]) -> Result<(), Fail> {
     let mut held = 0u32;
     for list in 0..arena.list_count() {
@@ -87,11 +87,13 @@ fn agrees(rt: &impl Abort, arena: &Arena, plain: &[VecDeque<Waiter>]) -> Result<
         assert_eq!(rt; arena.len(list) as usize, queue.len());
         assert_eq!(rt; arena.is_empty(list), queue.is_empty());
         assert_eq!(rt; arena.front(list), queue.front().copied());
+        let mut walk = arena.waiters(list);
         let mut link = arena.ends(list).map_or(NONE, |ends| ends.first);
         let mut last = NONE;
         for place in 0..arena.len(list) {
             let want = queue.get(place as usize).copied();
             assert_eq!(rt; arena.at(list, place), want);
+            assert_eq!(rt; walk.next(), want);
             assert!(rt; link < arena.node_count());
             let record = arena.node(link);
             assert_eq!(rt; record.waiter, want);
@@ -99,6 +101,7 @@ fn agrees(rt: &impl Abort, arena: &Arena, plain: &[VecDeque<Waiter>]) -> Result<
             link = record.next;
             held = held.wrapping_add(1);
         }
+        assert_eq!(rt; walk.next(), None);
         assert_eq!(rt; link, NONE);
         assert_eq!(rt; arena.ends(list).map_or(NONE, |ends| ends.last), last);
     }

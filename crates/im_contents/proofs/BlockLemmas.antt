@@ -1,5 +1,5 @@
--- Cells lie in blocks exactly where each agrees with its neighbours.
-use Rattle.std.proofs.Common.{◌≡◌, ℕ, zero, suc, ◌+◌, ◌-◌, ◌<◌, ◌≤◌, List, [], ◌∷◌, Some, length, refl, sym, ap, ◌∙◌, arith, ⊎_elim}
+-- Cells lie in blocks exactly where each block begins behind others and is whole.
+use Rattle.std.proofs.Common.{◌≡◌, ℕ, zero, suc, ◌+◌, ◌<◌, ◌≤◌, List, [], ◌∷◌, None, Some, length, refl, sym, ap, subst, ◌∙◌, arith, ⊎_elim}
 use Rattle.std.proofs.lemmas.Bool.{cases_lt}
 use Rattle.std.proofs.lemmas.List.{get_or_past}
 use Rattle.im_types.specs.declared.TheConstants.{NONE}
@@ -9,7 +9,7 @@ use Rattle.im_types.specs.declared.records.CellRecord.{CellRecord}
 use Rattle.im_types.specs.declared.records.CellRecord.TheVariants.{Free as FreeCell, Held as BlockCell}
 use Rattle.im_types.specs.Contents.{block_at, HasBlocks}
 use Rattle.im_types.specs.Pages.{cells_shown}
-use Rattle.im_contents.specs.Local.{block_of, block_in, AreLocal}
+use Rattle.im_contents.specs.Local.{block_of, block_in, AreIn, IsBlockAt, EndsBefore, HaveBlocksBelow}
 use Rattle.im_contents.proofs.MarkLemmas.{none_some}
 
 pub length-cells_shown : (cells : List CellRecord) (lists : List (List Waiter)) → length (cells_shown cells lists) ≡ length cells
@@ -27,51 +27,67 @@ block_at-shown (BlockCell block tag ∷ cells) (waiters ∷ lists) zero = refl
 block_at-shown (cell ∷ cells) [] (suc a) = block_at-shown cells [] a
 block_at-shown (cell ∷ cells) (waiters ∷ lists) (suc a) = block_at-shown cells lists a
 
-module _ (cells : List CellRecord) (local : AreLocal cells) (block : Block) where
-  -- the next k cells
-  up : (k a b : ℕ) → b ≡ a + k → block_in cells a ≡ Some block → b < block.base + block.length → block_in cells b ≡ Some block
-  up zero a b is here lt = ap (λ (x : ℕ). block_in cells x) is_a ∙ here
-    where
-      is_a : b ≡ a
-      is_a = omega arith
-  up (suc k) a b is here lt = up k (a + 1) b (omega arith) ((local a block here).next (omega arith)) lt
-
-  -- the k cells before
-  down : (k a b : ℕ) → a ≡ b + k → block_in cells a ≡ Some block → block.base ≤ b → block_in cells b ≡ Some block
-  down zero a b is here le = ap (λ (x : ℕ). block_in cells x) is_a ∙ here
-    where
-      is_a : b ≡ a
-      is_a = omega arith
-  down (suc k) a b is here le = down k (a - 1) b (omega arith) ((local a block here).before (omega arith)) le
-
-pub blocks_of_local : (cells : List CellRecord) (lists : List (List Waiter)) → AreLocal cells → HasBlocks (cells_shown cells lists)
-blocks_of_local cells lists local = record {
-  within = λ a block here. let l = local a block (in_it a block here) in let count = length-cells_shown cells lists in (l.from, l.to, omega (arith, l.below));
-  whole = λ a block here b le lt. block_at-shown cells lists b ∙ ⊎_elim
-      (λ (low : b < a). down cells local block (a - b) a b (omega arith) (in_it a block here) le)
-      (λ (high : a ≤ b). up cells local block (b - a) a b (omega arith) (in_it a block here) lt)
-      (cases_lt b a);
-}
-  where
-    in_it : (a : ℕ) (block : Block) → block_at (cells_shown cells lists) a ≡ Some block → block_in cells a ≡ Some block
-    in_it a block here = sym (block_at-shown cells lists a) ∙ here
-
-pub local_of_blocks : (cells : List CellRecord) (lists : List (List Waiter)) → HasBlocks (cells_shown cells lists) → AreLocal cells
-local_of_blocks cells lists blocks = λ a block here.
-    let shown = block_at-shown cells lists a ∙ here in
-    let w = blocks.within a block shown in
-    let count = length-cells_shown cells lists in
-    record {
-      from = w.0;
-      to = w.1;
-      below = omega (arith, w.2);
-      next = λ lt. sym (block_at-shown cells lists (a + 1)) ∙ blocks.whole a block shown (a + 1) (omega (arith, w.0)) lt;
-      before = λ lt. sym (block_at-shown cells lists (a - 1)) ∙ blocks.whole a block shown (a - 1) (omega arith) (omega (arith, w.1));
-    }
-
 -- a cell of a block is one of the cells
 pub in_cells : (cells : List CellRecord) (a : ℕ) (block : Block) → block_in cells a ≡ Some block → a < length cells
 in_cells cells a block e = ⊎_elim
     (λ (lt : a < length cells). lt)
     (λ (past : length cells ≤ a). absurd (none_some block (sym (ap block_of (get_or_past cells a (FreeCell 0 NONE) past)) ∙ e)))
     (cases_lt a (length cells))
+
+-- below the first cell there is none
+pub none_below : (cells : List CellRecord) → HaveBlocksBelow cells 0
+none_below cells a block lt here = absurd (omega arith)
+
+-- a free cell is no part of a block
+pub free_below : (cells : List CellRecord) (place : ℕ) → HaveBlocksBelow cells place → None ≡ block_in cells place → HaveBlocksBelow cells (place + 1)
+free_below cells place below free a block lt here = ⊎_elim
+    (λ (less : a < place). let e = below a block less here in record { from = e.from; to = e.to; end = omega (arith, e.end); whole = e.whole })
+    (λ (past : place ≤ a). absurd (none_some block (free ∙ ap (block_in cells) (let same : place ≡ a = omega arith in same) ∙ here)))
+    (cases_lt a place)
+
+same_block : (block other : Block) → Some block ≡ Some other → block ≡ other
+same_block block other same = cc
+
+-- a whole block behind others
+pub block_below : (cells : List CellRecord) (place : ℕ) (block : Block) → HaveBlocksBelow cells place → IsBlockAt cells place block → HaveBlocksBelow cells (place + block.length)
+block_below cells place block below it a other lt here = ⊎_elim
+    (λ (less : a < place). let e = below a other less here in record { from = e.from; to = e.to; end = omega (arith, e.end); whole = e.whole })
+    (λ (past : place ≤ a). subst (λ (b : Block). EndsBefore cells (place + block.length) a b) (same_block block other (sym (it.whole a (omega (arith, it.from)) (omega (arith, it.from))) ∙ here))
+    (record { from = omega (arith, it.from); to = omega (arith, it.from); end = omega (arith, it.from); whole = it.whole }))
+    (cases_lt a place)
+
+-- where cells lie in blocks, the first cell behind some of them begins one
+pub begins_block : (cells : List CellRecord) (lists : List (List Waiter)) (place : ℕ) (block : Block) → HasBlocks (cells_shown cells lists) → HaveBlocksBelow cells place
+    → block_in cells place ≡ Some block → IsBlockAt cells place block
+begins_block cells lists place block blocks below here =
+    let w = blocks.within place block (block_at-shown cells lists place ∙ here) in
+    let count = length-cells_shown cells lists in
+    let whole : AreIn cells block.base (block.base + block.length) block =
+    λ a le lt. sym (block_at-shown cells lists a) ∙ blocks.whole place block (block_at-shown cells lists place ∙ here) a le lt in
+    let from : block.base ≡ place = ⊎_elim
+    (λ (less : block.base < place). absurd (omega (arith, (below block.base block less (whole block.base (omega arith) (omega (arith, w.0, w.1)))).end, w.1)))
+    (λ (past : place ≤ block.base). omega (arith, w.0))
+    (cases_lt block.base place) in
+    record { from = from; to = w.1; below = omega (arith, w.2); whole = whole }
+
+-- all cells lie in blocks
+pub blocks_of_all : (cells : List CellRecord) (lists : List (List Waiter)) (place : ℕ) → length cells ≡ place → HaveBlocksBelow cells place → HasBlocks (cells_shown cells lists)
+blocks_of_all cells lists place all below = record {
+  within = λ a block here. let e = it a block here in let count = length-cells_shown cells lists in (e.from, e.to, omega (arith, e.end));
+  whole = λ a block here b le lt. block_at-shown cells lists b ∙ (it a block here).whole b le lt;
+}
+  where
+    it : (a : ℕ) (block : Block) → block_at (cells_shown cells lists) a ≡ Some block → EndsBefore cells place a block
+    it a block here =
+        let shown = sym (block_at-shown cells lists a) ∙ here in
+        below a block (omega (arith, in_cells cells a block shown)) shown
+
+-- who waits has no part in it
+pub blocks_of_others : (cells : List CellRecord) (lists others : List (List Waiter)) → HasBlocks (cells_shown cells lists) → HasBlocks (cells_shown cells others)
+blocks_of_others cells lists others blocks = record {
+  within = λ a block here. let w = blocks.within a block (same a ∙ here) in (w.0, w.1, omega (arith, w.2, length-cells_shown cells lists, length-cells_shown cells others));
+  whole = λ a block here b le lt. sym (same b) ∙ blocks.whole a block (same a ∙ here) b le lt;
+}
+  where
+    same : (a : ℕ) → block_at (cells_shown cells lists) a ≡ block_at (cells_shown cells others) a
+    same a = block_at-shown cells lists a ∙ sym (block_at-shown cells others a)

@@ -12,7 +12,7 @@ use Rattle.im_types.specs.Chains.{ShowLists}
 use Rattle.im_types.specs.Pages.{Records, ShowsRecords, cells_shown}
 use Rattle.im_contents.specs.Marking.{AreFew}
 use Rattle.im_contents.specs.Parts.{AreWindows, HaveParts}
-use Rattle.im_contents.proofs.BlockLemmas.{length-cells_shown, blocks_of_local, local_of_blocks}
+use Rattle.im_contents.proofs.BlockLemmas.{length-cells_shown, blocks_of_others}
 use Rattle.im_contents.proofs.ListLemmas.{lists_unique}
 
 -- one more element of a list has what those before it have
@@ -39,7 +39,7 @@ module _ (s : Sizes) (r : Records) where
     cell_count = sym (length-cells_shown r.cells shown.lists) ∙ ap length (sym shown.cells) ∙ shown.memory.cell_count;
     window_count = ap length (sym shown.windows) ∙ shown.memory.window_count;
     within = subst AreWindows shown.windows shown.memory.windows;
-    blocks = λ lists. blocks_of_local r.cells lists (local_of_blocks r.cells shown.lists (subst HasBlocks shown.cells shown.memory.blocks));
+    blocks = λ lists. blocks_of_others r.cells shown.lists lists (subst HasBlocks shown.cells shown.memory.blocks);
   }
 
   -- records that have the parts show a memory, where who waits agrees

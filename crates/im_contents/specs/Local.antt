@@ -1,5 +1,5 @@
--- Whether cells lie in blocks, by a look at each cell and its neighbours. (Own.)
-use Rattle.std.specs.Prelude.{◌≡◌, ℕ, ◌+◌, ◌-◌, ◌<◌, ◌≤◌, List, Option, None, Some, length, slice_index_or}
+-- Whether cells lie in blocks, by a look at each cell in turn. (Own.)
+use Rattle.std.specs.Prelude.{◌≡◌, ℕ, ◌+◌, ◌<◌, ◌≤◌, List, Option, None, Some, length, slice_index_or}
 use Rattle.im_types.specs.declared.TheConstants.{NONE}
 use Rattle.im_types.specs.declared.operations.Block.{Block}
 use Rattle.im_types.specs.declared.records.CellRecord.{CellRecord}
@@ -14,18 +14,24 @@ block_of (BlockCell block tag) = Some block
 abbrev pub block_in : List CellRecord → ℕ → Option Block
 block_in cells a = block_of (slice_index_or cells a (FreeCell 0 NONE))
 
--- the cell is one of the block's, the block stands below the cell count, and the next cell and the one before, where they are the block's, lie in it
-pub record IsLocalTo (cells : List CellRecord) (a : ℕ) (block : Block) : Type 0 where
-  pub from : block.base ≤ a
+-- the cells from one place up to another say that they lie in a block
+abbrev pub AreIn : List CellRecord → ℕ → ℕ → Block → Type 0
+AreIn cells from to block = (a : ℕ) → from ≤ a → a < to → block_in cells a ≡ Some block
+
+-- a block begins at a place, stands below the cell count, and each of its cells says that it lies in it
+pub record IsBlockAt (cells : List CellRecord) (a : ℕ) (block : Block) : Type 0 where
+  pub from : block.base ≡ a
   pub to : a < block.base + block.length
   pub below : block.base + block.length ≤ length cells
-  pub next : a + 1 < block.base + block.length → block_in cells (a + 1) ≡ Some block
-  pub before : block.base < a → block_in cells (a - 1) ≡ Some block
+  pub whole : AreIn cells block.base (block.base + block.length) block
 
--- a cell of a block agrees with its neighbours
-abbrev pub IsLocal : List CellRecord → ℕ → Type 0
-IsLocal cells a = (block : Block) → block_in cells a ≡ Some block → IsLocalTo cells a block
+-- the cell at an address is one of a block's, whose cells all say so, and which ends before or at a place
+pub record EndsBefore (cells : List CellRecord) (place a : ℕ) (block : Block) : Type 0 where
+  pub from : block.base ≤ a
+  pub to : a < block.base + block.length
+  pub end : block.base + block.length ≤ place
+  pub whole : AreIn cells block.base (block.base + block.length) block
 
--- each cell of a block agrees with its neighbours
-abbrev pub AreLocal : List CellRecord → Type 0
-AreLocal cells = (a : ℕ) → IsLocal cells a
+-- the cells below a place lie in blocks that end before or at it
+abbrev pub HaveBlocksBelow : List CellRecord → ℕ → Type 0
+HaveBlocksBelow cells place = (a : ℕ) (block : Block) → a < place → block_in cells a ≡ Some block → EndsBefore cells place a block

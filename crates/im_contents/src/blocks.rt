@@ -3,7 +3,7 @@ ghost use Rattle.std.specs.Prelude.{◌≡◌, ◌<◌, ◌↔◌, List, Some, I
 ghost use Rattle.im_types.specs.declared.operations.Waiter.{Waiter};
 ghost use Rattle.im_types.specs.Contents.{HasBlocks};
 ghost use Rattle.im_types.specs.Pages.{cells_shown};
-ghost use Rattle.im_contents.specs.Local.{block_of, block_in, IsLocalTo, IsLocal};
+ghost use Rattle.im_contents.specs.Local.{block_of, block_in, AreIn, IsBlockAt};
 
 use im_types::{Block, CellRecord, Kind};
 
@@ -15,6 +15,14 @@ fn block_of(cell: &CellRecord) -> Option<Block>
         CellRecord::Free { .. } => None,
         CellRecord::Held { block, .. } => Some(block),
     }
+}
+
+// The block that the cell at an address lies in.
+fn block_in(cells: &[CellRecord], at: usize) -> Option<Block>
+    requires { at < length cells.now }
+    ensures { result ≡ block_in cells.now at }
+{
+    block_of(&cells[at])
 }
 
 fn is_same_kind(kind: Kind, other: Kind) -> bool
@@ -43,39 +51,43 @@ fn is_in(cells: &[CellRecord], cell: usize, block: &Block) -> bool
     }
 }
 
-// Whether a cell of a block lies within it, and its neighbours there are of the block too.
-fn is_local_to(cells: &[CellRecord], cell: usize, block: &Block) -> bool
-    requires { cell < length cells.now }
-    ensures { IsTrue result ↔ IsLocalTo cells.now cell block.now }
+// Whether the cells from one place up to another lie in this block.
+fn are_in(cells: &[CellRecord], from: usize, to: usize, block: &Block) -> bool
+    ensures { IsTrue result ↔ AreIn cells.now from to block.now }
 {
-    let base = block.base as usize;
-    let end = base as u64 + block.length as u64;
-    base <= cell
-        && (cell as u64) < end
-        && end <= cells.len() as u64
-        && (end <= cell as u64 + 1 || is_in(cells, cell + 1, block))
-        && (base == cell || is_in(cells, cell - 1, block))
+    for cell in from..to {
+        if !is_in(cells, cell, block) {
+            return false;
+        }
+    }
+    true
 }
 
-// Whether a cell agrees with its neighbours about its block, if it has one.
-fn is_local(cells: &[CellRecord], cell: usize) -> bool
-    requires { cell < length cells.now }
-    ensures { IsTrue result ↔ IsLocal cells.now cell }
+// Whether a block, in which the cell at an address lies, begins there, stands below the number of cells, and is whole.
+fn is_block_at(cells: &[CellRecord], at: usize, block: &Block) -> bool
+    requires { block_in cells.now at ≡ Some block.now }
+    ensures { IsTrue result ↔ IsBlockAt cells.now at block.now }
 {
-    match block_of(&cells[cell]) {
-        Some(block) => is_local_to(cells, cell, &block),
-        None => true,
-    }
+    let base = block.base as usize;
+    let end = base + block.length as usize;
+    base == at && at < end && end <= cells.len() && are_in(cells, at + 1, end, block)
 }
 
 /// Whether the cells lie in blocks: each block stands below the number of cells, and each of its cells says that it lies in
-/// it. This doesn't depend on who waits. It looks once at each cell and its neighbours.
+/// it. This doesn't depend on who waits. It looks once at each cell.
 pub fn are_blocks(cells: &[CellRecord]) -> bool
     ensures { (lists : List (List Waiter)) → (IsTrue result) ↔ (HasBlocks (cells_shown cells.now lists)) }
 {
-    for cell in 0..cells.len() {
-        if !is_local(cells, cell) {
-            return false;
+    let mut at = 0;
+    while at < cells.len() {
+        match block_in(cells, at) {
+            Some(block) => {
+                if !is_block_at(cells, at, &block) {
+                    return false;
+                }
+                at += block.length as usize;
+            }
+            None => at += 1,
         }
     }
     true

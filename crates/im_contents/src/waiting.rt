@@ -1,5 +1,5 @@
 //! Whether who waits at the cells is who has a waiting entry.
-ghost use Rattle.std.specs.Prelude.{◌≡◌, ◌+◌, ◌*◌, ◌≤◌, ◌<◌, ◌↔◌, ℕ, Some, None, IfOk, IsSome, IsTrue, length, replicate, false, slice_index_or, if◌then◌else◌};
+ghost use Rattle.std.specs.Prelude.{◌≡◌, ◌+◌, ◌*◌, ◌≤◌, ◌<◌, ◌↔◌, [], ℕ, Some, None, IfOk, IsSome, IsTrue, length, replicate, false, slice_index_or, if◌then◌else◌};
 ghost use Rattle.im_types.specs.Contents.{kept_under, kept_for};
 ghost use Rattle.im_types.specs.Window.{is_waiting};
 ghost use Rattle.im_types.specs.Agreement.{awaiting, waits_for, WaitersAgree};
@@ -120,20 +120,21 @@ fn mark_list(
 fn mark_cell(
     address: usize,
     cell: &CellRecord,
-    waiters: &[Waiter],
+    lists: &Lists,
     windows: &[WindowRecord],
     marks: &mut [bool],
 ) -> bool
     requires few { AreFew windows.now }
     requires places { length marks.old ≡ WINDOW * length windows.now }
-    ensures { mark_held (kept_for windows.now) (place_in windows.now) address marks.old (cell_shown cell.now waiters.now)
+    requires listed { address < length lists.now }
+    ensures { mark_held (kept_for windows.now) (place_in windows.now) address marks.old (cell_shown cell.now (slice_index_or lists.now address []))
         ≡ (if result then Some marks.new else None) }
 {
     match *cell {
         CellRecord::Held {
             block,
             tag: PresenceTag::Waiting { .. },
-        } => mark_list(block.kind, address, waiters, windows, marks),
+        } => mark_list(block.kind, address, lists.at(address), windows, marks),
         _ => true,
     }
 }
@@ -152,7 +153,7 @@ fn mark_all(
         ≡ (if result then Some marks.new else None) }
 {
     for address in 0..cells.len() {
-        if !mark_cell(address, &cells[address], lists.at(address), windows, marks) {
+        if !mark_cell(address, &cells[address], lists, windows, marks) {
             return false;
         }
     }

@@ -47,7 +47,9 @@ pub fn lengths_and_addresses_have_edges()
 /// A block is placed in the least hole that is large enough.
 pub fn least_hole_is_taken()
     ensures { IsLegal sixteen_cells least_hole }
-{}
+{
+    // A law has no steps.
+}
 
 /// A block with a waiting cell isn't released, and that answer is kept though the block goes later.
 pub fn waiting_block_stays()

@@ -48,7 +48,9 @@ pub fn requests_are_judged_by_bounds()
     ensures full { (m : Contents) (r : Request) (base : ℕ)
         → bounds m.windows r.element ≡ Ok (base, r.number) → r.number ≤ LAST
         → base + WINDOW ≤ r.number → IsRefused m r WindowFull }
-{}
+{
+    // A law has no steps.
+}
 
 /// A confirmation is answered exactly where its number isn't past the next one and no entry below it waits. It drops the
 /// entries below that number, and leaves all others and all cells.

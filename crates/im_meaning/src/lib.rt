@@ -48,7 +48,9 @@ pub fn lower_gates_may_be_anything()
     ensures { (l : Layout) (h : Header) (shown : Contents) (commands : List Command) (room : ℕ) (c d : List ℕ) → IsImage l h shown commands room c
         → SameBut (4096 * other h) 1 c d → 0 < h.sizes.slots → generation_in (header_place (other h) c) < h.generation
         → IsImage l h shown commands room d }
-{}
+{
+    // A law has no steps.
+}
 
 /// A header that is prepared is not in force while its gate is closed, and once it is open it is. The commands that its
 /// area holds are no longer those of the journal.

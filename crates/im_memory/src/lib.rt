@@ -14,6 +14,7 @@ mod restore;
 mod windows;
 
 pub use cells::Presence;
+pub use im_arena::Waiters;
 pub use memory::Memory;
 pub use records::MemoryRecords;
 pub use restore::Restoring;

@@ -19,7 +19,7 @@ use crate::acts::{act, resume};
 use crate::cells::{Presence, presence_of};
 use crate::records::MemoryRecords;
 use crate::windows::judge_confirm;
-use im_arena::Arena;
+use im_arena::{Arena, Waiters};
 use im_cell::CellTable;
 use im_sessions::Sessions;
 use im_types::{
@@ -225,14 +225,19 @@ impl Memory {
         self.table.block_of(a)
     }
 
-    /// The request at this place, from 0, among those that wait at a cell, in their order of arrival.
+    /// The requests that wait at a cell, in their order of arrival; none where the address lies in no block. Each takes
+    /// one step.
+    pub fn waiters(&self, a: u32) -> Waiters<'_>
+        ensures { result ≡ waiters_at self.now.cells a }
+    {
+        self.arena.waiters(a)
+    }
+
+    /// The request at this place, from 0, among those that wait at a cell. It takes as many steps as the place.
     pub fn waiter(&self, a: u32, place: usize) -> Option<Waiter>
         ensures { result ≡ slice_get (waiters_at self.now.cells a) place }
     {
-        if a >= self.arena.list_count() || place >= self.arena.len(a) as usize {
-            return None;
-        }
-        self.arena.at(a, place as u32)
+        self.waiters(a).nth(place)
     }
 
     /// What is kept under an element's number.

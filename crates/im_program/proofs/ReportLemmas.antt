@@ -1,12 +1,13 @@
 -- Texts of lines, one after another, and the lines of a window. (Own.)
-use Rattle.std.proofs.Common.{◌≡◌, ℕ, suc, ◌+◌, ◌-◌, ◌≤◌, List, [], ◌++◌, length, refl, ap, ap₂, sym, ◌∙◌, append_assoc, append-nil, arith, Bool, false, nat_lt, Some}
+use Rattle.std.proofs.Common.{◌≡◌, ℕ, suc, ◌+◌, ◌-◌, ◌≤◌, List, [], ◌∷◌, ◌++◌, length, refl, ap, ap₂, sym, ◌∙◌, append_assoc, append-nil, arith, Bool, false, nat_lt, Some}
 use Rattle.std.specs.Prelude.{Option, None, Ok, ◌==◌, ◌&&◌, if◌then◌else◌, slice_get}
 use Rattle.std.specs.Option.{option_and_then}
 use Rattle.std.proofs.lemmas.Bool.Decides.{nat_tests}
 use Rattle.im_types.specs.declared.operations.Kept.{Kept}
+use Rattle.im_types.specs.declared.operations.Waiter.{Waiter}
 use Rattle.im_types.specs.Contents.{Window, kept_for, kept_under}
 use Rattle.im_types.specs.Window.{bounds_of, next_number}
-use Rattle.im_program.specs.Report.{texts_below, entry_line, element_line, entries_text, window_text}
+use Rattle.im_program.specs.Report.{texts_below, waiter_text, waiters_text, entry_line, element_line, entries_text, window_text}
 
 -- ---- texts one after another
 
@@ -46,6 +47,21 @@ written_none_at text n start none = written_none text start ∙ ap (λ n. start 
 
 pub written_more_at : (text : ℕ → List ℕ) (n next : ℕ) (start was now : List ℕ) → next ≡ n + 1 → was ≡ start ++ texts_below text n → now ≡ was ++ text n → now ≡ start ++ texts_below text next
 written_more_at text n next start was now one before added = written_more text n start was now before added ∙ ap (λ n. start ++ texts_below text n) (sym one)
+
+-- ---- those that wait
+
+-- nobody is left
+pub waiters_none : (left : List Waiter) (was all : List ℕ) → left ≡ [] → was ++ waiters_text left ≡ all → was ≡ all
+unfolding waiters_text
+waiters_none left was all none rest = sym (append-nil was) ∙ ap (λ ws. was ++ waiters_text ws) (sym none) ∙ rest
+
+-- one more is written
+pub waiters_more : (left after : List Waiter) (who : Waiter) (was now all : List ℕ) → left ≡ who ∷ after → now ≡ was ++ waiter_text who
+    → was ++ waiters_text left ≡ all → now ++ waiters_text after ≡ all
+unfolding waiters_text
+waiters_more left after who was now all is added rest =
+    ap (λ xs. xs ++ waiters_text after) added ∙ append_assoc was (waiter_text who) (waiters_text after)
+    ∙ ap (λ ws. was ++ waiters_text ws) (sym is) ∙ rest
 
 -- ---- windows
 

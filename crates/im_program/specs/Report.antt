@@ -1,6 +1,5 @@
 -- The text of a report: what an inspector tells of an image. (Own.)
 use Rattle.std.specs.Prelude.{ℕ, zero, suc, ◌+◌, ◌*◌, List, [], ◌∷◌, ◌++◌, length, codes, decimal, ◌&&◌, ◌==◌, if◌then◌else◌, Option, None, Some, slice_get}
-use Rattle.im_types.specs.declared.TheConstants.{WINDOW, MAX_ELEMENTS}
 use Rattle.im_types.specs.declared.operations.Kind.{Kind}
 use Rattle.im_types.specs.declared.operations.Kind.TheVariants.{I, M}
 use Rattle.im_types.specs.declared.operations.Op.{Op}
@@ -86,13 +85,13 @@ block_line a None = []
 block_line a (Some b) = if b.base == a then codes "block " ++ decimal b.base ++ codes " " ++ kind_text b.kind ++ codes " " ++ decimal b.length ++ line_feed else []
 
 -- a request that waits
-abbrev pub waiter_text : Option Waiter → List ℕ
-waiter_text None = []
-waiter_text (Some who) = codes " " ++ decimal who.element ++ codes "." ++ decimal who.number
+abbrev pub waiter_text : Waiter → List ℕ
+waiter_text who = codes " " ++ decimal who.element ++ codes "." ++ decimal who.number
 
--- those that wait at a cell, in their order; there are at most as many as all windows have entries
-abbrev pub waiters_text : List Waiter → List ℕ
-waiters_text waiters = texts_below (λ place. waiter_text (slice_get waiters place)) (WINDOW * MAX_ELEMENTS)
+-- those that wait at a cell, in their order
+unfoldable pub waiters_text : List Waiter → List ℕ
+waiters_text [] = []
+waiters_text (who ∷ others) = waiter_text who ++ waiters_text others
 
 -- a cell that isn't empty, with those that wait at it
 abbrev pub cell_line : ℕ → Option Presence → List Waiter → List ℕ

@@ -9,11 +9,8 @@ ghost use Rattle.im_program.specs.Report.{block_line, blocks_text, cell_line, ce
 use crate::replies::{add_entry, add_op, kind_text};
 use im_image::{Header, Report};
 use im_memory::{Memory, Presence};
-use im_types::{Block, Kept, Limits, MAX_ELEMENTS, WINDOW, Waiter};
+use im_types::{Block, Kept, Limits, Waiter};
 use std::alloc::AllocError;
-
-/// The most requests that wait at a cell: as many as all windows have entries.
-const MOST_WAITERS: usize = WINDOW as usize * MAX_ELEMENTS as usize;
 
 /// Adds the line of the layout's version.
 fn add_version(out: &mut String, header: &Header) -> Result<(), AllocError>
@@ -82,22 +79,20 @@ fn add_blocks(out: &mut String, memory: &Memory) -> Result<(), AllocError>
     Ok(())
 }
 
-/// Adds a request that waits, if there is one.
-fn add_waiter(out: &mut String, waiter: Option<Waiter>) -> Result<(), AllocError>
+/// Adds a request that waits.
+fn add_waiter(out: &mut String, waiter: Waiter) -> Result<(), AllocError>
     ensures { OnOk result (string_bytes out.new ≡ string_bytes out.old ++ waiter_text waiter) }
 {
-    match waiter {
-        Some(Waiter { element, number }) => write!(out, " {element}.{number}"),
-        None => Ok(()),
-    }
+    let Waiter { element, number } = waiter;
+    write!(out, " {element}.{number}")
 }
 
 /// Adds those that wait at a cell, in their order.
 fn add_waiters(out: &mut String, memory: &Memory, a: u32) -> Result<(), AllocError>
     ensures { OnOk result (string_bytes out.new ≡ string_bytes out.old ++ waiters_text (waiters_at memory.now.cells a)) }
 {
-    for place in 0..MOST_WAITERS {
-        add_waiter(out, memory.waiter(a, place))?;
+    for waiter in memory.waiters(a) {
+        add_waiter(out, waiter)?;
     }
     Ok(())
 }

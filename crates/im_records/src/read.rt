@@ -27,8 +27,7 @@ fn block_cell(
 
 // The record that the fields stand for, whatever the other bytes are.
 #[tactic(auto, unfolding(im_formats::specs::Reading::cell_in))]
-fn cell_in(bytes: &[u8]) -> Option<CellRecord>
-    requires { length bytes.now ≡ 32 }
+fn cell_in(bytes: &[u8; 32]) -> Option<CellRecord>
     ensures { result ≡ cell_in bytes.now }
 {
     let base = LittleEndian::read_u32(&bytes[4..8]);
@@ -50,10 +49,10 @@ fn cell_in(bytes: &[u8]) -> Option<CellRecord>
     )
 }
 
-fn cell_if(bytes: &[u8], cell: CellRecord) -> Option<CellRecord>
+fn cell_if(bytes: &[u8; 32], cell: CellRecord) -> Option<CellRecord>
     ensures { result ≡ cell_if bytes.now cell }
 {
-    if bytes == &spell_cell(&cell)[..] {
+    if *bytes == spell_cell(&cell) {
         Some(cell)
     } else {
         None
@@ -64,15 +63,14 @@ fn cell_if(bytes: &[u8], cell: CellRecord) -> Option<CellRecord>
 pub fn read_cell(bytes: &[u8]) -> Option<CellRecord>
     ensures { result ≡ read_cell bytes.now }
 {
-    if bytes.len() != 32 {
+    let Some(bytes) = bytes.as_array::<32>() else {
         return None;
-    }
+    };
     cell_if(bytes, cell_in(bytes)?)
 }
 
 #[tactic(auto, unfolding(im_formats::specs::Reading::node_in))]
-fn node_in(bytes: &[u8]) -> NodeRecord
-    requires { length bytes.now ≡ 16 }
+fn node_in(bytes: &[u8; 16]) -> NodeRecord
     ensures { result ≡ node_in bytes.now }
 {
     let next = LittleEndian::read_u32(&bytes[0..4]);
@@ -87,10 +85,10 @@ fn node_in(bytes: &[u8]) -> NodeRecord
     }
 }
 
-fn node_if(bytes: &[u8], node: NodeRecord) -> Option<NodeRecord>
+fn node_if(bytes: &[u8; 16], node: NodeRecord) -> Option<NodeRecord>
     ensures { result ≡ if same_bytes bytes.now (node_bytes node) then Some node else None }
 {
-    if bytes == &spell_node(&node)[..] {
+    if *bytes == spell_node(&node) {
         Some(node)
     } else {
         None
@@ -101,9 +99,9 @@ fn node_if(bytes: &[u8], node: NodeRecord) -> Option<NodeRecord>
 pub fn read_node(bytes: &[u8]) -> Option<NodeRecord>
     ensures { result ≡ read_node bytes.now }
 {
-    if bytes.len() != 16 {
+    let Some(bytes) = bytes.as_array::<16>() else {
         return None;
-    }
+    };
     node_if(bytes, node_in(bytes))
 }
 
@@ -116,8 +114,7 @@ fn kept_of(op: Option<Op>, entry: Option<Entry>) -> Option<Option<Kept>>
 }
 
 #[tactic(auto, unfolding(im_formats::specs::Reading::place_in))]
-fn place_in(bytes: &[u8]) -> Option<Option<Kept>>
-    requires { length bytes.now ≡ 32 }
+fn place_in(bytes: &[u8; 32]) -> Option<Option<Kept>>
     ensures { result ≡ place_in bytes.now }
 {
     if bytes[0] == 0 {
@@ -129,10 +126,10 @@ fn place_in(bytes: &[u8]) -> Option<Option<Kept>>
     kept_of(op_of(bytes[0], address, value), entry_of(bytes[2], number))
 }
 
-fn place_if(bytes: &[u8], place: Option<Kept>) -> Option<Option<Kept>>
+fn place_if(bytes: &[u8; 32], place: Option<Kept>) -> Option<Option<Kept>>
     ensures { result ≡ place_if bytes.now place }
 {
-    if bytes == &spell_place(place)[..] {
+    if *bytes == spell_place(place) {
         Some(place)
     } else {
         None
@@ -143,8 +140,8 @@ fn place_if(bytes: &[u8], place: Option<Kept>) -> Option<Option<Kept>>
 pub fn read_place(bytes: &[u8]) -> Option<Option<Kept>>
     ensures { result ≡ read_place bytes.now }
 {
-    if bytes.len() != 32 {
+    let Some(bytes) = bytes.as_array::<32>() else {
         return None;
-    }
+    };
     place_if(bytes, place_in(bytes)?)
 }

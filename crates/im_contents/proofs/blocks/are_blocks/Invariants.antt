@@ -1,6 +1,12 @@
-use Rattle.std.proofs.Common.{ℕ, ◌<◌}
-use Rattle.im_contents.specs.Local.{IsLocal}
+use Rattle.std.proofs.Common.{◌-◌, ◌≤◌, length}
+use Rattle.im_contents.specs.Local.{HaveBlocksBelow}
 use Rattle.im_contents.proofs.blocks.are_blocks.Given as goal
 
-abbrev pub invariant-loop-cell : goal.invariant-loop-cell
-invariant-loop-cell l = (a : ℕ) → a < l.cell → IsLocal l.cells a
+abbrev pub invariant-loop-at : goal.invariant-loop-at
+invariant-loop-at l = record {
+  below : HaveBlocksBelow l.cells l.at;
+  few : l.at ≤ length l.cells;
+}
+
+abbrev pub decreases-loop-at : goal.decreases-loop-at
+decreases-loop-at l = length l.cells - l.at

@@ -1,7 +1,7 @@
-use Rattle.std.proofs.Common.{List, Option, Some, None, sym, ap, ◌∙◌, arith}
+use Rattle.std.proofs.Common.{List, Option, Some, None, ap, ◌∙◌, arith}
 use Rattle.std.proofs.lemmas.List.{drop_all}
 use Rattle.im_types.specs.Contents.{Held, kept_for}
-use Rattle.im_types.specs.Pages.{cell_shown, cells_shown}
+use Rattle.im_types.specs.Pages.{cells_shown}
 use Rattle.im_contents.specs.Marking.{place_in, mark_all}
 use Rattle.im_contents.proofs.BlockLemmas.{length-cells_shown}
 use Rattle.im_contents.proofs.PlaceLemmas.{held_at-shown, mark_all-step}
@@ -11,14 +11,14 @@ pub returns-then-not-mark_cell : goal.returns-then-not-mark_cell
 returns-then-not-mark_cell c =
     let count = length-cells_shown c.args.cells.now c.args.lists.now in
     mark_all-step (kept_for c.args.windows.now) (place_in c.args.windows.now) (cells_shown c.args.cells.now c.args.lists.now) c.loop-address.address c.loop-address.marks _ (omega (arith, c.loop-address-test.true)) c.loop-address.invariant
-    _ (held_at-shown c.args.cells.now c.args.lists.now c.loop-address.address _ c.requires.count c.loop-address-test.true ∙ ap (cell_shown _) (sym c.at.ensures))
+    _ (held_at-shown c.args.cells.now c.args.lists.now c.loop-address.address _ c.requires.count c.loop-address-test.true)
     None c.if-not-mark_cell.ensures
 
 pub loop-address-preserved : goal.loop-address-preserved
 loop-address-preserved c =
     let count = length-cells_shown c.args.cells.now c.args.lists.now in
     mark_all-step (kept_for c.args.windows.now) (place_in c.args.windows.now) (cells_shown c.args.cells.now c.args.lists.now) c.loop-address.address c.loop-address.marks _ (omega (arith, c.loop-address-test.true)) c.loop-address.invariant
-    _ (held_at-shown c.args.cells.now c.args.lists.now c.loop-address.address _ c.requires.count c.loop-address-test.true ∙ ap (cell_shown _) (sym c.at.ensures))
+    _ (held_at-shown c.args.cells.now c.args.lists.now c.loop-address.address _ c.requires.count c.loop-address-test.true)
     (Some c.mark_cell.new.marks) c.if-not-mark_cell.ensures
 
 pub returns : goal.returns

@@ -1,9 +1,14 @@
-use Rattle.std.proofs.Common.{sym, ◌∙◌, arith}
+use Rattle.std.proofs.Common.{Some, None, sym, ◌∙◌, ap, if◌then◌else◌}
+use Rattle.im_types.specs.Bytes.{same_bytes}
+use Rattle.im_types.specs.Records.{node_bytes}
+use Rattle.im_formats.specs.Reading.{node_in}
 use Rattle.im_records.proofs.Reading.{no_node, node_by}
 use Rattle.im_records.proofs.read.read_node.Goals as goal
 
-pub returns-then-bytes-ne16 : goal.returns-then-bytes-ne16
-returns-then-bytes-ne16 c = no_node c.args.bytes.now (λ e. omega (arith, c.if-bytes-ne16.true, e))
+pub returns-in_default : goal.returns-in_default
+returns-in_default c = no_node c.args.bytes.now c.in_default.ensures.cases
 
 pub returns : goal.returns
-returns c = c.node_if.ensures ∙ sym (node_by c.args.bytes.now c.node_in.result c.node_in.ensures)
+returns c =
+    c.node_if.ensures ∙ ap (λ bytes. if same_bytes bytes (node_bytes c.node_in.result) then Some c.node_in.result else None) c.in-Some.ensures.cases.same
+    ∙ sym (node_by c.args.bytes.now c.node_in.result (c.node_in.ensures ∙ ap node_in c.in-Some.ensures.cases.same))

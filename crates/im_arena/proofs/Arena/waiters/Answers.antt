@@ -1,0 +1,16 @@
+use Rattle.std.proofs.Common.{sym, arith}
+use Rattle.im_arena.proofs.Views.{few_steps, list_at-read, place-read, place-end}
+use Rattle.im_arena.proofs.Arena.waiters.Goals as goal
+
+pub from-requires : goal.from-requires
+from-requires c =
+    rw c.deref.ensures.value (record {
+      few = c.self.invariant.sound.chains.few;
+      short = few_steps _ _ _ _ c.self.invariant _ c.index.result.now (omega arith) c.index.ensures;
+      within = place-read _ _ _ _ c.self.invariant _ c.index.result.now (omega arith) c.index.ensures;
+      end = place-end _ _ _ _ c.self.invariant _ c.index.result.now (omega arith) c.index.ensures;
+    })
+
+pub returns : goal.returns
+returns c =
+    rw (← c.self.view_is, c.from.ensures, c.deref.ensures.value) (sym (list_at-read _ _ _ _ c.self.invariant _ c.index.result.now (omega arith) c.index.ensures))
