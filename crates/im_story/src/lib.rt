@@ -1,0 +1,24 @@
+//! Stories: texts whose lines are calls and what they answer, and the walk that makes the calls and compares.
+//!
+//! ```text
+//! # A fetch comes before its store
+//! -- The reader is deferred, and the store answers it.
+//! 1.1 fetch 0 = waiting
+//! 2.1 store 0 42 = stored
+//! collect 1.1 = value 42
+//! ```
+//!
+//! A line `# ..` begins a story and says what happens in it; a line `-- ..` is a remark; each other line that isn't blank is
+//! a call and its answer, with ` = ` between them. What the calls are is the [`Scene`]'s to say. It stands on `im_types`
+//! and `anyhow`, and is used by the crates that tell stories. It promises nothing but that it ends: a story is a test.
+#![tactic(auto)]
+
+mod files;
+mod texts;
+mod walks;
+mod words;
+
+pub use files::walk_files;
+pub use texts::{add_answer, add_entry, add_outcome, add_refusal, add_reply, add_window};
+pub use walks::{Scene, Walked, walk};
+pub use words::{address, byte, command, element, name, number, op, place, request};
