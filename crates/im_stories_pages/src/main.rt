@@ -1,8 +1,8 @@
-//! Stories of the pages of an image: how the records of cells, waiter nodes and sessions are spelled and read, and which
-//! memory they show. The stories lie in `data`; each module says its own words.
+//! Stories of the pages of an image: how the records of cells, waiter nodes and sessions are spelled and read, and
+//! which memory they show. The stories lie in `data`, and each module says its own words.
 //!
-//! A byte of a row of bytes is two digits of base 16, and `00*14` is fourteen of them. All other numbers are decimal, and
-//! `none` is a link to nothing.
+//! Bytes in a row are written with two digits of base 16 each, and `00*14` is fourteen of them. All other numbers are
+//! decimal, and `none` is a link to nothing.
 #![tactic(auto)]
 
 mod areas;

@@ -1,7 +1,7 @@
 //! The records of an area, as a story sets them.
 //!
 //! ```text
-//! cells 3 = 3                              a row of free cells; so `nodes 4`, and `windows 2`, which keep nothing from 1 on
+//! cells 3 = 3                              a row of free cells; so `nodes 4`; so `windows 2`, each empty, from 1 on
 //! cell 1 empty in block 1 of 2 i = set
 //! node 0 1.1 next none = set
 //! window 0 15 = set                        a window with no entry, whose first number is 15

@@ -1,7 +1,7 @@
 //! Bytes, and the records that they spell.
 //!
 //! ```text
-//! spell node free next 3 = 03 00*15        the bytes of a record; so `spell cell ..`, `spell entry ..` and `spell entry none`
+//! spell node free next 3 = 03 00*15        the bytes of a record; so of a `cell`, of an `entry`, and of `entry none`
 //! spell session 0 = 1024                   how many bytes a window has; so `pages`, of a page of each kind of record
 //! spell session 0 at 2 = 4096              the same on a page where old bytes stood, at place 2
 //! bytes 4 3 = 00*3                         of those bytes, three from byte 4 on
@@ -25,12 +25,33 @@ use im_records::{
     spell_node, spell_place, spell_session,
 };
 use im_story::{add_refusal, byte, number, place};
-use im_types::Limits;
+use im_types::{CellRecord, Limits, NodeRecord};
 use std::alloc::{AllocError, Global};
 
-fn add_window(said: &mut String, window: &WindowRecord) -> Result<(), AllocError> {
+fn add_window_or(
+    said: &mut String,
+    window: Option<&WindowRecord>,
+    none: &str,
+) -> Result<(), AllocError> {
+    let Some(window) = window else {
+        return said.push_str(none);
+    };
     let (base, count) = (window.base(), window.kept().len());
     write!(said, "base {base} with {count}")
+}
+
+fn add_cell_or(said: &mut String, cell: Option<CellRecord>, none: &str) -> Result<(), AllocError> {
+    match cell {
+        Some(cell) => add_cell(said, cell),
+        None => said.push_str(none),
+    }
+}
+
+fn add_node_or(said: &mut String, node: Option<NodeRecord>, none: &str) -> Result<(), AllocError> {
+    match node {
+        Some(node) => add_node(said, node),
+        None => said.push_str(none),
+    }
 }
 
 fn add_area(said: &mut String, area: &AreaRecords) -> Result<(), AllocError> {
@@ -80,14 +101,18 @@ impl Spelled {
         Ok(())
     }
 
-    fn spell(&mut self, words: &[&str], said: &mut String) -> Result<()> {
+    fn lay_record(&mut self, words: &[&str]) -> Result<()> {
         match words {
-            ["cell", of @ ..] => self.lay(Form::Cell, &spell_cell(&cell(of)?))?,
-            ["node", of @ ..] => self.lay(Form::Node, &spell_node(&node(of)?))?,
-            ["entry", "none"] => self.lay(Form::Entry, &spell_place(None))?,
-            ["entry", of @ ..] => self.lay(Form::Entry, &spell_place(Some(kept(of)?)))?,
-            _ => return Err(anyhow!("no record")),
+            ["cell", of @ ..] => self.lay(Form::Cell, &spell_cell(&cell(of)?)),
+            ["node", of @ ..] => self.lay(Form::Node, &spell_node(&node(of)?)),
+            ["entry", "none"] => self.lay(Form::Entry, &spell_place(None)),
+            ["entry", of @ ..] => self.lay(Form::Entry, &spell_place(Some(kept(of)?))),
+            _ => Err(anyhow!("no record")),
         }
+    }
+
+    fn spell(&mut self, words: &[&str], said: &mut String) -> Result<()> {
+        self.lay_record(words)?;
         add_bytes(said, &self.bytes)?;
         Ok(())
     }
@@ -141,10 +166,7 @@ impl Spelled {
 
     fn read_session(&mut self, said: &mut String) -> Result<()> {
         self.session = read_session(&self.bytes);
-        match &self.session {
-            Some(window) => add_window(said, window)?,
-            None => said.push_str("refused")?,
-        }
+        add_window_or(said, self.session.as_ref(), "refused")?;
         Ok(())
     }
 
@@ -167,22 +189,17 @@ impl Spelled {
         Ok(())
     }
 
-    // Reads the bytes as a record of an area.
+    // Reads the bytes as a cell, a waiter node or an entry.
     fn read_record(&self, said: &mut String) -> Result<()> {
-        match self.form {
-            Form::Cell => match read_cell(&self.bytes) {
-                Some(cell) => add_cell(said, cell)?,
-                None => said.push_str("refused")?,
-            },
-            Form::Node => match read_node(&self.bytes) {
-                Some(node) => add_node(said, node)?,
-                None => said.push_str("refused")?,
-            },
+        let told = match self.form {
+            Form::Cell => add_cell_or(said, read_cell(&self.bytes), "refused"),
+            Form::Node => add_node_or(said, read_node(&self.bytes), "refused"),
             _ => match read_place(&self.bytes) {
-                Some(entry) => add_kept(said, entry)?,
-                None => said.push_str("refused")?,
+                Some(entry) => add_kept(said, entry),
+                None => said.push_str("refused"),
             },
-        }
+        };
+        told?;
         Ok(())
     }
 
@@ -266,21 +283,12 @@ impl Spelled {
         let Some(area) = &self.area else {
             return Err(anyhow!("no area was read"));
         };
-        match of {
-            "cell" => match area.cells().get(at) {
-                Some(cell) => add_cell(said, *cell)?,
-                None => said.push_str("none")?,
-            },
-            "node" => match area.nodes().get(at) {
-                Some(node) => add_node(said, *node)?,
-                None => said.push_str("none")?,
-            },
-            "window" => match area.windows().get(at) {
-                Some(window) => add_window(said, window)?,
-                None => said.push_str("none")?,
-            },
-            _ => return Err(anyhow!("{of} is no record")),
-        }
+        let told = match of {
+            "cell" => add_cell_or(said, area.cells().get(at).copied(), "none"),
+            "node" => add_node_or(said, area.nodes().get(at).copied(), "none"),
+            _ => add_window_or(said, area.windows().get(at), "none"),
+        };
+        told?;
         Ok(())
     }
 

@@ -2,7 +2,7 @@
 //!
 //! ```text
 //! free hole 3 next none                    a cell in no block
-//! waiting 9 12 in block 0 of 2 m           a cell of the M block of 2 cells from 0 on; its list goes from node 9 to node 12
+//! waiting 9 12 in block 0 of 2 m           a cell of the M block of 2 cells from 0 on; its list: node 9 to node 12
 //! free next 3                              a waiter node in no list
 //! 1.4 next none                            a node of a list: element 1 waits for its request 4
 //! fetch 5 -> waiting                       a kept entry
@@ -137,18 +137,26 @@ pub fn add_node(said: &mut String, node: NodeRecord) -> Result<(), AllocError> {
     }
 }
 
-fn reply(word: &str) -> Result<Reply> {
+// What an operation on a cell is answered, but for a value.
+fn reply_of_cell(word: &str) -> Result<Reply> {
     match word {
-        "nospace" => Ok(Reply::NoSpace),
-        "badlength" => Ok(Reply::BadLength),
         "stored" => Ok(Reply::Stored),
         "clash" => Ok(Reply::Clash),
         "nocell" => Ok(Reply::NoCell),
         "wrongkind" => Ok(Reply::WrongKind),
+        _ => Err(anyhow!("{word} is no reply")),
+    }
+}
+
+// What an operation is answered, but for a base and a value.
+fn reply(word: &str) -> Result<Reply> {
+    match word {
+        "nospace" => Ok(Reply::NoSpace),
+        "badlength" => Ok(Reply::BadLength),
         "released" => Ok(Reply::Released),
         "noblock" => Ok(Reply::NoBlock),
         "stillwaiting" => Ok(Reply::StillWaiting),
-        _ => Err(anyhow!("{word} is no reply")),
+        _ => reply_of_cell(word),
     }
 }
 

@@ -51,10 +51,10 @@ const REFUSALS: [Refusal; 20] = [
 
 /// Tells the number and the text of the refusal that has this name in the code.
 pub fn tell_refusal(alloc: Global, name: &str, said: &mut String) -> Result<()> {
-    for refusal in REFUSALS {
+    for refusal in &REFUSALS {
         let known = format!(in alloc; "{refusal:?}")?;
         if known.as_str() == name {
-            add_refusal(said, refusal)?;
+            add_refusal(said, *refusal)?;
         }
     }
     Ok(())
