@@ -12,6 +12,3 @@ pub use contents::{one_memory_is_shown, read_contents};
 pub use lists::Lists;
 pub use waiting::agree;
 pub use walk::{one_list_is_shown, read_lists};
-
-#[cfg(test)]
-mod tests;

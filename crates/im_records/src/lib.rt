@@ -29,6 +29,3 @@ pub use read::{read_cell, read_node, read_place};
 pub use session::{read_session, spell_session};
 pub use spell::{spell_cell, spell_node, spell_place};
 pub use window::WindowRecord;
-
-#[cfg(test)]
-mod tests;

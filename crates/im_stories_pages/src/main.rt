@@ -1,12 +1,81 @@
-//! Stories of a layer.
+//! Stories of the pages of an image: how the records of cells, waiter nodes and sessions are spelled and read, and
+//! which memory they show. The stories lie in `data`, and each module says its own words.
+//!
+//! Bytes in a row are written with two digits of base 16 each, and `00*14` is fourteen of them. All other numbers are
+//! decimal, and `none` is a link to nothing.
 #![tactic(auto)]
 
+mod areas;
+mod bytes;
+mod rows;
+mod shown;
+mod spelled;
+mod texts;
+mod values;
+mod verdicts;
+
+use crate::rows::Rows;
+use crate::shown::Shown;
+use crate::spelled::Spelled;
+use crate::values::{tell_limits, tell_refusal};
 use anyhow::Result;
+use im_story::{Scene, walk_files};
+use im_types::Limits;
+use std::alloc::Global;
 use std::process::ExitCode;
 
+/// Records, bytes that may spell some, and the lists of waiters that were last read of the records.
+#[derive(Drop)]
+struct Pages {
+    limits: Option<Limits>,
+    rows: Rows,
+    spelled: Spelled,
+    shown: Shown,
+}
+
+impl Pages {
+    fn new(alloc: Global) -> Pages {
+        Pages {
+            limits: None,
+            rows: Rows::new(alloc),
+            spelled: Spelled::new(alloc),
+            shown: Shown::new(),
+        }
+    }
+}
+
+impl Scene for Pages {
+    fn begin(&mut self) {
+        self.limits = None;
+        self.rows.clear();
+        self.spelled.clear();
+        self.shown.clear();
+    }
+
+    fn tell(&mut self, alloc: Global, words: &[&str], said: &mut String) -> Result<()> {
+        match words {
+            ["limits", sizes @ ..] => {
+                self.limits = tell_limits(sizes, said)?;
+                Ok(())
+            }
+            ["refusal", name] => tell_refusal(alloc, name, said),
+            [
+                "cells" | "nodes" | "windows" | "cell" | "node" | "window" | "keep",
+                ..
+            ] => { self.rows.tell(words, said) }
+            ["blocks" | "lists" | "waiting" | "agree" | "contents", ..] => {
+                self.shown.tell(alloc, self.limits, &self.rows, words, said)
+            }
+            _ => self
+                .spelled
+                .tell(alloc, self.limits, &self.rows, words, said),
+        }
+    }
+}
+
 fn start(rt: &HostRuntime) -> Result<u8> {
-    println!(rt; "no story")?;
-    Ok(0)
+    let mut pages = Pages::new(rt.alloc());
+    walk_files(rt, &mut pages)
 }
 
 fn main(rt: HostRuntime) -> ExitCode {

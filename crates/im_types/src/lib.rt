@@ -34,6 +34,3 @@ pub const LAST: u64 = 1 << 62;
 
 /// A link to no cell and to no node.
 pub const NONE: u32 = 0xFFFF_FFFF;
-
-#[cfg(test)]
-mod tests;

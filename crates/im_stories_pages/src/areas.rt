@@ -1,0 +1,77 @@
+//! Areas, whose pages are made record by record.
+
+use crate::rows::Rows;
+use anyhow::{Result, anyhow};
+use im_records::{
+    AreaRecords, CELLS_ON_A_PAGE, NODES_ON_A_PAGE, PAGE, SESSIONS_ON_A_PAGE, WindowRecord,
+    area_pages, put_cell, put_node, put_session, read_area,
+};
+use im_types::{CellRecord, Limits, NodeRecord, Refusal};
+use std::alloc::Global;
+
+// What stood on a page before its records are put.
+const OLD: u8 = 0xEE;
+
+fn page_of_cells(cells: &[CellRecord]) -> [u8; PAGE] {
+    let mut page = [OLD; PAGE];
+    for place in 0..CELLS_ON_A_PAGE {
+        put_cell(&mut page, place, cells.get(place).copied());
+    }
+    page
+}
+
+fn page_of_nodes(nodes: &[NodeRecord]) -> [u8; PAGE] {
+    let mut page = [OLD; PAGE];
+    for place in 0..NODES_ON_A_PAGE {
+        put_node(&mut page, place, nodes.get(place).copied());
+    }
+    page
+}
+
+fn page_of_sessions(windows: &[WindowRecord]) -> [u8; PAGE] {
+    let mut page = [OLD; PAGE];
+    for place in 0..SESSIONS_ON_A_PAGE {
+        put_session(&mut page, place, windows.get(place));
+    }
+    page
+}
+
+/// The three pages of an area with few records.
+pub fn pages(alloc: Global, rows: &Rows) -> Result<Vec<u8>> {
+    if rows.cells.len() > CELLS_ON_A_PAGE
+        || rows.nodes.len() > NODES_ON_A_PAGE
+        || rows.windows.len() > SESSIONS_ON_A_PAGE
+    {
+        return Err(anyhow!("too many records for a page of each kind"));
+    }
+    let mut bytes = Vec::new(alloc);
+    bytes.extend_from_slice(&page_of_cells(&rows.cells))?;
+    bytes.extend_from_slice(&page_of_nodes(&rows.nodes))?;
+    bytes.extend_from_slice(&page_of_sessions(&rows.windows))?;
+    Ok(bytes)
+}
+
+/// A page of old bytes, with a session record at one place.
+pub fn page_with(alloc: Global, window: &WindowRecord, place: usize) -> Result<Vec<u8>> {
+    if place >= SESSIONS_ON_A_PAGE {
+        return Err(anyhow!("there is no place {place} on a page"));
+    }
+    let mut page = [OLD; PAGE];
+    put_session(&mut page, place, Some(window));
+    Ok(Vec::from_slice(alloc, &page)?)
+}
+
+/// The records of an area with these bytes, or why there are none.
+pub fn area(
+    alloc: Global,
+    limits: Option<Limits>,
+    bytes: &[u8],
+) -> Result<Result<AreaRecords, Refusal>> {
+    let Some(limits) = limits else {
+        return Err(anyhow!("there are no limits"));
+    };
+    if bytes.len() != PAGE * area_pages(limits) {
+        return Err(anyhow!("an area isn't so long"));
+    }
+    Ok(read_area(alloc, bytes, limits))
+}

@@ -1,0 +1,61 @@
+//! Limits and refusals.
+//!
+//! ```text
+//! limits 4096 16 256 = 4096 16 256
+//! refusal Gap = refused 1 Gap
+//! ```
+
+use anyhow::{Result, anyhow};
+use im_story::{add_refusal, address, element};
+use im_types::{Limits, Refusal};
+use std::alloc::Global;
+
+/// Makes limits of these cells, elements and slots, and tells them, or `none`.
+pub fn tell_limits(sizes: &[&str], said: &mut String) -> Result<Option<Limits>> {
+    let [cells, elements, slots] = sizes else {
+        return Err(anyhow!("no sizes"));
+    };
+    let limits = Limits::new(address(cells)?, element(elements)?, address(slots)?);
+    match limits {
+        Some(made) => {
+            let (cells, elements, slots) = (made.cells, made.elements, made.slots);
+            write!(said, "{cells} {elements} {slots}")?;
+        }
+        None => said.push_str("none")?,
+    }
+    Ok(limits)
+}
+
+const REFUSALS: [Refusal; 20] = [
+    Refusal::Gap,
+    Refusal::Forgotten,
+    Refusal::WindowFull,
+    Refusal::Mismatch,
+    Refusal::NoElement,
+    Refusal::NotAnswered,
+    Refusal::JournalFull,
+    Refusal::Device,
+    Refusal::Failed,
+    Refusal::NoMemory,
+    Refusal::TraceFull,
+    Refusal::WrongLength,
+    Refusal::NoHeader,
+    Refusal::BadHeader,
+    Refusal::BadPage,
+    Refusal::BadRecord,
+    Refusal::BadLimits,
+    Refusal::BadScript,
+    Refusal::Stalled,
+    Refusal::PaneGone,
+];
+
+/// Tells the number and the text of the refusal that has this name in the code.
+pub fn tell_refusal(alloc: Global, name: &str, said: &mut String) -> Result<()> {
+    for refusal in &REFUSALS {
+        let known = format!(in alloc; "{refusal:?}")?;
+        if known.as_str() == name {
+            add_refusal(said, *refusal)?;
+        }
+    }
+    Ok(())
+}
