@@ -1,5 +1,5 @@
 //! How a story spells a text: words with a space between them, and `/` where a line ends. In a word `~` is a space, `\t` a
-//! tab, `\r` a carriage return, and `\xHH` the byte with this number; the word `""` is empty.
+//! tab, `\r` a carriage return and `\xHH` the byte with this number; the word `""` is empty.
 
 use anyhow::{Result, anyhow};
 
