@@ -116,7 +116,7 @@ run imem serial a.img bad.script = 1
 printed = 1 lines
 printed 0 = refused 18 BadScript
 load a.img = 327680 bytes
-changed = 0 bytes
+as marked = yes
 remove a.img = removed
 remove bad.script = removed
 
@@ -135,7 +135,7 @@ run imem serial short.img fetch.script = 1
 printed = 1 lines
 printed 0 = refused 12 WrongLength
 load short.img = 327679 bytes
-changed = 0 bytes
+as marked = yes
 remove a.img = removed
 remove short.img = removed
 remove fetch.script = removed

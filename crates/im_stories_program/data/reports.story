@@ -29,7 +29,7 @@ printed 8 = element 1 base 1 kept 1
 printed 9 = entry 1.1 fetch 0 -> value 42
 printed 10 = element 2 base 1 kept 1
 printed 11 = entry 2.1 store 0 42 -> stored
-changed = 0 bytes
+as marked = yes
 
 # A second store is told as a clash
 disk 327680 = 327680 bytes

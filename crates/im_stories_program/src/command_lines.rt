@@ -28,27 +28,22 @@ fn add_work(said: &mut String, work: &Work) -> Result<(), AllocError> {
     }
 }
 
-/// The characters of each word.
-pub fn spelled(alloc: Global, words: &[&str]) -> Result<Vec<Vec<u8>>> {
-    let mut spelled = Vec::new(alloc);
+/// The words of a command line, one a line.
+pub fn spelled(alloc: Global, words: &[&str]) -> Result<Vec<u8>> {
+    let mut text = Vec::new(alloc);
     for word in words {
-        let mut text = Vec::new(alloc);
         add_word(&mut text, word)?;
-        spelled.push(text)?;
+        text.push(b'\n')?;
     }
-    Ok(spelled)
+    Ok(text)
 }
 
-/// The words as texts.
-pub fn texts(alloc: Global, spelled: &[Vec<u8>]) -> Result<Vec<&str>> {
-    let mut texts = Vec::new(alloc);
-    for word in spelled {
-        match str::from_utf8(word.as_slice()) {
-            Ok(text) => texts.push(text)?,
-            Err(_) => return Err(anyhow!("a word is no text")),
-        }
+/// The words, as texts.
+pub fn texts(alloc: Global, spelled: &[u8]) -> Result<Vec<&str>> {
+    match str::from_utf8(spelled) {
+        Ok(text) => Ok(text.split_terminator('\n').collect(alloc)?),
+        Err(_) => Err(anyhow!("a word is no text")),
     }
-    Ok(texts)
 }
 
 impl CommandLine {

@@ -25,12 +25,6 @@ fn disk_of(alloc: Global, bytes: &[u8]) -> Result<MemDisk> {
     Ok(disk)
 }
 
-// In how many places two texts differ.
-fn differing(some: &[u8], others: &[u8]) -> usize {
-    let differing = some.iter().zip(others).filter(|(a, b)| a != b).count();
-    differing.saturating_add(some.len().abs_diff(others.len()))
-}
-
 impl Image {
     /// No image.
     pub fn new(alloc: Global) -> Image {
@@ -147,9 +141,9 @@ impl Image {
         Ok(write!(said, "{len} bytes")?)
     }
 
-    fn changed(&self, said: &mut String) -> Result<()> {
-        let changed = differing(self.disk()?.bytes(), self.marked.as_slice());
-        Ok(write!(said, "{changed} bytes")?)
+    fn is_as_marked(&self, said: &mut String) -> Result<()> {
+        let is_same = self.disk()?.bytes() == self.marked.as_slice();
+        Ok(said.push_str(if is_same { "yes" } else { "no" })?)
     }
 
     /// Makes a call on the image's bytes. Whether the words are one.
@@ -168,7 +162,7 @@ impl Image {
             ["write", at, bytes @ ..] => self.write(alloc, place(at)?, bytes, said)?,
             ["cut", len] => self.cut(alloc, place(len)?, said)?,
             ["mark"] => self.mark(alloc, said)?,
-            ["changed"] => self.changed(said)?,
+            ["as", "marked"] => self.is_as_marked(said)?,
             _ => return Ok(false),
         }
         Ok(true)

@@ -1,5 +1,6 @@
 //! What was printed, line by line.
 
+use crate::spelling::line_ends;
 use anyhow::{Result, anyhow};
 use im_story::{name, place};
 use std::alloc::Global;
@@ -25,8 +26,7 @@ impl Printed {
 
     // How many lines end in the text.
     fn count(&self) -> usize {
-        let bytes = self.out.as_str().as_bytes();
-        bytes.iter().filter(|byte| **byte == b'\n').count()
+        line_ends(self.out.as_str().as_bytes())
     }
 
     // The line at this place, from 0.

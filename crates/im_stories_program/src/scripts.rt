@@ -1,6 +1,6 @@
 //! Scripts: a text that is put together line by line, and what is read in it.
 
-use crate::spelling::{add_text, add_word};
+use crate::spelling::{add_text, add_word, line_ends};
 use anyhow::{Result, anyhow};
 use im_script::{Action, Allocation, Place, Script, ScriptLine, read_script, read_u32};
 use im_story::{add_refusal, address, place};
@@ -125,16 +125,9 @@ impl Scripts {
         }
     }
 
-    fn script(&self) -> Result<&Script> {
+    /// The script that was read last.
+    pub fn script(&self) -> Result<&Script> {
         match &self.read {
-            Some(script) => Ok(script),
-            None => Err(anyhow!("no script was read")),
-        }
-    }
-
-    /// Gives out the script that was read last.
-    pub fn take_script(&mut self) -> Result<Script> {
-        match self.read.take() {
             Some(script) => Ok(script),
             None => Err(anyhow!("no script was read")),
         }
@@ -150,7 +143,7 @@ impl Scripts {
         for _time in 0..times {
             add_text(&mut self.text, words)?;
         }
-        let lines = self.text.iter().filter(|byte| **byte == b'\n').count();
+        let lines = line_ends(self.text.as_slice());
         Ok(write!(said, "{lines} lines")?)
     }
 

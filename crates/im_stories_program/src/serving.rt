@@ -1,6 +1,7 @@
 //! Scripts served on the image in memory, and what is told of it. A fuse stops the disk after so many calls.
 
 use crate::Desk;
+use crate::images::Image;
 use anyhow::Result;
 use im_disk::{FuseDisk, Mode};
 use im_program::{inspect_on, refuse, serial_on};
@@ -9,34 +10,34 @@ use im_story::number;
 use im_types::{LAST, Refusal};
 use std::alloc::Global;
 
-// Serves a script on the image, whose disk passes so many calls. The status, and how many calls it was asked.
+// Serves a script on an image, whose disk passes so many calls. The status, and how many calls it was asked.
 fn serve_on(
     alloc: Global,
-    desk: &mut Desk,
+    image: &mut Image,
     script: &Script,
     passes: u64,
     out: &mut String,
 ) -> Result<(u8, u64)> {
-    let disk = FuseDisk::new(desk.image.take()?, passes, Mode::Stop);
+    let disk = FuseDisk::new(image.take()?, passes, Mode::Stop);
     let (status, disk) = serial_on(alloc, disk, script, out);
     let calls = disk.calls();
-    desk.image.set(disk.into_inner());
+    image.set(disk.into_inner());
     Ok((status, calls))
 }
 
 fn serve(alloc: Global, desk: &mut Desk, passes: u64, said: &mut String) -> Result<()> {
-    let script = desk.scripts.take_script()?;
+    let script = desk.scripts.script()?;
     let mut out = String::new(alloc);
-    let (status, _) = serve_on(alloc, desk, &script, passes, &mut out)?;
+    let (status, _) = serve_on(alloc, &mut desk.image, script, passes, &mut out)?;
     desk.printed.set(out);
     Ok(write!(said, "{status}")?)
 }
 
-// How many calls an opening of the image makes: those of a script with no request.
-fn opening_calls(alloc: Global, desk: &mut Desk) -> Result<u64> {
+// How many calls an opening of an image makes: those of a script with no request.
+fn opening_calls(alloc: Global, image: &mut Image) -> Result<u64> {
     let script = read_script(alloc, "".as_bytes())?;
     let mut out = String::new(alloc);
-    let (_, calls) = serve_on(alloc, desk, &script, LAST, &mut out)?;
+    let (_, calls) = serve_on(alloc, image, &script, LAST, &mut out)?;
     Ok(calls)
 }
 
@@ -62,7 +63,7 @@ pub fn tell(alloc: Global, desk: &mut Desk, words: &[&str], said: &mut String) -
     match words {
         ["serve"] => serve(alloc, desk, LAST, said)?,
         ["serve", calls, "calls", "past", "the", "opening"] => {
-            let passes = opening_calls(alloc, desk)?.saturating_add(number(calls)?);
+            let passes = opening_calls(alloc, &mut desk.image)?.saturating_add(number(calls)?);
             serve(alloc, desk, passes, said)?
         }
         ["inspect"] => inspect(alloc, desk, LAST, said)?,

@@ -1,5 +1,5 @@
-//! How a story spells a text: words with a space between them, and `/` where a line ends. In a word `~` is a space, `\t` a
-//! tab, `\r` a carriage return and `\xHH` the byte with this number; the word `""` is empty.
+//! How a story spells a text: words with a space between them, and `/` where a line ends. In a word `~` is a space,
+//! `\t` a tab, `\r` a carriage return and `\xHH` the byte with this number; the word `""` is empty.
 
 use anyhow::{Result, anyhow};
 
@@ -72,4 +72,9 @@ pub fn add_text(text: &mut Vec<u8>, words: &[&str]) -> Result<()> {
         begins = false;
     }
     Ok(())
+}
+
+/// How many lines end in a text.
+pub fn line_ends(text: &[u8]) -> usize {
+    text.iter().filter(|byte| **byte == b'\n').count()
 }
