@@ -13,10 +13,3 @@ pub use inspecting::inspect_on;
 pub use serial::serial_on;
 pub use words::{DEFAULT_CELLS, DEFAULT_ELEMENTS, DEFAULT_SLOTS, WordFault, Work, read_words};
 pub use work::{act, refuse};
-
-#[cfg(test)]
-mod inspect_tests;
-#[cfg(test)]
-mod serial_tests;
-#[cfg(test)]
-mod tests;

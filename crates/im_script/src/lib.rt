@@ -15,6 +15,3 @@ pub const MAX_NAME: usize = 16;
 
 /// The most cells that a place lies past its name's base.
 pub const MAX_OFFSET: u64 = 1_048_575;
-
-#[cfg(test)]
-mod tests;

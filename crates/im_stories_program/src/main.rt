@@ -1,14 +1,67 @@
-//! Stories of a layer.
+//! Stories of the program: scripts, what is printed when they are served on an image, what is told of an image, command
+//! lines, and work on files.
 #![tactic(auto)]
 
-use anyhow::Result;
+mod command_lines;
+mod files;
+mod images;
+mod printed;
+mod scripts;
+mod serving;
+mod spelling;
+
+use anyhow::{Result, anyhow};
+use command_lines::CommandLine;
+use im_story::{Scene, walk_files};
+use images::Image;
+use printed::Printed;
+use scripts::Scripts;
+use std::alloc::Global;
 use std::process::ExitCode;
 
-fn start(rt: &HostRuntime) -> Result<u8> {
-    println!(rt; "no story")?;
-    Ok(0)
+/// What a story has in its hands: a script, an image in memory, what was printed last, and the folder's files.
+#[derive(Drop)]
+struct Desk<'a> {
+    rt: &'a HostRuntime,
+    scripts: Scripts,
+    image: Image,
+    printed: Printed,
+    command_line: CommandLine,
+}
+
+impl<'a> Desk<'a> {
+    fn new(rt: &'a HostRuntime) -> Desk<'a> {
+        Desk {
+            rt,
+            scripts: Scripts::new(rt.alloc()),
+            image: Image::new(rt.alloc()),
+            printed: Printed::new(rt.alloc()),
+            command_line: CommandLine::new(rt.alloc()),
+        }
+    }
+}
+
+impl<'a> Scene for Desk<'a> {
+    fn begin(&mut self) {
+        *self = Desk::new(self.rt);
+    }
+
+    fn tell(&mut self, alloc: Global, words: &[&str], said: &mut String) -> Result<()> {
+        let is_told = self.scripts.tell(alloc, words, said)?
+            || self.image.tell(alloc, words, said)?
+            || self.printed.tell(alloc, words, said)?
+            || self.command_line.tell(alloc, words, said)?
+            || serving::tell(alloc, self, words, said)?
+            || files::tell(self, words, said)?;
+        if is_told {
+            Ok(())
+        } else {
+            Err(anyhow!("no such call"))
+        }
+    }
 }
 
 fn main(rt: HostRuntime) -> ExitCode {
-    ExitCode::from(start(&rt).unwrap_or(1))
+    let mut desk = Desk::new(&rt);
+    ExitCode::from(walk_files(&rt, &mut desk).unwrap_or(1))
 }

@@ -1,0 +1,141 @@
+# With no subcommand a short script is served on an image in memory
+run imem = 0
+printed = 4 lines
+printed 0 = 0.1 base 0
+printed 1 = 1.1 waiting
+printed 2 = 2.1 stored
+printed 3 = 1.1 now value 42
+
+# A number out of its range is refused before a file is made
+run imem format no_such_folder/a.img --cells 0 = 1
+printed = 1 lines
+printed 0 = refused 17 BadLimits
+-- This would be 1 element if it were cut to 16 bits.
+run imem format no_such_folder/a.img --elements 65537 = 1
+printed = 1 lines
+printed 0 = refused 17 BadLimits
+file b.img = none
+run imem format b.img --cells 0 = 1
+printed = 1 lines
+printed 0 = refused 17 BadLimits
+file b.img = none
+
+# A script is read before the image, which has to be there
+run imem serial no_such_folder/a.img no_such_folder/s = 1
+printed = 1 lines
+printed 0 = refused 18 BadScript
+run imem format no_such_folder/a.img --cells 1 --elements 1 --slots 16 = 1
+printed = 1 lines
+printed 0 = refused 8 Device
+run imem inspect no_such_folder/a.img = 1
+printed = 1 lines
+printed 0 = refused 8 Device
+
+# A refusal has its number and its name
+refuse NoMemory = 1
+printed = 1 lines
+printed 0 = refused 10 NoMemory
+
+# A memory is kept in a file, from one run of the program to the next
+run imem format a.img = 0
+printed = 0 lines
+load a.img = 327680 bytes
+bytes 0 16 = a5 00 01 00 49 4d 45 4d 01 00 00 00 00 00 00 00
+bytes 16 16 = 00 00 00 00 00 00 00 00 00 10 00 00 10 00 00 00
+bytes 32 16 = 00 01 00 00 00 00 00 00 00 00 00 00 00 00 00 00
+bytes 48 16 = 00 00 00 00 00 00 00 00 00 00 00 00 00 00 00 00
+script # A fetch comes before its store, and is answered when the store comes. / = 1 lines
+script setup / alloc x i 2 / element 1 / fetch x+0 / element 2 / store x+0 42 / = 7 lines
+save first_fetch.script = 133 bytes
+run imem serial a.img first_fetch.script = 0
+printed = 4 lines
+printed 0 = 0.1 base 0
+printed 1 = 1.1 waiting
+printed 2 = 2.1 stored
+printed 3 = 1.1 now value 42
+run imem inspect a.img = 0
+printed = 12 lines
+printed 0 = version 1
+printed 1 = limits 4096 16 256
+printed 2 = header 0 generation 1 area 0 count 0
+printed 3 = journal 3 room 253
+printed 4 = block 0 i 2
+printed 5 = cell 0 full 42
+printed 6 = element 0 base 1 kept 1
+printed 7 = entry 0.1 alloc i 2 -> base 0
+printed 8 = element 1 base 1 kept 1
+printed 9 = entry 1.1 fetch 0 -> value 42
+printed 10 = element 2 base 1 kept 1
+printed 11 = entry 2.1 store 0 42 -> stored
+script # On the image that first_fetch.script left: the value is still there. / element 1 / fetch 0 / = 3 lines
+save second_fetch.script = 89 bytes
+run imem serial a.img second_fetch.script = 0
+printed = 1 lines
+printed 0 = 1.2 value 42
+run imem inspect a.img = 0
+printed = 13 lines
+printed 0 = version 1
+printed 1 = limits 4096 16 256
+printed 2 = header 0 generation 1 area 0 count 0
+printed 3 = journal 4 room 252
+printed 4 = block 0 i 2
+printed 5 = cell 0 full 42
+printed 6 = element 0 base 1 kept 1
+printed 7 = entry 0.1 alloc i 2 -> base 0
+printed 8 = element 1 base 1 kept 2
+printed 9 = entry 1.1 fetch 0 -> value 42
+printed 10 = entry 1.2 fetch 0 -> value 42
+printed 11 = element 2 base 1 kept 1
+printed 12 = entry 2.1 store 0 42 -> stored
+file a.img = 327680 bytes
+remove a.img = removed
+remove first_fetch.script = removed
+remove second_fetch.script = removed
+
+# An image is made over an older file, of its own length
+script element 1 / fetch 0 / = 2 lines
+save a.img = 18 bytes
+run imem format a.img --cells 1 --elements 1 --slots 16 = 0
+printed = 0 lines
+file a.img = 33792 bytes
+run imem inspect a.img = 0
+printed = 4 lines
+printed 0 = version 1
+printed 1 = limits 1 1 16
+printed 2 = header 0 generation 1 area 0 count 0
+printed 3 = journal 0 room 16
+remove a.img = removed
+
+# A script that isn't in the grammar leaves the image as it was
+run imem format a.img = 0
+load a.img = 327680 bytes
+mark = 327680 bytes
+script element 1 / read 0 / = 2 lines
+save bad.script = 17 bytes
+run imem serial a.img bad.script = 1
+printed = 1 lines
+printed 0 = refused 18 BadScript
+load a.img = 327680 bytes
+as marked = yes
+remove a.img = removed
+remove bad.script = removed
+
+# A file that is one byte short is refused, and left as it was
+run imem format a.img = 0
+load a.img = 327680 bytes
+cut 327679 = 327679 bytes
+keep short.img = 327679 bytes
+mark = 327679 bytes
+script element 1 / fetch 0 / = 2 lines
+save fetch.script = 18 bytes
+run imem inspect short.img = 1
+printed = 1 lines
+printed 0 = refused 12 WrongLength
+run imem serial short.img fetch.script = 1
+printed = 1 lines
+printed 0 = refused 12 WrongLength
+load short.img = 327679 bytes
+as marked = yes
+remove a.img = removed
+remove short.img = removed
+remove fetch.script = removed

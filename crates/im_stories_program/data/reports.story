@@ -1,0 +1,266 @@
+# Of a new image four lines are told
+disk 327680 = 327680 bytes
+format 4096 16 256 = formatted
+inspect = 0
+printed = 4 lines
+printed 0 = version 1
+printed 1 = limits 4096 16 256
+printed 2 = header 0 generation 1 area 0 count 0
+printed 3 = journal 0 room 256
+
+# A fetch and a store are told, and no byte is changed
+disk 327680 = 327680 bytes
+format 4096 16 256 = formatted
+script setup / alloc x i 2 / element 1 / fetch x+0 / element 2 / store x+0 42 / = 6 lines
+read = 1 blocks, 2 parts, 2 requests
+serve = 0
+mark = 327680 bytes
+inspect = 0
+printed = 12 lines
+printed 0 = version 1
+printed 1 = limits 4096 16 256
+printed 2 = header 0 generation 1 area 0 count 0
+printed 3 = journal 3 room 253
+printed 4 = block 0 i 2
+printed 5 = cell 0 full 42
+printed 6 = element 0 base 1 kept 1
+printed 7 = entry 0.1 alloc i 2 -> base 0
+printed 8 = element 1 base 1 kept 1
+printed 9 = entry 1.1 fetch 0 -> value 42
+printed 10 = element 2 base 1 kept 1
+printed 11 = entry 2.1 store 0 42 -> stored
+as marked = yes
+
+# A second store is told as a clash
+disk 327680 = 327680 bytes
+format 4096 16 256 = formatted
+script setup / alloc x i 1 / element 1 / store x 5 / fetch x / store x 5 / fetch x / = 7 lines
+read = 1 blocks, 1 parts, 4 requests
+serve = 0
+inspect = 0
+printed = 13 lines
+printed 0 = version 1
+printed 1 = limits 4096 16 256
+printed 2 = header 0 generation 1 area 0 count 0
+printed 3 = journal 5 room 251
+printed 4 = block 0 i 1
+printed 5 = cell 0 clashed 5
+printed 6 = element 0 base 1 kept 1
+printed 7 = entry 0.1 alloc i 1 -> base 0
+printed 8 = element 1 base 1 kept 4
+printed 9 = entry 1.1 store 0 5 -> stored
+printed 10 = entry 1.2 fetch 0 -> value 5
+printed 11 = entry 1.3 store 0 5 -> clash
+printed 12 = entry 1.4 fetch 0 -> clash
+
+# A put on a full cell is told after another opening
+disk 327680 = 327680 bytes
+format 4096 16 256 = formatted
+read setup / alloc x m 1 / element 1 / put x 1 / put x 2 / = 1 blocks, 1 parts, 2 requests
+serve = 0
+read element 1 / take 0 / = 0 blocks, 1 parts, 1 requests
+serve = 0
+inspect = 0
+printed = 12 lines
+printed 0 = version 1
+printed 1 = limits 4096 16 256
+printed 2 = header 0 generation 1 area 0 count 0
+printed 3 = journal 4 room 252
+printed 4 = block 0 m 1
+printed 5 = cell 0 clashed 1
+printed 6 = element 0 base 1 kept 1
+printed 7 = entry 0.1 alloc m 1 -> base 0
+printed 8 = element 1 base 1 kept 3
+printed 9 = entry 1.1 put 0 1 -> stored
+printed 10 = entry 1.2 put 0 2 -> clash
+printed 11 = entry 1.3 take 0 -> clash
+
+# A window is told from its base on
+disk 327680 = 327680 bytes
+format 4096 16 256 = formatted
+script element 0 / alloc i 5000 / alloc m 0 / alloc i 1 / alloc m 2 / release 1 / release 2 / take 1 / = 8 lines
+script release 1 / put 0 1 / fetch 9 / take 1 / fetch 0 / alloc m 1 / = 14 lines
+script fetch 2 / fetch 3 / fetch 4 / fetch 5 / = 18 lines
+script element 2 / release 9 / alloc m 0 / release 0 / = 22 lines
+read = 0 blocks, 2 parts, 20 requests
+serve = 0
+inspect = 0
+-- Element 0 has asked 17 times: its first eleven entries were confirmed, and the twelfth waits.
+printed = 18 lines
+printed 0 = version 1
+printed 1 = limits 4096 16 256
+printed 2 = header 0 generation 1 area 0 count 0
+printed 3 = journal 21 room 235
+printed 4 = block 0 i 1
+printed 5 = block 1 m 1
+printed 6 = cell 0 waiting 0.12
+printed 7 = element 0 base 12 kept 6
+printed 8 = entry 0.12 fetch 0 -> waiting
+printed 9 = entry 0.13 alloc m 1 -> base 1
+printed 10 = entry 0.14 fetch 2 -> nocell
+printed 11 = entry 0.15 fetch 3 -> nocell
+printed 12 = entry 0.16 fetch 4 -> nocell
+printed 13 = entry 0.17 fetch 5 -> nocell
+printed 14 = element 2 base 1 kept 3
+printed 15 = entry 2.1 release 9 -> noblock
+printed 16 = entry 2.2 alloc m 0 -> badlength
+printed 17 = entry 2.3 release 0 -> stillwaiting
+
+# Those who wait are told in their order, and a list that leads back to its first node is refused
+disk 33792 = 33792 bytes
+format 1 3 16 = formatted
+-- The header's count is four commands.
+write 16 04 00 00 00 00 00 00 00 = 00 00 00 00 00 00 00 00
+-- The cell waits, in a block of one I cell, from node 0 to node 2.
+write 8192 02 01 00 00 00 00 00 00 = 00 00 00 00 00 00 00 00
+write 8200 01 00 00 00 00 00 00 00 = ff ff ff ff ff ff ff ff
+write 8208 02 00 00 00 = ff ff ff ff
+-- Node 0 is request 1 of element 1, node 1 request 1 of element 2, and node 2, the last, request 2 of element 1.
+write 12288 01 00 00 00 01 00 01 00 = ff ff ff ff 00 00 00 00
+write 12296 01 00 00 00 00 00 00 00 = 00 00 00 00 00 00 00 00
+write 12304 02 00 00 00 02 00 01 00 = ff ff ff ff 00 00 00 00
+write 12312 01 00 00 00 00 00 00 00 = 00 00 00 00 00 00 00 00
+write 12320 ff ff ff ff 01 00 01 00 = ff ff ff ff 00 00 00 00
+write 12328 02 00 00 00 00 00 00 00 = 00 00 00 00 00 00 00 00
+-- Element 0 keeps the block that it made, elements 1 and 2 their fetches that wait.
+write 16392 01 = 00
+write 16448 01 00 01 00 01 00 00 00 = 00 00 00 00 00 00 00 00
+write 17416 02 = 00
+write 17472 04 = 00
+write 17504 04 = 00
+write 18440 01 = 00
+write 18496 04 = 00
+inspect = 0
+printed = 13 lines
+printed 0 = version 1
+printed 1 = limits 1 3 16
+printed 2 = header 0 generation 1 area 0 count 4
+printed 3 = journal 0 room 16
+printed 4 = block 0 i 1
+printed 5 = cell 0 waiting 1.1 2.1 1.2
+printed 6 = element 0 base 1 kept 1
+printed 7 = entry 0.1 alloc i 1 -> base 0
+printed 8 = element 1 base 1 kept 2
+printed 9 = entry 1.1 fetch 0 -> waiting
+printed 10 = entry 1.2 fetch 0 -> waiting
+printed 11 = element 2 base 1 kept 1
+printed 12 = entry 2.1 fetch 0 -> waiting
+-- Now node 2 leads to node 0.
+write 12320 00 00 00 00 = ff ff ff ff
+inspect = 1
+printed = 1 lines
+printed 0 = refused 15 BadPage
+
+# A header that is closed, or isn't spelled as it should be, is refused
+-- The gate.
+disk 33792 = 33792 bytes
+format 1 1 16 = formatted
+write 0 00 = a5
+inspect = 1
+printed = 1 lines
+printed 0 = refused 13 NoHeader
+-- The version.
+disk 33792 = 33792 bytes
+format 1 1 16 = formatted
+write 2 09 = 01
+inspect = 1
+printed = 1 lines
+printed 0 = refused 14 BadHeader
+-- A byte that has to be zero.
+disk 33792 = 33792 bytes
+format 1 1 16 = formatted
+write 36 01 = 00
+inspect = 1
+printed = 1 lines
+printed 0 = refused 14 BadHeader
+
+# A header of other sizes is refused
+-- 17 slots take a longer file.
+disk 33792 = 33792 bytes
+format 1 1 16 = formatted
+write 32 11 = 10
+inspect = 1
+printed = 1 lines
+printed 0 = refused 12 WrongLength
+-- The same pages have room for 2 cells, but no record of the second.
+disk 33792 = 33792 bytes
+format 1 1 16 = formatted
+write 24 02 = 01
+inspect = 1
+printed = 1 lines
+printed 0 = refused 15 BadPage
+
+# A header may have any generation and any count, and what stands behind it isn't read
+disk 33792 = 33792 bytes
+format 1 1 16 = formatted
+write 8 02 = 01
+write 64 01 = 00
+inspect = 0
+printed = 4 lines
+printed 0 = version 1
+printed 1 = limits 1 1 16
+printed 2 = header 0 generation 2 area 0 count 0
+printed 3 = journal 0 room 16
+-- The last count that there is leaves no room.
+disk 33792 = 33792 bytes
+format 1 1 16 = formatted
+write 23 40 = 00
+inspect = 0
+printed = 4 lines
+printed 0 = version 1
+printed 1 = limits 1 1 16
+printed 2 = header 0 generation 1 area 0 count 4611686018427387904
+printed 3 = journal 0 room 0
+
+# An open slot behind the run has to be of a command that the pages have
+-- Slot 5 says that it has command 5, and the pages have none.
+disk 33792 = 33792 bytes
+format 1 1 16 = formatted
+write 33088 a5 = 00
+write 33096 05 = 00
+inspect = 1
+printed = 1 lines
+printed 0 = refused 16 BadRecord
+-- Where the pages have 21 commands it is an old one, and stands where the next would.
+disk 33792 = 33792 bytes
+format 1 1 16 = formatted
+write 33088 a5 = 00
+write 33096 05 = 00
+write 16 15 = 00
+inspect = 0
+printed = 4 lines
+printed 0 = version 1
+printed 1 = limits 1 1 16
+printed 2 = header 0 generation 1 area 0 count 21
+printed 3 = journal 0 room 0
+
+# An image of another length is refused
+disk 327680 = 327680 bytes
+format 4096 16 256 = formatted
+cut 327679 = 327679 bytes
+inspect = 1
+printed = 1 lines
+printed 0 = refused 12 WrongLength
+cut 100 = 100 bytes
+inspect = 1
+printed = 1 lines
+printed 0 = refused 12 WrongLength
+
+# A command with no such operation is refused
+disk 327680 = 327680 bytes
+format 4096 16 256 = formatted
+script setup / alloc x i 2 / element 1 / fetch x+0 / element 2 / store x+0 42 / = 6 lines
+read = 1 blocks, 2 parts, 2 requests
+serve = 0
+-- The fetch stands in slot 1.
+write 311362 09 = 04
+inspect = 1
+printed = 1 lines
+printed 0 = refused 16 BadRecord
+
+# A disk that fails is refused
+disk 327680 = 327680 bytes
+format 4096 16 256 = formatted
+inspect 1 calls = 1
+printed = 1 lines
+printed 0 = refused 8 Device

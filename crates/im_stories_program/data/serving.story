@@ -1,0 +1,158 @@
+# A fetch comes before its store, and the image keeps what became of it
+disk 327680 = 327680 bytes
+format 4096 16 256 = formatted
+script setup / alloc x i 2 / element 1 / fetch x+0 / element 2 / store x+0 42 / = 6 lines
+read = 1 blocks, 2 parts, 2 requests
+serve = 0
+printed = 4 lines
+printed 0 = 0.1 base 0
+printed 1 = 1.1 waiting
+printed 2 = 2.1 stored
+-- Who had to wait is told at the end.
+printed 3 = 1.1 now value 42
+-- Later, on the same image.
+read element 1 / fetch 0 / = 0 blocks, 1 parts, 1 requests
+serve = 0
+printed = 1 lines
+printed 0 = 1.2 value 42
+count = 4
+
+# Blocks and addresses have edges
+disk 327680 = 327680 bytes
+format 4096 16 256 = formatted
+script element 0 / alloc i 4096 / alloc i 1 / alloc i 0 / alloc m 4097 / = 5 lines
+read element 1 / fetch 4096 / fetch 4294967295 / = 0 blocks, 2 parts, 6 requests
+serve = 0
+printed = 6 lines
+printed 0 = 0.1 base 0
+printed 1 = 0.2 nospace
+printed 2 = 0.3 badlength
+printed 3 = 0.4 nospace
+printed 4 = 1.1 nocell
+printed 5 = 1.2 nocell
+
+# A block of the setup that can't be made ends the script
+disk 327680 = 327680 bytes
+format 4096 16 256 = formatted
+read setup / alloc x i 1 / alloc y i 5000 / element 1 / fetch x / = 2 blocks, 1 parts, 1 requests
+serve = 1
+printed = 3 lines
+printed 0 = 0.1 base 0
+printed 1 = 0.2 nospace
+printed 2 = refused 18 BadScript
+
+# An element that isn't there ends the script
+disk 327680 = 327680 bytes
+format 4096 16 256 = formatted
+script setup / alloc x i 1 / alloc y m 2 / = 3 lines
+script element 1 / fetch x / take y / fetch y / = 7 lines
+script element 3 / put y 8 / store x 7 / store x 7 / release y / release y / = 13 lines
+script element 16 / fetch x / fetch x / = 16 lines
+read = 2 blocks, 3 parts, 10 requests
+serve = 1
+printed = 13 lines
+printed 0 = 0.1 base 0
+printed 1 = 0.2 base 1
+printed 2 = 1.1 waiting
+printed 3 = 1.2 waiting
+printed 4 = 1.3 wrongkind
+printed 5 = 3.1 stored
+printed 6 = 3.2 stored
+printed 7 = 3.3 clash
+printed 8 = 3.4 released
+printed 9 = 3.5 noblock
+printed 10 = 1.1 now value 7
+printed 11 = 1.2 now value 8
+printed 12 = refused 5 NoElement
+
+# A request may still wait at the end
+disk 327680 = 327680 bytes
+format 4096 16 256 = formatted
+read setup / alloc x m 1 / element 1 / take x / element 2 / release x / = 1 blocks, 2 parts, 2 requests
+serve = 0
+printed = 4 lines
+printed 0 = 0.1 base 0
+printed 1 = 1.1 waiting
+-- A block for which somebody waits isn't given back.
+printed 2 = 2.1 stillwaiting
+printed 3 = 1.1 now waiting
+
+# A full window is confirmed before the next request
+disk 327680 = 327680 bytes
+format 4096 16 256 = formatted
+script element 1 / = 1 lines
+repeat 17 fetch 5 / = 18 lines
+read = 0 blocks, 1 parts, 17 requests
+serve = 0
+printed = 17 lines
+printed 0 to 16 = 1.1 to 1.17 nocell
+-- The confirmation is a command too.
+count = 18
+
+# A full window whose first entry waits refuses the next request
+disk 327680 = 327680 bytes
+format 4096 16 256 = formatted
+script setup / alloc x i 1 / element 1 / = 3 lines
+repeat 17 fetch x / = 20 lines
+read = 1 blocks, 1 parts, 17 requests
+serve = 1
+printed = 34 lines
+printed 0 = 0.1 base 0
+printed 1 to 16 = 1.1 to 1.16 waiting
+printed 17 to 32 = 1.1 to 1.16 now waiting
+printed 33 = refused 3 WindowFull
+
+# An entry that was confirmed is told as it was last kept
+disk 327680 = 327680 bytes
+format 4096 16 256 = formatted
+script setup / alloc x i 1 / element 1 / fetch x / element 2 / store x 7 / element 1 / = 7 lines
+repeat 16 fetch 9 / = 23 lines
+read = 1 blocks, 3 parts, 18 requests
+serve = 0
+printed = 20 lines
+printed 0 = 0.1 base 0
+printed 1 = 1.1 waiting
+printed 2 = 2.1 stored
+printed 3 to 18 = 1.2 to 1.17 nocell
+printed 19 = 1.1 now value 7
+
+# A full journal makes room by a checkpoint
+disk 312320 = 312320 bytes
+format 4096 16 16 = formatted
+script element 1 / = 1 lines
+repeat 20 fetch 5 / = 21 lines
+read = 0 blocks, 1 parts, 20 requests
+serve = 0
+printed = 20 lines
+printed 0 to 19 = 1.1 to 1.20 nocell
+-- The journal of 16 slots was full when the 17th command came.
+inspect = 0
+printed = 9 lines
+printed 0 = version 1
+printed 1 = limits 4096 16 16
+printed 2 = header 1 generation 2 area 1 count 16
+printed 3 = journal 5 room 1
+printed 4 = element 1 base 17 kept 4
+printed 5 = entry 1.17 fetch 5 -> nocell
+printed 6 = entry 1.18 fetch 5 -> nocell
+printed 7 = entry 1.19 fetch 5 -> nocell
+printed 8 = entry 1.20 fetch 5 -> nocell
+
+# A disk that fails ends the script
+disk 327680 = 327680 bytes
+format 4096 16 256 = formatted
+read setup / alloc x i 1 / element 1 / fetch x / element 2 / store x 9 / = 1 blocks, 2 parts, 2 requests
+-- Four calls for each of the first two requests, and two of the third's.
+serve 10 calls past the opening = 1
+printed = 4 lines
+printed 0 = 0.1 base 0
+printed 1 = 1.1 waiting
+printed 2 = 1.1 now waiting
+printed 3 = refused 8 Device
+
+# A disk without an image is refused
+disk 327680 = 327680 bytes
+read element 1 / fetch 0 / = 0 blocks, 1 parts, 1 requests
+serve = 1
+printed = 1 lines
+printed 0 = refused 13 NoHeader

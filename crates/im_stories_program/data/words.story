@@ -1,0 +1,49 @@
+# Words ask for their subcommand
+-- With none the program shows what it does.
+imem = demonstration
+imem format a.img = make a.img of 4096 cells, 16 elements, 256 slots
+imem format --slots=16 a.img --elements 65536 = make a.img of 4096 cells, 65536 elements, 16 slots
+imem format a.img --cells 0 = make a.img of 0 cells, 16 elements, 256 slots
+-- The greatest number, with zeros before it.
+imem format a.img --cells 0004294967295 = make a.img of 4294967295 cells, 16 elements, 256 slots
+imem serial a.img s = serve s on a.img
+imem inspect a.img = tell of a.img
+
+# Bad words are refused with status 2, and what is said names them
+imem mend = status 2
+says mend = yes
+imem format = status 2
+says IMAGE = yes
+imem format a.img b.img = status 2
+says b.img = yes
+imem format a.img --rows 5 = status 2
+says --rows = yes
+imem serial a.img = status 2
+says SCRIPT = yes
+imem inspect = status 2
+says IMAGE = yes
+
+# An option takes decimal digits alone, of a number below 2^32
+imem format a.img --cells 4294967296 = status 2
+says 4294967296 = yes
+imem format a.img --cells +5 = status 2
+says 4294967296 = yes
+imem format a.img --cells 0x5 = status 2
+says 4294967296 = yes
+imem format a.img --cells 1_0 = status 2
+says 4294967296 = yes
+-- Five and a space, and an empty word.
+imem format a.img --cells 5~ = status 2
+says 4294967296 = yes
+imem format a.img --cells "" = status 2
+says 4294967296 = yes
+
+# Help says what each subcommand does, with an example
+imem --help = status 0
+says imem serial a.img fetch.script = yes
+imem format --help = status 0
+says imem format small.img --cells 64 = yes
+imem serial --help = status 0
+says Serve the requests of a script = yes
+imem inspect --help = status 0
+says imem inspect a.img = yes

@@ -1,0 +1,92 @@
+//! The words of a command line, and the work that they ask for.
+
+use crate::spelling::{add_text, add_word};
+use anyhow::{Result, anyhow};
+use im_program::{WordFault, Work, read_words};
+use std::alloc::{AllocError, Global};
+
+/// What was said of the last bad command line.
+#[derive(Drop)]
+pub struct CommandLine {
+    fault: String,
+}
+
+fn add_work(said: &mut String, work: &Work) -> Result<(), AllocError> {
+    match *work {
+        Work::Demonstration => said.push_str("demonstration"),
+        Work::Format {
+            image,
+            cells,
+            elements,
+            slots,
+        } => write!(
+            said,
+            "make {image} of {cells} cells, {elements} elements, {slots} slots"
+        ),
+        Work::Serial { image, script } => write!(said, "serve {script} on {image}"),
+        Work::Inspect { image } => write!(said, "tell of {image}"),
+    }
+}
+
+/// The words of a command line, one a line.
+pub fn spelled(alloc: Global, words: &[&str]) -> Result<Vec<u8>> {
+    let mut text = Vec::new(alloc);
+    for word in words {
+        add_word(&mut text, word)?;
+        text.push(b'\n')?;
+    }
+    Ok(text)
+}
+
+/// The words, as texts.
+pub fn texts(alloc: Global, spelled: &[u8]) -> Result<Vec<&str>> {
+    match str::from_utf8(spelled) {
+        Ok(text) => Ok(text.split_terminator('\n').collect(alloc)?),
+        Err(_) => Err(anyhow!("a word is no text")),
+    }
+}
+
+impl CommandLine {
+    /// Nothing was said.
+    pub fn new(alloc: Global) -> CommandLine {
+        CommandLine {
+            fault: String::new(alloc),
+        }
+    }
+
+    // Reads a command line, and tells its work, or the status that it ends with.
+    fn read(&mut self, alloc: Global, words: &[&str], said: &mut String) -> Result<()> {
+        let spelled = spelled(alloc, words)?;
+        let texts = texts(alloc, spelled.as_slice())?;
+        match read_words(alloc, texts.as_slice()) {
+            Ok(work) => add_work(said, &work)?,
+            Err(WordFault::NoMemory) => said.push_str("no memory")?,
+            Err(WordFault::Bad(error)) => {
+                self.fault = format!(in alloc; "{error}")?;
+                let status = error.exit_code();
+                write!(said, "status {status}")?;
+            }
+        }
+        Ok(())
+    }
+
+    // Whether what was said of a bad command line has these words.
+    fn says(&self, alloc: Global, words: &[&str], said: &mut String) -> Result<()> {
+        let mut text = Vec::new(alloc);
+        add_text(&mut text, words)?;
+        match str::from_utf8(text.as_slice()) {
+            Ok(text) if self.fault.as_str().contains(text) => Ok(said.push_str("yes")?),
+            _ => Ok(said.push_str("no")?),
+        }
+    }
+
+    /// Makes a call on a command line. Whether the words are one.
+    pub fn tell(&mut self, alloc: Global, words: &[&str], said: &mut String) -> Result<bool> {
+        match words {
+            ["imem", ..] => self.read(alloc, words, said)?,
+            ["says", text @ ..] => self.says(alloc, text, said)?,
+            _ => return Ok(false),
+        }
+        Ok(true)
+    }
+}

@@ -1,0 +1,74 @@
+//! Files, and the program's work on them.
+
+use crate::Desk;
+use crate::command_lines::{spelled, texts};
+use anyhow::{Result, anyhow};
+use im_program::{act, read_words};
+use std::{fs, io};
+
+// Does what a command line asks for, and tells the status.
+fn run(desk: &mut Desk, words: &[&str], said: &mut String) -> Result<()> {
+    let alloc = desk.rt.alloc();
+    let spelled = spelled(alloc, words)?;
+    let texts = texts(alloc, spelled.as_slice())?;
+    let Ok(work) = read_words(alloc, texts.as_slice()) else {
+        return Err(anyhow!("the words ask for no work"));
+    };
+    let mut out = String::new(alloc);
+    let status = act(desk.rt, &work, &mut out);
+    desk.printed.set(out);
+    Ok(write!(said, "{status}")?)
+}
+
+// Makes a file of the script that was put together.
+fn save(desk: &mut Desk, file: &str, said: &mut String) -> Result<()> {
+    let text = desk.scripts.take_text(desk.rt.alloc());
+    let len = text.len();
+    fs::write(desk.rt, file, text)?;
+    Ok(write!(said, "{len} bytes")?)
+}
+
+// Makes a file of the image in memory.
+fn keep(desk: &mut Desk, file: &str, said: &mut String) -> Result<()> {
+    let bytes = desk.image.disk()?.bytes();
+    let len = bytes.len();
+    fs::write(desk.rt, file, bytes)?;
+    Ok(write!(said, "{len} bytes")?)
+}
+
+// Makes an image in memory of a file.
+fn load(desk: &mut Desk, file: &str, said: &mut String) -> Result<()> {
+    let bytes = fs::read(desk.rt, file)?;
+    let len = bytes.len();
+    desk.image.load(desk.rt.alloc(), bytes.as_slice())?;
+    Ok(write!(said, "{len} bytes")?)
+}
+
+// How long a file is, if it is there.
+fn file(desk: &Desk, file: &str, said: &mut String) -> Result<()> {
+    match fs::read(desk.rt, file) {
+        Ok(bytes) => {
+            let len = bytes.len();
+            Ok(write!(said, "{len} bytes")?)
+        }
+        Err(error) if error.kind() == io::ErrorKind::NotFound => Ok(said.push_str("none")?),
+        Err(error) => Err(error.into()),
+    }
+}
+
+/// Makes a call on files. Whether the words are one.
+pub fn tell(desk: &mut Desk, words: &[&str], said: &mut String) -> Result<bool> {
+    match words {
+        ["run", command @ ..] => run(desk, command, said)?,
+        ["save", name] => save(desk, name, said)?,
+        ["keep", name] => keep(desk, name, said)?,
+        ["load", name] => load(desk, name, said)?,
+        ["file", name] => file(desk, name, said)?,
+        ["remove", name] => {
+            fs::remove_file(desk.rt, *name)?;
+            said.push_str("removed")?
+        }
+        _ => return Ok(false),
+    }
+    Ok(true)
+}

@@ -1,0 +1,102 @@
+//! What was printed, line by line.
+
+use crate::spelling::line_ends;
+use anyhow::{Result, anyhow};
+use im_story::{name, place};
+use std::alloc::Global;
+
+/// The text that the last work printed.
+#[derive(Drop)]
+pub struct Printed {
+    out: String,
+}
+
+impl Printed {
+    /// Nothing was printed.
+    pub fn new(alloc: Global) -> Printed {
+        Printed {
+            out: String::new(alloc),
+        }
+    }
+
+    /// Takes what was printed.
+    pub fn set(&mut self, out: String) {
+        self.out = out;
+    }
+
+    // How many lines end in the text.
+    fn count(&self) -> usize {
+        line_ends(self.out.as_str().as_bytes())
+    }
+
+    // The line at this place, from 0.
+    fn line(&self, at: usize) -> Result<&str> {
+        match self.out.as_str().split('\n').nth(at) {
+            Some(line) if at < self.count() => Ok(line),
+            _ => Err(anyhow!("no line {at} was printed")),
+        }
+    }
+
+    fn add_count(&self, said: &mut String) -> Result<()> {
+        let count = self.count();
+        write!(said, "{count} lines")?;
+        if !self.out.is_empty() && !self.out.as_str().ends_with('\n') {
+            said.push_str(", and one that doesn't end")?;
+        }
+        Ok(())
+    }
+
+    // Adds a line, between quotes where a space stands at one of its ends.
+    fn add_line(&self, at: usize, said: &mut String) -> Result<()> {
+        let line = self.line(at)?;
+        if line.trim().len() == line.len() {
+            Ok(said.push_str(line)?)
+        } else {
+            Ok(write!(said, "'{line}'")?)
+        }
+    }
+
+    // Looks whether a line is of this request, and its answer this one.
+    fn meets(&self, alloc: Global, at: usize, who: (u16, u64), answer: &str) -> Result<()> {
+        let (element, number) = who;
+        let expected = format!(in alloc; "{element}.{number} {answer}")?;
+        let line = self.line(at)?;
+        if line == expected.as_str() {
+            Ok(())
+        } else {
+            Err(anyhow!("line {at} is {line}"))
+        }
+    }
+
+    // Adds the answer that lines have in common, whose requests have one number after another.
+    fn add_run(&self, alloc: Global, first: usize, last: usize, said: &mut String) -> Result<()> {
+        let Some((who, answer)) = self.line(first)?.split_once(' ') else {
+            return Err(anyhow!("line {first} tells of no request"));
+        };
+        let (element, from) = name(who)?;
+        let mut next = from;
+        let mut upto = None;
+        for at in first..=last {
+            self.meets(alloc, at, (element, next), answer)?;
+            upto = Some(next);
+            next = next.saturating_add(1);
+        }
+        match upto {
+            Some(upto) => Ok(write!(said, "{element}.{from} to {element}.{upto} {answer}")?),
+            None => Err(anyhow!("no line lies there")),
+        }
+    }
+
+    /// Makes a call on what was printed. Whether the words are one.
+    pub fn tell(&mut self, alloc: Global, words: &[&str], said: &mut String) -> Result<bool> {
+        match words {
+            ["printed"] => self.add_count(said)?,
+            ["printed", at] => self.add_line(place(at)?, said)?,
+            ["printed", first, "to", last] => {
+                self.add_run(alloc, place(first)?, place(last)?, said)?
+            }
+            _ => return Ok(false),
+        }
+        Ok(true)
+    }
+}

@@ -1,0 +1,223 @@
+//! Scripts: a text that is put together line by line, and what is read in it.
+
+use crate::spelling::{add_text, add_word, line_ends};
+use anyhow::{Result, anyhow};
+use im_script::{Action, Allocation, Place, Script, ScriptLine, read_script, read_u32};
+use im_story::{add_refusal, address, place};
+use im_types::{Kind, Op};
+use std::alloc::{AllocError, Global};
+use std::mem;
+
+/// A script.
+#[derive(Drop)]
+pub struct Scripts {
+    /// Its text, as far as it was put together.
+    text: Vec<u8>,
+    /// What was read last.
+    read: Option<Script>,
+    /// The bases of the setup's blocks.
+    bases: Vec<u32>,
+}
+
+fn letter(kind: Kind) -> &'static str {
+    match kind {
+        Kind::I => "i",
+        Kind::M => "m",
+    }
+}
+
+fn add_place(said: &mut String, place: Place) -> Result<(), AllocError> {
+    match place {
+        Place::Address(address) => write!(said, "cell {address}"),
+        Place::Named { index, offset } => write!(said, "block {index} + {offset}"),
+    }
+}
+
+// An operation's word and its place.
+fn add_asked(said: &mut String, word: &str, place: Place) -> Result<(), AllocError> {
+    write!(said, "{word} ")?;
+    add_place(said, place)
+}
+
+fn add_action(said: &mut String, action: Action) -> Result<(), AllocError> {
+    match action {
+        Action::Alloc(kind, length) => {
+            let kind = letter(kind);
+            write!(said, "alloc {kind} {length}")
+        }
+        Action::Release(place) => add_asked(said, "release", place),
+        Action::Fetch(place) => add_asked(said, "fetch", place),
+        Action::Take(place) => add_asked(said, "take", place),
+        Action::Store(place, value) => {
+            add_asked(said, "store", place)?;
+            write!(said, ", {value}")
+        }
+        Action::Put(place, value) => {
+            add_asked(said, "put", place)?;
+            write!(said, ", {value}")
+        }
+    }
+}
+
+fn add_op(said: &mut String, op: Op) -> Result<(), AllocError> {
+    match op {
+        Op::Alloc(kind, length) => {
+            let kind = letter(kind);
+            write!(said, "alloc {kind} {length}")
+        }
+        Op::Release(a) => write!(said, "release {a}"),
+        Op::Fetch(a) => write!(said, "fetch {a}"),
+        Op::Store(a, value) => write!(said, "store {a} {value}"),
+        Op::Take(a) => write!(said, "take {a}"),
+        Op::Put(a, value) => write!(said, "put {a} {value}"),
+    }
+}
+
+// A number, or that there is none.
+fn add_number(said: &mut String, number: Option<u32>) -> Result<(), AllocError> {
+    match number {
+        Some(number) => write!(said, "{number}"),
+        None => said.push_str("none"),
+    }
+}
+
+// The place where a line acts.
+fn place_of(action: Action) -> Result<Place> {
+    match action {
+        Action::Alloc(_, _) => Err(anyhow!("a block is made nowhere yet")),
+        Action::Release(place)
+        | Action::Fetch(place)
+        | Action::Take(place)
+        | Action::Store(place, _)
+        | Action::Put(place, _) => Ok(place),
+    }
+}
+
+fn add_blocks(said: &mut String, blocks: &[Allocation]) -> Result<(), AllocError> {
+    for block in blocks {
+        let kind = letter(block.kind);
+        let length = block.length;
+        write!(said, " {kind} {length}")?;
+    }
+    Ok(())
+}
+
+fn add_parts(said: &mut String, parts: &[u16]) -> Result<(), AllocError> {
+    for part in parts {
+        write!(said, " {part}")?;
+    }
+    Ok(())
+}
+
+fn read_number(alloc: Global, word: &str, said: &mut String) -> Result<()> {
+    let mut text = Vec::new(alloc);
+    add_word(&mut text, word)?;
+    Ok(add_number(said, read_u32(text.as_slice()))?)
+}
+
+impl Scripts {
+    /// No text, and nothing was read.
+    pub fn new(alloc: Global) -> Scripts {
+        Scripts {
+            text: Vec::new(alloc),
+            read: None,
+            bases: Vec::new(alloc),
+        }
+    }
+
+    /// The script that was read last.
+    pub fn script(&self) -> Result<&Script> {
+        match &self.read {
+            Some(script) => Ok(script),
+            None => Err(anyhow!("no script was read")),
+        }
+    }
+
+    /// The text that was put together. A new one begins.
+    pub fn take_text(&mut self, alloc: Global) -> Vec<u8> {
+        mem::replace(&mut self.text, Vec::new(alloc))
+    }
+
+    // Adds lines to the text, so many times.
+    fn write(&mut self, times: u32, words: &[&str], said: &mut String) -> Result<()> {
+        for _time in 0..times {
+            add_text(&mut self.text, words)?;
+        }
+        let lines = line_ends(self.text.as_slice());
+        Ok(write!(said, "{lines} lines")?)
+    }
+
+    // Reads a text, the one that was put together with these words behind it.
+    fn read(&mut self, alloc: Global, words: &[&str], said: &mut String) -> Result<()> {
+        let mut text = self.take_text(alloc);
+        add_text(&mut text, words)?;
+        match read_script(alloc, text.as_slice()) {
+            Ok(script) => {
+                let blocks = script.setup.len();
+                let parts = script.parts.len();
+                let requests = script.lines.len();
+                self.read = Some(script);
+                write!(said, "{blocks} blocks, {parts} parts, {requests} requests")?;
+            }
+            Err(refusal) => {
+                self.read = None;
+                add_refusal(said, refusal)?;
+            }
+        }
+        Ok(())
+    }
+
+    fn line(&self, word: &str) -> Result<ScriptLine> {
+        match self.script()?.lines.get(place(word)?) {
+            Some(line) => Ok(*line),
+            None => Err(anyhow!("no such request")),
+        }
+    }
+
+    fn request(&self, word: &str, said: &mut String) -> Result<()> {
+        let line = self.line(word)?;
+        let element = line.element;
+        write!(said, "element {element}, ")?;
+        Ok(add_action(said, line.action)?)
+    }
+
+    fn set_bases(&mut self, alloc: Global, words: &[&str], said: &mut String) -> Result<()> {
+        let mut bases = Vec::new(alloc);
+        for word in words {
+            bases.push(address(word)?)?;
+        }
+        let count = bases.len();
+        self.bases = bases;
+        Ok(write!(said, "{count} bases")?)
+    }
+
+    fn address(&self, word: &str, said: &mut String) -> Result<()> {
+        let place = place_of(self.line(word)?.action)?;
+        Ok(add_number(said, place.address(self.bases.as_slice()))?)
+    }
+
+    fn operation(&self, word: &str, said: &mut String) -> Result<()> {
+        match self.line(word)?.action.op(self.bases.as_slice()) {
+            Some(op) => Ok(add_op(said, op)?),
+            None => Ok(said.push_str("none")?),
+        }
+    }
+
+    /// Makes a call on a script. Whether the words are one.
+    pub fn tell(&mut self, alloc: Global, words: &[&str], said: &mut String) -> Result<bool> {
+        match words {
+            ["script", lines @ ..] => self.write(1, lines, said)?,
+            ["repeat", times, lines @ ..] => self.write(address(times)?, lines, said)?,
+            ["read", lines @ ..] => self.read(alloc, lines, said)?,
+            ["blocks"] => add_blocks(said, self.script()?.setup.as_slice())?,
+            ["parts"] => add_parts(said, self.script()?.parts.as_slice())?,
+            ["request", at] => self.request(at, said)?,
+            ["bases", bases @ ..] => self.set_bases(alloc, bases, said)?,
+            ["address", at] => self.address(at, said)?,
+            ["operation", at] => self.operation(at, said)?,
+            ["u32", word] => read_number(alloc, word, said)?,
+            _ => return Ok(false),
+        }
+        Ok(true)
+    }
+}
