@@ -1,10 +1,10 @@
-use Rattle.std.proofs.Common.{[], refl}
+use Rattle.std.proofs.Common.{[], arith, refl}
 use Rattle.im_contents.proofs.contents.have_parts.Goals as goal
 
 pub returns-then-are_windows : goal.returns-then-are_windows
 returns-then-are_windows c = (
   λ yes. record {
-    cell_count = c.if-cells-limits.false;
+    cell_count = omega arith;
     window_count = c.if-windows-limits.false;
     within = c.if-are_windows.ensures.0 refl;
     blocks = λ lists. (c.are_blocks.ensures lists).0 yes;

@@ -11,7 +11,7 @@ invariant_of-self c =
     let calls = c.self.inside.calls.items in
     let whole : c.deref.result.now ≡ calls = search rules in
     let is = c.leave.ensures ∙ ap (λ l. left_by c.args.crash b (reverse l)) whole in
-    sound_crashed b calls c.self.invariant.within c.leave.new.bytes.items c.len.result (search rules)
+    sound_crashed b calls c.self.invariant.within c.leave.new.bytes.items _ (search rules)
     (subst (Left (moment_of b (reverse calls))) (sym is) (left_by_left b calls c.self.invariant.within c.args.crash))
 
 pub returns-clause-left : goal.returns-clause-left
@@ -38,6 +38,6 @@ returns-clause-after c =
     let calls = c.self.inside.calls.items in
     let whole : c.deref.result.now ≡ calls = search rules in
     let is = c.leave.ensures ∙ ap (λ l. left_by c.args.crash b (reverse l)) whole in
-    subst (λ (r : Recording). shown c.leave.new.bytes.items calls c.len.result c.self.inside.failures ≡ crashed c.leave.new.bytes.items r) c.self.view_is
-    (shown_crashed b calls c.self.invariant.within c.leave.new.bytes.items c.len.result c.self.inside.begun c.self.inside.failures (search rules)
-    (subst (Left (moment_of b (reverse calls))) (sym is) (left_by_left b calls c.self.invariant.within c.args.crash)))
+    shown_crashed b calls c.self.invariant.within c.leave.new.bytes.items _ c.self.inside.begun c.self.inside.failures (search rules)
+    (subst (Left (moment_of b (reverse calls))) (sym is) (left_by_left b calls c.self.invariant.within c.args.crash))
+    ∙ ap (λ (r : Recording). crashed c.leave.new.bytes.items r) c.self.view_is
