@@ -1,14 +1,14 @@
 -- An access of one cell, on the joined cells.
-use Rattle.std.proofs.Common.{◌≡◌, ℕ, ◌<◌, List, [], Bool, true, false, Option, None, Some, Result, Ok, Err, length, set, refl, sym, ap, ◌∙◌, arith}
+use Rattle.std.proofs.Common.{◌≡◌, ℕ, ◌<◌, List, [], Bool, true, false, Option, None, Some, Ok, Err, length, set, refl, sym, ap, ◌∙◌}
 use Rattle.std.specs.Prelude.{if◌then◌else◌}
 use Rattle.std.proofs.lemmas.List.{set-get_or}
 use Rattle.im_types.specs.declared.operations.Kind.{Kind}
 use Rattle.im_types.specs.declared.operations.Reply.{Reply}
-use Rattle.im_types.specs.declared.operations.Reply.TheVariants.{NoCell, WrongKind}
+use Rattle.im_types.specs.declared.operations.Reply.TheVariants.{WrongKind}
 use Rattle.im_types.specs.declared.operations.Entry.{Entry}
 use Rattle.im_types.specs.declared.operations.Entry.TheVariants.{Answered}
 use Rattle.im_types.specs.declared.operations.Waiter.{Waiter}
-use Rattle.im_types.specs.Contents.{CellState, Held, held_at}
+use Rattle.im_types.specs.Contents.{CellState, held_at}
 use Rattle.im_types.specs.Contents.{Empty as IsEmpty}
 use Rattle.im_types.specs.Act.{Served, Acted, tells, same_kind, only_tells, serve_cell, at_cell}
 use Rattle.im_cell.specs.declared.slots.Cell.{Cell}
@@ -17,7 +17,6 @@ use Rattle.im_cell.specs.declared.slots.Slot.{Slot}
 use Rattle.im_cell.specs.Slots.{slot_at, with_cell, new_slot}
 use Rattle.im_arena.specs.Lists.{Shown, list_at, with_list}
 use Rattle.im_istore.specs.Joined.{state_of, held_of, cells_of}
-use Rattle.im_istore.specs.Agreement.{Agree}
 use Rattle.im_istore.specs.Access.{access_in}
 use Rattle.im_istore.proofs.Cells.{held_at-cells, cells-set, slot_at-within}
 
