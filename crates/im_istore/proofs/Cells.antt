@@ -107,6 +107,11 @@ pub cells_there : (slots : List (Option Slot)) (arena : Shown) (a : ℕ) (slot :
     → cells_of (set slots a slot) arena ≡ set (cells_of slots arena) a (held_of slot (list_at arena.held a))
 cells_there slots arena a slot same = cells-set arena arena a (list_at arena.held a) (with_list-same arena.held a) slots slot same
 
+-- another slot and another list at an address
+pub joined_there : (slots : List (Option Slot)) (lists : List (List Waiter)) (a : ℕ) (slot : Option Slot) (waiters : List Waiter)
+    → length lists ≡ length slots → joined (set slots a slot) (set lists a waiters) ≡ set (joined slots lists) a (held_of slot waiters)
+joined_there slots lists a slot waiters same = joined-set slots lists a slot waiters same
+
 -- what is there already, put there
 pub same_there : (cells : List (Option Held)) (a : ℕ) (held : Option Held) → held_at cells a ≡ held → set cells a held ≡ cells
 same_there cells a held is = ap (set cells a) (sym is) ∙ set-get_or cells a None
