@@ -256,6 +256,10 @@ last_inside nodes rows a sound within some =
     let is : last_of spans a ≡ (get_or rows a blank_row).last = ap (λ (s : Span). s.last) (span_at nodes rows a within) in
     subst (λ n. n < length nodes) is (last_within nodes spans sound a inside (last-some nodes spans sound a inside (λ e. some (sym is ∙ e))))
 
+-- the next node, spelled otherwise
+pub Detached-same : (last next other : ℕ) (result : Row) → next ≡ other → Detached last next result → Detached last other result
+Detached-same last next other result same detached = subst (λ n. Detached last n result) same detached
+
 module _ (nodes : List Node) (rows : List Row) (sound : Sound nodes (spans_of nodes rows)) (from to : ℕ) (content : Node) (in_from : from < length rows) (in_to : to < length rows) (apart : from ≢ to) (some : 0 < count_of (spans_of nodes rows) from) (link : content.next ≡ NONE) (mark : content.used ≡ nat_lt (to + 1) (length rows))
     (nodes2 : List Node) (giver taker : Row) (detached : Detached (get_or rows from blank_row).last (next_of nodes (get_or rows from blank_row).first) giver)
     (attached : Attached (set nodes (get_or rows from blank_row).first content) nodes2 (get_or rows to blank_row).first (get_or rows to blank_row).last (get_or rows from blank_row).first taker) where

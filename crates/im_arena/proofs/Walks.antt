@@ -1,10 +1,14 @@
 -- Walks along a list.
-use Rattle.std.proofs.Common.{◌≡◌, ◌≢◌, ℕ, zero, suc, ◌<◌, List, [], ◌∷◌, length, refl, sym, ap, ◌∙◌, arith}
+use Rattle.std.proofs.Common.{◌≡◌, ◌≢◌, ℕ, zero, suc, ◌<◌, List, [], ◌∷◌, length, refl, sym, ap, subst, ◌∙◌, arith}
 use Rattle.im_types.specs.declared.TheConstants.{NONE}
 use Rattle.im_arena.specs.declared.table.Node.{Node}
 use Rattle.im_arena.specs.Chain.{along, place_from}
 use Rattle.im_arena.specs.Table.{next_of, waiter_of, steps_from, waiters_from, IsWalk}
 use Rattle.im_arena.proofs.Tables.{steps-are}
+
+-- the first node, spelled otherwise
+pub IsWalk-same : (nodes : List Node) (at first : ℕ) → at ≡ first → IsWalk nodes first → IsWalk nodes at
+IsWalk-same nodes at first same walk = subst (IsWalk nodes) (sym same) walk
 
 module _ (nodes : List Node) (at : ℕ) (walk : IsWalk nodes at) where
   abbrev next : ℕ → ℕ

@@ -61,6 +61,10 @@ slot-free records a is = sym (get_or-map slot_of records a blank None (free-with
 pub slots-set : (records : List Record) (a : ℕ) (hole : Hole) → slot_of (get_or records a blank) ≡ None → slots_of (set records a (Free hole)) ≡ slots_of records
 slots-set records a hole e = map-set_same slot_of records a (Free hole) blank (sym e)
 
+-- a record set at an address, spelled otherwise
+pub set-same : (records : List Record) (at a : ℕ) (kept : Record) → at ≡ a → set records at kept ≡ set records a kept
+set-same records at a kept same = ap (λ i. set records i kept) same
+
 -- another record for a cell of a block
 module _ (records : List Record) (first a : ℕ) (kept : Record) (was now : Slot) (holes : HasHoles records first)
     (at : get_or (slots_of records) a None ≡ Some was) (held : slot_of kept ≡ Some now) where

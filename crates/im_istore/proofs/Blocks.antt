@@ -9,7 +9,7 @@ use Rattle.im_types.specs.declared.operations.Waiter.{Waiter}
 use Rattle.im_types.specs.Place.{begins_free, fill, IsLeastFree}
 use Rattle.im_cell.specs.declared.slots.Slot.{Slot}
 use Rattle.im_cell.specs.Slots.{slot_at, block_at, is_waiting, empty_slot, block_with_base, is_quiet_block, is_releasable, length_of, length_at}
-use Rattle.im_arena.specs.Lists.{Shown, list_at}
+use Rattle.im_arena.specs.Lists.{Shown}
 use Rattle.im_istore.specs.Agreement.{has_some, Agree}
 
 get_or-same : {X : Type 0} (n a : ℕ) (x : X) → get_or (replicate n x) a x ≡ x

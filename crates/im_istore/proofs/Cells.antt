@@ -1,16 +1,15 @@
 -- The joined cells and their agreement, after a slot and a list at one address are written.
-use Rattle.std.proofs.Common.{◌≡◌, ◌≢◌, ℕ, zero, suc, ◌<◌, List, [], ◌∷◌, Bool, true, false, Option, None, Some, length, set, get_or, refl, sym, ap, ◌∙◌, inl, inr, arith, length-set}
+use Rattle.std.proofs.Common.{◌≡◌, ◌≢◌, ℕ, zero, suc, ◌<◌, List, [], ◌∷◌, false, Option, None, Some, length, set, get_or, refl, sym, ap, ◌∙◌, inl, inr, arith, length-set}
 use Rattle.std.proofs.lemmas.Bool.{cases_eq}
 use Rattle.std.proofs.lemmas.List.{get_or-set_same, get_or-set_other, set-get_or}
 use Rattle.im_types.specs.declared.operations.Waiter.{Waiter}
 use Rattle.im_types.specs.Contents.{CellState, Held, held_at}
 use Rattle.im_cell.specs.declared.slots.Slot.{Slot}
-use Rattle.im_cell.specs.declared.slots.Cell.{Cell}
 use Rattle.im_cell.specs.declared.slots.Cell.TheVariants.{Full}
-use Rattle.im_cell.specs.Slots.{slot_at, cell_at, cell_in, is_waiting, is_waiting_cell}
+use Rattle.im_cell.specs.Slots.{slot_at, cell_in, is_waiting, is_waiting_cell}
 use Rattle.im_arena.specs.Lists.{Lists, Shown, list_at, with_list}
 use Rattle.im_istore.specs.Joined.{state_of, held_of, joined, cells_of}
-use Rattle.im_istore.specs.Agreement.{has_some, AgreeAt, Agree, AgreeBut}
+use Rattle.im_istore.specs.Agreement.{has_some, Agree, AgreeBut}
 
 abbrev pub list_of : List (List Waiter) → ℕ → List Waiter
 list_of lists a = get_or lists a []
@@ -98,6 +97,24 @@ module _ (arena new : Shown) (a : ℕ) (waiters : List Waiter) (is : new.held �
         ∙ cells-set slots (slot_at slots a) but.lists
         ∙ ap (set (cells_of slots arena) a) (held_of-full (slot_at slots a) but.full.0 waiters (list_at arena.held a) but.full.1 ∙ sym (held_at-cells slots arena a))
         ∙ set-get_or (cells_of slots arena) a None
+
+-- what is held at an address, by its slot and its list
+pub held_there : (slots : List (Option Slot)) (arena : Shown) (a : ℕ) → held_at (cells_of slots arena) a ≡ held_of (slot_at slots a) (list_at arena.held a)
+held_there slots arena a = held_at-cells slots arena a
+
+-- another slot at an address, and the same waiters
+pub cells_there : (slots : List (Option Slot)) (arena : Shown) (a : ℕ) (slot : Option Slot) → length arena.held.lists ≡ length slots
+    → cells_of (set slots a slot) arena ≡ set (cells_of slots arena) a (held_of slot (list_at arena.held a))
+cells_there slots arena a slot same = cells-set arena arena a (list_at arena.held a) (with_list-same arena.held a) slots slot same
+
+-- another slot and another list at an address
+pub joined_there : (slots : List (Option Slot)) (lists : List (List Waiter)) (a : ℕ) (slot : Option Slot) (waiters : List Waiter)
+    → length lists ≡ length slots → joined (set slots a slot) (set lists a waiters) ≡ set (joined slots lists) a (held_of slot waiters)
+joined_there slots lists a slot waiters same = joined-set slots lists a slot waiters same
+
+-- what is there already, put there
+pub same_there : (cells : List (Option Held)) (a : ℕ) (held : Option Held) → held_at cells a ≡ held → set cells a held ≡ cells
+same_there cells a held is = ap (set cells a) (sym is) ∙ set-get_or cells a None
 
 -- a full cell doesn't wait
 is_waiting-full : (slot : Option Slot) (v : ℕ) → cell_in slot ≡ Some (Full v) → is_waiting slot ≡ false

@@ -1,5 +1,5 @@
 -- Who waits at a cell, by its list.
-use Rattle.std.proofs.Common.{◌≡◌, ℕ, List, [], ◌∷◌, Option, None, Some, refl, sym, ap, ◌∙◌}
+use Rattle.std.proofs.Common.{◌≡◌, ℕ, List, [], ◌∷◌, Option, None, Some, refl, ap, ◌∙◌}
 use Rattle.im_types.specs.declared.operations.Waiter.{Waiter}
 use Rattle.im_types.specs.Contents.{waiters_of, waiters_in, waiters_at}
 use Rattle.im_cell.specs.declared.slots.Cell.{Cell}

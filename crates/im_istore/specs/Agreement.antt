@@ -1,5 +1,5 @@
 -- When a table of cells and an arena of waiters belong together. (Own.)
-use Rattle.std.specs.Prelude.{◌≡◌, ◌≢◌, ℕ, List, [], ◌∷◌, length, Bool, true, false, Option, Some, slice_index_or}
+use Rattle.std.specs.Prelude.{◌≡◌, ◌≢◌, ℕ, List, [], ◌∷◌, length, Bool, true, false, Option, Some}
 use Rattle.im_types.specs.declared.operations.Waiter.{Waiter}
 use Rattle.im_cell.specs.declared.slots.Cell.TheVariants.{Full}
 use Rattle.im_cell.specs.declared.slots.Slot.{Slot}

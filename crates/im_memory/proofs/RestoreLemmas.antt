@@ -149,10 +149,15 @@ module _ (held : Lists) (list : ℕ) (inside : list < length held.lists) (empty 
       let some : 0 < free (holding (take i waiters)) = omega (arith, sums, taken, ap length empty) in
       subst (λ (h : Lists). 0 < free h) (sym is) some
 
-  pub one-more : (now new : Lists) (waiters : List Waiter) (i : ℕ) (d : Waiter) → now ≡ holding (take i waiters) → i < length waiters
-      → new ≡ with_list now list (list_at now list ++ get_or waiters i d ∷ []) → new ≡ holding (take (i + 1) waiters)
-  one-more now new waiters i d is more pushed =
+  -- a request with another number
+  abbrev numbered : Waiter → ℕ → Waiter
+  numbered waiter number = record { element = waiter.element; number = number }
+
+  pub one-more : (now new : Lists) (waiters : List Waiter) (i : ℕ) (d : Waiter) (number : ℕ) → now ≡ holding (take i waiters) → i < length waiters → number ≡ (get_or waiters i d).number
+      → new ≡ with_list now list (list_at now list ++ numbered (get_or waiters i d) number ∷ []) → new ≡ holding (take (i + 1) waiters)
+  one-more now new waiters i d number is more same pushed =
       pushed
+      ∙ ap (λ n. with_list now list (list_at now list ++ numbered (get_or waiters i d) n ∷ [])) same
       ∙ ap (λ (h : Lists). with_list h list (list_at h list ++ get_or waiters i d ∷ [])) is
       ∙ ap (λ ws. with_list (holding (take i waiters)) list (ws ++ get_or waiters i d ∷ [])) (listed (take i waiters))
       ∙ ap (λ ws. with_list (holding (take i waiters)) list ws) (sym (take_more waiters i d more))

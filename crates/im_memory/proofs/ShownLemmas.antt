@@ -24,7 +24,7 @@ use Rattle.im_istore.proofs.Cells.{list_of}
 use Rattle.im_memory.specs.MakesMemory.{contents_of, MakesMemory}
 use Rattle.im_memory.specs.Shown.{tag_of, cell_record, cell_records, node_record, records_of}
 use Rattle.im_memory.proofs.CellsLemmas.{length-cells, no_list}
-use Rattle.im_memory.proofs.ThreadLemmas.{chain_from, length-chain, place-chain, record-read, record-past, holds-chain, last-chain, Listed, listed-at}
+use Rattle.im_memory.proofs.ThreadLemmas.{chain_from, length-chain, place-chain, record-read, record_past, holds-chain, last-chain, Listed, listed-at}
 use Rattle.im_memory.proofs.UseLemmas.{IsAt, all_uses-from, all_uses-at, IsOnce, all_uses-once}
 
 -- a list has ends exactly where somebody is on it
@@ -195,7 +195,7 @@ module _ (arena : Shown) (threaded : IsThreaded arena) where
       by_node : IsNode n → all_uses n all_chains ≡ bit (is_listed (slice_index_or (map node_record records_in) n (FreeNode NONE)))
       by_node (On listed one) = one ∙ sym (ap (λ r. bit (is_listed r)) (record-read records_in n _ listed.there))
       by_node (Off free none) = none ∙ sym (ap (λ r. bit (is_listed r)) (record-read records_in n free_record free))
-      by_node (Past past none) = none ∙ sym (ap (λ r. bit (is_listed r)) (record-past records_in n past))
+      by_node (Past past none) = none ∙ sym (ap (λ r. bit (is_listed r)) (record_past records_in n past))
 
 -- a memory
 module _ (slots : List (Option Slot)) (arena : Shown) (windows : List Window) (makes : MakesMemory slots arena windows) (threaded : IsThreaded arena) where

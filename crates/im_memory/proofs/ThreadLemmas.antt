@@ -32,10 +32,10 @@ record-read [] n node e = absurd (cc)
 record-read (x ∷ records) zero node e = let same : x ≡ node = cc in ap node_record same
 record-read (x ∷ records) (suc n) node e = record-read records n node e
 
-pub record-past : (records : List Node) (n : ℕ) → length records ≤ n → slice_index_or (map node_record records) n (FreeNode NONE) ≡ FreeNode NONE
-record-past [] n past = refl
-record-past (x ∷ records) zero past = absurd (omega arith)
-record-past (x ∷ records) (suc n) past = record-past records n (omega arith)
+pub record_past : (records : List Node) (n : ℕ) → length records ≤ n → slice_index_or (map node_record records) n (FreeNode NONE) ≡ FreeNode NONE
+record_past [] n past = refl
+record_past (x ∷ records) zero past = absurd (omega arith)
+record_past (x ∷ records) (suc n) past = record_past records n (omega arith)
 
 next-read : (records : List Node) (n : ℕ) (node : Node) → slice_get records n ≡ Some node → (slice_index_or records n free_record).next ≡ node.next
 next-read [] n node e = absurd (cc)

@@ -89,6 +89,7 @@ impl<'a> MemoryRecords<'a> {
     }
 
     /// What a page shows of a node, by its number; past the last node, a free node.
+    #[tactic(auto, using(crate::proofs::ThreadLemmas::record_past))]
     pub fn node_record(&self, n: u32) -> NodeRecord
         ensures shown { result ≡ slice_index_or self.now.nodes n (FreeNode NONE) }
         ensures fits { FitsNode (length self.now.nodes) result }

@@ -1,4 +1,4 @@
-use Rattle.std.proofs.Common.{◌++◌, ◌∷◌, [], length, ap, ◌∙◌, arith}
+use Rattle.std.proofs.Common.{◌++◌, [], length, ap, ◌∙◌, arith}
 use Rattle.im_arena.specs.Lists.{Shown, list_at}
 use Rattle.im_istore.proofs.Cells.{cells-list}
 use Rattle.im_istore.proofs.Draining.{off, moved, emptied, no_front}

@@ -2,7 +2,6 @@ use Rattle.std.proofs.Common.{Option, None, Some, List, [], ◌∷◌, ◌≡◌
 use Rattle.std.specs.Prelude.{slice_get, IfNone}
 use Rattle.im_types.specs.declared.operations.Waiter.{Waiter}
 use Rattle.im_arena.specs.Lists.{Shown, list_at}
-use Rattle.im_istore.specs.Agreement.{Agree, AgreeBut}
 use Rattle.im_istore.proofs.Cells.{cells-list, AgreeBut-list, Agree-drained}
 use Rattle.im_istore.proofs.next_reader.Goals as goal
 

@@ -1,16 +1,18 @@
-use Rattle.std.proofs.Common.{sym, arith}
+use Rattle.std.proofs.Common.{sym, ap, ◌∙◌, arith}
 use Rattle.im_arena.proofs.Views.{few_steps, list_at-read, place-read, place-end}
+use Rattle.im_arena.specs.Table.{waiters_from}
+use Rattle.im_arena.proofs.Walks.{IsWalk-same}
 use Rattle.im_arena.proofs.Arena.waiters.Goals as goal
 
 pub from-requires : goal.from-requires
 from-requires c =
-    rw c.deref.ensures.value (record {
+    rw c.deref.ensures.value (IsWalk-same _ _ c.index.result.now.first (omega arith) (record {
       few = c.self.invariant.sound.chains.few;
       short = few_steps _ _ _ _ c.self.invariant _ c.index.result.now (omega arith) c.index.ensures;
       within = place-read _ _ _ _ c.self.invariant _ c.index.result.now (omega arith) c.index.ensures;
       end = place-end _ _ _ _ c.self.invariant _ c.index.result.now (omega arith) c.index.ensures;
-    })
+    }))
 
 pub returns : goal.returns
 returns c =
-    rw (← c.self.view_is, c.from.ensures, c.deref.ensures.value) (sym (list_at-read _ _ _ _ c.self.invariant _ c.index.result.now (omega arith) c.index.ensures))
+    rw (← c.self.view_is, c.from.ensures, c.deref.ensures.value) (ap (waiters_from c.self.inside.nodes.items) (omega arith) ∙ sym (list_at-read _ _ _ _ c.self.invariant _ c.index.result.now (omega arith) c.index.ensures))

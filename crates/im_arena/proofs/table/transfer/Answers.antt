@@ -1,5 +1,5 @@
 use Rattle.std.proofs.Common.{arith, length-set}
-use Rattle.im_arena.proofs.Tables.{first_inside, last_inside, Transferred-attached}
+use Rattle.im_arena.proofs.Tables.{first_inside, last_inside, Detached-same, Transferred-attached}
 use Rattle.im_arena.proofs.table.transfer.Goals as goal
 
 pub overflow_cast-held : goal.overflow_cast-held
@@ -24,4 +24,4 @@ pub attach-taker-requires : goal.attach-taker-requires
 attach-taker-requires c = λ some. rw length-set (last_inside _ _ _ c.requires.sound c.requires.to some)
 
 pub returns : goal.returns
-returns c = rw c.waiter.ensures (Transferred-attached _ _ c.requires.sound _ _ _ c.requires.from c.requires.to c.requires.apart c.requires.some c.requires.link c.requires.mark _ _ _ c.without_first.ensures c.attach-taker.ensures)
+returns c = rw c.waiter.ensures (Transferred-attached _ _ c.requires.sound _ _ _ c.requires.from c.requires.to c.requires.apart c.requires.some c.requires.link c.requires.mark _ _ _ (Detached-same _ _ _ _ (omega arith) c.without_first.ensures) c.attach-taker.ensures)

@@ -11,7 +11,7 @@ loop-at-init c =
     let long = length-map c.args.shown.now shown_slot in
     record {
       within = omega arith;
-      behind = subst (λ n. IsRestored c.args.records.now (map shown_slot c.args.shown.now) n NONE) long (IsRestored-none c.args.records.now (map shown_slot c.args.shown.now) (omega arith));
+      behind = subst (λ n. IsRestored c.args.records.now (map shown_slot c.args.shown.now) n NONE) (omega arith) (IsRestored-none c.args.records.now (map shown_slot c.args.shown.now) (omega arith));
     }
 
 pub returns-clause-holes : goal.returns-clause-holes

@@ -1,4 +1,4 @@
-use Rattle.std.proofs.Common.{sym, ap, ◌∙◌, subst, length, arith}
+use Rattle.std.proofs.Common.{sym, ap, ◌∙◌, subst, length}
 use Rattle.std.specs.Prelude.{slice_index_or}
 use Rattle.std.proofs.lemmas.List.{length-map}
 use Rattle.im_types.specs.declared.TheConstants.{NONE}
@@ -6,15 +6,9 @@ use Rattle.im_types.specs.declared.records.NodeRecord.TheVariants.{Free as FreeN
 use Rattle.im_types.specs.Pages.{Records}
 use Rattle.im_types.specs.Records.{FitsNode}
 use Rattle.im_memory.specs.Shown.{node_record}
-use Rattle.im_memory.proofs.ThreadLemmas.{record-read, record-past}
+use Rattle.im_memory.proofs.ThreadLemmas.{record-read}
 use Rattle.im_memory.proofs.RecordLemmas.{link-within}
 use Rattle.im_memory.proofs.records.MemoryRecords.node_record.Goals as goal
-
-pub returns-then-n-node_count-clause-shown : goal.returns-then-n-node_count-clause-shown
-returns-then-n-node_count-clause-shown c =
-    let arena = c.self.inside.arena.now in
-    sym (record-past arena.links.records c.args.n (omega (arith, c.node_count.ensures, c.if-n-node_count.true, c.self.invariant.threaded.node_count)))
-    ∙ ap (λ (r : Records). slice_index_or r.nodes c.args.n (FreeNode NONE)) c.self.view_is
 
 pub returns-clause-shown : goal.returns-clause-shown
 returns-clause-shown c =

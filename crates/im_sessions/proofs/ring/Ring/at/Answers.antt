@@ -1,8 +1,8 @@
-use Rattle.std.proofs.Common.{rules}
+use Rattle.std.proofs.Common.{rules, arith}
 use Rattle.im_sessions.proofs.RingLemmas.{slice_get-window}
 use Rattle.im_sessions.proofs.ring.Ring.at.Goals as goal
 
 pub returns : goal.returns
 returns c =
     let r = c.self.inside in
-    slice_get-window r.places r.base r.count c.args.number c.place_of.result _ _ (search rules) c.self.view_is c.place_of.ensures c.requires.from_base c.requires.below_next
+    slice_get-window r.places r.base r.count c.args.number c.place_of.result _ _ (search rules) c.self.view_is (omega arith) c.requires.from_base c.requires.below_next

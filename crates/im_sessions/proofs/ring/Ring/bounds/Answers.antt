@@ -1,10 +1,12 @@
-use Rattle.std.proofs.Common.{ℕ, ◌+◌, ap, ◌∙◌, sym}
-use Rattle.im_types.specs.Contents.{Window}
-use Rattle.im_types.specs.Window.{next_number}
-use Rattle.im_sessions.proofs.RingLemmas.{length-entries_from}
+use Rattle.std.proofs.Common.{◌≡◌, ℕ, arith}
+use Rattle.im_sessions.proofs.RingLemmas.{IsShown-window_of}
 use Rattle.im_sessions.proofs.ring.Ring.bounds.Goals as goal
+
+both : (a b c d : ℕ) → a ≡ c → b ≡ d → let p : ℕ × ℕ = (a, b) in p ≡ (c, d)
+both a b c d first second = cc
 
 pub returns : goal.returns
 returns c =
     let r = c.self.inside in
-    ap (λ (n : ℕ). (r.base, r.base + n)) (sym (length-entries_from r.places r.base r.count)) ∙ ap (λ (w : Window). (w.base, next_number w)) c.self.view_is
+    let shown = IsShown-window_of r.places r.base r.count c.args.self.now c.self.view_is in
+    both _ _ _ _ (omega arith) (omega arith)
