@@ -14,7 +14,7 @@ use Rattle.im_checkpoint.specs.declared.checkpoint.TurnDone.{TurnDone}
 use Rattle.im_types.specs.declared.commands.Outcome.{Outcome}
 use Rattle.im_types.specs.declared.refusals.Refusal.{Refusal}
 use Rattle.im_engine.specs.State.{EngineState, MeansState, MeansEither}
-use Rattle.im_engine.specs.Run.{Answered, TurnAnswered, is_put, one, MeansAfter, MeansBeginning, MeansAllOrInDoubt}
+use Rattle.im_engine.specs.Run.{Answered, TurnAnswered, is_put, one, MeansAfter, MeansBeginning}
 use Rattle.im_engine.proofs.Running.{Far, far_on, leaves_on, now_on, now_start, far_turned, leaves_turned, now_turned, means_all, all_or_in_doubt, or_less, doubt_by, Failures, failures_more, failures_turned}
 use Rattle.im_program.specs.Serving.{HasPut, OnlyPuts, Closed, Served}
 
