@@ -17,7 +17,7 @@ use Rattle.im_engine.specs.declared.run.Answer.{Answer}
 use Rattle.im_engine.specs.declared.run.Answer.TheVariants.{Served, Turned as TookTurn}
 use Rattle.im_engine.specs.State.{EngineState}
 use Rattle.im_engine.specs.Run.{Answered, AnsweredInTurn, is_put, put_by, taken, is_doubt, has_doubt}
-use Rattle.im_promise.specs.Acknowledged.{acknowledged_by, acknowledged, in_doubt_by, in_doubt}
+use Rattle.im_promise.specs.Acknowledged.{acknowledged_by, acknowledged, in_doubt_by, in_doubt, is_fault, IsAnswer, AreAnswers}
 
 true_false : (b : Bool) → b ≡ true → b ≡ false → ⊥
 true_false b t f = absurd (cc)
@@ -51,6 +51,7 @@ record IsOver (m : Contents) (events : List Event) (answers : List Answer) : Typ
   pub taken_none : taken m events answers ≡ []
   pub acknowledged_none : acknowledged m events answers ≡ []
   pub doubt_none : in_doubt m events answers ≡ []
+  pub answered : AreAnswers true m events answers
 
 failed_put : (m : Contents) (c : Command) (a : Result Outcome Refusal) → a ≡ Err Failed → put_by m (Serve c) (Served a) ≡ []
 failed_put m c a is = none_if c (is_accepted m c) (is_put a) (ap (λ (x : Result Outcome Refusal). is_put x) is)
@@ -62,7 +63,8 @@ failed_doubt : (m : Contents) (c : Command) (a : Result Outcome Refusal) → a �
 failed_doubt m c a is = none_if c (is_accepted m c) (is_doubt (Served a)) (ap (λ (x : Result Outcome Refusal). is_doubt (Served x)) is)
 
 over : {D : Type 0} (old new : EngineState D) (events : List Event) (answers : List Answer) (m : Contents) → old.failed ≡ true → AnsweredInTurn old events answers new → IsOver m events answers
-over old new [] answers m dead it = record { taken_none = refl; acknowledged_none = refl; doubt_none = refl }
+over old new [] [] m dead it = record { taken_none = refl; acknowledged_none = refl; doubt_none = refl; answered = tt }
+over old new [] (a ∷ answers) m dead it = absurd it
 over old new (e ∷ events) [] m dead it = absurd it
 over {D} old new (Serve c ∷ events) (Served a ∷ answers) m dead (mid, one, rest) =
     let is = one.dead dead in
@@ -74,13 +76,14 @@ over {D} old new (Serve c ∷ events) (Served a ∷ answers) m dead (mid, one, r
           (over mid new events answers (after m (acknowledged_by m (Serve c) (Served a))) still rest).acknowledged_none;
       doubt_none = no_more (in_doubt_by m (Serve c) (Served a)) (in_doubt (after m (acknowledged_by m (Serve c) (Served a))) events answers) (failed_doubt m c a is.0)
           (over mid new events answers (after m (acknowledged_by m (Serve c) (Served a))) still rest).doubt_none;
+      answered = (is.0, (over mid new events answers m still rest).answered);
     }
 over old new (Serve c ∷ events) (TookTurn a ∷ answers) m dead (mid, one, rest) = absurd one
 over old new (Turn ∷ events) (Served a ∷ answers) m dead (mid, one, rest) = absurd one
 over {D} old new (Turn ∷ events) (TookTurn a ∷ answers) m dead (mid, one, rest) =
     let still : mid.failed ≡ true = ap (λ (s : EngineState D). s.failed) (one.dead dead).1 ∙ dead in
     let it = over mid new events answers m still rest in
-    record { taken_none = it.taken_none; acknowledged_none = it.acknowledged_none; doubt_none = it.doubt_none }
+    record { taken_none = it.taken_none; acknowledged_none = it.acknowledged_none; doubt_none = it.doubt_none; answered = ((one.dead dead).0, it.answered) }
 
 over_doubt : {D : Type 0} (old new : EngineState D) (events : List Event) (answers : List Answer) → old.failed ≡ true → AnsweredInTurn old events answers new → has_doubt answers ≡ false
 over_doubt old new [] [] dead it = refl
@@ -100,11 +103,12 @@ pub record IsSplit (m : Contents) (events : List Event) (answers : List Answer) 
   pub parts : taken m events answers ≡ acknowledged m events answers ++ in_doubt m events answers
   pub few : length (in_doubt m events answers) ≤ 1
   pub some : has_doubt answers ≡ true → length (in_doubt m events answers) ≡ 1
+  pub answered : AreAnswers false m events answers
 
 -- an event that leaves un command in doubt
 goes_on : (m : Contents) (e : Event) (a : Answer) (events : List Event) (answers : List Answer) → put_by m e a ≡ acknowledged_by m e a → in_doubt_by m e a ≡ [] → is_doubt a ≡ false
-    → IsSplit (after m (acknowledged_by m e a)) events answers → IsSplit m (e ∷ events) (a ∷ answers)
-goes_on m e a events answers same sure none rest =
+    → IsAnswer m e a → is_fault a ≡ false → IsSplit (after m (acknowledged_by m e a)) events answers → IsSplit m (e ∷ events) (a ∷ answers)
+goes_on m e a events answers same sure none answer works rest =
     let ack : List Command = acknowledged_by m e a in
     let m1 : Contents = after m ack in
     let doubt : in_doubt m (e ∷ events) (a ∷ answers) ≡ in_doubt m1 events answers = ap (λ (l : List Command). l ++ in_doubt m1 events answers) sure in
@@ -115,12 +119,13 @@ goes_on m e a events answers same sure none rest =
           ∙ ap (λ (l : List Command). (ack ++ acknowledged m1 events answers) ++ l) (sym doubt);
       few = subst (λ (l : List Command). length l ≤ 1) (sym doubt) rest.few;
       some = λ has. ap length doubt ∙ rest.some (sym (ap (λ (b : Bool). b || has_doubt answers) none) ∙ has);
+      answered = (answer, subst (λ (b : Bool). AreAnswers b m1 events answers) (sym works) rest.answered);
     }
 
 -- a command in doubt, and nothing behind it
 ends_in_doubt : (m : Contents) (c : Command) (a : Result Outcome Refusal) (events : List Event) (answers : List Answer) → put_by m (Serve c) (Served a) ≡ c ∷ [] → acknowledged_by m (Serve c) (Served a) ≡ [] → in_doubt_by m (Serve c) (Served a) ≡ c ∷ []
-    → ((k : Contents) → IsOver k events answers) → IsSplit m (Serve c ∷ events) (Served a ∷ answers)
-ends_in_doubt m c a events answers put ack doubt rest =
+    → IsAnswer m (Serve c) (Served a) → is_fault (Served a) ≡ true → ((k : Contents) → IsOver k events answers) → IsSplit m (Serve c ∷ events) (Served a ∷ answers)
+ends_in_doubt m c a events answers put ack doubt answer fault rest =
     let all : taken m (Serve c ∷ events) (Served a ∷ answers) ≡ c ∷ [] =
     ap (λ (l : List Command). l ++ taken (after m l) events answers) put ∙ ap (λ (l : List Command). c ∷ l) (rest (after m (c ∷ []))).taken_none in
     let none : acknowledged m (Serve c ∷ events) (Served a ∷ answers) ≡ [] =
@@ -132,22 +137,27 @@ ends_in_doubt m c a events answers put ack doubt rest =
       parts = all ∙ sym one ∙ ap (λ (l : List Command). l ++ in_doubt m (Serve c ∷ events) (Served a ∷ answers)) (sym none);
       few = subst (λ (l : List Command). length l ≤ 1) (sym one) (omega arith);
       some = λ has. ap length one;
+      answered = (answer, subst (λ (b : Bool). AreAnswers b (after m (acknowledged_by m (Serve c) (Served a))) events answers) (sym fault) (rest (after m (acknowledged_by m (Serve c) (Served a)))).answered);
     }
 
 -- nothing more happens
-ends_sure : {D : Type 0} (mid new : EngineState D) (m : Contents) (a : Result TurnDone Refusal) (events : List Event) (answers : List Answer) → mid.failed ≡ true → AnsweredInTurn mid events answers new → IsSplit m (Turn ∷ events) (TookTurn a ∷ answers)
-ends_sure mid new m a events answers dead rest =
+ends_sure : {D : Type 0} (mid new : EngineState D) (m : Contents) (a : Result TurnDone Refusal) (events : List Event) (answers : List Answer) → mid.failed ≡ true → is_fault (TookTurn a) ≡ true → AnsweredInTurn mid events answers new → IsSplit m (Turn ∷ events) (TookTurn a ∷ answers)
+ends_sure mid new m a events answers dead fault rest =
     let it = over mid new events answers m dead rest in
     record {
       parts = it.taken_none ∙ sym (no_more (acknowledged m events answers) (in_doubt m events answers) it.acknowledged_none it.doubt_none);
       few = subst (λ (l : List Command). length l ≤ 1) (sym it.doubt_none) (omega arith);
       some = λ has. absurd (true_false (has_doubt answers) has (over_doubt mid new events answers dead rest));
+      answered = (tt, subst (λ (b : Bool). AreAnswers b m events answers) (sym fault) it.answered);
     }
 
 -- what an answered command leaves of the engine
 record WorksOn {D : Type 0} (m : Contents) (c : Command) (mid : EngineState D) : Type 0 where
   pub works : mid.failed ≡ false
   pub memory : mid.memory ≡ after m (if is_accepted m c then c ∷ [] else [])
+
+step_of : {D : Type 0} (old : EngineState D) (m : Contents) (c : Command) (a : Result Outcome Refusal) → old.memory ≡ m → a ≡ (step old.memory c).answer → (step m c).answer ≡ a
+step_of old m c a memory is = ap (λ (x : Contents). (step x c).answer) (sym memory) ∙ sym is
 
 module _ (answered_ok : (m : Contents) (c : Command) → IsTrue (is_accepted m c) → IsOk (step m c).answer) (few_refusals : (m : Contents) (c : Command) (e : Refusal) → (step m c).answer ≡ Err e → number_of e ≤ 6) where
   is_true : (b : Bool) → b ≡ true → IsTrue b
@@ -170,6 +180,16 @@ module _ (answered_ok : (m : Contents) (c : Command) → IsTrue (is_accepted m c
 
     accepted_here : is_accepted old.memory c ≡ is_accepted m c
     accepted_here = ap (λ (x : Contents). is_accepted x c) memory
+
+    -- whatever it is, the answer is one of those that there may be
+    is_answer : (a : Result Outcome Refusal) → Answered old c a mid → IsAnswer m (Serve c) (Served a)
+    is_answer a it = ⊎_elim
+        (λ yes. ⊎_elim
+        (λ none. inr (yes, inl (it.full f (accepted_here ∙ yes) none).0))
+        (λ some. ⊎_elim (λ done. inl (step_of old m c a memory done.0)) (λ fault. inr (yes, inr fault.0)) (it.put f (accepted_here ∙ yes) some))
+        (none_or_some old.room))
+        (λ un. inl (step_of old m c a memory (it.unaccepted f (accepted_here ∙ un)).0))
+        (bool_cases (is_accepted m c))
 
     after_ok : (o : Outcome) → Answered old c (Ok o) mid → WorksOn m c mid
     after_ok o it = ⊎_elim
@@ -216,26 +236,26 @@ module _ (answered_ok : (m : Contents) (c : Command) → IsTrue (is_accepted m c
         too_high n is few = grind (arith, nat_tests)
 
   pub split : {D : Type 0} (old new : EngineState D) (m : Contents) (events : List Event) (answers : List Answer) → old.failed ≡ false → old.memory ≡ m → AnsweredInTurn old events answers new → IsSplit m events answers
-  split old new m [] [] f memory it = record { parts = refl; few = omega arith; some = λ has. absurd (true_false false has refl) }
+  split old new m [] [] f memory it = record { parts = refl; few = omega arith; some = λ has. absurd (true_false false has refl); answered = tt }
   split old new m [] (a ∷ answers) f memory it = absurd it
   split old new m (e ∷ events) [] f memory it = absurd it
   split old new m (Serve c ∷ events) (Served (Ok o) ∷ answers) f memory (mid, one, rest) =
       let on = after_ok old mid m c f memory o one in
-      goes_on m (Serve c) (Served (Ok o)) events answers (same_if c (is_accepted m c) true refl) (none_if c (is_accepted m c) false refl) refl
+      goes_on m (Serve c) (Served (Ok o)) events answers (same_if c (is_accepted m c) true refl) (none_if c (is_accepted m c) false refl) refl (is_answer old mid m c f memory (Ok o) one) refl
       (split mid new (after m (if is_accepted m c then c ∷ [] else [])) events answers on.works on.memory rest)
   split old new m (Serve c ∷ events) (Served (Err e) ∷ answers) f memory (mid, one, rest) = ⊎_elim
       (λ device.
       let dead = after_fault old mid m c f memory e device one in
-      ends_in_doubt m c (Err e) events answers (one_if c (is_accepted m c) (number_of e == 8) dead.1 device) refl (one_if c (is_accepted m c) (number_of e == 8) dead.1 device)
+      ends_in_doubt m c (Err e) events answers (one_if c (is_accepted m c) (number_of e == 8) dead.1 device) refl (one_if c (is_accepted m c) (number_of e == 8) dead.1 device) (is_answer old mid m c f memory (Err e) one) device
       (λ k. over mid new events answers k dead.0 rest))
       (λ other.
       let on = after_refusal old mid m c f memory e other one in
-      goes_on m (Serve c) (Served (Err e)) events answers (none_if c (is_accepted m c) (number_of e == 8) other) (none_if c (is_accepted m c) (number_of e == 8) other) other
+      goes_on m (Serve c) (Served (Err e)) events answers (none_if c (is_accepted m c) (number_of e == 8) other) (none_if c (is_accepted m c) (number_of e == 8) other) other (is_answer old mid m c f memory (Err e) one) other
       (split mid new m events answers on.0 on.1 rest))
       (bool_cases (number_of e == 8))
   split old new m (Serve c ∷ events) (TookTurn a ∷ answers) f memory (mid, one, rest) = absurd one
   split old new m (Turn ∷ events) (Served a ∷ answers) f memory (mid, one, rest) = absurd one
   split {D} old new m (Turn ∷ events) (TookTurn a ∷ answers) f memory (mid, one, rest) = ⊎_elim
-      (λ done. goes_on m Turn (TookTurn a) events answers refl refl refl (split mid new m events answers done.2.alive (done.2.memory ∙ memory) rest))
-      (λ fault. ends_sure mid new m a events answers (ap (λ (s : EngineState D). s.failed) fault.1) rest)
+      (λ done. goes_on m Turn (TookTurn a) events answers refl refl refl tt (ap (λ (x : Result TurnDone Refusal). is_fault (TookTurn x)) done.1) (split mid new m events answers done.2.alive (done.2.memory ∙ memory) rest))
+      (λ fault. ends_sure mid new m a events answers (ap (λ (s : EngineState D). s.failed) fault.1) (ap (λ (x : Result TurnDone Refusal). is_fault (TookTurn x)) fault.0) rest)
       (one.alive f)

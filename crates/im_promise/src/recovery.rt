@@ -30,7 +30,8 @@ pub fn recover(
     events: &[Event],
     crash: Crash,
 ) -> Result<Recovered, Refusal>
-    ensures recovers { IfOk result (λ r. engine.failed ≡ false → Recovers engine.memory engine.count events.now r.answers.items r.engine) }
+    ensures recovers { IfOk result (λ r. engine.failed ≡ false → Recovers engine.memory engine.count events.now r.answers.items r.engine.memory r.engine.count) }
+    ensures works { IfOk result (λ r. r.engine.failed ≡ false) }
     ensures refused { IfErr result (λ e. engine.failed ≡ false → (e ≡ NoMemory) ⊎ (e ≡ Device)) }
 {
     files_mean_one_thing();
@@ -59,7 +60,8 @@ pub fn recover_from_format(
     events: &[Event],
     crash: Crash,
 ) -> Result<Recovered, Refusal>
-    ensures recovers { IfOk result (λ r. Recovers (empty_contents limits.cells limits.elements) 0 events.now r.answers.items r.engine) }
+    ensures recovers { IfOk result (λ r. Recovers (empty_contents limits.cells limits.elements) 0 events.now r.answers.items r.engine.memory r.engine.count) }
+    ensures works { IfOk result (λ r. r.engine.failed ≡ false) }
     ensures refused { IfErr result (λ e. (e ≡ NoMemory) ⊎ (e ≡ Device) ⊎ (e ≡ WrongLength)) }
 {
     match Engine::format(alloc, FuseDisk::new(disk, passes, mode), limits) {
@@ -78,7 +80,8 @@ pub fn recover_again(
     events: &[Event],
     crash: Crash,
 ) -> Result<Recovered, Refusal>
-    ensures recovers { IfOk result (λ r. engine.failed ≡ false → RecoversAgain engine.memory engine.count events.now r.answers.items r.engine) }
+    ensures recovers { IfOk result (λ r. engine.failed ≡ false → RecoversAgain engine.memory engine.count events.now r.answers.items r.engine.memory r.engine.count) }
+    ensures works { IfOk result (λ r. r.engine.failed ≡ false) }
     ensures refused { IfErr result (λ e. engine.failed ≡ false → (e ≡ NoMemory) ⊎ (e ≡ Device)) }
 {
     files_mean_one_thing();

@@ -25,17 +25,12 @@ returns-in-Ok-open-clause-recovers c = λ f.
     let parts = split c.accepted_where_changed.ensures.answered c.refusals_are_of_numbers.ensures.command s c.run.new.self s.memory c.args.events.now answers f refl c.in-Ok.ensures.answers in
     let it = found s e c.into_inner.result.moment c.crash.result.moment e.disk.moment c.crash.result.past e.disk.past crash c.args.events.now answers c.files_mean_one_thing.ensures.memory parts said (c.in-Ok-open.ensures.means tt) in
     record {
-      start = s;
-      end = c.run.new.self;
-      memory_was = refl;
-      count_was = refl;
-      answered = c.in-Ok.ensures.answers;
+      answered = parts.answered;
       one_in_doubt = parts.few;
       also = it.also;
       or_not = it.or_not;
       memory = it.memory;
       count = it.count;
-      works = c.in-Ok-open.ensures.works;
     }
 
 pub returns-in-Err-open-clause-refused : goal.returns-in-Err-open-clause-refused

@@ -14,18 +14,18 @@ use Rattle.im_promise.proofs.Recovering.{MeansOne, NoFault, left_now, was_left, 
 use Rattle.im_promise.proofs.recovery.recover_again.Goals as goal
 
 -- a run after an opening that found the same
-again_by : (m n : Contents) (count other : ℕ) (events : List Event) (r : Result Recovered Refusal) → n ≡ m → other ≡ count → IfOk r (λ x. Recovers n other events x.answers.items x.engine) → IfOk r (λ x. RecoversAgain m count events x.answers.items x.engine)
+again_by : (m n : Contents) (count other : ℕ) (events : List Event) (r : Result Recovered Refusal) → n ≡ m → other ≡ count → IfOk r (λ x. Recovers n other events x.answers.items x.engine.memory x.engine.count) → IfOk r (λ x. RecoversAgain m count events x.answers.items x.engine.memory x.engine.count)
 again_by m n count other events (Ok x) same counted it =
-    inr (subst (λ (y : Contents). Recovers y count events x.answers.items x.engine) same (subst (λ (k : ℕ). Recovers n k events x.answers.items x.engine) counted it))
+    inr (subst (λ (y : Contents). Recovers y count events x.answers.items x.engine.memory x.engine.count) same (subst (λ (k : ℕ). Recovers n k events x.answers.items x.engine.memory x.engine.count) counted it))
 again_by m n count other events (Err e) same counted it = tt
 
 -- an opening that was stopped, and another one
 stopped_by : (s : EngineState Recording) (events : List Event) (left : List ℕ → Type 0) (r : Result Recovered Refusal) → MeansOne → ((file : List ℕ) → left file → MeansState s file)
     → IfOk r (λ x. (x.answers.items ≡ []) × (x.engine.failed ≡ false)) → IfOk r (λ x. left x.engine.disk.moment.bytes) → IfOk r (λ x. MeansState x.engine x.engine.disk.moment.bytes)
-    → IfOk r (λ x. RecoversAgain s.memory s.count events x.answers.items x.engine)
+    → IfOk r (λ x. RecoversAgain s.memory s.count events x.answers.items x.engine.memory x.engine.count)
 stopped_by s events left (Ok x) one said none was means =
     let same = still_means s x.engine x.engine.disk.moment.bytes one (said x.engine.disk.moment.bytes was) means in
-    inl (none.0, same.0, same.1, none.1)
+    inl (none.0, same.0, same.1)
 stopped_by s events left (Err e) one said none was means = tt
 
 refused_by : (s : EngineState Recording) (left : List ℕ → Type 0) (r : Result Recovered Refusal) → NoFault → ((file : List ℕ) → left file → MeansState s file)
@@ -51,7 +51,7 @@ returns-in-Ok-clause-recovers c =
     let s : EngineState Recording = c.args.engine in
     let e : EngineState Fused = c.in-Ok.opened in
     let works : e.failed ≡ false = c.in-Ok.ensures.works in
-    under (s.failed ≡ false) (λ x. RecoversAgain s.memory s.count c.args.events.now x.answers.items x.engine) c.recover.result (λ f.
+    under (s.failed ≡ false) (λ x. RecoversAgain s.memory s.count c.args.events.now x.answers.items x.engine.memory x.engine.count) c.recover.result (λ f.
     let fresh : c.new.result.disk ≡ s.disk = ap (λ (x : Fused). x.disk) c.new.ensures.fresh ∙ c.close.ensures.disk in
     let said : LeavesNow s.disk.moment (MeansState s) = subst (λ (d : Recording). LeavesNow d.moment (MeansState s)) c.close.ensures.disk (c.close.ensures.means tt f) in
     let here : Left s.disk.moment e.disk.disk.moment.bytes =
@@ -59,13 +59,13 @@ returns-in-Ok-clause-recovers c =
     (was_left c.new.result.disk.moment e.disk.disk.moment c.new.result.disk.past e.disk.disk.past (c.in-Ok.ensures.leaves tt) e.disk.disk.moment.bytes (left_now e.disk.disk.moment)) in
     let same = still_means s e e.disk.disk.moment.bytes c.files_mean_one_thing.ensures.memory (said e.disk.disk.moment.bytes here) (c.in-Ok.ensures.means tt e.disk.disk.moment.bytes (left_now e.disk.disk.moment)) in
     again_by s.memory e.memory s.count e.count c.args.events.now c.recover.result same.0 same.1
-    (over (e.failed ≡ false) (λ x. Recovers e.memory e.count c.args.events.now x.answers.items x.engine) c.recover.result works c.recover.ensures.recovers))
+    (over (e.failed ≡ false) (λ x. Recovers e.memory e.count c.args.events.now x.answers.items x.engine.memory x.engine.count) c.recover.result works c.recover.ensures.recovers))
 
 pub returns-in-Err-clause-recovers : goal.returns-in-Err-clause-recovers
 returns-in-Err-clause-recovers c =
     let s : EngineState Recording = c.args.engine in
     let d : Fused = c.in-Err.disk in
-    under (s.failed ≡ false) (λ x. RecoversAgain s.memory s.count c.args.events.now x.answers.items x.engine) c.open_crashed.result (λ f.
+    under (s.failed ≡ false) (λ x. RecoversAgain s.memory s.count c.args.events.now x.answers.items x.engine.memory x.engine.count) c.open_crashed.result (λ f.
     let fresh : c.new.result.disk ≡ s.disk = ap (λ (x : Fused). x.disk) c.new.ensures.fresh ∙ c.close.ensures.disk in
     let said : LeavesNow s.disk.moment (MeansState s) = subst (λ (x : Recording). LeavesNow x.moment (MeansState s)) c.close.ensures.disk (c.close.ensures.means tt f) in
     let there : LeavesNow d.disk.moment (MeansState s) = λ file left. said file (subst (λ (x : Recording). Left x.moment file) fresh (was_left c.new.result.disk.moment d.disk.moment c.new.result.disk.past d.disk.past (c.in-Err.ensures.leaves tt) file left)) in
