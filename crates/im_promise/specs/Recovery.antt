@@ -20,7 +20,3 @@ pub record Recovers (m : Contents) (before : ℕ) (events : List Event) (answers
   pub or_not : (also ≡ []) ⊎ (also ≡ in_doubt m events answers)
   pub memory : now ≡ after m (acknowledged m events answers ++ also)
   pub count : many ≡ before + length (acknowledged m events answers ++ also)
-
--- The same where the first opening may have been stopped: then nothing was served, and all is as it was.
-abbrev pub RecoversAgain : Contents → ℕ → List Event → List Answer → Contents → ℕ → Type 0
-RecoversAgain m before events answers now many = ((answers ≡ []) × (now ≡ m) × (many ≡ before)) ⊎ Recovers m before events answers now many

@@ -10,4 +10,4 @@ mod again;
 mod recovery;
 
 pub use again::{ask_again, send_twice};
-pub use recovery::{Recovered, recover, recover_again, recover_from_format};
+pub use recovery::{Recovered, recover, recover_again, recover_from_format, reopen};

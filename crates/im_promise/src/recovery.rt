@@ -1,10 +1,10 @@
 //! What a crash and an opening give.
-ghost use Rattle.std.specs.Prelude.{◌≡◌, ◌⊎◌, ℕ, List, [], false, IfOk, IfErr};
+ghost use Rattle.std.specs.Prelude.{◌≡◌, ◌⊎◌, ℕ, List, false, IfOk, IfErr};
 ghost use Rattle.im_types.specs.declared.refusals.Refusal.TheVariants.{NoMemory, Device, WrongLength};
 ghost use Rattle.im_types.specs.Contents.{empty_contents};
 ghost use Rattle.im_disk.specs.Moment.{Left};
 ghost use Rattle.im_engine.specs.State.{MeansState, IsFirstFault};
-ghost use Rattle.im_promise.specs.Recovery.{Recovers, RecoversAgain};
+ghost use Rattle.im_promise.specs.Recovery.{Recovers};
 
 use im_disk::{Crash, FuseDisk, MemDisk, Mode};
 use im_engine::{Answer, Engine, Event, files_mean_one_thing};
@@ -70,8 +70,10 @@ pub fn recover_from_format(
     }
 }
 
-/// The same of an engine that an image was opened with, as after an earlier crash: so any number of crashes is covered. Its disk
-/// fails in this mode after so many calls, those of the opening included: where that is stopped, nothing is served.
+/// The same of an engine that an image was opened with, as after an earlier crash: so any number of crashes is covered. Its image
+/// is opened again, on a disk that fails in this mode after so many calls, those of the opening included.
+///
+/// `Device` where the opening was stopped: [`reopen`] says what is there then.
 pub fn recover_again(
     alloc: Global,
     engine: Engine<MemDisk>,
@@ -80,29 +82,54 @@ pub fn recover_again(
     events: &[Event],
     crash: Crash,
 ) -> Result<Recovered, Refusal>
-    ensures recovers { IfOk result (λ r. engine.failed ≡ false → RecoversAgain engine.memory engine.count events.now r.answers.items r.engine.memory r.engine.count) }
+    ensures recovers { IfOk result (λ r. engine.failed ≡ false → Recovers engine.memory engine.count events.now r.answers.items r.engine.memory r.engine.count) }
     ensures works { IfOk result (λ r. r.engine.failed ≡ false) }
     ensures refused { IfErr result (λ e. engine.failed ≡ false → (e ≡ NoMemory) ⊎ (e ≡ Device)) }
 {
     files_mean_one_thing();
     match Engine::open(alloc, FuseDisk::new(engine.close(), passes, mode)) {
         Ok(opened) => recover(alloc, opened, events, crash),
-        Err((_, disk)) => open_crashed(alloc, disk.into_inner(), crash),
+        Err((refusal, _)) => Err(refusal),
     }
 }
 
-// Crashes a disk, and opens what is left. Nothing is served.
-fn open_crashed(alloc: Global, disk: MemDisk, crash: Crash) -> Result<Recovered, Refusal>
-    ensures none { IfOk result (λ r. (r.answers.items ≡ []) × (r.engine.failed ≡ false)) }
-    ensures left { IfOk result (λ r. Left disk.moment r.engine.disk.moment.bytes) }
-    ensures means { IfOk result (λ r. MeansState r.engine r.engine.disk.moment.bytes) }
+// Opens an image on a disk that may fail, and gives the disk back, whether it was opened or not.
+fn open_and_close(alloc: Global, disk: MemDisk, passes: u64, mode: Mode) -> FuseDisk
+    ensures { (file : List ℕ) → Left result.disk.moment file → Left disk.moment file }
+{
+    match Engine::open(alloc, FuseDisk::new(disk, passes, mode)) {
+        Ok(opened) => opened.close(),
+        Err((_, unopened)) => unopened,
+    }
+}
+
+// Crashes a disk, and opens what is left.
+fn open_crashed(alloc: Global, disk: MemDisk, crash: Crash) -> Result<Engine<MemDisk>, Refusal>
+    ensures works { IfOk result (λ e. e.failed ≡ false) }
+    ensures left { IfOk result (λ e. Left disk.moment e.disk.moment.bytes) }
+    ensures means { IfOk result (λ e. MeansState e e.disk.moment.bytes) }
     ensures refused { IfErr result (λ e. (e ≡ NoMemory) ⊎ (e ≡ Device) ⊎ ((file : List ℕ) × Left disk.moment file × IsFirstFault e file)) }
 {
     match Engine::open(alloc, disk.crash(crash)) {
-        Ok(engine) => Ok(Recovered {
-            answers: Vec::new(alloc),
-            engine,
-        }),
+        Ok(engine) => Ok(engine),
         Err((refusal, _)) => Err(refusal),
     }
+}
+
+/// Opens an engine's image again on a disk that fails in this mode after so many calls, so that the opening may be stopped at each
+/// of its calls; crashes the disk, and opens what is left: the memory and the count are as they were.
+pub fn reopen(
+    alloc: Global,
+    engine: Engine<MemDisk>,
+    passes: u64,
+    mode: Mode,
+    crash: Crash,
+) -> Result<Engine<MemDisk>, Refusal>
+    ensures same { IfOk result (λ e. engine.failed ≡ false → (e.memory ≡ engine.memory) × (e.count ≡ engine.count)) }
+    ensures works { IfOk result (λ e. e.failed ≡ false) }
+    ensures refused { IfErr result (λ e. engine.failed ≡ false → (e ≡ NoMemory) ⊎ (e ≡ Device)) }
+{
+    files_mean_one_thing();
+    let disk = open_and_close(alloc, engine.close(), passes, mode);
+    open_crashed(alloc, disk.into_inner(), crash)
 }
