@@ -5,7 +5,7 @@ ghost use Rattle.im_types.specs.Contents.{Contents};
 ghost use Rattle.im_types.specs.Layout as layout;
 ghost use Rattle.im_types.specs.Layout.{layout_1, sizes_of};
 ghost use Rattle.im_types.specs.Pages.{Shows};
-ghost use Rattle.im_disk.specs.Moment.{Moment, Counts};
+ghost use Rattle.im_disk.specs.Moment.{Moment, Faults};
 ghost use Rattle.im_disk.specs.Since.{Leaves, LeavesNow};
 ghost use Rattle.im_journal.specs.Holding.{JournalState, AllHold, to_sweep, with_room};
 ghost use Rattle.im_image.specs.Headers.{seen};
@@ -108,10 +108,9 @@ fn sweep<D: Disk>(disk: &mut D, journal: &mut Journal) -> Result<TurnDone, Refus
     ensures kept { OnOk result (D.honest disk.new → (c : CheckpointState) (m : Contents) → c.step ≡ NoCheckpoint
         → IsKept c m journal.old (D.now disk.old) → IsKept c m journal.new (D.now disk.new)) }
     ensures same { OnErr result (journal.new ≡ journal.old) }
-    ensures only { IfErr result (λ e. e ≡ Device) }
-    ensures calls { OnOk result (D.honest disk.new → length (D.past disk.new) ≤ length (D.past disk.old) + 4) }
+    ensures few { D.honest disk.new → length (D.past disk.new) ≤ length (D.past disk.old) + 4 }
     ensures honest { D.honest disk.new → D.honest disk.old }
-    ensures failures { Counts result (D.failures disk.old) (D.failures disk.new) }
+    ensures faults { Faults (λ e. e ≡ Device) result (D.failures disk.old) (D.failures disk.new) }
 {
     // The pages in force hold the commands of these slots: nobody reads them, whatever a stop leaves of their gates.
     match journal.sweep_turn(disk) {
@@ -163,10 +162,10 @@ impl Checkpoint {
         ensures kept { OnOk result (D.honest disk.new → (m : Contents) (j : JournalState) → IsKept self.old m j (D.now disk.old)
             → IsKept self.new m j (D.now disk.new)) }
         ensures same { OnErr result (self.new ≡ self.old) }
-        ensures only { IfErr result (λ e. e ≡ Device) }
+        ensures few { D.honest disk.new → length (D.past disk.new) ≤ length (D.past disk.old) + 4 }
         ensures calls { IfOk result (λ answer. D.honest disk.new → length (D.past disk.new) ≤ length (D.past disk.old) + most_calls answer) }
         ensures honest { D.honest disk.new → D.honest disk.old }
-        ensures failures { Counts result (D.failures disk.old) (D.failures disk.new) }
+        ensures faults { Faults (λ e. e ≡ Device) result (D.failures disk.old) (D.failures disk.new) }
     {
         let page = self.pages[self.written];
         let from = PAGE * page as usize;
@@ -193,10 +192,10 @@ impl Checkpoint {
         ensures kept { OnOk result (D.honest disk.new → (m : Contents) (j : JournalState) → IsKept self.old m j (D.now disk.old)
             → IsKept self.new m j (D.now disk.new)) }
         ensures same { OnErr result (self.new ≡ self.old) }
-        ensures only { IfErr result (λ e. e ≡ Device) }
+        ensures few { D.honest disk.new → length (D.past disk.new) ≤ length (D.past disk.old) + 4 }
         ensures calls { IfOk result (λ answer. D.honest disk.new → length (D.past disk.new) ≤ length (D.past disk.old) + most_calls answer) }
         ensures honest { D.honest disk.new → D.honest disk.old }
-        ensures failures { Counts result (D.failures disk.old) (D.failures disk.new) }
+        ensures faults { Faults (λ e. e ≡ Device) result (D.failures disk.old) (D.failures disk.new) }
     {
         // A stop leaves the header in force, and nothing that it needs is written.
         if let Err(_) = close_other(disk, &self.header) {
@@ -226,10 +225,10 @@ impl Checkpoint {
         ensures kept { OnOk result (D.honest disk.new → (m : Contents) → IsKept self.old m journal.old (D.now disk.old)
             → IsKept self.new m journal.new (D.now disk.new)) }
         ensures same { OnErr result ((self.new ≡ self.old) × (journal.new ≡ journal.old)) }
-        ensures only { IfErr result (λ e. e ≡ Device) }
+        ensures few { D.honest disk.new → length (D.past disk.new) ≤ length (D.past disk.old) + 4 }
         ensures calls { IfOk result (λ answer. D.honest disk.new → length (D.past disk.new) ≤ length (D.past disk.old) + most_calls answer) }
         ensures honest { D.honest disk.new → D.honest disk.old }
-        ensures failures { Counts result (D.failures disk.old) (D.failures disk.new) }
+        ensures faults { Faults (λ e. e ≡ Device) result (D.failures disk.old) (D.failures disk.new) }
     {
         let next = next_header(&self.header, self.count);
         // A stop leaves the old header in force, or the new one: with either the image means the same.
@@ -282,10 +281,10 @@ impl Checkpoint {
         ensures now { D.honest disk.new → LeavesNow (D.now disk.new) (MeansWith memory.now journal.old) }
         ensures kept { OnOk result (D.honest disk.new → IsKept self.new memory.now journal.new (D.now disk.new)) }
         ensures same { OnErr result ((self.new ≡ self.old) × (journal.new ≡ journal.old)) }
-        ensures only { IfErr result (λ e. e ≡ Device) }
+        ensures few { D.honest disk.new → length (D.past disk.new) ≤ length (D.past disk.old) + 4 }
         ensures calls { IfOk result (λ answer. D.honest disk.new → length (D.past disk.new) ≤ length (D.past disk.old) + most_calls answer) }
         ensures honest { D.honest disk.new → D.honest disk.old }
-        ensures failures { Counts result (D.failures disk.old) (D.failures disk.new) }
+        ensures faults { Faults (λ e. e ≡ Device) result (D.failures disk.old) (D.failures disk.new) }
     {
         if journal.to_sweep() > 0 {
             return sweep(disk, journal);
@@ -324,10 +323,10 @@ impl Checkpoint {
             → Leaves (D.now disk.old) (D.now disk.new) (D.past disk.old) (D.past disk.new) (MeansWith memory.now journal.old) }
         ensures now { D.honest disk.new → LeavesNow (D.now disk.new) (MeansWith memory.now journal.old) }
         ensures kept { OnOk result (D.honest disk.new → IsKept self.new memory.now journal.new (D.now disk.new)) }
-        ensures only { IfErr result (λ e. e ≡ Device) }
+        ensures few { D.honest disk.new → length (D.past disk.new) ≤ length (D.past disk.old) + 4 }
         ensures calls { IfOk result (λ answer. D.honest disk.new → length (D.past disk.new) ≤ length (D.past disk.old) + most_calls answer) }
         ensures honest { D.honest disk.new → D.honest disk.old }
-        ensures failures { Counts result (D.failures disk.old) (D.failures disk.new) }
+        ensures faults { Faults (λ e. e ≡ Device) result (D.failures disk.old) (D.failures disk.new) }
     {
         match self.progress {
             Progress::NoCheckpoint => self.rest(disk, memory, journal),

@@ -45,7 +45,7 @@ pub(crate) fn close_other<D: Disk>(disk: &mut D, header: &Header) -> Result<(), 
     ensures kept { OnOk result (D.honest disk.new → (taken : Taken) (m : Contents) (j : JournalState)
         → IsKept (record { header = seen header.now; step = PagesDone taken }) m j (D.now disk.old)
         → IsKept (record { header = seen header.now; step = Synced taken }) m j (D.now disk.new)) }
-    ensures calls { OnOk result (D.honest disk.new → length (D.past disk.new) ≤ length (D.past disk.old) + 3) }
+    ensures few { D.honest disk.new → length (D.past disk.new) ≤ length (D.past disk.old) + 3 }
     ensures honest { D.honest disk.new → D.honest disk.old }
     ensures failures { Counts result (D.failures disk.old) (D.failures disk.new) }
 {
@@ -74,7 +74,7 @@ pub(crate) fn open_next<D: Disk>(disk: &mut D, next: &Header) -> Result<(), Devi
         → seen next.now ≡ next_header h taken.count → IsKept (record { header = h; step = Synced taken }) m j (D.now disk.old)
         → ((file : List ℕ) → Holds j file → Holds (begun_at taken.count j) file)
         → IsKept (record { header = next_header h taken.count; step = NoCheckpoint }) m (begun_at taken.count j) (D.now disk.new)) }
-    ensures calls { OnOk result (D.honest disk.new → length (D.past disk.new) ≡ length (D.past disk.old) + 4) }
+    ensures few { D.honest disk.new → length (D.past disk.new) ≤ length (D.past disk.old) + 4 }
     ensures honest { D.honest disk.new → D.honest disk.old }
     ensures failures { Counts result (D.failures disk.old) (D.failures disk.new) }
 {

@@ -4,3 +4,4 @@ pub mod Serving
 pub mod Accepting
 pub mod Running
 pub mod Opening
+pub mod FilesMean

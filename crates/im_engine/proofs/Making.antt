@@ -41,7 +41,7 @@ length-front : (s : Sizes) → length (front s) ≡ 8192 + area_bytes layout_1 s
 unfolding front
 length-front s = omega (arith, length-append ((0xA5 ∷ header_body (new_header s)) ++ zeros 8128) (new_area s), length-append (0xA5 ∷ header_body (new_header s)) (zeros 8128), length-area s, length-zeros 8128)
 
-new_image_closed : (s : Sizes) → AreClosed (ring_of layout_1 s) (new_image 0xA5 s)
+pub new_image_closed : (s : Sizes) → AreClosed (ring_of layout_1 s) (new_image 0xA5 s)
 unfolding front
 new_image_closed s = closed_zeros (ring_of layout_1 s) (new_image 0xA5 s) (λ i low high.
     let n : ℕ = 8192 + area_bytes layout_1 s in

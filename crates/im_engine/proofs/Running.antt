@@ -1,15 +1,18 @@
 -- How far a run has come.
-use Rattle.std.proofs.Common.{◌≡◌, ◌⊎◌, inl, inr, ⊎_elim, ℕ, zero, suc, ◌+◌, ◌<◌, ◌≤◌, Bool, true, false, ◌&&◌, List, [], ◌∷◌, ◌++◌, length, take, get_or, Result, Ok, Err, append_assoc, refl, sym, ◌∙◌, ap, subst, arith, length-append, if◌then◌else◌}
+use Rattle.std.proofs.Common.{◌≡◌, ◌⊎◌, inl, inr, ⊎_elim, ℕ, zero, suc, ◌+◌, ◌<◌, ◌≤◌, Bool, true, false, ◌&&◌, ◌||◌, List, [], ◌∷◌, ◌++◌, length, take, get_or, Result, Ok, Err, append_assoc, refl, sym, ◌∙◌, ap, subst, arith, length-append, if◌then◌else◌, IsErrOf}
 use Rattle.std.proofs.lemmas.List.{append-nil, take_all, take_at, take-append-le, take_more, length-take-le}
 use Rattle.im_types.specs.declared.commands.Command.{Command}
 use Rattle.im_types.specs.declared.commands.Outcome.{Outcome}
 use Rattle.im_types.specs.declared.refusals.Refusal.{Refusal}
-use Rattle.im_types.specs.declared.refusals.Refusal.TheVariants.{Device}
+use Rattle.im_types.specs.declared.refusals.Refusal.TheVariants.{Device, Failed}
 use Rattle.im_types.specs.Contents.{Contents}
 use Rattle.im_types.specs.Step.{step, is_accepted}
 use Rattle.im_types.specs.Run.{after}
 use Rattle.im_laws.proofs.RunLemmas.{after-append}
-use Rattle.im_disk.specs.Moment.{Moment}
+use Rattle.im_laws.proofs.RefusalLemmas.{step-refusals}
+use Rattle.im_types.specs.Refusals.{number_of}
+use Rattle.im_types.specs.declared.refusals.Refusal.TheVariants.{JournalFull}
+use Rattle.im_disk.specs.Moment.{Moment, Rises, Faults}
 use Rattle.im_disk.specs.Since.{Leaves, LeavesNow}
 use Rattle.im_disk.proofs.SinceLemmas.{leaves_then, leaves_weaker}
 use Rattle.im_journal.specs.Holding.{room_after}
@@ -20,8 +23,16 @@ use Rattle.im_engine.specs.declared.run.Event.TheVariants.{Command as Serve, Tur
 use Rattle.im_engine.specs.declared.run.Answer.{Answer}
 use Rattle.im_engine.specs.declared.run.Answer.TheVariants.{Served, Turned as TookTurn}
 use Rattle.im_engine.specs.State.{EngineState, MeansState, MeansEither, with_command}
-use Rattle.im_engine.specs.Run.{Answered, TurnTaken, TurnAnswered, EventAnswered, AnsweredInTurn, is_put, one, put_by, taken, MeansBy, MeansAfter, MeansBeginning, MeansAllOrInDoubt}
+use Rattle.im_engine.specs.Run.{Answered, TurnTaken, TurnAnswered, EventAnswered, AnsweredInTurn, is_put, one, put_by, taken, MeansBy, MeansAfter, MeansBeginning, MeansAllOrInDoubt, is_doubt, has_doubt, IsDevice, HasDevice, HasCause}
 use Rattle.im_engine.proofs.Accepting.{Answers, accepted_answers}
+
+-- after all these commands, or all but the last one
+abbrev pub AllOrLess : {D : Type 0} → EngineState D → List Command → List ℕ → Type 0
+AllOrLess s commands file = MeansAllOrInDoubt (Unit {0}) s commands file
+
+-- after all these commands
+abbrev pub All : {D : Type 0} → EngineState D → List Command → List ℕ → Type 0
+All s commands file = MeansAfter s commands (length commands) file
 
 pub in_turn_more : {D : Type 0} (old mid new : EngineState D) (events : List Event) (answers : List Answer) (e : Event) (a : Answer)
     → AnsweredInTurn old events answers mid → EventAnswered mid e a new → AnsweredInTurn old (events ++ e ∷ []) (answers ++ a ∷ []) new
@@ -155,13 +166,13 @@ module _ {D : Type 0} (old mid new : EngineState D) (put : List Command) (c : Co
       (subst (λ (m : Contents). Means m (old.count + length (put ++ c ∷ [])) 0 file) (one_more f)
       (subst (λ (n : ℕ). Means (step mid.memory c).contents n 0 file) count (some_room (step mid.memory c).contents (mid.count + 1) (room_after mid.count mid.room) file means)))
 
-  either : mid.failed ≡ false → (file : List ℕ) → MeansEither mid c file → MeansAllOrInDoubt old (put ++ c ∷ []) file
-  either f file (inl image) = (length put, inr (length-append put (c ∷ [])), before f file image)
+  either : mid.failed ≡ false → (file : List ℕ) → MeansEither mid c file → AllOrLess old (put ++ c ∷ []) file
+  either f file (inl image) = (length put, inr (tt, length-append put (c ∷ [])), before f file image)
   either f file (inr image) = (length (put ++ c ∷ []), inl refl, with_it f file image)
 
-  all_is_beginning : (l : List Command) (file : List ℕ) → MeansAllOrInDoubt old l file → MeansBeginning old l file
+  all_is_beginning : (l : List Command) (file : List ℕ) → AllOrLess old l file → MeansBeginning old l file
   all_is_beginning l file (many, inl e, means) = (many, omega arith, means)
-  all_is_beginning l file (many, inr e, means) = (many, omega arith, means)
+  all_is_beginning l file (many, inr (doubt, e), means) = (many, omega arith, means)
 
   pub leaves_on : (now : D → Moment) (past : D → List Moment)
       → Leaves (now old.disk) (now mid.disk) (past old.disk) (past mid.disk) (MeansBeginning old put)
@@ -177,13 +188,13 @@ module _ {D : Type 0} (old mid new : EngineState D) (put : List Command) (c : Co
         (longer (c ∷ [])) (λ file m. all_is_beginning (put ++ c ∷ []) file (either on.1 file m)))
   ]
 
-  pub now_on : (now : D → Moment) → LeavesNow (now mid.disk) (MeansAllOrInDoubt old put) → (mid.failed ≡ false → LeavesNow (now new.disk) (MeansEither mid c))
-      → LeavesNow (now new.disk) (MeansAllOrInDoubt old (put ++ more))
+  pub now_on : (now : D → Moment) → LeavesNow (now mid.disk) (AllOrLess old put) → (mid.failed ≡ false → LeavesNow (now new.disk) (MeansEither mid c))
+      → LeavesNow (now new.disk) (AllOrLess old (put ++ more))
   now_on now so_far call = elim went [
-    | inl same ↦ subst (λ (l : List Command). LeavesNow (now new.disk) (MeansAllOrInDoubt old (put ++ l))) (sym same.1)
-        (subst (λ (l : List Command). LeavesNow (now new.disk) (MeansAllOrInDoubt old l)) (sym (append-nil put))
-        (subst (λ (s : EngineState D). LeavesNow (now s.disk) (MeansAllOrInDoubt old put)) (sym same.0) so_far))
-    | inr on ↦ subst (λ (l : List Command). LeavesNow (now new.disk) (MeansAllOrInDoubt old (put ++ l))) (sym on.0) (λ file left. either on.1 file (call on.1 file left))
+    | inl same ↦ subst (λ (l : List Command). LeavesNow (now new.disk) (AllOrLess old (put ++ l))) (sym same.1)
+        (subst (λ (l : List Command). LeavesNow (now new.disk) (AllOrLess old l)) (sym (append-nil put))
+        (subst (λ (s : EngineState D). LeavesNow (now s.disk) (AllOrLess old put)) (sym same.0) so_far))
+    | inr on ↦ subst (λ (l : List Command). LeavesNow (now new.disk) (AllOrLess old (put ++ l))) (sym on.0) (λ file left. either on.1 file (call on.1 file left))
   ]
 
 -- one turn more
@@ -211,9 +222,9 @@ module _ {D : Type 0} (old mid new : EngineState D) (put : List Command) (a : Re
       (λ file is. is) (λ file means. (length put, omega arith, means_all old mid put far f file means)))
       (bool_cases mid.failed)
 
-  pub now_turned : (now : D → Moment) → LeavesNow (now mid.disk) (MeansAllOrInDoubt old put) → (mid.failed ≡ false → LeavesNow (now new.disk) (MeansState mid)) → LeavesNow (now new.disk) (MeansAllOrInDoubt old put)
+  pub now_turned : (now : D → Moment) → LeavesNow (now mid.disk) (AllOrLess old put) → (mid.failed ≡ false → LeavesNow (now new.disk) (MeansState mid)) → LeavesNow (now new.disk) (AllOrLess old put)
   now_turned now so_far call = ⊎_elim
-      (λ dead. subst (λ (s : EngineState D). LeavesNow (now s.disk) (MeansAllOrInDoubt old put)) (sym (it.dead dead).1) so_far)
+      (λ dead. subst (λ (s : EngineState D). LeavesNow (now s.disk) (AllOrLess old put)) (sym (it.dead dead).1) so_far)
       (λ f file left. (length put, inl refl, means_all old mid put far f file (call f file left)))
       (bool_cases mid.failed)
 
@@ -238,19 +249,84 @@ module _ {D : Type 0} (now : D → Moment) (past : D → List Moment) where
       (leaves_turned old mid new put a far it now past so_far call)
 
   now_by : (old mid new : EngineState D) (put : List Command) (e : Event) (a : Answer) → Far old mid put → EventAnswered mid e a new
-      → LeavesNow (now mid.disk) (MeansAllOrInDoubt old put) → (mid.failed ≡ false → LeavesNow (now new.disk) (MeansBy mid e))
-      → LeavesNow (now new.disk) (MeansAllOrInDoubt old (put ++ put_by (after old.memory put) e a))
+      → LeavesNow (now mid.disk) (AllOrLess old put) → (mid.failed ≡ false → LeavesNow (now new.disk) (MeansBy mid e))
+      → LeavesNow (now new.disk) (AllOrLess old (put ++ put_by (after old.memory put) e a))
   now_by old mid new put (Serve c) (Served a) far it so_far call = now_on old mid new put c a far it now so_far call
   now_by old mid new put (Serve c) (TookTurn a) far it so_far call = absurd it
   now_by old mid new put Turn (Served a) far it so_far call = absurd it
   now_by old mid new put Turn (TookTurn a) far it so_far call =
-      subst (λ (l : List Command). LeavesNow (now new.disk) (MeansAllOrInDoubt old l)) (sym (append-nil put)) (now_turned old mid new put a far it now so_far call)
+      subst (λ (l : List Command). LeavesNow (now new.disk) (AllOrLess old l)) (sym (append-nil put)) (now_turned old mid new put a far it now so_far call)
+
+-- no answer leaves a command in doubt
+
+neither_doubt : (a b : Bool) → (a || b) ≡ false → (a ≡ false) × (b ≡ false)
+neither_doubt true b is = absurd (cc)
+neither_doubt false b is = (refl, is)
+
+no_doubt_before : (answers : List Answer) (a : Answer) → has_doubt (answers ++ a ∷ []) ≡ false → (has_doubt answers ≡ false) × (is_doubt a ≡ false)
+no_doubt_before [] a none = (refl, (neither_doubt (is_doubt a) false none).0)
+no_doubt_before (b ∷ answers) a none =
+    let x = neither_doubt (is_doubt b) (has_doubt (answers ++ a ∷ [])) none in
+    let y = no_doubt_before answers a x.1 in
+    (ap (λ (c : Bool). c || has_doubt answers) x.0 ∙ y.0, y.1)
+
+true_false : (b : Bool) → b ≡ true → b ≡ false → ⊥
+true_false b t f = absurd (cc)
+
+device_is_doubt : (a : Result Outcome Refusal) → a ≡ Err Device → is_doubt (Served a) ≡ true
+device_is_doubt a e = ap (λ (r : Result Outcome Refusal). is_doubt (Served r)) e
+
+module _ {D : Type 0} (now : D → Moment) where
+  -- a command's call after which the engine has failed, and no doubt: it had failed before
+  told_failed : (old mid new : EngineState D) (put : List Command) (c : Command) (a : Result Outcome Refusal) → Answered mid c a new → is_doubt (Served a) ≡ false → new.failed ≡ true
+      → (new ≡ mid) × (one (after old.memory put) c a ≡ [])
+  told_failed old mid new put c a it sure dead = ⊎_elim
+      (λ was. ((it.dead was).1, not_put (after old.memory put) c a (ap (λ (x : Result Outcome Refusal). is_put x) (it.dead was).0)))
+      (λ f. ⊎_elim
+      (λ accepted. ⊎_elim
+      (λ none. absurd (true_false new.failed dead (ap (λ (s : EngineState D). s.failed) (it.full f accepted none).1 ∙ f)))
+      (λ some. ⊎_elim
+      (λ done. absurd (true_false new.failed dead (ap (λ (s : EngineState D). s.failed) done.1 ∙ f)))
+      (λ fault. absurd (true_false (is_doubt (Served a)) (device_is_doubt a fault.0) sure))
+      (it.put f accepted some))
+      (none_or_some mid.room))
+      (λ un. absurd (true_false new.failed dead (ap (λ (s : EngineState D). s.failed) (it.unaccepted f un).1 ∙ f)))
+      (bool_cases (is_accepted mid.memory c)))
+      (bool_cases mid.failed)
+
+  told_turned : (old mid new : EngineState D) (put : List Command) (a : Result TurnDone Refusal) → Far old mid put → TurnAnswered mid a new
+      → LeavesNow (now mid.disk) (All old put) → (mid.failed ≡ false → LeavesNow (now new.disk) (MeansState mid)) → LeavesNow (now new.disk) (All old put)
+  told_turned old mid new put a far it so_far call = ⊎_elim
+      (λ dead. subst (λ (s : EngineState D). LeavesNow (now s.disk) (All old put)) (sym (it.dead dead).1) so_far)
+      (λ f file left. means_all old mid put far f file (call f file left))
+      (bool_cases mid.failed)
+
+  told_by : (old mid new : EngineState D) (put : List Command) (e : Event) (a : Answer) → Far old mid put → EventAnswered mid e a new → is_doubt a ≡ false
+      → LeavesNow (now mid.disk) (All old put) → (mid.failed ≡ false → LeavesNow (now new.disk) (MeansBy mid e)) → (new.failed ≡ false → LeavesNow (now new.disk) (MeansState new))
+      → LeavesNow (now new.disk) (All old (put ++ put_by (after old.memory put) e a))
+  told_by old mid new put (Serve c) (Served a) far it sure so_far call works = ⊎_elim
+      (λ dead. let same = told_failed old mid new put c a it sure dead in
+      subst (λ (l : List Command). LeavesNow (now new.disk) (All old (put ++ l))) (sym same.1)
+      (subst (λ (l : List Command). LeavesNow (now new.disk) (All old l)) (sym (append-nil put))
+      (subst (λ (s : EngineState D). LeavesNow (now s.disk) (All old put)) (sym same.0) so_far)))
+      (λ f file left. means_all old new (put ++ one (after old.memory put) c a) (far_on old mid new put c a far it) f file (works f file left))
+      (bool_cases new.failed)
+  told_by old mid new put (Serve c) (TookTurn a) far it sure so_far call works = absurd it
+  told_by old mid new put Turn (Served a) far it sure so_far call works = absurd it
+  told_by old mid new put Turn (TookTurn a) far it sure so_far call works =
+      subst (λ (l : List Command). LeavesNow (now new.disk) (All old l)) (sym (append-nil put)) (told_turned old mid new put a far it so_far call)
+
+pub told_start : {D : Type 0} (s : EngineState D) (file : List ℕ) → MeansState s file → All s [] file
+told_start s file means = subst (λ (n : ℕ). Means s.memory n 0 file) (none s.count) (some_room s.memory s.count s.room file means)
+  where
+    none : (n : ℕ) → n ≡ n + 0
+    none n = omega arith
 
 -- a run that has done nothing yet
 pub far_start : {D : Type 0} (s : EngineState D) → Far s s []
 far_start s = record { memory = λ f. refl; count = λ f. omega arith }
 
-pub now_start : {D : Type 0} (s : EngineState D) (file : List ℕ) → MeansState s file → MeansAllOrInDoubt s [] file
+pub now_start : {D : Type 0} (s : EngineState D) (file : List ℕ) → MeansState s file → AllOrLess s [] file
 now_start s file means = (0, inl refl, subst (λ (n : ℕ). Means s.memory n 0 file) (none s.count) (some_room s.memory s.count s.room file means))
   where
     none : (n : ℕ) → n ≡ n + 0
@@ -286,8 +362,156 @@ module _ {D : Type 0} (old mid new : EngineState D) (events : List Event) (answe
         subst (λ (l : List Command). Leaves (now old.disk) (now new.disk) (past old.disk) (past new.disk) (MeansBeginning old l)) (sym grown)
         (leaves_by now past old mid new put (get_or events i d) a far it so_far call)
 
-    pub now_step_on : (now : D → Moment) (past : D → List Moment) → LeavesNow (now mid.disk) (MeansAllOrInDoubt old put)
+    pub now_step_on : (now : D → Moment) (past : D → List Moment) → LeavesNow (now mid.disk) (AllOrLess old put)
         → (mid.failed ≡ false → LeavesNow (now new.disk) (MeansBy mid (get_or events i d)))
-        → LeavesNow (now new.disk) (MeansAllOrInDoubt old (taken old.memory (take (i + 1) events) longer_answers))
+        → LeavesNow (now new.disk) (AllOrLess old (taken old.memory (take (i + 1) events) longer_answers))
     now_step_on now past so_far call =
-        subst (λ (l : List Command). LeavesNow (now new.disk) (MeansAllOrInDoubt old l)) (sym grown) (now_by now past old mid new put (get_or events i d) a far it so_far call)
+        subst (λ (l : List Command). LeavesNow (now new.disk) (AllOrLess old l)) (sym grown) (now_by now past old mid new put (get_or events i d) a far it so_far call)
+
+    pub told_step : (now : D → Moment) → (has_doubt answers ≡ false → LeavesNow (now mid.disk) (All old put))
+        → (mid.failed ≡ false → LeavesNow (now new.disk) (MeansBy mid (get_or events i d))) → (new.failed ≡ false → LeavesNow (now new.disk) (MeansState new))
+        → has_doubt longer_answers ≡ false → LeavesNow (now new.disk) (All old (taken old.memory (take (i + 1) events) longer_answers))
+    told_step now so_far call works none =
+        let sure = no_doubt_before answers a (subst (λ (l : List Answer). has_doubt l ≡ false) items none) in
+        subst (λ (l : List Command). LeavesNow (now new.disk) (All old l)) (sym grown) (told_by now old mid new put (get_or events i d) a far it sure.1 (so_far sure.0) call works)
+
+-- failures so far
+
+pub record Counted {D : Type 0} (failures : D → ℕ) (old now : EngineState D) (answers : List Answer) : Type 0 where
+  pub device : HasDevice answers → (Rises (failures old.disk) (failures now.disk) × (failures old.disk ≤ failures now.disk)) × (now.failed ≡ true)
+  pub steady : (HasDevice answers → ⊥) → failures now.disk ≡ failures old.disk
+
+pub counted_start : {D : Type 0} (failures : D → ℕ) (s : EngineState D) → Counted failures s s []
+counted_start failures s = record { device = λ none. absurd none; steady = λ none. refl }
+
+has_device : (answers : List Answer) (a : Answer) → HasDevice (answers ++ a ∷ []) → HasDevice answers ⊎ IsDevice a
+has_device [] a (inl it) = inr it
+has_device [] a (inr it) = absurd it
+has_device (b ∷ answers) a (inl it) = inl (inl it)
+has_device (b ∷ answers) a (inr it) = ⊎_elim (λ x. inl (inr x)) (λ x. inr x) (has_device answers a it)
+
+device_before : (answers : List Answer) (a : Answer) → HasDevice answers → HasDevice (answers ++ a ∷ [])
+device_before [] a it = absurd it
+device_before (b ∷ answers) a (inl it) = inl it
+device_before (b ∷ answers) a (inr it) = inr (device_before answers a it)
+
+device_last : (answers : List Answer) (a : Answer) → IsDevice a → HasDevice (answers ++ a ∷ [])
+device_last [] a it = inl it
+device_last (b ∷ answers) a it = inr (device_last answers a it)
+
+dead_event : {D : Type 0} (mid new : EngineState D) (e : Event) (a : Answer) → EventAnswered mid e a new → mid.failed ≡ true → (IsDevice a → ⊥) × (new ≡ mid)
+dead_event mid new (Serve c) (Served a) it dead = (λ d. let f : a ≡ Err Failed = (it.dead dead).0 in let g : a ≡ Err Device = d in absurd (cc), (it.dead dead).1)
+dead_event mid new (Serve c) (TookTurn a) it dead = absurd it
+dead_event mid new Turn (Served a) it dead = absurd it
+dead_event mid new Turn (TookTurn a) it dead = (λ d. let f : a ≡ Err Failed = (it.dead dead).0 in let g : a ≡ Err Device = d in absurd (cc), (it.dead dead).1)
+
+not_of_a_step : (m : Contents) (c : Command) → (step m c).answer ≡ Err Device → ⊥
+not_of_a_step m c e = let few : number_of Device ≤ 6 = step-refusals m c Device e in absurd (omega (arith, few))
+
+device_fails : (D : Type 0) (mid new : EngineState D) (e : Event) (a : Answer) → EventAnswered mid e a new → mid.failed ≡ false → IsDevice a → new.failed ≡ true
+device_fails D mid new (Serve c) (Served a) it f d = ⊎_elim
+    (λ accepted. ⊎_elim
+    (λ none. let x : a ≡ Err JournalFull = (it.full f accepted none).0 in let y : a ≡ Err Device = d in absurd (cc))
+    (λ some. ⊎_elim
+    (λ done. absurd (not_of_a_step mid.memory c (sym done.0 ∙ d)))
+    (λ fault. ap (λ (s : EngineState D). s.failed) fault.1)
+    (it.put f accepted some))
+    (none_or_some mid.room))
+    (λ un. absurd (not_of_a_step mid.memory c (sym (it.unaccepted f un).0 ∙ d)))
+    (bool_cases (is_accepted mid.memory c))
+device_fails D mid new (Serve c) (TookTurn a) it f d = absurd it
+device_fails D mid new Turn (Served a) it f d = absurd it
+device_fails D mid new Turn (TookTurn a) it f d = ⊎_elim
+    (λ done. let x : a ≡ Ok done.0 = done.1 in let y : a ≡ Err Device = d in absurd (cc))
+    (λ fault. ap (λ (s : EngineState D). s.failed) fault.1)
+    (it.alive f)
+
+ok_is_no_device : {T : Type 0} (x : T) → IsErrOf {T = T} {E = Refusal} (Ok x) Device → ⊥
+ok_is_no_device x e = absurd (cc)
+
+device_of : {T : Type 0} (e : Refusal) → IsErrOf {T = T} {E = Refusal} (Err e) Device → e ≡ Device
+device_of e d = cc
+
+pub caused_by : {T : Type 0} (a : Result T Refusal) (old new : ℕ) → Faults (λ e. Unit {0}) a old new → (IsErrOf a Device → Rises old new × (old ≤ new)) × ((IsErrOf a Device → ⊥) → new ≡ old)
+caused_by (Ok x) old new same = (λ d. absurd (ok_is_no_device x d), λ none. same)
+caused_by {T} (Err e) old new fault = (λ d. fault.1 (device_of {T = T} e d), λ none. fault.2 (λ is. none (ap (λ (r : Refusal). Err r) is)))
+
+caused : (a : Answer) (old new : ℕ) → HasCause a old new → (IsDevice a → Rises old new × (old ≤ new)) × ((IsDevice a → ⊥) → new ≡ old)
+caused (Served a) old new cause = caused_by a old new cause
+caused (TookTurn a) old new cause = caused_by a old new cause
+
+-- where no answer leaves a command in doubt, all are there
+pub all_or_in_doubt : {D : Type 0} (s : EngineState D) (commands : List Command) (doubt : Bool) (file : List ℕ) → AllOrLess s commands file → (doubt ≡ false → All s commands file)
+    → MeansAllOrInDoubt (doubt ≡ true) s commands file
+all_or_in_doubt s commands true file (many, inl e, means) sure = (many, inl e, means)
+all_or_in_doubt s commands true file (many, inr (none, e), means) sure = (many, inr (refl, e), means)
+all_or_in_doubt s commands false file less sure = (length commands, inl refl, sure refl)
+
+pub counted_step : {D : Type 0} (failures : D → ℕ) (old mid new : EngineState D) (answers : List Answer) (e : Event) (a : Answer) → EventAnswered mid e a new
+    → HasCause a (failures mid.disk) (failures new.disk)
+    → Counted failures old mid answers → Counted failures old new (answers ++ a ∷ [])
+counted_step {D} failures old mid new answers e a it cause so_far = let both = caused a (failures mid.disk) (failures new.disk) cause in record {
+  device = λ has. ⊎_elim
+      (λ before. let dead = dead_event mid new e a it (so_far.device before).1 in subst (λ (s : EngineState D). (Rises (failures old.disk) (failures s.disk) × (failures old.disk ≤ failures s.disk)) × (s.failed ≡ true)) (sym dead.1) (so_far.device before))
+      (λ now. ⊎_elim
+      (λ dead. absurd ((dead_event mid new e a it dead).0 now))
+      (λ f. (subst (λ (n : ℕ). Rises n (failures new.disk) × (n ≤ failures new.disk)) (so_far.steady (λ before. true_false mid.failed (so_far.device before).1 f)) (both.0 now), device_fails D mid new e a it f now))
+      (bool_cases mid.failed))
+      (has_device answers a has);
+  steady = λ none. both.1 (λ d. none (device_last answers a d)) ∙ so_far.steady (λ d. none (device_before answers a d));
+}
+
+-- ---- what a failed engine says of its last event
+
+pub fails_by_device : {D : Type 0} (mid new : EngineState D) (c : Command) (a : Result Outcome Refusal) → Answered mid c a new → mid.failed ≡ false → new.failed ≡ true → a ≡ Err Device
+fails_by_device mid new c a it f dead = ⊎_elim
+    (λ accepted. ⊎_elim
+    (λ none. absurd (true_false new.failed dead (ap (λ (s : EngineState _). s.failed) (it.full f accepted none).1 ∙ f)))
+    (λ some. ⊎_elim
+    (λ done. absurd (true_false new.failed dead (ap (λ (s : EngineState _). s.failed) done.1 ∙ f)))
+    (λ fault. fault.0)
+    (it.put f accepted some))
+    (none_or_some mid.room))
+    (λ un. absurd (true_false new.failed dead (ap (λ (s : EngineState _). s.failed) (it.unaccepted f un).1 ∙ f)))
+    (bool_cases (is_accepted mid.memory c))
+
+pub turn_fails_by_device : {D : Type 0} (mid new : EngineState D) (a : Result TurnDone Refusal) → TurnAnswered mid a new → mid.failed ≡ false → new.failed ≡ true → a ≡ Err Device
+turn_fails_by_device mid new a it f dead = ⊎_elim (λ done. absurd (true_false new.failed dead done.2.alive)) (λ fault. fault.0) (it.alive f)
+
+-- the count of failures rose where the engine has failed, and stayed where it hasn't
+pub record Failures {D : Type 0} (failures : D → ℕ) (start engine : EngineState D) : Type 0 where
+  pub rose : engine.failed ≡ true → Rises (failures start.disk) (failures engine.disk)
+  pub stayed : engine.failed ≡ false → failures engine.disk ≡ failures start.disk
+
+failures_on : {D : Type 0} (failures : D → ℕ) (start mid new : EngineState D) (e : Event) (a : Answer) → EventAnswered mid e a new → HasCause a (failures mid.disk) (failures new.disk)
+    → (mid.failed ≡ false → new.failed ≡ true → IsDevice a) → Failures failures start mid → Failures failures start new
+failures_on failures start mid new e a it cause by_device so_far =
+    let both = caused a (failures mid.disk) (failures new.disk) cause in
+    record {
+      rose = λ dead. ⊎_elim
+          (λ was. subst (λ (s : EngineState _). Rises (failures start.disk) (failures s.disk)) (sym (dead_event mid new e a it was).1) (so_far.rose was))
+          (λ f. subst (λ (n : ℕ). Rises n (failures new.disk)) (so_far.stayed f) (both.0 (by_device f dead)).0)
+          (bool_cases mid.failed);
+      stayed = λ works. ⊎_elim
+          (λ was. absurd (true_false new.failed (ap (λ (s : EngineState _). s.failed) (dead_event mid new e a it was).1 ∙ was) works))
+          (λ f. both.1 (λ d. true_false new.failed (device_fails _ mid new e a it f d) works) ∙ so_far.stayed f)
+          (bool_cases mid.failed);
+    }
+
+pub failures_more : {D : Type 0} (failures : D → ℕ) (start mid new : EngineState D) (c : Command) (a : Result Outcome Refusal) → Answered mid c a new → Faults (λ e. Unit {0}) a (failures mid.disk) (failures new.disk)
+    → Failures failures start mid → Failures failures start new
+failures_more failures start mid new c a it cause so_far = failures_on failures start mid new (Serve c) (Served a) it cause (λ f dead. fails_by_device mid new c a it f dead) so_far
+
+pub failures_turned : {D : Type 0} (failures : D → ℕ) (start mid new : EngineState D) (a : Result TurnDone Refusal) → TurnAnswered mid a new → Faults (λ e. Unit {0}) a (failures mid.disk) (failures new.disk)
+    → Failures failures start mid → Failures failures start new
+failures_turned failures start mid new a it cause so_far = failures_on failures start mid new Turn (TookTurn a) it cause (λ f dead. turn_fails_by_device mid new a it f dead) so_far
+
+-- doubt is weaker than less
+pub or_less : {D : Type 0} (doubt : Type 0) (s : EngineState D) (commands : List Command) (file : List ℕ) → MeansAllOrInDoubt doubt s commands file → AllOrLess s commands file
+or_less doubt s commands file (many, inl e, means) = (many, inl e, means)
+or_less doubt s commands file (many, inr (d, e), means) = (many, inr (tt, e), means)
+
+-- doubt for another reason
+pub doubt_by : {D : Type 0} (doubt other : Type 0) (s : EngineState D) (commands : List Command) (file : List ℕ) → (doubt → other) → MeansAllOrInDoubt doubt s commands file → MeansAllOrInDoubt other s commands file
+doubt_by doubt other s commands file so (many, inl e, means) = (many, inl e, means)
+doubt_by doubt other s commands file so (many, inr (d, e), means) = (many, inr (so d, e), means)

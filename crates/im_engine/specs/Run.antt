@@ -1,5 +1,5 @@
 -- Commands and turns one after another, and what the files mean that a crash may leave. (Own.)
-use Rattle.std.specs.Prelude.{◌≡◌, ◌⊎◌, ℕ, ◌+◌, ◌<◌, ◌≤◌, Bool, true, false, ◌&&◌, ◌==◌, List, [], ◌∷◌, ◌++◌, length, take, Result, Ok, Err, if◌then◌else◌}
+use Rattle.std.specs.Prelude.{◌≡◌, ◌⊎◌, ℕ, ◌+◌, ◌<◌, ◌≤◌, Bool, true, false, ◌&&◌, ◌||◌, ◌==◌, List, [], ◌∷◌, ◌++◌, length, take, Result, Ok, Err, IsErrOf, if◌then◌else◌}
 use Rattle.im_types.specs.declared.commands.Command.{Command}
 use Rattle.im_types.specs.declared.commands.Outcome.{Outcome}
 use Rattle.im_types.specs.declared.refusals.Refusal.{Refusal}
@@ -8,6 +8,7 @@ use Rattle.im_types.specs.Refusals.{number_of}
 use Rattle.im_types.specs.Contents.{Contents}
 use Rattle.im_types.specs.Step.{step, is_accepted}
 use Rattle.im_types.specs.Run.{after}
+use Rattle.im_disk.specs.Moment.{Rises, Faults}
 use Rattle.im_checkpoint.specs.declared.checkpoint.TurnDone.{TurnDone}
 use Rattle.im_checkpoint.specs.Turns.{Turned}
 use Rattle.im_checkpoint.specs.Keeping.{Means}
@@ -88,6 +89,36 @@ MeansAfter s commands many file = Means (after s.memory (take many commands)) (s
 abbrev pub MeansBeginning : {D : Type 0} → EngineState D → List Command → List ℕ → Type 0
 MeansBeginning s commands file = (many : ℕ) × (many ≤ length commands) × MeansAfter s commands many file
 
--- the file means what the engine is after all these commands, or after all but the last one
-abbrev pub MeansAllOrInDoubt : {D : Type 0} → EngineState D → List Command → List ℕ → Type 0
-MeansAllOrInDoubt s commands file = (many : ℕ) × ((many ≡ length commands) ⊎ (length commands ≡ many + 1)) × MeansAfter s commands many file
+-- the file means what the engine is after all these commands, or after all but the last one where that is in doubt
+abbrev pub MeansAllOrInDoubt : {D : Type 0} → Type 0 → EngineState D → List Command → List ℕ → Type 0
+MeansAllOrInDoubt doubt s commands file = (many : ℕ) × ((many ≡ length commands) ⊎ (doubt × (length commands ≡ many + 1))) × MeansAfter s commands many file
+
+-- the answer leaves its command in doubt
+abbrev pub is_doubt : Answer → Bool
+is_doubt (Served (Ok outcome)) = false
+is_doubt (Served (Err refusal)) = number_of refusal == 8
+is_doubt (TookTurn answer) = false
+
+-- one of the answers does
+abbrev pub has_doubt : List Answer → Bool
+has_doubt [] = false
+has_doubt (answer ∷ answers) = is_doubt answer || has_doubt answers
+
+-- the answer says that a call of the disk failed
+abbrev pub IsDevice : Answer → Type 0
+IsDevice (Served answer) = IsErrOf answer Device
+IsDevice (TookTurn answer) = IsErrOf answer Device
+
+-- one of the answers does
+abbrev pub HasDevice : List Answer → Type 0
+HasDevice [] = ⊥
+HasDevice (answer ∷ answers) = IsDevice answer ⊎ HasDevice answers
+
+-- an answer is `Device` exactly where the count of failures rose
+abbrev pub HasCause : Answer → ℕ → ℕ → Type 0
+HasCause (Served answer) old new = Faults (λ e. Unit {0}) answer old new
+HasCause (TookTurn answer) old new = Faults (λ e. Unit {0}) answer old new
+
+-- one of the answers is `Device` exactly where the count of failures rose
+abbrev pub HaveCauses : List Answer → ℕ → ℕ → Type 0
+HaveCauses answers old new = (HasDevice answers → Rises old new × (old ≤ new)) × ((HasDevice answers → ⊥) → new ≡ old)

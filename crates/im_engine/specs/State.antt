@@ -1,11 +1,11 @@
 -- An engine as clauses see it, and what the files mean that a crash may leave. (Own.)
-use Rattle.std.specs.Prelude.{◌⊎◌, ℕ, ◌+◌, Bool, List, Err}
+use Rattle.std.specs.Prelude.{◌⊎◌, ℕ, ◌+◌, Bool, List, Ok, Err, ◌≡◌}
 use Rattle.im_types.specs.declared.commands.Command.{Command}
 use Rattle.im_types.specs.declared.refusals.Refusal.{Refusal}
 use Rattle.im_types.specs.Contents.{Contents}
 use Rattle.im_types.specs.Step.{step}
 use Rattle.im_types.specs.Layout.{layout_1, ring_of}
-use Rattle.im_types.specs.Header.{Header}
+use Rattle.im_types.specs.Header.{Header, header_of}
 use Rattle.im_types.specs.Meaning.{Reads}
 use Rattle.im_journal.specs.Holding.{JournalState, room_after}
 use Rattle.im_checkpoint.specs.Step.{Step, CheckpointState}
@@ -48,3 +48,7 @@ checkpoint_in s = record { header = s.header; step = s.step }
 -- reading the file comes to this fault first
 abbrev pub IsFirstFault : Refusal → List ℕ → Type 0
 IsFirstFault fault file = Reads layout_1 file (Err fault)
+
+-- reading the file comes to what the engine is: its header, its memory, its count, and just its room
+abbrev pub IsFound : {D : Type 0} → EngineState D → List ℕ → Type 0
+IsFound s file = (s.header ≡ header_of file) × Reads layout_1 file (Ok (record { contents = s.memory; count = s.count; room = s.room }))

@@ -2,7 +2,7 @@
 ghost use Rattle.std.specs.Prelude.{◌≡◌, ◌↔◌, ◌⊎◌, ◌+◌, ◌≤◌, ◌<◌, List, ℕ, length, true, false, IsTrue, Ok, Err, OnOk, OnErr, IfOk, IfErr, IsErrOf};
 ghost use Rattle.im_types.specs.Window.{ask, bounds};
 ghost use Rattle.im_types.specs.Step.{step, is_accepted};
-ghost use Rattle.im_disk.specs.Moment.{Rises};
+ghost use Rattle.im_disk.specs.Moment.{Faults};
 ghost use Rattle.im_disk.specs.Since.{Leaves, LeavesNow};
 ghost use Rattle.im_checkpoint.specs.Keeping.{Fits, IsKept};
 ghost use Rattle.im_checkpoint.specs.Step.{IsUnderWay, turns_left};
@@ -56,7 +56,8 @@ impl<D: Disk> Engine<D> {
     pub fn serve(&mut self, command: &Command) -> Result<Outcome, Refusal>
         ensures answered { Answered self.old command.now result self.new }
         ensures calls { OnOk result (is_accepted self.old.memory command.now ≡ true → D.honest self.new.disk → length (D.past self.new.disk) ≡ length (D.past self.old.disk) + 4) }
-        ensures device { IsErrOf result Refusal.Device → Rises (D.failures self.old.disk) (D.failures self.new.disk) }
+        ensures few { D.honest self.new.disk → length (D.past self.new.disk) ≤ length (D.past self.old.disk) + 4 }
+        ensures faults { Faults (λ e. Unit {0}) result (D.failures self.old.disk) (D.failures self.new.disk) }
 
         // Each file that a crash may leave, from the start on, and now.
         ensures leaves { D.honest self.new.disk → self.old.failed ≡ false
@@ -84,7 +85,8 @@ impl<D: Disk> Engine<D> {
             ((result ≡ (step self.old.memory command.now).answer) × (self.new ≡ record (with_command self.old command.now) { disk = self.new.disk }))
             ⊎ ((result ≡ Err Refusal.Device) × (self.new ≡ record self.old { disk = self.new.disk; failed = true })) }
         ensures calls { OnOk result (D.honest self.new.disk → length (D.past self.new.disk) ≡ length (D.past self.old.disk) + 4) }
-        ensures device { IsErrOf result Refusal.Device → Rises (D.failures self.old.disk) (D.failures self.new.disk) }
+        ensures few { D.honest self.new.disk → length (D.past self.new.disk) ≤ length (D.past self.old.disk) + 4 }
+        ensures faults { Faults (λ e. Unit {0}) result (D.failures self.old.disk) (D.failures self.new.disk) }
         ensures leaves { D.honest self.new.disk
             → Leaves (D.now self.old.disk) (D.now self.new.disk) (D.past self.old.disk) (D.past self.new.disk) (MeansEither self.old command.now) }
         ensures doubt { D.honest self.new.disk → LeavesNow (D.now self.new.disk) (MeansEither self.old command.now) }
@@ -133,7 +135,8 @@ impl<D: Disk> Engine<D> {
         // A checkpoint that is under way comes nearer to its end, and nothing else takes it back.
         ensures nearer { OnOk result (IsUnderWay self.old.step → turns_left self.old.step ≡ turns_left self.new.step + 1) }
         ensures calls { IfOk result (λ done. D.honest self.new.disk → length (D.past self.new.disk) ≤ length (D.past self.old.disk) + most_calls done) }
-        ensures device { IsErrOf result Refusal.Device → Rises (D.failures self.old.disk) (D.failures self.new.disk) }
+        ensures few { D.honest self.new.disk → length (D.past self.new.disk) ≤ length (D.past self.old.disk) + 4 }
+        ensures faults { Faults (λ e. Unit {0}) result (D.failures self.old.disk) (D.failures self.new.disk) }
         // Each file that a crash may leave, from the start on, and now.
         ensures leaves { D.honest self.new.disk → self.old.failed ≡ false
             → Leaves (D.now self.old.disk) (D.now self.new.disk) (D.past self.old.disk) (D.past self.new.disk) (MeansState self.old) }

@@ -4,7 +4,7 @@ ghost use Rattle.im_types.specs.declared.refusals.Refusal.TheVariants.{WrongLeng
 ghost use Rattle.im_types.specs.Contents.{empty_contents};
 ghost use Rattle.im_types.specs.Layout.{layout_1, image_length};
 ghost use Rattle.im_types.specs.Header.{Header as Seen};
-ghost use Rattle.im_disk.specs.Moment.{Counts, Rises};
+ghost use Rattle.im_disk.specs.Moment.{Counts, Fault, Faults};
 ghost use Rattle.im_disk.specs.Since.{LeavesNow};
 ghost use Rattle.im_types.specs.Layout.{sizes_of};
 ghost use Rattle.im_image.specs.Headers.{seen};
@@ -65,8 +65,7 @@ fn lay_down<D: Disk>(
     ensures right { MatchResult result (λ r. D.honest disk.new → length (D.now disk.old).bytes ≡ image_length layout_1 (sizes_of limits))
         (λ e. e ≡ NoMemory → D.honest disk.new
         → (length (D.now disk.old).bytes ≡ image_length layout_1 (sizes_of limits)) × (D.now disk.new ≡ D.now disk.old) × (D.past disk.new ≡ D.past disk.old)) }
-    ensures device { IsErrOf result Refusal.Device → Rises (D.failures disk.old) (D.failures disk.new) }
-    ensures only { IfErr result (λ e. (e ≡ WrongLength) ⊎ (e ≡ NoMemory) ⊎ (e ≡ Device)) }
+    ensures faults { Faults (λ e. (e ≡ WrongLength) ⊎ (e ≡ NoMemory) ⊎ (e ≡ Device)) result (D.failures disk.old) (D.failures disk.new) }
     ensures honest { D.honest disk.new → D.honest disk.old }
 {
     let Ok(length) = disk.len() else {
@@ -100,7 +99,8 @@ impl<D: Disk> Engine<D> {
     /// written. `Device` where a call of the disk failed: then the file may hold no image.
     pub fn format(alloc: Global, mut disk: D, limits: Limits) -> Result<Engine<D>, (Refusal, D)>
         ensures empty { IfOk result (λ e. (e.memory ≡ empty_contents limits.cells limits.elements) × (e.count ≡ 0) × (e.room ≡ limits.slots)
-            × (e.header ≡ new_header (sizes_of limits))) }
+            × (e.header ≡ new_header (sizes_of limits)) × (e.step ≡ NoCheckpoint)) }
+        ensures image { IfOk result (λ e. D.honest e.disk → LeavesNow (D.now e.disk) (λ file. file ≡ new_image 0xA5 (sizes_of limits))) }
         // Each file that a crash may leave means that.
         ensures means { IfOk result (λ e. D.honest e.disk → LeavesNow (D.now e.disk) (MeansState e)) }
         ensures works { IfOk result (λ e. e.failed ≡ false) }
@@ -109,8 +109,8 @@ impl<D: Disk> Engine<D> {
         ensures right { MatchResult result (λ e. D.honest e.disk → length (D.now disk).bytes ≡ image_length layout_1 (sizes_of limits))
             (λ e. e.0 ≡ NoMemory → D.honest e.1
             → (length (D.now disk).bytes ≡ image_length layout_1 (sizes_of limits)) × (D.now e.1 ≡ D.now disk) × (D.past e.1 ≡ D.past disk)) }
-        ensures device { IfErr result (λ e. e.0 ≡ Device → Rises (D.failures disk) (D.failures e.1)) }
-        ensures only { IfErr result (λ e. (e.0 ≡ WrongLength) ⊎ (e.0 ≡ NoMemory) ⊎ (e.0 ≡ Device)) }
+        ensures faults { MatchResult result (λ e. D.failures e.disk ≡ D.failures disk)
+            (λ e. Fault (λ r. (r ≡ WrongLength) ⊎ (r ≡ NoMemory) ⊎ (r ≡ Device)) (D.failures disk) (D.failures e.1) e.0) }
         ensures honest { MatchResult result (λ e. D.honest e.disk → D.honest disk) (λ e. D.honest e.1 → D.honest disk) }
     {
         match lay_down(alloc, &mut disk, limits) {

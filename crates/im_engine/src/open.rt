@@ -1,9 +1,11 @@
 //! How an image is opened.
 ghost use Rattle.std.specs.Prelude.{◌≡◌, ◌⊎◌, false, IfOk, IfErr, MatchResult};
 ghost use Rattle.im_types.specs.declared.refusals.Refusal.TheVariants.{NoMemory, Device};
-ghost use Rattle.im_disk.specs.Moment.{Left, Rises};
+ghost use Rattle.im_disk.specs.Moment.{Left, Fault};
 ghost use Rattle.im_disk.specs.Since.{Leaves, LeavesNow};
-ghost use Rattle.im_engine.specs.State.{MeansState, IsFirstFault};
+ghost use Rattle.im_image.specs.Headers.{MayRefuseImage};
+ghost use Rattle.im_checkpoint.specs.Step.{NoCheckpoint};
+ghost use Rattle.im_engine.specs.State.{MeansState, IsFirstFault, IsFound};
 
 use crate::engine::Engine;
 use im_checkpoint::Checkpoint;
@@ -23,11 +25,15 @@ impl<D: Disk> Engine<D> {
         // Each file that a crash may leave means what the engine is, and could have been left before.
         ensures means { IfOk result (λ e. D.honest e.disk → LeavesNow (D.now e.disk) (MeansState e)) }
         ensures works { IfOk result (λ e. e.failed ≡ false) }
+        // No checkpoint is under way, and header and room are those that reading the file finds.
+        ensures idle { IfOk result (λ e. e.step ≡ NoCheckpoint) }
+        ensures found { IfOk result (λ e. D.honest e.disk → LeavesNow (D.now e.disk) (IsFound e)) }
         ensures leaves { MatchResult result
             (λ e. D.honest e.disk → Leaves (D.now disk) (D.now e.disk) (D.past disk) (D.past e.disk) (Left (D.now disk)))
             (λ e. D.honest e.1 → Leaves (D.now disk) (D.now e.1) (D.past disk) (D.past e.1) (Left (D.now disk))) }
         ensures fault { IfErr result (λ e. (e.0 ≡ NoMemory) ⊎ (e.0 ≡ Device) ⊎ (D.honest e.1 → LeavesNow (D.now e.1) (IsFirstFault e.0))) }
-        ensures device { IfErr result (λ e. e.0 ≡ Device → Rises (D.failures disk) (D.failures e.1)) }
+        ensures faults { MatchResult result (λ e. D.failures e.disk ≡ D.failures disk)
+            (λ e. Fault MayRefuseImage (D.failures disk) (D.failures e.1) e.0) }
         ensures honest { MatchResult result (λ e. D.honest e.disk → D.honest disk) (λ e. D.honest e.1 → D.honest disk) }
     {
         // A crash after a write that wasn't synced may leave less than is read: a sync makes it sure. A stop in it leaves

@@ -3,7 +3,8 @@ ghost use Rattle.std.specs.Prelude.{◌≡◌, ◌+◌, ◌≤◌, length, true,
 ghost use Rattle.im_types.specs.declared.refusals.Refusal.TheVariants.{NoMemory};
 ghost use Rattle.im_types.specs.Run.{after};
 ghost use Rattle.im_disk.specs.Since.{Leaves, LeavesNow};
-ghost use Rattle.im_engine.specs.Run.{EventAnswered, AnsweredInTurn, taken, MeansBy, MeansBeginning, MeansAllOrInDoubt};
+ghost use Rattle.im_engine.specs.Run.{EventAnswered, AnsweredInTurn, taken, MeansBy, MeansBeginning, MeansAllOrInDoubt, has_doubt, HasCause, HaveCauses};
+ghost use Rattle.im_engine.specs.State.{MeansState};
 
 use crate::engine::Engine;
 use im_checkpoint::TurnDone;
@@ -33,9 +34,11 @@ impl<D: Disk> Engine<D> {
     // Serves a command, or makes a turn.
     fn take(&mut self, event: &Event) -> Answer
         ensures answered { EventAnswered self.old event.now result self.new }
+        ensures faults { HasCause result (D.failures self.old.disk) (D.failures self.new.disk) }
         ensures leaves { D.honest self.new.disk → self.old.failed ≡ false
             → Leaves (D.now self.old.disk) (D.now self.new.disk) (D.past self.old.disk) (D.past self.new.disk) (MeansBy self.old event.now) }
         ensures doubt { D.honest self.new.disk → self.old.failed ≡ false → LeavesNow (D.now self.new.disk) (MeansBy self.old event.now) }
+        ensures means { D.honest self.new.disk → self.new.failed ≡ false → LeavesNow (D.now self.new.disk) (MeansState self.new) }
         ensures honest { D.honest self.new.disk → D.honest self.old.disk }
     {
         match event {
@@ -54,7 +57,9 @@ impl<D: Disk> Engine<D> {
         ensures leaves { IfOk result (λ v. D.honest self.new.disk → self.old.failed ≡ false
             → Leaves (D.now self.old.disk) (D.now self.new.disk) (D.past self.old.disk) (D.past self.new.disk) (MeansBeginning self.old (taken self.old.memory events.now v.items))) }
         ensures now { IfOk result (λ v. D.honest self.new.disk → self.old.failed ≡ false
-            → LeavesNow (D.now self.new.disk) (MeansAllOrInDoubt self.old (taken self.old.memory events.now v.items))) }
+            → LeavesNow (D.now self.new.disk) (MeansAllOrInDoubt (has_doubt v.items ≡ true) self.old (taken self.old.memory events.now v.items))) }
+        // `Device` exactly where a call of the disk failed.
+        ensures faults { IfOk result (λ v. HaveCauses v.items (D.failures self.old.disk) (D.failures self.new.disk)) }
         // Where it hasn't failed, the memory and the count are those after all of them.
         ensures memory { IfOk result (λ v. self.old.failed ≡ false → self.new.failed ≡ false → self.new.memory ≡ after self.old.memory (taken self.old.memory events.now v.items)) }
         ensures count { IfOk result (λ v. self.old.failed ≡ false → self.new.failed ≡ false → self.new.count ≡ self.old.count + length (taken self.old.memory events.now v.items)) }

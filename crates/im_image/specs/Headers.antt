@@ -1,7 +1,7 @@
 -- A header of the code, as the definitions see it. (Own.)
 use Rattle.std.specs.Prelude.{◌≡◌, ◌⊎◌, ℕ, List, Option, None, Some, ◌==◌, if◌then◌else◌}
 use Rattle.im_types.specs.declared.refusals.Refusal.{Refusal}
-use Rattle.im_types.specs.declared.refusals.Refusal.TheVariants.{WrongLength, NoHeader, BadHeader}
+use Rattle.im_types.specs.declared.refusals.Refusal.TheVariants.{WrongLength, NoHeader, BadHeader, BadPage, BadRecord, NoMemory, Device}
 use Rattle.im_types.specs.Header.{Header as Seen, header_in, place_in_force, place_fault, or_else}
 use Rattle.im_types.specs.Layout.{Layout, sizes_of, image_length}
 use Rattle.im_image.specs.declared.header.Header.{Header}
@@ -13,6 +13,14 @@ seen h = record { version = h.version; area = h.area; generation = h.generation;
 -- the faults of a length and of headers
 abbrev pub IsHeaderFault : Refusal → Type 0
 IsHeaderFault e = (e ≡ WrongLength) ⊎ (e ≡ NoHeader) ⊎ (e ≡ BadHeader)
+
+-- the faults of an image
+abbrev pub IsImageFault : Refusal → Type 0
+IsImageFault e = IsHeaderFault e ⊎ (e ≡ BadPage) ⊎ (e ≡ BadRecord)
+
+-- why an image may not be read: a fault of it, or want of memory, or a call of the disk that failed
+abbrev pub MayRefuseImage : Refusal → Type 0
+MayRefuseImage e = (e ≡ NoMemory) ⊎ (e ≡ Device) ⊎ IsImageFault e
 
 -- the first fault of a file of this length, which has room for two header places
 abbrev pub beginning_fault : Layout → ℕ → List ℕ → List ℕ → Option Refusal

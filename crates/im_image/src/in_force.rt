@@ -3,7 +3,7 @@ ghost use Rattle.std.specs.Prelude.{◌≡◌, ◌⊎◌, ◌↔◌, ◌≤◌, 
 ghost use Rattle.im_types.specs.declared.refusals.Refusal.TheVariants.{NoHeader, BadHeader, WrongLength, Device};
 ghost use Rattle.im_types.specs.Layout.{layout_1, image_length};
 ghost use Rattle.im_types.specs.Header.{header_in, header_of, header_fault, is_open_header, generation_in, is_second, are_ambiguous, number_in_force, place_in_force, place_fault, spells_header};
-ghost use Rattle.im_disk.specs.Moment.{Counts, Rises};
+ghost use Rattle.im_disk.specs.Moment.{Counts, Faults};
 ghost use Rattle.im_disk.specs.Since.{ReadsOnly};
 ghost use Rattle.im_image.specs.Headers.{seen, IsHeaderFault, beginning_fault};
 ghost use Rattle.im_image.specs.Beginning.{IsBeginning};
@@ -140,9 +140,8 @@ pub fn read_header<D: Disk>(disk: &mut D) -> Result<Header, Refusal>
     ensures fault { IfErr result (λ e. (e ≡ Device) ⊎ (D.honest disk.new → header_fault layout_1 (D.now disk.old).bytes ≡ Some e)) }
     ensures reads { D.honest disk.new → ReadsOnly (D.now disk.old) (D.now disk.new) (D.past disk.old) (D.past disk.new) }
     ensures honest { D.honest disk.new → D.honest disk.old }
-    ensures device { IsErrOf result Refusal.Device → Rises (D.failures disk.old) (D.failures disk.new) }
+    ensures faults { Faults (λ e. (e ≡ Device) ⊎ IsHeaderFault e) result (D.failures disk.old) (D.failures disk.new) }
     ensures range { IfOk result (λ h. (h.area ≤ 1) × (h.count ≤ LAST)) }
-    ensures steady { OnOk result (D.failures disk.new ≡ D.failures disk.old) }
 {
     match read_beginning(disk) {
         Ok(Some(beginning)) => header_of(&beginning),

@@ -6,7 +6,7 @@ ghost use Rattle.im_types.specs.Layout.{layout_1, area_of};
 ghost use Rattle.im_types.specs.Header.{header_of, header_fault};
 ghost use Rattle.im_types.specs.Pages.{Shows};
 ghost use Rattle.im_types.specs.Meaning.{IsShown};
-ghost use Rattle.im_disk.specs.Moment.{Counts, Rises};
+ghost use Rattle.im_disk.specs.Moment.{Counts, Faults};
 ghost use Rattle.im_disk.specs.Since.{ReadsOnly};
 ghost use Rattle.im_types.specs.Layout.{sizes_of};
 ghost use Rattle.im_image.specs.Headers.{seen};
@@ -54,11 +54,9 @@ fn read_area<D: Disk>(
     requires length { D.honest disk.old → length (D.now disk.old).bytes ≡ layout.image_length layout_1 (sizes_of limits) }
     ensures area { IfOk result (λ v. D.honest disk.new → v.items ≡ area_of layout_1 (sizes_of limits) number (D.now disk.old).bytes) }
     ensures size { IfOk result (λ v. length v.items ≡ layout.area_bytes layout_1 (sizes_of limits)) }
-    ensures only { IfErr result (λ e. (e ≡ Refusal.NoMemory) ⊎ (e ≡ Refusal.Device)) }
+    ensures faults { Faults (λ e. (e ≡ Refusal.NoMemory) ⊎ (e ≡ Refusal.Device)) result (D.failures disk.old) (D.failures disk.new) }
     ensures reads { D.honest disk.new → ReadsOnly (D.now disk.old) (D.now disk.new) (D.past disk.old) (D.past disk.new) }
     ensures honest { D.honest disk.new → D.honest disk.old }
-    ensures device { IsErrOf result Refusal.Device → Rises (D.failures disk.old) (D.failures disk.new) }
-    ensures steady { OnOk result (D.failures disk.new ≡ D.failures disk.old) }
 {
     let Ok(mut area) = zero_area(alloc, limits) else {
         return Err(Refusal::NoMemory);
@@ -81,11 +79,10 @@ pub fn read_memory<D: Disk>(alloc: Global, disk: &mut D, header: &Header) -> Res
     ensures cells { IfOk result (λ m. length m.cells ≡ header.now.limits.cells) }
     ensures elements { IfOk result (λ m. length m.windows ≡ header.now.limits.elements) }
     ensures bad { IsErrOf result Refusal.BadPage → D.honest disk.new → (m : Contents) → IsShown layout_1 (D.now disk.old).bytes m → ⊥ }
-    ensures only { IfErr result (λ e. (e ≡ Refusal.BadPage) ⊎ (e ≡ Refusal.NoMemory) ⊎ (e ≡ Refusal.Device)) }
+    ensures faults { Faults (λ e. (e ≡ Refusal.BadPage) ⊎ (e ≡ Refusal.NoMemory) ⊎ (e ≡ Refusal.Device)) result
+        (D.failures disk.old) (D.failures disk.new) }
     ensures reads { D.honest disk.new → ReadsOnly (D.now disk.old) (D.now disk.new) (D.past disk.old) (D.past disk.new) }
     ensures honest { D.honest disk.new → D.honest disk.old }
-    ensures device { IsErrOf result Refusal.Device → Rises (D.failures disk.old) (D.failures disk.new) }
-    ensures steady { OnOk result (D.failures disk.new ≡ D.failures disk.old) }
 {
     match read_area(alloc, disk, header.limits, header.area) {
         Ok(area) => decode(alloc, &area, header.limits),

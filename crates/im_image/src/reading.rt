@@ -6,10 +6,10 @@ ghost use Rattle.im_types.specs.Header.{header_of, header_fault};
 ghost use Rattle.im_types.specs.Layout.{layout_1, sizes_of, ring_of};
 ghost use Rattle.im_types.specs.Meaning.{IsShown, Reads, accept_each};
 ghost use Rattle.im_types.specs.Step.{is_accepted};
-ghost use Rattle.im_disk.specs.Moment.{Rises};
+ghost use Rattle.im_disk.specs.Moment.{Faults};
 ghost use Rattle.im_disk.specs.Since.{ReadsOnly};
 ghost use Rattle.im_journal.specs.Holding.{Holds};
-ghost use Rattle.im_image.specs.Headers.{seen};
+ghost use Rattle.im_image.specs.Headers.{seen, MayRefuseImage};
 ghost use Rattle.im_image.specs.Reading.{JournalOf};
 
 use crate::header::Header;
@@ -92,8 +92,7 @@ fn read_run<D: Disk>(
     ensures fault { IfErr result (λ e. (e ≡ NoMemory) ⊎ (e ≡ Device) ⊎ (D.honest disk.new → Reads layout_1 (D.now disk.old).bytes (Err e))) }
     ensures reads { D.honest disk.new → ReadsOnly (D.now disk.old) (D.now disk.new) (D.past disk.old) (D.past disk.new) }
     ensures honest { D.honest disk.new → D.honest disk.old }
-    ensures device { IsErrOf result Refusal.Device → Rises (D.failures disk.old) (D.failures disk.new) }
-    ensures steady { OnOk result (D.failures disk.new ≡ D.failures disk.old) }
+    ensures faults { Faults MayRefuseImage result (D.failures disk.old) (D.failures disk.new) }
 {
     let (journal, commands) = match Journal::read_tail(alloc, disk, header.limits, header.count) {
         Ok(read) => read,
@@ -125,8 +124,7 @@ fn read_behind<D: Disk>(alloc: Global, disk: &mut D, header: Header) -> Result<I
     ensures fault { IfErr result (λ e. (e ≡ NoMemory) ⊎ (e ≡ Device) ⊎ (D.honest disk.new → Reads layout_1 (D.now disk.old).bytes (Err e))) }
     ensures reads { D.honest disk.new → ReadsOnly (D.now disk.old) (D.now disk.new) (D.past disk.old) (D.past disk.new) }
     ensures honest { D.honest disk.new → D.honest disk.old }
-    ensures device { IsErrOf result Refusal.Device → Rises (D.failures disk.old) (D.failures disk.new) }
-    ensures steady { OnOk result (D.failures disk.new ≡ D.failures disk.old) }
+    ensures faults { Faults MayRefuseImage result (D.failures disk.old) (D.failures disk.new) }
 {
     match read_memory(alloc, disk, &header) {
         Ok(memory) => read_run(alloc, disk, header, memory),
@@ -150,8 +148,7 @@ pub fn read_image<D: Disk>(alloc: Global, disk: &mut D) -> Result<Image, Refusal
     ensures fault { IfErr result (λ e. (e ≡ NoMemory) ⊎ (e ≡ Device) ⊎ (D.honest disk.new → Reads layout_1 (D.now disk.old).bytes (Err e))) }
     ensures reads { D.honest disk.new → ReadsOnly (D.now disk.old) (D.now disk.new) (D.past disk.old) (D.past disk.new) }
     ensures honest { D.honest disk.new → D.honest disk.old }
-    ensures device { IsErrOf result Refusal.Device → Rises (D.failures disk.old) (D.failures disk.new) }
-    ensures steady { OnOk result (D.failures disk.new ≡ D.failures disk.old) }
+    ensures faults { Faults MayRefuseImage result (D.failures disk.old) (D.failures disk.new) }
 {
     match read_header(disk) {
         Ok(header) => read_behind(alloc, disk, header),
@@ -167,7 +164,7 @@ pub fn inspect<D: Disk>(alloc: Global, disk: &mut D) -> Result<Report, Refusal>
     ensures fault { IfErr result (λ e. (e ≡ NoMemory) ⊎ (e ≡ Device) ⊎ (D.honest disk.new → Reads layout_1 (D.now disk.old).bytes (Err e))) }
     ensures reads { D.honest disk.new → ReadsOnly (D.now disk.old) (D.now disk.new) (D.past disk.old) (D.past disk.new) }
     ensures honest { D.honest disk.new → D.honest disk.old }
-    ensures device { IsErrOf result Refusal.Device → Rises (D.failures disk.old) (D.failures disk.new) }
+    ensures faults { Faults MayRefuseImage result (D.failures disk.old) (D.failures disk.new) }
 {
     match read_image(alloc, disk) {
         Ok(image) => Ok(report_of(image)),

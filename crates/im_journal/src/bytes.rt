@@ -1,6 +1,6 @@
 // How a part of a disk is read.
 ghost use Rattle.std.specs.Prelude.{◌≡◌, ◌⊎◌, ◌+◌, ◌≤◌, length, take, drop, IfOk, IfErr, OnOk, IsErrOf};
-ghost use Rattle.im_disk.specs.Moment.{Rises};
+ghost use Rattle.im_disk.specs.Moment.{Faults};
 ghost use Rattle.im_disk.specs.Since.{ReadsOnly};
 
 use im_disk::Disk;
@@ -19,9 +19,7 @@ pub(crate) fn read_bytes<D: Disk>(
     ensures size { IfOk result (λ v. length v.items ≡ len) }
     ensures reads { D.honest disk.new
         → ReadsOnly (D.now disk.old) (D.now disk.new) (D.past disk.old) (D.past disk.new) }
-    ensures only { IfErr result (λ e. (e ≡ Refusal.NoMemory) ⊎ (e ≡ Refusal.Device)) }
-    ensures device { IsErrOf result Refusal.Device → Rises (D.failures disk.old) (D.failures disk.new) }
-    ensures steady { (IsErrOf result Refusal.Device → ⊥) → D.failures disk.new ≡ D.failures disk.old }
+    ensures faults { Faults (λ e. (e ≡ Refusal.NoMemory) ⊎ (e ≡ Refusal.Device)) result (D.failures disk.old) (D.failures disk.new) }
     ensures calls { OnOk result (D.honest disk.new → length (D.past disk.new) ≡ length (D.past disk.old) + 1) }
     ensures honest { D.honest disk.new → D.honest disk.old }
 {

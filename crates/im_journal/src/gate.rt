@@ -28,6 +28,7 @@ pub(crate) fn write_slot<D: Disk>(
     ensures kept { OnOk result (D.honest disk.new → SameBut at 64 (D.now disk.old).bytes (D.now disk.new).bytes) }
     ensures calm { OnOk result (D.honest disk.new → (D.now disk.new).ranges ≡ []) }
     ensures calls { OnOk result (D.honest disk.new → length (D.past disk.new) ≡ length (D.past disk.old) + 4) }
+    ensures few { D.honest disk.new → length (D.past disk.new) ≤ length (D.past disk.old) + 4 }
     ensures honest { D.honest disk.new → D.honest disk.old }
     ensures failures { Counts result (D.failures disk.old) (D.failures disk.new) }
 {
@@ -64,6 +65,7 @@ pub(crate) fn close_gates<D: Disk>(
     ensures calm { OnOk result (D.honest disk.new → (D.now disk.new).ranges ≡ []) }
     ensures calls { OnOk result (D.honest disk.new
         → length (D.past disk.new) ≡ length (D.past disk.old) + count + 1) }
+    ensures few { D.honest disk.new → length (D.past disk.new) ≤ length (D.past disk.old) + count + 1 }
     ensures honest { D.honest disk.new → D.honest disk.old }
     ensures failures { Counts result (D.failures disk.old) (D.failures disk.new) }
 {

@@ -2,7 +2,7 @@
 //! commands before the run become room again.
 ghost use Rattle.std.specs.Prelude.{◌≡◌, ◌↔◌, ◌⊎◌, ◌+◌, ◌*◌, ◌-◌, ◌≤◌, ◌<◌, ◌^◌, List, [], ℕ, length, drop, min, Some, None, OnOk, OnErr, IfOk, IfErr, IsErrOf};
 ghost use Rattle.im_types.specs.Journal.{slot_at, tail};
-ghost use Rattle.im_disk.specs.Moment.{Left, Counts, Rises};
+ghost use Rattle.im_disk.specs.Moment.{Left, Faults};
 ghost use Rattle.im_disk.specs.Since.{SameBut, Leaves, ReadsOnly};
 ghost use Rattle.im_journal.specs.Holding.{ring_under, IsJournal, Holds, AllHold, room_after, to_sweep, with_room, longer, SameRun, MaySweep, Appended, MayAppend, AreClosed};
 
@@ -95,11 +95,10 @@ impl Journal {
         ensures holds { IfOk result (λ r. D.honest disk.new → Holds r.0 (D.now disk.old).bytes) }
         ensures bad { IsErrOf result Refusal.BadRecord → D.honest disk.new
             → tail (ring_under limits) from (D.now disk.old).bytes ≡ None }
-        ensures only { IfErr result (λ e. (e ≡ Refusal.BadRecord) ⊎ (e ≡ Refusal.NoMemory) ⊎ (e ≡ Refusal.Device)) }
+        ensures faults { Faults (λ e. (e ≡ Refusal.BadRecord) ⊎ (e ≡ Refusal.NoMemory) ⊎ (e ≡ Refusal.Device)) result
+            (D.failures disk.old) (D.failures disk.new) }
         ensures reads { D.honest disk.new
             → ReadsOnly (D.now disk.old) (D.now disk.new) (D.past disk.old) (D.past disk.new) }
-        ensures device { IsErrOf result Refusal.Device → Rises (D.failures disk.old) (D.failures disk.new) }
-        ensures steady { (IsErrOf result Refusal.Device → ⊥) → D.failures disk.new ≡ D.failures disk.old }
         ensures calls { OnOk result (D.honest disk.new → length (D.past disk.new) ≡ length (D.past disk.old) + 1) }
         ensures honest { D.honest disk.new → D.honest disk.old }
     {
@@ -192,14 +191,13 @@ impl Journal {
             (D.now disk.old).bytes (D.now disk.new).bytes) }
         ensures calm { OnOk result (D.honest disk.new → (D.now disk.new).ranges ≡ []) }
         ensures calls { OnOk result (D.honest disk.new → length (D.past disk.new) ≡ length (D.past disk.old) + 4) }
+        ensures few { D.honest disk.new → length (D.past disk.new) ≤ length (D.past disk.old) + 4 }
         ensures longer { OnOk result (self.new ≡ longer self.old) }
         ensures same { OnErr result (self.new ≡ self.old) }
         ensures full { (IsErrOf result Refusal.JournalFull) ↔ (self.old.room ≡ 0) }
         ensures untouched { IsErrOf result Refusal.JournalFull → disk.new ≡ disk.old }
-        ensures only { IfErr result (λ e. (e ≡ Refusal.JournalFull) ⊎ (e ≡ Refusal.Device)) }
-        ensures device { IsErrOf result Refusal.Device
-            → Rises (D.failures disk.old) (D.failures disk.new) × (D.failures disk.old ≤ D.failures disk.new) }
-        ensures passes { OnOk result (D.failures disk.new ≡ D.failures disk.old) }
+        ensures faults { Faults (λ e. (e ≡ Refusal.JournalFull) ⊎ (e ≡ Refusal.Device)) result
+            (D.failures disk.old) (D.failures disk.new) }
         ensures honest { D.honest disk.new → D.honest disk.old }
     {
         if self.room == 0 {
@@ -239,10 +237,8 @@ impl Journal {
         ensures calm { OnOk result (D.honest disk.new → (D.now disk.new).ranges ≡ []) }
         ensures calls { IfOk result (λ n. D.honest disk.new
             → length (D.past disk.new) ≡ length (D.past disk.old) + n + 1) }
-        ensures only { IfErr result (λ e. e ≡ Refusal.Device) }
-        ensures device { OnErr result (Rises (D.failures disk.old) (D.failures disk.new)
-            × (D.failures disk.old ≤ D.failures disk.new)) }
-        ensures passes { OnOk result (D.failures disk.new ≡ D.failures disk.old) }
+        ensures few { D.honest disk.new → length (D.past disk.new) ≤ length (D.past disk.old) + 4 }
+        ensures faults { Faults (λ e. e ≡ Refusal.Device) result (D.failures disk.old) (D.failures disk.new) }
         ensures honest { D.honest disk.new → D.honest disk.old }
     {
         let next = self.count + self.room as u64;

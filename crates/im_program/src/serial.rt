@@ -1,5 +1,5 @@
 //! A script's requests, served one after another.
-ghost use Rattle.std.specs.Prelude.{◌≡◌, ◌⊎◌, ◌≤◌, OnOk, OnErr, string_bytes};
+ghost use Rattle.std.specs.Prelude.{◌≡◌, ◌⊎◌, ◌≤◌, false, OnOk, OnErr, string_bytes};
 ghost use Rattle.im_disk.specs.Since.{LeavesNow};
 ghost use Rattle.im_engine.specs.State.{MeansState};
 ghost use Rattle.im_program.specs.Serving.{Closed, NotOpened, OnlyPuts, Served};
@@ -58,14 +58,14 @@ impl<D: Disk> Server<D> {
 
     /// Serves one command.
     fn serve_one(&mut self, command: &Command) -> Result<Outcome, Refusal>
-        ensures puts { OnlyPuts D.now D.past D.honest self.old.engine self.new.engine }
+        ensures puts { OnlyPuts D.now D.past D.failures D.honest self.old.engine self.new.engine }
     {
         self.engine.serve(command)
     }
 
     /// Takes turns of a checkpoint while there is no room for a command, and something is left to do.
     fn make_room(&mut self) -> Result<(), Refusal>
-        ensures puts { OnlyPuts D.now D.past D.honest self.old.engine self.new.engine }
+        ensures puts { OnlyPuts D.now D.past D.failures D.honest self.old.engine self.new.engine }
     {
         for _turn in 0..MOST_TURNS {
             if self.engine.room() > 0 {
@@ -80,14 +80,14 @@ impl<D: Disk> Server<D> {
 
     /// Takes one turn of a checkpoint.
     fn take_turn(&mut self) -> Result<TurnDone, Refusal>
-        ensures puts { OnlyPuts D.now D.past D.honest self.old.engine self.new.engine }
+        ensures puts { OnlyPuts D.now D.past D.failures D.honest self.old.engine self.new.engine }
     {
         self.engine.turn()
     }
 
     /// Confirms the entries of a full window up to the first that still waits.
     fn make_place(&mut self, element: u16) -> Result<(), Refusal>
-        ensures puts { OnlyPuts D.now D.past D.honest self.old.engine self.new.engine }
+        ensures puts { OnlyPuts D.now D.past D.failures D.honest self.old.engine self.new.engine }
     {
         let (base, next) = self.engine.window(element)?;
         if next.saturating_sub(base) < WINDOW {
@@ -102,7 +102,7 @@ impl<D: Disk> Server<D> {
 
     /// Serves an element's next request, and answers its number.
     fn serve_next(&mut self, element: u16, op: Op) -> Result<u64, Refusal>
-        ensures puts { OnlyPuts D.now D.past D.honest self.old.engine self.new.engine }
+        ensures puts { OnlyPuts D.now D.past D.failures D.honest self.old.engine self.new.engine }
     {
         self.make_place(element)?;
         let (_, number) = self.engine.window(element)?;
@@ -117,7 +117,7 @@ impl<D: Disk> Server<D> {
 
     /// Serves an element's next request, and prints what is kept for it.
     fn request(&mut self, element: u16, op: Op, out: &mut String) -> Result<Entry, Refusal>
-        ensures puts { OnlyPuts D.now D.past D.honest self.old.engine self.new.engine }
+        ensures puts { OnlyPuts D.now D.past D.failures D.honest self.old.engine self.new.engine }
     {
         let number = self.serve_next(element, op)?;
         let entry = self.engine.collect(element, number)?;
@@ -135,7 +135,7 @@ impl<D: Disk> Server<D> {
 
     /// Makes the blocks of the setup. `BadScript` where one can't be made.
     fn set_up(&mut self, script: &Script, out: &mut String) -> Result<(), Refusal>
-        ensures puts { OnlyPuts D.now D.past D.honest self.old.engine self.new.engine }
+        ensures puts { OnlyPuts D.now D.past D.failures D.honest self.old.engine self.new.engine }
     {
         for block in &script.setup {
             let entry = self.request(0, Op::Alloc(block.kind, block.length), out)?;
@@ -149,7 +149,7 @@ impl<D: Disk> Server<D> {
 
     /// Serves the requests of the parts.
     fn serve_lines(&mut self, script: &Script, out: &mut String) -> Result<(), Refusal>
-        ensures puts { OnlyPuts D.now D.past D.honest self.old.engine self.new.engine }
+        ensures puts { OnlyPuts D.now D.past D.failures D.honest self.old.engine self.new.engine }
     {
         for line in &script.lines {
             let Some(op) = line.action.op(self.bases.as_slice()) else {
@@ -162,7 +162,7 @@ impl<D: Disk> Server<D> {
 
     /// Serves the whole script, until a request is refused.
     fn serve(&mut self, script: &Script, out: &mut String) -> Result<(), Refusal>
-        ensures puts { OnlyPuts D.now D.past D.honest self.old.engine self.new.engine }
+        ensures puts { OnlyPuts D.now D.past D.failures D.honest self.old.engine self.new.engine }
     {
         self.set_up(script, out)?;
         self.serve_lines(script, out)
@@ -208,10 +208,10 @@ pub fn end(done: Result<(), Refusal>, out: &mut String) -> u8
 ///
 /// Where the image isn't opened, a crash leaves nothing that it couldn't leave before. From the opening on, a crash leaves
 /// the memory after a beginning of the accepted commands that were put on the image, and at the end after all of them,
-/// or after all but the last. Where the status is 0, it leaves the memory after all of them.
+/// or after all but the last where a call of the disk failed. Where the status is 0, it leaves the memory after all of them.
 pub fn serial_on<D: Disk>(alloc: Global, disk: D, script: &Script, out: &mut String) -> (u8, D)
     ensures status { result.0 ≤ 1 }
-    ensures served { D.honest result.1 → NotOpened D.now D.past disk result.1 result.0 ⊎ Served D.now D.past disk result.1 result.0 }
+    ensures served { D.honest result.1 → NotOpened D.now D.past disk result.1 result.0 ⊎ Served D.now D.past D.failures disk result.1 result.0 }
     ensures honest { D.honest result.1 → D.honest disk }
 {
     match Engine::open(alloc, disk) {
@@ -222,9 +222,10 @@ pub fn serial_on<D: Disk>(alloc: Global, disk: D, script: &Script, out: &mut Str
 
 /// Serves a script on an engine, and gives its disk back.
 fn serve_on<D: Disk>(alloc: Global, engine: Engine<D>, script: &Script, out: &mut String) -> (u8, D)
+    requires works { engine.failed ≡ false }
     requires means { D.honest engine.disk → LeavesNow (D.now engine.disk) (MeansState engine) }
     ensures status { result.0 ≤ 1 }
-    ensures closed { D.honest result.1 → Closed D.now D.past engine result.1 result.0 }
+    ensures closed { D.honest result.1 → Closed D.now D.past D.failures engine result.1 result.0 }
     ensures honest { D.honest result.1 → D.honest engine.disk }
 {
     let mut server = Server {

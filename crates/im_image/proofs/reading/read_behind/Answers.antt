@@ -34,7 +34,7 @@ returns-in-Ok-clause-reads g c = λ h.
 
 pub returns-in-Err-clause-fault : goal.returns-in-Err-clause-fault
 returns-in-Err-clause-fault g c =
-    elim c.in-Err.ensures.only [
+    elim c.in-Err.ensures.faults.0 [
       | inl is ↦ inr (inr (λ h.
           subst (λ (e : Refusal). Reads layout_1 (g.D.Disk.now c.args.disk.now).bytes (Err e)) (sym is)
           (reads-no-page (g.D.Disk.now c.args.disk.now).bytes (c.requires.good (c.read_memory.ensures.honest h)) (c.in-Err.ensures.bad (ap (λ (e : Refusal). Err e) is) h))))

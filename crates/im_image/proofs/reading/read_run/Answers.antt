@@ -13,7 +13,7 @@ read_tail-requires-clause-inside g c = λ h. in-room (g.D.Disk.now c.args.disk.n
 pub returns-in-Err-clause-fault : goal.returns-in-Err-clause-fault
 returns-in-Err-clause-fault g c =
     let file = (g.D.Disk.now c.args.disk.now).bytes in
-    elim c.in-Err.ensures.only [
+    elim c.in-Err.ensures.faults.0 [
       | inl is ↦ inr (inr (λ h.
           let h0 = c.read_tail.ensures.honest h in
           subst (λ (e : Refusal). Reads layout_1 (g.D.Disk.now c.args.disk.now).bytes (Err e)) (sym is)

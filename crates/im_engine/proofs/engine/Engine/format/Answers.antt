@@ -1,3 +1,9 @@
+use Rattle.std.proofs.Common.{◌≡◌, ◌∙◌, sym, subst}
+use Rattle.im_types.specs.Layout.{sizes_of}
+use Rattle.im_disk.specs.Since.{LeavesNow}
+use Rattle.im_disk.proofs.SinceLemmas.{left_settled}
+use Rattle.im_image.specs.Fresh.{new_image}
+use Rattle.im_engine.specs.State.{EngineState}
 use Rattle.im_engine.proofs.Making.{fresh_fits, fresh_kept}
 use Rattle.im_engine.proofs.engine.Engine.format.Goals as goal
 
@@ -9,3 +15,8 @@ pub started-requires-clause-kept : goal.started-requires-clause-kept
 started-requires-clause-kept g c = λ h.
     fresh_kept c.args.limits c.args.limits.in_range c.in-Ok.checkpoint c.in-Ok.ensures.idle c.in-Ok.memory c.in-Ok.ensures.empty c.fresh.result c.fresh.ensures.state c.fresh.ensures.holds
     (g.D.Disk.now c.lay_down.new.disk) (c.in-Ok.ensures.written h) (c.in-Ok.ensures.calm h)
+
+pub returns-in-Ok-clause-image : goal.returns-in-Ok-clause-image
+returns-in-Ok-clause-image g c =
+    subst (λ (s : EngineState g.row.D.Denot). g.D.Disk.honest s.disk → LeavesNow (g.D.Disk.now s.disk) (λ file. file ≡ new_image 0xA5 (sizes_of c.args.limits))) (sym c.started.ensures.state)
+    (λ h file left. left_settled (g.D.Disk.now c.lay_down.new.disk) file (c.in-Ok.ensures.calm h) left ∙ c.in-Ok.ensures.written h)

@@ -1,10 +1,13 @@
-use Rattle.std.proofs.Common.{inl, inr, ⊎_elim, sym, subst}
+use Rattle.std.proofs.Common.{ap, ◌∙◌, ◌≡◌, Ok, inl, inr, ⊎_elim, sym, subst}
 use Rattle.im_disk.specs.Moment.{Left}
-use Rattle.im_disk.specs.Since.{Leaves}
+use Rattle.im_disk.specs.Since.{Leaves, LeavesNow}
 use Rattle.im_image.specs.Headers.{seen}
+use Rattle.im_types.specs.Header.{header_of}
+use Rattle.im_types.specs.Layout.{layout_1}
+use Rattle.im_types.specs.Meaning.{Reads}
 use Rattle.im_checkpoint.specs.Step.{CheckpointState}
 use Rattle.im_checkpoint.specs.Keeping.{IsKept}
-use Rattle.im_engine.specs.State.{EngineState, IsFirstFault}
+use Rattle.im_engine.specs.State.{EngineState, IsFirstFault, IsFound}
 use Rattle.im_engine.proofs.Opening.{settled, opens_leaves, kept_read}
 use Rattle.im_engine.proofs.engine.Engine.open.Goals as goal
 
@@ -37,3 +40,12 @@ pub returns-in-Err-idle-clause-leaves : goal.returns-in-Err-idle-clause-leaves
 returns-in-Err-idle-clause-leaves g c = λ h.
     opens_leaves (g.D.Disk.now c.args.disk) (g.D.Disk.now c.sync.new.self) (g.D.Disk.now c.read_image.new.disk) (g.D.Disk.past c.args.disk) (g.D.Disk.past c.sync.new.self) (g.D.Disk.past c.read_image.new.disk)
     (c.sync.ensures.moment (c.read_image.ensures.honest h)) (c.read_image.ensures.reads h)
+
+pub returns-in-Ok-idle-clause-found : goal.returns-in-Ok-idle-clause-found
+returns-in-Ok-idle-clause-found g c =
+    let i = c.in-Ok.image in
+    subst (λ (s : EngineState g.row.D.Denot). g.D.Disk.honest s.disk → LeavesNow (g.D.Disk.now s.disk) (IsFound s)) (sym c.started.ensures.state)
+    (λ h. settled (g.D.Disk.now c.args.disk) (g.D.Disk.now c.sync.new.self) (g.D.Disk.now c.read_image.new.disk)
+    (λ file. (c.in-Ok-idle.checkpoint.header ≡ header_of file) × Reads layout_1 file (Ok (record { contents = i.memory; count = i.journal.count; room = i.journal.room })))
+    (c.in_default.ensures.tick (c.read_image.ensures.honest h)).now (c.read_image.ensures.reads h).now
+    (ap (λ (s : CheckpointState). s.header) c.in-Ok-idle.ensures.state ∙ c.in-Ok.ensures.header h, c.in-Ok.ensures.means h))

@@ -1,5 +1,5 @@
 use Rattle.std.proofs.Common.{◌≡◌, ℕ, ◌+◌, ◌*◌, ◌≤◌, ◌<◌, Err, length, take, drop, ap, ◌∙◌, sym, subst, arith, rules}
-use Rattle.im_types.specs.declared.refusals.Refusal.TheVariants.{BadRecord, Device}
+use Rattle.im_types.specs.declared.refusals.Refusal.TheVariants.{BadRecord}
 use Rattle.im_types.specs.Journal.{Ring}
 use Rattle.im_journal.specs.Holding.{ring_under}
 use Rattle.im_journal.proofs.Tails.{tail_alone}
@@ -37,6 +37,3 @@ returns-clause-holds g c = λ h.
       enough = omega arith;
       behind = behind_read ring c.args.«from» (g.D.Disk.now c.args.disk.now).bytes c.in-Ok-tail_in.read.0.items c.in-Ok-tail_in.read.1 reads c.len.result count;
     }
-
-pub returns-in-Err-clause-steady : goal.returns-in-Err-clause-steady
-returns-in-Err-clause-steady g c = λ other. c.in-Err.ensures.steady (λ e. let is : c.in-Err.refusal ≡ Device = cc in other (ap (λ r. Err r) is))

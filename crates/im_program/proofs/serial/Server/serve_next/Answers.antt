@@ -3,12 +3,12 @@ use Rattle.im_program.proofs.serial.Server.serve_next.Goals as goal
 
 pub returns-in_err-serve_one : goal.returns-in_err-serve_one
 returns-in_err-serve_one g c = record {
-  puts = puts_then g.D.Disk.now g.D.Disk.past g.D.Disk.honest c.args.self.now.engine c.make_room.new.self.engine c.serve_one.new.self.engine
-      (puts_then g.D.Disk.now g.D.Disk.past g.D.Disk.honest c.args.self.now.engine c.make_place.new.self.engine c.make_room.new.self.engine c.make_place.ensures.puts c.make_room.ensures.puts) c.serve_one.ensures.puts;
+  puts = puts_then g.D.Disk.now g.D.Disk.past g.D.Disk.failures g.D.Disk.honest c.args.self.now.engine c.make_room.new.self.engine c.serve_one.new.self.engine
+      (puts_then g.D.Disk.now g.D.Disk.past g.D.Disk.failures g.D.Disk.honest c.args.self.now.engine c.make_place.new.self.engine c.make_room.new.self.engine c.make_place.ensures.puts c.make_room.ensures.puts) c.serve_one.ensures.puts;
 }
 
 pub returns : goal.returns
 returns g c = record {
-  puts = puts_then g.D.Disk.now g.D.Disk.past g.D.Disk.honest c.args.self.now.engine c.make_room.new.self.engine c.serve_one.new.self.engine
-      (puts_then g.D.Disk.now g.D.Disk.past g.D.Disk.honest c.args.self.now.engine c.make_place.new.self.engine c.make_room.new.self.engine c.make_place.ensures.puts c.make_room.ensures.puts) c.serve_one.ensures.puts;
+  puts = puts_then g.D.Disk.now g.D.Disk.past g.D.Disk.failures g.D.Disk.honest c.args.self.now.engine c.make_room.new.self.engine c.serve_one.new.self.engine
+      (puts_then g.D.Disk.now g.D.Disk.past g.D.Disk.failures g.D.Disk.honest c.args.self.now.engine c.make_place.new.self.engine c.make_room.new.self.engine c.make_place.ensures.puts c.make_room.ensures.puts) c.serve_one.ensures.puts;
 }

@@ -7,6 +7,6 @@ returns g c = record {
   puts =
       let old = c.args.self.now.engine in
       let e = c.serve.ensures in
-      puts_one g.D.Disk.now g.D.Disk.past g.D.Disk.honest old old c.serve.new.self c.args.command.now c.serve.result
-      (puts_none g.D.Disk.now g.D.Disk.past g.D.Disk.honest old old refl) e.answered e.honest e.leaves e.doubt;
+      puts_one g.D.Disk.now g.D.Disk.past g.D.Disk.failures g.D.Disk.honest old old c.serve.new.self c.args.command.now c.serve.result
+      (puts_none g.D.Disk.now g.D.Disk.past g.D.Disk.failures g.D.Disk.honest old old refl) e.answered e.honest e.leaves e.doubt e.means e.faults;
 }

@@ -1,0 +1,5 @@
+use Rattle.im_engine.proofs.FilesMean.{new_image_means}
+use Rattle.im_engine.proofs.laws.new_images_mean_the_empty_memory.Goals as goal
+
+pub returns : goal.returns
+returns c = new_image_means

@@ -1,0 +1,4 @@
+pub mod Sent
+pub mod Splitting
+pub mod Recovering
+pub mod Reopening

@@ -1,0 +1,116 @@
+-- What an opening after a crash finds, where it is known what every file means that could be left.
+use Rattle.std.proofs.Common.{◌≡◌, ◌⊎◌, inl, inr, ⊎_elim, ℕ, ◌+◌, ◌≤◌, true, List, [], ◌∷◌, ◌++◌, length, take, refl, sym, ap, ◌∙◌, subst, arith, length-append}
+use Rattle.std.proofs.lemmas.List.{append-nil, take_all, take_at}
+use Rattle.im_types.specs.declared.commands.Command.{Command}
+use Rattle.im_types.specs.declared.refusals.Refusal.{Refusal}
+use Rattle.im_types.specs.Contents.{Contents}
+use Rattle.im_types.specs.Run.{after}
+use Rattle.im_disk.specs.Moment.{Moment, Left, LeftSince, Outside}
+use Rattle.im_disk.specs.Since.{Leaves, LeavesNow}
+use Rattle.im_checkpoint.specs.Keeping.{Means}
+use Rattle.im_engine.specs.declared.run.Event.{Event}
+use Rattle.im_engine.specs.declared.run.Answer.{Answer}
+use Rattle.im_engine.specs.State.{EngineState, MeansState, IsFirstFault}
+use Rattle.im_engine.specs.Run.{MeansAllOrInDoubt, taken, has_doubt}
+use Rattle.im_promise.specs.Acknowledged.{acknowledged, in_doubt}
+use Rattle.im_promise.proofs.Splitting.{IsSplit}
+
+-- ---- files
+
+pub left_now : (m : Moment) → Left m m.bytes
+left_now m = record { size = refl; same = λ i out. refl }
+
+-- a file that was left at no earlier time than now is left now
+since_now : (m : Moment) (past : List Moment) (c : List ℕ) → LeftSince (m ∷ past) (length past) c → Left m c
+since_now m past c (inl it) = it.1
+since_now m past c (inr it) = absurd (too_late past (length past) c it (omega arith))
+  where
+    too_late : (past : List Moment) (t : ℕ) (c : List ℕ) → LeftSince past t c → length past ≤ t → ⊥
+    too_late [] t c it le = it
+    too_late (n ∷ past) t c (inl it) le = omega (arith, it.0)
+    too_late (n ∷ past) t c (inr it) le = too_late past t c it (omega arith)
+
+-- what an opening leaves could be left before it
+pub was_left : (old new : Moment) (past_old past_new : List Moment) → Leaves old new past_old past_new (Left old) → (c : List ℕ) → Left new c → Left old c
+was_left old new past_old past_new leaves c left = ⊎_elim (λ before. since_now old past_old c before) (λ here. here) (leaves.each (length past_old) c (omega arith) (inl (leaves.later, left)))
+
+-- a crash after a crash leaves no more
+pub left_again : (m mid : Moment) → mid.ranges ≡ m.ranges → Left m mid.bytes → (f : List ℕ) → Left mid f → Left m f
+left_again m mid same left f again = record {
+  size = again.size ∙ left.size;
+  same = λ i out. again.same i (subst (λ (r : List (ℕ × ℕ)). Outside r i) (sym same) out) ∙ left.same i out;
+}
+
+-- ---- a crash, and an opening
+
+abbrev pub MeansOne : Type 0
+MeansOne = (file : List ℕ) (m n : Contents) (count other room more : ℕ) → Means m count room file → Means n other more file → (m ≡ n) × (count ≡ other)
+
+abbrev pub NoFault : Type 0
+NoFault = (file : List ℕ) (fault : Refusal) (m : Contents) (count room : ℕ) → IsFirstFault fault file → Means m count room file → ⊥
+
+-- the disk before the crash, after it, and after the opening
+pub record Crashes (old mid new : Moment) (past_mid past_new : List Moment) : Type 0 where
+  pub ranges : mid.ranges ≡ old.ranges
+  pub left : Left old mid.bytes
+  pub opened : Leaves mid new past_mid past_new (Left mid)
+
+pub could_be_left : (old mid new : Moment) (past_mid past_new : List Moment) → Crashes old mid new past_mid past_new → Left old new.bytes
+could_be_left old mid new past_mid past_new it = left_again old mid it.ranges it.left new.bytes (was_left mid new past_mid past_new it.opened new.bytes (left_now new))
+
+module _ {D E : Type 0} (s : EngineState D) (e : EngineState E) (old mid new : Moment) (past_mid past_new : List Moment) (crash : Crashes old mid new past_mid past_new) where
+  module _ (events : List Event) (answers : List Answer) (one : MeansOne) (split : IsSplit s.memory events answers)
+      (said : LeavesNow old (MeansAllOrInDoubt (has_doubt answers ≡ true) s (taken s.memory events answers))) (means : LeavesNow new (MeansState e)) where
+    abbrev ack : List Command
+    ack = acknowledged s.memory events answers
+
+    abbrev doubt : List Command
+    doubt = in_doubt s.memory events answers
+
+    -- the acknowledged commands, and the one in doubt or not
+    pub record IsFound : Type 0 where
+      pub also : List Command
+      pub or_not : (also ≡ []) ⊎ (also ≡ doubt)
+      pub memory : e.memory ≡ after s.memory (ack ++ also)
+      pub count : e.count ≡ s.count + length (ack ++ also)
+
+    found_by : (many : ℕ) → (e.memory ≡ after s.memory (take many (taken s.memory events answers))) → (e.count ≡ s.count + many)
+        → ((many ≡ length (taken s.memory events answers)) ⊎ ((has_doubt answers ≡ true) × (length (taken s.memory events answers) ≡ many + 1))) → IsFound
+    found_by many memory count (inl all) = record {
+      also = doubt;
+      or_not = inr refl;
+      memory = memory ∙ ap (λ (l : List Command). after s.memory l) (take_all many (taken s.memory events answers) (omega (arith, all)) ∙ split.parts);
+      count = count ∙ ap (λ (n : ℕ). s.count + n) (all ∙ ap length split.parts);
+    }
+    found_by many memory count (inr (has, less)) =
+        let n : length ack ≡ many = omega (arith, split.some has, ap length split.parts, length-append ack doubt, less) in
+        let none : ack ++ [] ≡ ack = append-nil ack in
+        record {
+          also = [];
+          or_not = inl refl;
+          memory = memory ∙ ap (λ (l : List Command). after s.memory l) (ap (λ (l : List Command). take many l) split.parts ∙ take_at ack doubt many n ∙ sym none);
+          count = count ∙ ap (λ (k : ℕ). s.count + k) (sym n ∙ ap length (sym none));
+        }
+
+    pub found : IsFound
+    found =
+        let it : MeansAllOrInDoubt (has_doubt answers ≡ true) s (taken s.memory events answers) new.bytes = said new.bytes (could_be_left old mid new past_mid past_new crash) in
+        let same = one new.bytes e.memory (after s.memory (take it.0 (taken s.memory events answers))) e.count (s.count + it.0) e.room 0 (means new.bytes (left_now new)) it.2 in
+        found_by it.0 same.0 same.1 it.1
+
+-- an image that means something isn't refused for a fault
+pub is_no_fault : (old mid new : Moment) (past_mid past_new : List Moment) → Crashes old mid new past_mid past_new → NoFault → (P : List ℕ → Type 0) → ((file : List ℕ) → P file → (m : Contents) × (count : ℕ) × (room : ℕ) × Means m count room file) → LeavesNow old P
+    → (fault : Refusal) → LeavesNow new (IsFirstFault fault) → ⊥
+is_no_fault old mid new past_mid past_new crash none P meant said fault told =
+    let it = meant new.bytes (said new.bytes (could_be_left old mid new past_mid past_new crash)) in
+    none new.bytes fault it.0 it.1 it.2 (told new.bytes (left_now new)) it.3
+
+pub meant_or_in_doubt : {D : Type 0} (doubt : Type 0) (s : EngineState D) (commands : List Command) (file : List ℕ) → MeansAllOrInDoubt doubt s commands file → (m : Contents) × (count : ℕ) × (room : ℕ) × Means m count room file
+meant_or_in_doubt why s commands file it = (after s.memory (take it.0 commands), s.count + it.0, 0, it.2)
+
+pub meant_state : {D : Type 0} (s : EngineState D) (file : List ℕ) → MeansState s file → (m : Contents) × (count : ℕ) × (room : ℕ) × Means m count room file
+meant_state s file it = (s.memory, s.count, s.room, it)
+
+-- with nothing served the meaning stays
+pub still_means : {D E : Type 0} (s : EngineState D) (e : EngineState E) (file : List ℕ) → MeansOne → MeansState s file → MeansState e file → (e.memory ≡ s.memory) × (e.count ≡ s.count)
+still_means s e file one said means = one file e.memory s.memory e.count s.count e.room s.room means said

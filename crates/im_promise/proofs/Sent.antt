@@ -1,0 +1,109 @@
+-- A request that is sent again, by the laws of steps.
+use Rattle.std.proofs.Common.{◌≡◌, ◌⊎◌, inl, inr, ⊎_elim, ℕ, zero, suc, ◌+◌, ◌<◌, List, ◌∷◌, ◌++◌, Ok, Err, true, false, Bool, refl, sym, ap, ◌∙◌, arith}
+use Rattle.std.specs.Prelude.{Result, IsTrue}
+use Rattle.std.specs.Bool.{IsFalse}
+use Rattle.im_types.specs.declared.operations.Entry.{Entry}
+use Rattle.im_types.specs.declared.commands.Request.{Request}
+use Rattle.im_types.specs.declared.commands.Command.TheVariants.{Request as Asks}
+use Rattle.im_types.specs.declared.commands.Outcome.{Outcome}
+use Rattle.im_types.specs.declared.commands.Outcome.TheVariants.{Entry as Tells}
+use Rattle.im_types.specs.declared.commands.Command.{Command}
+use Rattle.im_types.specs.declared.operations.Waiter.{Waiter}
+use Rattle.im_types.specs.Window.{bounds}
+use Rattle.im_types.specs.Run.{after}
+use Rattle.im_types.specs.declared.refusals.Refusal.{Refusal}
+use Rattle.im_types.specs.declared.refusals.Refusal.TheVariants.{Forgotten, JournalFull, Device}
+use Rattle.im_types.specs.Contents.{Contents}
+use Rattle.im_types.specs.Step.{Stepped, step, asker, is_accepted}
+use Rattle.im_laws.specs.Windows.{IsForgotten, TakesNextNumber, AreNoLess}
+use Rattle.im_laws.specs.Entries.{IsRefused, IsToldAgainOrForgotten}
+use Rattle.im_engine.specs.State.{EngineState}
+use Rattle.im_engine.specs.Run.{Answered}
+use Rattle.im_promise.specs.Again.{IsSaidAgain, IsUnused, HasNotActed}
+
+pub said : {D : Type 0} (old new : EngineState D) (r : Request) (entry : Entry) (answer : Result Outcome Refusal) → old.failed ≡ false → Answered old (Asks r) answer new
+    → IsToldAgainOrForgotten old.memory r entry → (IsForgotten old.memory.windows (asker r) → IsRefused old.memory r Forgotten)
+    → ((step old.memory (Asks r)).contents ≡ old.memory → is_accepted old.memory (Asks r) ≡ false)
+    → IsSaidAgain old.memory r entry answer × (new ≡ old)
+said old new r entry answer f it again refused unaccepted = ⊎_elim
+    (λ gone.
+    let same = ap (λ (s : Stepped). s.contents) (refused gone) in
+    let done = it.unaccepted f (unaccepted same) in
+    (inl (gone, done.0 ∙ ap (λ (s : Stepped). s.answer) (refused gone)), done.1))
+    (λ told.
+    let same = ap (λ (s : Stepped). s.contents) told.told in
+    let done = it.unaccepted f (unaccepted same) in
+    (inr (told.entry, told.since, done.0 ∙ ap (λ (s : Stepped). s.answer) told.told), done.1))
+    again
+
+pub is_false_by : (b : Bool) → b ≡ false → IsFalse b
+is_false_by true e = absurd (cc)
+is_false_by false e = refl
+
+pub by_is_false : (b : Bool) → IsFalse b → b ≡ false
+by_is_false true n = absurd (cc)
+by_is_false false n = refl
+
+-- ---- sent for the first time
+
+none_or_some : (n : ℕ) → (n ≡ 0) ⊎ (0 < n)
+none_or_some zero = inl refl
+none_or_some (suc n) = inr (omega arith)
+
+bool_cases : (b : Bool) → (b ≡ true) ⊎ (b ≡ false)
+bool_cases true = inl refl
+bool_cases false = inr refl
+
+-- what an answer says of the memory and the engine
+pub record HasActed {D : Type 0} (old : EngineState D) (r : Request) (entry : Entry) (new : EngineState D) : Type 0 where
+  pub works : new.failed ≡ false
+  pub answered : (step old.memory (Asks r)).answer ≡ Ok (Tells entry)
+  pub memory : new.memory ≡ (step old.memory (Asks r)).contents
+
+pub acted : {D : Type 0} (old new : EngineState D) (r : Request) (entry : Entry) (answer : Result Outcome Refusal) → old.failed ≡ false → Answered old (Asks r) answer new → answer ≡ Ok (Tells entry)
+    → (is_accepted old.memory (Asks r) ≡ false → (step old.memory (Asks r)).contents ≡ old.memory) → HasActed old r entry new
+acted old new r entry answer f it is unaccepted = ⊎_elim
+    (λ yes. ⊎_elim
+    (λ none. let a : Ok (Tells entry) ≡ Err JournalFull = sym is ∙ (it.full f yes none).0 in absurd (cc))
+    (λ some. ⊎_elim
+    (λ done. record {
+      works = ap (λ (s : EngineState _). s.failed) done.1 ∙ f;
+      answered = sym done.0 ∙ is;
+      memory = ap (λ (s : EngineState _). s.memory) done.1;
+    })
+    (λ fault. let a : Ok (Tells entry) ≡ Err Device = sym is ∙ fault.0 in absurd (cc))
+    (it.put f yes some))
+    (none_or_some old.room))
+    (λ not. let done = it.unaccepted f not in record {
+      works = ap (λ (s : EngineState _). s.failed) done.1 ∙ f;
+      answered = sym done.0 ∙ is;
+      memory = ap (λ (s : EngineState _). s.memory) done.1 ∙ sym (unaccepted not);
+    })
+    (bool_cases (is_accepted old.memory (Asks r)))
+
+-- a number that isn't used was never accepted
+module _ (takes : (m : Contents) (r : Request) → IsTrue (is_accepted m (Asks r)) → TakesNextNumber m r)
+    (never_fall : (m : Contents) (commands : List Command) (element base next : ℕ) → bounds m.windows element ≡ Ok (base, next) → AreNoLess base next (bounds (after m commands).windows element))
+    (join : (m : Contents) (earlier later : List Command) → after m (earlier ++ later) ≡ after (after m earlier) later) where
+  abbrev pair_of : ℕ → ℕ → Result (ℕ × ℕ) Refusal
+  pair_of a b = Ok (a, b)
+
+  abbrev next_of : Result (ℕ × ℕ) Refusal → ℕ
+  next_of (Ok (base, next)) = next
+  next_of (Err refusal) = 0
+
+  same_pair : (a b c d : ℕ) → pair_of a b ≡ pair_of c d → b ≡ d
+  same_pair a b c d is = ap next_of is
+
+  pub unused : (m0 now : Contents) (commands : List Command) (r : Request) → now ≡ after m0 commands → IsUnused now r → HasNotActed m0 commands r
+  unused m0 now commands r is free again earlier later parts same accepted =
+      let m1 : Contents = after m0 earlier in
+      let t = takes m1 again accepted in
+      let k = never_fall (step m1 (Asks again)).contents later again.element t.base (again.number + 1) t.after in
+      let end : now ≡ after (step m1 (Asks again)).contents later = is ∙ ap (λ (l : List Command). after m0 l) parts ∙ join m0 earlier (Asks again ∷ later) in
+      let element : again.element ≡ r.element = ap (λ (w : Waiter). w.element) same in
+      let number : again.number ≡ r.number = ap (λ (w : Waiter). w.number) same in
+      let here : bounds now.windows r.element ≡ Ok (k.base_now, k.next_now) =
+      ap (λ (x : Contents). bounds x.windows r.element) end ∙ ap (λ (e : ℕ). bounds (after (step m1 (Asks again)).contents later).windows e) (sym element) ∙ k.are in
+      let next : free.next ≡ k.next_now = same_pair free.base free.next k.base_now k.next_now (sym free.are ∙ here) in
+      omega (arith, next, number, k.next_rises, free.from)

@@ -1,0 +1,22 @@
+-- What a recovery gives. (Own.)
+use Rattle.std.specs.Prelude.{◌≡◌, ◌⊎◌, ℕ, ◌+◌, ◌≤◌, false, List, [], ◌++◌, length}
+use Rattle.im_types.specs.declared.commands.Command.{Command}
+use Rattle.im_types.specs.Contents.{Contents}
+use Rattle.im_types.specs.Run.{after}
+use Rattle.im_engine.specs.declared.run.Event.{Event}
+use Rattle.im_engine.specs.declared.run.Answer.{Answer}
+use Rattle.im_promise.specs.Acknowledged.{acknowledged, in_doubt, AreAnswers}
+
+-- An engine with this memory and this count of commands was given these events, and answered so; its disk stopped, or not; a crash
+-- left what it left; and the image was opened again, with the memory and the count `now` and `many`. They are those after the
+-- acknowledged commands, in their order, and after the one in doubt, if there is one and it is there.
+pub record Recovers (m : Contents) (before : ℕ) (events : List Event) (answers : List Answer) (now : Contents) (many : ℕ) : Type 0 where
+  -- the answers are the sequential memory's
+  pub answered : AreAnswers false m events answers
+  -- at most one command is in doubt
+  pub one_in_doubt : length (in_doubt m events answers) ≤ 1
+  -- it is there, or not
+  pub also : List Command
+  pub or_not : (also ≡ []) ⊎ (also ≡ in_doubt m events answers)
+  pub memory : now ≡ after m (acknowledged m events answers ++ also)
+  pub count : many ≡ before + length (acknowledged m events answers ++ also)
