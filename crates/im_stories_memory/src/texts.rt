@@ -1,0 +1,119 @@
+//! The texts of answers, and the words for what is put in.
+
+use anyhow::{Result, anyhow};
+use im_cell::Cell;
+use im_story::{add_entry, address, name, number};
+use im_types::{Block, Entry, Kept, Kind, Op, Reply, Waiter};
+use std::alloc::AllocError;
+
+/// A waiter: `ELEMENT.NUMBER`.
+pub fn waiter(word: &str) -> Result<Waiter> {
+    let (element, number) = name(word)?;
+    Ok(Waiter { element, number })
+}
+
+/// A kind of blocks: `i` or `m`.
+pub fn kind(word: &str) -> Result<Kind> {
+    match word {
+        "i" => Ok(Kind::I),
+        "m" => Ok(Kind::M),
+        _ => Err(anyhow!("{word} is no kind")),
+    }
+}
+
+/// What is kept for a request: `waiting`, `base A`, `value V`, `stored` or `clash`.
+pub fn entry(words: &[&str]) -> Result<Entry> {
+    match words {
+        ["waiting"] => Ok(Entry::Waiting),
+        ["base", a] => Ok(Entry::Answered(Reply::Base(address(a)?))),
+        ["value", v] => Ok(Entry::Answered(Reply::Value(number(v)?))),
+        ["stored"] => Ok(Entry::Answered(Reply::Stored)),
+        ["clash"] => Ok(Entry::Answered(Reply::Clash)),
+        _ => Err(anyhow!("no entry")),
+    }
+}
+
+/// A cell: `empty`, `waiting`, `full V` or `clashed V`.
+pub fn cell(words: &[&str]) -> Result<Cell> {
+    match words {
+        ["empty"] => Ok(Cell::Empty),
+        ["waiting"] => Ok(Cell::Waiting),
+        ["full", v] => Ok(Cell::Full(number(v)?)),
+        ["clashed", v] => Ok(Cell::Clashed(number(v)?)),
+        _ => Err(anyhow!("no cell")),
+    }
+}
+
+/// Adds a waiter, or `none`.
+pub fn add_waiter(said: &mut String, waiter: Option<Waiter>) -> Result<(), AllocError> {
+    match waiter {
+        Some(who) => write!(said, "{}.{}", who.element, who.number),
+        None => said.push_str("none"),
+    }
+}
+
+/// Adds what a cell holds.
+pub fn add_cell(said: &mut String, cell: Cell) -> Result<(), AllocError> {
+    match cell {
+        Cell::Empty => said.push_str("empty"),
+        Cell::Waiting => said.push_str("waiting"),
+        Cell::Full(value) => write!(said, "full {value}"),
+        Cell::Clashed(value) => write!(said, "clashed {value}"),
+    }
+}
+
+fn add_block(said: &mut String, block: Block) -> Result<(), AllocError> {
+    let kind = match block.kind {
+        Kind::I => "i",
+        Kind::M => "m",
+    };
+    write!(said, " in block {} of {} {kind}", block.base, block.length)
+}
+
+/// Adds what the cell at an address holds and its block, or `free`.
+pub fn add_place(
+    said: &mut String,
+    cell: Option<Cell>,
+    block: Option<Block>,
+) -> Result<(), AllocError> {
+    match (cell, block) {
+        (Some(cell), Some(block)) => {
+            add_cell(said, cell)?;
+            add_block(said, block)
+        }
+        (None, None) => said.push_str("free"),
+        _ => said.push_str("a cell without a block, or a block without its cell"),
+    }
+}
+
+fn add_op(said: &mut String, op: Op) -> Result<(), AllocError> {
+    match op {
+        Op::Alloc(Kind::I, n) => write!(said, "alloc i {n}"),
+        Op::Alloc(Kind::M, n) => write!(said, "alloc m {n}"),
+        Op::Release(a) => write!(said, "release {a}"),
+        Op::Fetch(a) => write!(said, "fetch {a}"),
+        Op::Store(a, value) => write!(said, "store {a} {value}"),
+        Op::Take(a) => write!(said, "take {a}"),
+        Op::Put(a, value) => write!(said, "put {a} {value}"),
+    }
+}
+
+/// Adds what is kept under a number, or `none`.
+pub fn add_kept(said: &mut String, kept: Option<Kept>) -> Result<(), AllocError> {
+    match kept {
+        Some(kept) => {
+            add_entry(said, kept.entry)?;
+            said.push_str(" for ")?;
+            add_op(said, kept.op)
+        }
+        None => said.push_str("none"),
+    }
+}
+
+/// Adds a number, or `none`.
+pub fn add_number(said: &mut String, number: Option<u32>) -> Result<(), AllocError> {
+    match number {
+        Some(number) => write!(said, "{number}"),
+        None => said.push_str("none"),
+    }
+}
