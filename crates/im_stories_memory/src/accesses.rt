@@ -143,11 +143,11 @@ impl Accesses {
     }
 
     /// How many wait for a cell; `None` past the last one.
-    pub fn waiting(&self, a: u32) -> Option<u32> {
+    pub fn waiting(&self, a: u32) -> Option<usize> {
         if a >= self.arena.list_count() {
             return None;
         }
-        Some(self.arena.len(a))
+        Some(self.arena.len(a) as usize)
     }
 }
 
@@ -230,7 +230,10 @@ fn tell_state(
             Ok(cell) => add_cell(said, cell)?,
             Err(reply) => add_reply(said, reply)?,
         },
-        ["waiting", a] => add_number(said, accesses.waiting(address(a)?))?,
+        ["waiting", a] => match accesses.waiting(address(a)?) {
+            Some(count) => write!(said, "{count}")?,
+            None => said.push_str("none")?,
+        },
         ["free"] => write!(said, "{}", accesses.arena.free_count())?,
         ["lists"] => write!(said, "{}", accesses.arena.list_count())?,
         ["walk", steps, "from", seed] => {

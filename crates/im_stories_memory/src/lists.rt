@@ -49,7 +49,7 @@ pub fn tell(alloc: Global, arena: &mut Arena, words: &[&str], said: &mut String)
             }
             tell_of(arena, list, rest, said)?;
         }
-        _ => return Err(anyhow!("no call of lists")),
+        _ => return Err(anyhow!("no call of the lists")),
     }
     Ok(())
 }

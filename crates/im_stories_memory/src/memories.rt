@@ -21,21 +21,21 @@ pub struct Memories {
     accepted: u32,
 }
 
-fn shown_by_fast(presence: im_memory::Presence) -> Cell {
-    match presence {
-        im_memory::Presence::Empty => Cell::Empty,
-        im_memory::Presence::Waiting => Cell::Waiting,
-        im_memory::Presence::Full(value) => Cell::Full(value),
-        im_memory::Presence::Clashed(value) => Cell::Clashed(value),
+fn shown_by_fast(presence: Option<im_memory::Presence>) -> Option<Cell> {
+    match presence? {
+        im_memory::Presence::Empty => Some(Cell::Empty),
+        im_memory::Presence::Waiting => Some(Cell::Waiting),
+        im_memory::Presence::Full(value) => Some(Cell::Full(value)),
+        im_memory::Presence::Clashed(value) => Some(Cell::Clashed(value)),
     }
 }
 
-fn shown_by_plain(presence: im_plain::Presence) -> Cell {
-    match presence {
-        im_plain::Presence::Empty => Cell::Empty,
-        im_plain::Presence::Waiting => Cell::Waiting,
-        im_plain::Presence::Full(value) => Cell::Full(value),
-        im_plain::Presence::Clashed(value) => Cell::Clashed(value),
+fn shown_by_plain(presence: Option<im_plain::Presence>) -> Option<Cell> {
+    match presence? {
+        im_plain::Presence::Empty => Some(Cell::Empty),
+        im_plain::Presence::Waiting => Some(Cell::Waiting),
+        im_plain::Presence::Full(value) => Some(Cell::Full(value)),
+        im_plain::Presence::Clashed(value) => Some(Cell::Clashed(value)),
     }
 }
 
@@ -97,8 +97,8 @@ impl Memories {
     /// What a cell holds.
     pub fn cell(&self, a: u32) -> Result<Option<Cell>> {
         both(
-            self.fast.cell(a).map(shown_by_fast),
-            self.plain.cell(a).map(shown_by_plain),
+            shown_by_fast(self.fast.cell(a)),
+            shown_by_plain(self.plain.cell(a)),
         )
     }
 

@@ -65,7 +65,10 @@ fn turns(memories: &mut Memories, command: &Command) -> Result<bool> {
     let before = seen(memories, command)?;
     let answer = memories.step(command)?;
     let changed = seen(memories, command)? != before;
-    Ok(judged == answer.map(|_| changed))
+    match answer {
+        Ok(_) => Ok(judged == Ok(changed)),
+        Err(refusal) => Ok(judged == Err(refusal) && !changed),
+    }
 }
 
 // How often a request waits at a cell.

@@ -29,12 +29,22 @@ fn call(
     Ok(pushed == has_room)
 }
 
+// The first and the last node of a list.
+fn ends_of(arena: &Arena, list: u32) -> (u32, u32)
+    requires { list < length arena.now.held.lists }
+{
+    match arena.ends(list) {
+        Some(ends) => (ends.first, ends.last),
+        None => (NONE, NONE),
+    }
+}
+
 // Whether a list is this one, read by its places, by a walk, and by the links of its nodes.
 fn is_list(arena: &Arena, list: u32, queue: &VecDeque<Waiter>) -> bool
     requires { list < length arena.now.held.lists }
 {
     let mut walk = arena.waiters(list);
-    let mut link = arena.ends(list).map_or(NONE, |ends| ends.first);
+    let (mut link, end) = ends_of(arena, list);
     let mut last = NONE;
     for place in 0..arena.len(list) {
         let wanted = queue.get(place as usize).copied();
@@ -50,7 +60,7 @@ fn is_list(arena: &Arena, list: u32, queue: &VecDeque<Waiter>) -> bool
     }
     walk.next() == None
         && link == NONE
-        && arena.ends(list).map_or(NONE, |ends| ends.last) == last
+        && end == last
         && arena.len(list) as usize == queue.len()
         && arena.is_empty(list) == queue.is_empty()
         && arena.front(list) == queue.front().copied()

@@ -110,14 +110,20 @@ fn call(table: &mut CellTable, slots: &mut [Option<Slot>], thrown: u64) -> bool 
     }
 }
 
+// What a table shows at an address.
+fn shown(table: &CellTable, a: u32) -> Option<Slot> {
+    match (table.block_of(a), table.get(a)) {
+        (Some(block), Some(cell)) => Some(Slot { block, cell }),
+        _ => None,
+    }
+}
+
 // Whether each address shows what the plain slots have, those past the last cell too.
 fn agrees(table: &CellTable, slots: &[Option<Slot>]) -> bool {
     for a in 0..table.cells().saturating_add(2) {
-        let slot = slot_at(slots, a);
-        if table.get(a) != slot.map(|slot| slot.cell) {
-            return false;
-        }
-        if table.block_of(a) != slot.map(|slot| slot.block) {
+        if shown(table, a) != slot_at(slots, a)
+            || table.get(a).is_some() != table.block_of(a).is_some()
+        {
             return false;
         }
     }

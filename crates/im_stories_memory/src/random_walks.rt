@@ -94,8 +94,10 @@ pub fn walk(alloc: Global, accesses: &mut Accesses, steps: u64, seed: u64) -> Re
             return Ok(step);
         };
         let answers = call(alloc, accesses, cell, a, thrown >> 33)?;
-        let waiting = accesses.waiting(a).map(|count| count as usize);
-        if !answers || accesses.get(a) != Some(cell.cell()) || waiting != Some(cell.waiters.len()) {
+        if !answers
+            || accesses.get(a) != Some(cell.cell())
+            || accesses.waiting(a) != Some(cell.waiters.len())
+        {
             return Ok(step);
         }
     }

@@ -22,14 +22,14 @@ pub fn kind(word: &str) -> Result<Kind> {
 }
 
 /// What is kept for a request: `waiting`, `base A`, `value V`, `stored` or `clash`.
-pub fn entry(words: &[&str]) -> Result<Entry> {
-    match words {
-        ["waiting"] => Ok(Entry::Waiting),
-        ["base", a] => Ok(Entry::Answered(Reply::Base(address(a)?))),
-        ["value", v] => Ok(Entry::Answered(Reply::Value(number(v)?))),
-        ["stored"] => Ok(Entry::Answered(Reply::Stored)),
-        ["clash"] => Ok(Entry::Answered(Reply::Clash)),
-        _ => Err(anyhow!("no entry")),
+pub fn entry(word: &str, with: &str) -> Result<Entry> {
+    match word {
+        "waiting" => Ok(Entry::Waiting),
+        "base" => Ok(Entry::Answered(Reply::Base(address(with)?))),
+        "value" => Ok(Entry::Answered(Reply::Value(number(with)?))),
+        "stored" => Ok(Entry::Answered(Reply::Stored)),
+        "clash" => Ok(Entry::Answered(Reply::Clash)),
+        _ => Err(anyhow!("{word} is no entry")),
     }
 }
 

@@ -71,25 +71,26 @@ fn add_judged(said: &mut String, judged: Result<Judged, Refusal>) -> Result<()> 
     Ok(())
 }
 
-// The words before and behind `for`.
-fn around<'a, 'b>(words: &'a [&'b str]) -> Result<(&'a [&'b str], &'a [&'b str])> {
-    let Some(at) = words.iter().position(|word| *word == "for") else {
-        return Err(anyhow!("for what?"));
-    };
-    Ok((&words[..at], &words[at + 1..]))
+// An entry, and the words behind it and `for`.
+fn entry_for<'a, 'b>(words: &'a [&'b str]) -> Result<(Entry, &'a [&'b str])> {
+    match words {
+        [of, "for", asked @ ..] => Ok((entry(of, "")?, asked)),
+        [of, with, "for", asked @ ..] => Ok((entry(of, with)?, asked)),
+        _ => Err(anyhow!("no entry for a request")),
+    }
 }
 
 // How a request is judged; a new one is kept with an entry.
 fn keep(windows: &mut Windows, words: &[&str], said: &mut String) -> Result<()> {
-    let (kept, asked) = around(words)?;
-    let judged = ask(&mut windows.sessions, &request(asked)?, entry(kept)?);
+    let (entry, asked) = entry_for(words)?;
+    let judged = ask(&mut windows.sessions, &request(asked)?, entry);
     add_judged(said, judged)
 }
 
 // One more entry that the next window is restored from.
 fn show(windows: &mut Windows, words: &[&str]) -> Result<()> {
-    let (kept, asked) = around(words)?;
-    let (op, entry) = (op(asked)?, entry(kept)?);
+    let (entry, asked) = entry_for(words)?;
+    let op = op(asked)?;
     windows.shown.push(Kept { op, entry })?;
     Ok(())
 }
