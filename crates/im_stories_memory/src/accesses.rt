@@ -4,7 +4,7 @@ ghost use Rattle.im_cell.specs.declared.slots.Slot.{Slot};
 ghost use Rattle.im_istore.specs.Agreement.{Agree, AgreeBut};
 
 use crate::random_walks::walk;
-use crate::texts::{add_cell, add_number, add_place, add_waiter, kind, waiter};
+use crate::texts::{add_cell, add_count, add_number, add_place, add_steps, kind, waiter};
 use anyhow::{Result, anyhow};
 use im_arena::Arena;
 use im_cell::{Cell, CellTable};
@@ -143,11 +143,15 @@ impl Accesses {
     }
 
     /// How many wait for a cell; `None` past the last one.
-    pub fn waiting(&self, a: u32) -> Option<usize> {
+    pub fn waiting(&self, a: u32) -> Option<u32> {
         if a >= self.arena.list_count() {
             return None;
         }
-        Some(self.arena.len(a) as usize)
+        Some(self.arena.len(a))
+    }
+
+    fn add_cell(&self, said: &mut String, a: u32) -> Result<()> {
+        add_place(said, self.table.get(a), self.table.block_of(a))
     }
 }
 
@@ -159,41 +163,37 @@ fn add_read(said: &mut String, entry: Option<Entry>) -> Result<()> {
     }
 }
 
-// What came of a store, and its readers in their order.
-fn add_stored(said: &mut String, reply: Reply, readers: &[Waiter]) -> Result<()> {
+// What came of a write, and those that it answers in their order.
+fn add_written(said: &mut String, reply: Reply, resumed: &[Waiter]) -> Result<()> {
     add_reply(said, reply)?;
-    if !readers.is_empty() {
+    if !resumed.is_empty() {
         said.push_str(" for")?;
     }
-    for reader in readers {
-        said.push_str(" ")?;
-        add_waiter(said, Some(*reader))?;
+    for who in resumed {
+        write!(said, " {}.{}", who.element, who.number)?;
     }
     Ok(())
 }
 
-// What came of a put, and who has the value.
 fn add_put(said: &mut String, answer: (Reply, Option<Waiter>)) -> Result<()> {
-    add_reply(said, answer.0)?;
-    if answer.1.is_some() {
-        said.push_str(" for ")?;
-        add_waiter(said, answer.1)?;
+    match answer.1 {
+        Some(taker) => add_written(said, answer.0, &[taker]),
+        None => add_written(said, answer.0, &[]),
     }
-    Ok(())
 }
 
-fn tell_store(
-    alloc: Global,
-    accesses: &mut Accesses,
-    words: (&str, &str),
-    at_once: bool,
-    said: &mut String,
-) -> Result<()> {
-    let (reply, readers) = accesses.store(alloc, address(words.0)?, number(words.1)?, at_once)?;
-    add_stored(said, reply, readers.as_slice())
+fn add_stored(said: &mut String, answer: (Reply, Vec<Waiter>)) -> Result<()> {
+    add_written(said, answer.0, answer.1.as_slice())
 }
 
-/// Makes an access, or a call about blocks.
+fn add_looked(said: &mut String, looked: Result<Cell, Reply>) -> Result<()> {
+    match looked {
+        Ok(cell) => add_cell(said, cell),
+        Err(reply) => Ok(add_reply(said, reply)?),
+    }
+}
+
+/// Makes an access.
 pub fn tell(
     alloc: Global,
     accesses: &mut Accesses,
@@ -201,20 +201,26 @@ pub fn tell(
     said: &mut String,
 ) -> Result<()> {
     match words {
-        ["place", of, length] => {
-            add_number(said, accesses.place(kind(of)?, address(length)?))?;
+        [who, "fetch", a] => add_read(said, accesses.fetch(address(a)?, waiter(who)?)),
+        [who, "take", a] => add_read(said, accesses.take(address(a)?, waiter(who)?)),
+        ["store", a, value] => {
+            add_stored(
+                said,
+                accesses.store(alloc, address(a)?, number(value)?, false)?,
+            )
         }
-        [who, "fetch", a] => add_read(said, accesses.fetch(address(a)?, waiter(who)?))?,
-        [who, "take", a] => add_read(said, accesses.take(address(a)?, waiter(who)?))?,
-        ["store", a, value] => tell_store(alloc, accesses, (a, value), false, said)?,
-        ["store", a, value, "drained"] => tell_store(alloc, accesses, (a, value), true, said)?,
-        ["put", a, value] => add_put(said, accesses.put(address(a)?, number(value)?))?,
-        _ => tell_state(alloc, accesses, words, said)?,
+        ["store", a, value, "drained"] => {
+            add_stored(
+                said,
+                accesses.store(alloc, address(a)?, number(value)?, true)?,
+            )
+        }
+        ["put", a, value] => add_put(said, accesses.put(address(a)?, number(value)?)),
+        _ => tell_state(alloc, accesses, words, said),
     }
-    Ok(())
 }
 
-// What is seen of the cells.
+// Blocks, and what is seen of the cells.
 fn tell_state(
     alloc: Global,
     accesses: &mut Accesses,
@@ -222,25 +228,15 @@ fn tell_state(
     said: &mut String,
 ) -> Result<()> {
     match words {
-        ["cell", a] => {
-            let a = address(a)?;
-            add_place(said, accesses.table.get(a), accesses.table.block_of(a))?;
-        }
-        ["look", a, of] => match look(&accesses.table, address(a)?, kind(of)?) {
-            Ok(cell) => add_cell(said, cell)?,
-            Err(reply) => add_reply(said, reply)?,
-        },
-        ["waiting", a] => match accesses.waiting(address(a)?) {
-            Some(count) => write!(said, "{count}")?,
-            None => said.push_str("none")?,
-        },
-        ["free"] => write!(said, "{}", accesses.arena.free_count())?,
-        ["lists"] => write!(said, "{}", accesses.arena.list_count())?,
+        ["place", of, n] => add_number(said, accesses.place(kind(of)?, address(n)?)),
+        ["cell", a] => accesses.add_cell(said, address(a)?),
+        ["look", a, of] => add_looked(said, look(&accesses.table, address(a)?, kind(of)?)),
+        ["waiting", a] => add_number(said, accesses.waiting(address(a)?)),
+        ["free"] => add_count(said, accesses.arena.free_count()),
+        ["lists"] => add_count(said, accesses.arena.list_count()),
         ["walk", steps, "from", seed] => {
-            let agreed = walk(alloc, accesses, number(steps)?, number(seed)?)?;
-            write!(said, "{agreed} steps agree")?;
+            add_steps(said, walk(alloc, accesses, number(steps)?, number(seed)?)?)
         }
-        _ => return Err(anyhow!("no access")),
+        _ => Err(anyhow!("no access")),
     }
-    Ok(())
 }

@@ -3,7 +3,7 @@ ghost use Rattle.std.specs.Prelude.{◌≡◌, ◌<◌, ◌^◌, length, map, If
 ghost use Rattle.im_cell.specs.Slots.{slot_at, shown_cell, shown_slot, HasBlocks};
 
 use crate::plain_slots::walk;
-use crate::texts::{add_number, add_place, cell, kind};
+use crate::texts::{add_count, add_number, add_place, add_steps, add_truth, cell, kind};
 use anyhow::{Result, anyhow};
 use im_cell::{Cell, CellTable};
 use im_story::{address, number};
@@ -84,45 +84,46 @@ fn release_each(table: &mut CellTable, count: u32, first: u32, ups: bool) -> u32
     count
 }
 
-fn place(table: &mut CellTable, of: &str, length: &str) -> Result<Option<u32>> {
-    let length = address(length)?;
+// Makes a block; one of no cell has no base.
+fn place(table: &mut CellTable, kind: Kind, length: u32) -> Option<u32> {
     if length == 0 {
-        return Err(anyhow!("a block of no cell"));
+        return None;
     }
-    Ok(table.place(kind(of)?, length))
+    table.place(kind, length)
 }
 
-fn set(table: &mut CellTable, a: &str, words: &[&str]) -> Result<()> {
-    let a = address(a)?;
-    let cell = cell(words)?;
+fn set(table: &mut CellTable, a: u32, cell: Cell, said: &mut String) -> Result<()> {
     if table.get(a).is_none() {
         return Err(anyhow!("no cell {a}"));
     }
     table.set(a, cell);
-    Ok(())
+    Ok(said.push_str("set")?)
+}
+
+fn tell_restore(alloc: Global, table: &mut CellTable, said: &mut String) -> Result<()> {
+    *table = restored(alloc, table)?;
+    Ok(write!(said, "{} cells", table.cells())?)
+}
+
+fn add_blocks(said: &mut String, blocks: u32) -> Result<()> {
+    Ok(write!(said, "{blocks} blocks")?)
 }
 
 /// Makes a call of a table.
 pub fn tell(alloc: Global, table: &mut CellTable, words: &[&str], said: &mut String) -> Result<()> {
     match words {
-        ["place", of, length] => add_number(said, place(table, of, length)?)?,
-        ["release", base] => write!(said, "{}", table.release(address(base)?))?,
-        ["set", a, rest @ ..] => {
-            set(table, a, rest)?;
-            said.push_str("set")?;
-        }
-        ["cell", a] => {
-            let a = address(a)?;
-            add_place(said, table.get(a), table.block_of(a))?;
-        }
-        ["cells"] => write!(said, "{}", table.cells())?,
-        ["restore"] => {
-            *table = restored(alloc, table)?;
-            write!(said, "{} cells", table.cells())?;
-        }
-        _ => tell_many(alloc, table, words, said)?,
+        ["place", of, length] => add_number(said, place(table, kind(of)?, address(length)?)),
+        ["release", base] => add_truth(said, table.release(address(base)?)),
+        ["set", a, rest @ ..] => set(table, address(a)?, cell(rest)?, said),
+        ["cell", a] => tell_cell(table, address(a)?, said),
+        ["cells"] => add_count(said, table.cells()),
+        ["restore"] => tell_restore(alloc, table, said),
+        _ => tell_many(alloc, table, words, said),
     }
-    Ok(())
+}
+
+fn tell_cell(table: &CellTable, a: u32, said: &mut String) -> Result<()> {
+    add_place(said, table.get(a), table.block_of(a))
 }
 
 // Many calls at once.
@@ -133,25 +134,31 @@ fn tell_many(
     said: &mut String,
 ) -> Result<()> {
     match words {
-        ["fill", count] => write!(said, "{} blocks", place_ones(table, address(count)?))?,
-        ["release", count, "from", first, way] => {
-            let ups = match *way {
-                "up" => true,
-                "down" => false,
-                _ => return Err(anyhow!("{way} is no way")),
-            };
-            let gone = release_each(table, address(count)?, address(first)?, ups);
-            write!(said, "{gone} blocks")?;
+        ["fill", count] => add_blocks(said, place_ones(table, address(count)?)),
+        ["release", count, "from", first, "up"] => {
+            add_blocks(
+                said,
+                release_each(table, address(count)?, address(first)?, true),
+            )
+        }
+        ["release", count, "from", first, "down"] => {
+            add_blocks(
+                said,
+                release_each(table, address(count)?, address(first)?, false),
+            )
         }
         ["walk", steps, "from", seed] => {
-            let agreed = walk(alloc, table, number(steps)?, number(seed)?, false)?;
-            write!(said, "{agreed} steps agree")?;
+            add_steps(
+                said,
+                walk(alloc, table, number(steps)?, number(seed)?, false)?,
+            )
         }
         ["walk", steps, "from", seed, "restored"] => {
-            let agreed = walk(alloc, table, number(steps)?, number(seed)?, true)?;
-            write!(said, "{agreed} steps agree")?;
+            add_steps(
+                said,
+                walk(alloc, table, number(steps)?, number(seed)?, true)?,
+            )
         }
-        _ => return Err(anyhow!("no call of a table")),
+        _ => Err(anyhow!("no call of a table")),
     }
-    Ok(())
 }

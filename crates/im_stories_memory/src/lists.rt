@@ -2,9 +2,9 @@
 ghost use Rattle.std.specs.Prelude.{◌<◌, length};
 
 use crate::plain_lists::walk;
-use crate::texts::{add_waiter, waiter};
+use crate::texts::{add_count, add_steps, add_truth, add_waiter, waiter};
 use anyhow::{Result, anyhow};
-use im_arena::Arena;
+use im_arena::{Arena, Ends};
 use im_story::{address, number};
 use std::alloc::Global;
 
@@ -13,43 +13,45 @@ fn tell_of(arena: &mut Arena, list: u32, words: &[&str], said: &mut String) -> R
     requires { list < length arena.old.held.lists }
 {
     match words {
-        ["push", who] => {
-            let pushed = arena.push_back(list, waiter(who)?);
-            write!(said, "{pushed}")?;
-        }
-        ["pop"] => add_waiter(said, arena.pop_front(list))?,
-        ["front"] => add_waiter(said, arena.front(list))?,
-        ["at", place] => add_waiter(said, arena.at(list, address(place)?))?,
-        ["length"] => write!(said, "{}", arena.len(list))?,
-        ["empty"] => write!(said, "{}", arena.is_empty(list))?,
-        ["ends"] => match arena.ends(list) {
-            Some(ends) => write!(said, "{} {}", ends.first, ends.last)?,
-            None => said.push_str("none")?,
-        },
-        _ => return Err(anyhow!("no call of a list")),
+        ["push", who] => add_truth(said, arena.push_back(list, waiter(who)?)),
+        ["pop"] => add_waiter(said, arena.pop_front(list)),
+        ["front"] => add_waiter(said, arena.front(list)),
+        ["at", place] => add_waiter(said, arena.at(list, address(place)?)),
+        ["length"] => add_count(said, arena.len(list)),
+        ["empty"] => add_truth(said, arena.is_empty(list)),
+        ["ends"] => add_ends(said, arena.ends(list)),
+        _ => Err(anyhow!("no call of a list")),
     }
-    Ok(())
+}
+
+// The first and the last node of a list.
+fn add_ends(said: &mut String, ends: Option<Ends>) -> Result<()> {
+    match ends {
+        Some(ends) => Ok(write!(said, "{} {}", ends.first, ends.last)?),
+        None => Ok(said.push_str("none")?),
+    }
+}
+
+// A call of one list, if it is there.
+fn tell_if(arena: &mut Arena, list: u32, words: &[&str], said: &mut String) -> Result<()> {
+    if list < arena.list_count() {
+        tell_of(arena, list, words, said)
+    } else {
+        Err(anyhow!("no list {list}"))
+    }
 }
 
 /// Makes a call of lists.
 pub fn tell(alloc: Global, arena: &mut Arena, words: &[&str], said: &mut String) -> Result<()> {
     match words {
-        ["lists"] => write!(said, "{}", arena.list_count())?,
-        ["nodes"] => write!(said, "{}", arena.node_count())?,
-        ["free"] => write!(said, "{}", arena.free_count())?,
-        ["full"] => write!(said, "{}", arena.is_full())?,
+        ["list", list, rest @ ..] => tell_if(arena, address(list)?, rest, said),
+        ["lists"] => add_count(said, arena.list_count()),
+        ["nodes"] => add_count(said, arena.node_count()),
+        ["free"] => add_count(said, arena.free_count()),
+        ["full"] => add_truth(said, arena.is_full()),
         ["walk", steps, "from", seed] => {
-            let agreed = walk(alloc, arena, number(steps)?, number(seed)?)?;
-            write!(said, "{agreed} steps agree")?;
+            add_steps(said, walk(alloc, arena, number(steps)?, number(seed)?)?)
         }
-        ["list", list, rest @ ..] => {
-            let list = address(list)?;
-            if list >= arena.list_count() {
-                return Err(anyhow!("no list {list}"));
-            }
-            tell_of(arena, list, rest, said)?;
-        }
-        _ => return Err(anyhow!("no call of the lists")),
+        _ => Err(anyhow!("no call of lists")),
     }
-    Ok(())
 }

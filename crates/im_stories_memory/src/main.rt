@@ -47,8 +47,7 @@ impl Scene for Stage {
         match self {
             Stage::Nothing => {
                 *self = made(alloc, words)?;
-                said.push_str("made")?;
-                Ok(())
+                Ok(said.push_str("made")?)
             }
             Stage::Lists(arena) => lists::tell(alloc, arena, words, said),
             Stage::Cells(table) => cells::tell(alloc, table, words, said),
@@ -59,26 +58,32 @@ impl Scene for Stage {
     }
 }
 
+fn lists_of(alloc: Global, nodes: u32, lists: u32) -> Result<Stage> {
+    Ok(Stage::Lists(Arena::new(alloc, nodes, lists)?))
+}
+
+fn accesses_of(alloc: Global, cells: u32, nodes: u32) -> Result<Stage> {
+    Ok(Stage::Accesses(Accesses::new(alloc, cells, nodes)?))
+}
+
+fn memory_of(alloc: Global, cells: u32, elements: u16) -> Result<Stage> {
+    Ok(Stage::Memories(Memories::new(alloc, cells, elements)?))
+}
+
 // The beginning of a story, of these sizes.
 fn made(alloc: Global, words: &[&str]) -> Result<Stage> {
     match words {
-        ["arena", nodes, "nodes", lists, "lists"] => Ok(Stage::Lists(Arena::new(
-            alloc,
-            address(nodes)?,
-            address(lists)?,
-        )?)),
+        ["arena", nodes, "nodes", lists, "lists"] => {
+            lists_of(alloc, address(nodes)?, address(lists)?)
+        }
         ["table", cells, "cells"] => Ok(Stage::Cells(CellTable::new(alloc, address(cells)?)?)),
-        ["accesses", cells, "cells", nodes, "nodes"] => Ok(Stage::Accesses(Accesses::new(
-            alloc,
-            address(cells)?,
-            address(nodes)?,
-        )?)),
+        ["accesses", cells, "cells", nodes, "nodes"] => {
+            accesses_of(alloc, address(cells)?, address(nodes)?)
+        }
         ["windows", elements] => Ok(Stage::Windows(Windows::new(alloc, element(elements)?)?)),
-        ["memory", cells, "cells", elements, "elements"] => Ok(Stage::Memories(Memories::new(
-            alloc,
-            address(cells)?,
-            element(elements)?,
-        )?)),
+        ["memory", cells, "cells", elements, "elements"] => {
+            memory_of(alloc, address(cells)?, element(elements)?)
+        }
         _ => Err(anyhow!("no beginning of a story")),
     }
 }

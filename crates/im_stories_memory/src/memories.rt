@@ -2,14 +2,12 @@
 
 use crate::memory_walks::walk;
 use crate::nodes::{add_cell_record, add_node_record, add_nodes, listed};
-use crate::texts::{add_kept, add_place, add_waiter};
+use crate::texts::{add_count, add_kept, add_place, add_steps, add_waiter, waiter};
 use anyhow::{Result, anyhow};
 use im_cell::Cell;
 use im_memory::Memory;
 use im_plain::PlainMemory;
-use im_story::{
-    add_answer, add_outcome, add_window, address, command, element, name, number, place,
-};
+use im_story::{add_answer, add_outcome, add_window, address, command, element, number, place};
 use im_types::{Block, Command, Entry, Kept, Limits, Op, Outcome, Refusal, Request, Waiter};
 use std::alloc::Global;
 
@@ -153,52 +151,62 @@ fn fetches(memories: &mut Memories, of: u16, from: u64, to: u64, a: u32) -> Resu
     Ok(wait)
 }
 
+fn tell_fetches(
+    memories: &mut Memories,
+    first: Waiter,
+    last: u64,
+    a: u32,
+    said: &mut String,
+) -> Result<()> {
+    let wait = fetches(memories, first.element, first.number, last, a)?;
+    Ok(write!(said, "{wait} wait")?)
+}
+
+fn tell_collect(memories: &Memories, who: Waiter, said: &mut String) -> Result<()> {
+    Ok(add_answer(said, memories.collect(who.element, who.number)?)?)
+}
+
+fn tell_kept(memories: &Memories, who: Waiter, said: &mut String) -> Result<()> {
+    add_kept(said, memories.kept(who.element, who.number)?)
+}
+
+fn tell_cell(memories: &Memories, a: u32, said: &mut String) -> Result<()> {
+    add_place(said, memories.cell(a)?, memories.block(a)?)
+}
+
+fn tell_command(memories: &mut Memories, words: &[&str], said: &mut String) -> Result<()> {
+    Ok(add_outcome(said, memories.step(&command(words)?)?)?)
+}
+
 /// Makes a call of both memories.
 pub fn tell(memories: &mut Memories, words: &[&str], said: &mut String) -> Result<()> {
     match words {
-        ["collect", who] => {
-            let (element, number) = name(who)?;
-            add_answer(said, memories.collect(element, number)?)?;
-        }
-        ["window", of] => add_window(said, memories.window(element(of)?)?)?,
-        ["kept", who] => {
-            let (element, number) = name(who)?;
-            add_kept(said, memories.kept(element, number)?)?;
-        }
-        ["cell", a] => {
-            let a = address(a)?;
-            add_place(said, memories.cell(a)?, memories.block(a)?)?;
-        }
-        ["waiting", a] => add_waiting(said, memories, address(a)?)?,
-        ["waiter", a, at] => add_waiter(said, memories.waiter(address(a)?, place(at)?)?)?,
-        ["cells"] => write!(said, "{}", memories.cells()?)?,
-        ["elements"] => write!(said, "{}", memories.elements()?)?,
-        ["accepted"] => write!(said, "{}", memories.accepted)?,
-        _ => tell_more(memories, words, said)?,
+        ["collect", who] => tell_collect(memories, waiter(who)?, said),
+        ["window", of] => Ok(add_window(said, memories.window(element(of)?)?)?),
+        ["kept", who] => tell_kept(memories, waiter(who)?, said),
+        ["cell", a] => tell_cell(memories, address(a)?, said),
+        ["waiting", a] => add_waiting(said, memories, address(a)?),
+        ["waiter", a, at] => add_waiter(said, memories.waiter(address(a)?, place(at)?)?),
+        ["cells"] => add_count(said, memories.cells()?),
+        ["elements"] => add_count(said, u32::from(memories.elements()?)),
+        ["accepted"] => add_count(said, memories.accepted),
+        _ => tell_more(memories, words, said),
     }
-    Ok(())
 }
 
 // Many calls at once, what records show, and commands.
 fn tell_more(memories: &mut Memories, words: &[&str], said: &mut String) -> Result<()> {
     match words {
         [first, "to", last, "fetch", a] => {
-            let (of, from) = name(first)?;
-            let wait = fetches(memories, of, from, number(last)?, address(a)?)?;
-            write!(said, "{wait} wait")?;
+            tell_fetches(memories, waiter(first)?, number(last)?, address(a)?, said)
         }
-        ["record", a] => add_cell_record(said, &memories.fast, address(a)?)?,
-        ["node", n] => add_node_record(said, &memories.fast, address(n)?)?,
-        ["nodes", a] => add_nodes(said, &memories.fast, address(a)?)?,
-        ["listed", nodes] => write!(said, "{}", listed(&memories.fast, address(nodes)?))?,
+        ["record", a] => add_cell_record(said, &memories.fast, address(a)?),
+        ["node", n] => add_node_record(said, &memories.fast, address(n)?),
+        ["nodes", a] => add_nodes(said, &memories.fast, address(a)?),
+        ["listed", nodes] => add_count(said, listed(&memories.fast, address(nodes)?)),
         ["walk", steps, "from", seed] => {
-            let agreed = walk(memories, number(steps)?, number(seed)?)?;
-            write!(said, "{agreed} steps agree")?;
+            add_steps(said, walk(memories, number(steps)?, number(seed)?)?)
         }
-        _ => {
-            let command = command(words)?;
-            add_outcome(said, memories.step(&command)?)?;
-        }
+        _ => tell_command(memories, words, said),
     }
-    Ok(())
 }

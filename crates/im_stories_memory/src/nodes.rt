@@ -17,11 +17,10 @@ fn cell_of(tag: PresenceTag) -> Cell {
 
 fn add_link(said: &mut String, link: u32) -> Result<()> {
     if link == NONE {
-        said.push_str("none")?;
+        Ok(said.push_str("none")?)
     } else {
-        write!(said, "{link}")?;
+        Ok(write!(said, "{link}")?)
     }
-    Ok(())
 }
 
 /// Adds what the record of a cell shows; of one that waits, not which nodes its list has.
@@ -29,27 +28,24 @@ pub fn add_cell_record(said: &mut String, memory: &Memory, a: u32) -> Result<()>
     match memory.records().cell_record(a) {
         CellRecord::Free { hole, next } => {
             write!(said, "free, hole of {hole}, next ")?;
-            add_link(said, next)?;
+            add_link(said, next)
         }
-        CellRecord::Held { block, tag } => add_place(said, Some(cell_of(tag)), Some(block))?,
+        CellRecord::Held { block, tag } => add_place(said, Some(cell_of(tag)), Some(block)),
     }
-    Ok(())
 }
 
 /// Adds what the record of a node shows.
 pub fn add_node_record(said: &mut String, memory: &Memory, n: u32) -> Result<()> {
-    let next = match memory.records().node_record(n) {
+    match memory.records().node_record(n) {
         NodeRecord::Listed { next, waiter } => {
-            add_waiter(said, Some(waiter))?;
-            next
+            write!(said, "{}.{}, next ", waiter.element, waiter.number)?;
+            add_link(said, next)
         }
         NodeRecord::Free { next } => {
-            said.push_str("free")?;
-            next
+            said.push_str("free, next ")?;
+            add_link(said, next)
         }
-    };
-    said.push_str(", next ")?;
-    add_link(said, next)
+    }
 }
 
 /// How many of the first nodes are in a list.

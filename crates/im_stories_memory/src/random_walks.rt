@@ -69,6 +69,16 @@ fn call(
     }
 }
 
+// Whether a cell and its list are as by the rules.
+fn shows(accesses: &Accesses, a: u32, cell: &PlainCell) -> bool {
+    match accesses.waiting(a) {
+        Some(count) => {
+            count as usize == cell.waiters.len() && accesses.get(a) == Some(cell.cell())
+        }
+        None => false,
+    }
+}
+
 // Four blocks of one cell each, of one kind and of the other in turn.
 fn begin(alloc: Global, accesses: &mut Accesses) -> Result<Vec<PlainCell>> {
     let mut plain = Vec::new(alloc);
@@ -94,10 +104,7 @@ pub fn walk(alloc: Global, accesses: &mut Accesses, steps: u64, seed: u64) -> Re
             return Ok(step);
         };
         let answers = call(alloc, accesses, cell, a, thrown >> 33)?;
-        if !answers
-            || accesses.get(a) != Some(cell.cell())
-            || accesses.waiting(a) != Some(cell.waiters.len())
-        {
+        if !answers || !shows(accesses, a, cell) {
             return Ok(step);
         }
     }

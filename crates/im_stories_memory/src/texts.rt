@@ -4,7 +4,6 @@ use anyhow::{Result, anyhow};
 use im_cell::Cell;
 use im_story::{add_entry, address, name, number};
 use im_types::{Block, Entry, Kept, Kind, Op, Reply, Waiter};
-use std::alloc::AllocError;
 
 /// A waiter: `ELEMENT.NUMBER`.
 pub fn waiter(word: &str) -> Result<Waiter> {
@@ -44,76 +43,81 @@ pub fn cell(words: &[&str]) -> Result<Cell> {
     }
 }
 
+/// Adds a count.
+pub fn add_count(said: &mut String, count: u32) -> Result<()> {
+    Ok(write!(said, "{count}")?)
+}
+
+/// Adds `true` or `false`.
+pub fn add_truth(said: &mut String, truth: bool) -> Result<()> {
+    Ok(said.push_str(if truth { "true" } else { "false" })?)
+}
+
+/// Adds how many steps of a walk agree.
+pub fn add_steps(said: &mut String, steps: u64) -> Result<()> {
+    Ok(write!(said, "{steps} steps agree")?)
+}
+
+/// Adds a number, or `none`.
+pub fn add_number(said: &mut String, number: Option<u32>) -> Result<()> {
+    match number {
+        Some(number) => Ok(write!(said, "{number}")?),
+        None => Ok(said.push_str("none")?),
+    }
+}
+
 /// Adds a waiter, or `none`.
-pub fn add_waiter(said: &mut String, waiter: Option<Waiter>) -> Result<(), AllocError> {
+pub fn add_waiter(said: &mut String, waiter: Option<Waiter>) -> Result<()> {
     match waiter {
-        Some(who) => write!(said, "{}.{}", who.element, who.number),
-        None => said.push_str("none"),
+        Some(who) => Ok(write!(said, "{}.{}", who.element, who.number)?),
+        None => Ok(said.push_str("none")?),
     }
 }
 
 /// Adds what a cell holds.
-pub fn add_cell(said: &mut String, cell: Cell) -> Result<(), AllocError> {
+pub fn add_cell(said: &mut String, cell: Cell) -> Result<()> {
     match cell {
-        Cell::Empty => said.push_str("empty"),
-        Cell::Waiting => said.push_str("waiting"),
-        Cell::Full(value) => write!(said, "full {value}"),
-        Cell::Clashed(value) => write!(said, "clashed {value}"),
+        Cell::Empty => Ok(said.push_str("empty")?),
+        Cell::Waiting => Ok(said.push_str("waiting")?),
+        Cell::Full(value) => Ok(write!(said, "full {value}")?),
+        Cell::Clashed(value) => Ok(write!(said, "clashed {value}")?),
     }
-}
-
-fn add_block(said: &mut String, block: Block) -> Result<(), AllocError> {
-    let kind = match block.kind {
-        Kind::I => "i",
-        Kind::M => "m",
-    };
-    write!(said, " in block {} of {} {kind}", block.base, block.length)
 }
 
 /// Adds what the cell at an address holds and its block, or `free`.
-pub fn add_place(
-    said: &mut String,
-    cell: Option<Cell>,
-    block: Option<Block>,
-) -> Result<(), AllocError> {
+pub fn add_place(said: &mut String, cell: Option<Cell>, block: Option<Block>) -> Result<()> {
     match (cell, block) {
         (Some(cell), Some(block)) => {
             add_cell(said, cell)?;
-            add_block(said, block)
+            let kind = match block.kind {
+                Kind::I => "i",
+                Kind::M => "m",
+            };
+            Ok(write!(said, " in block {} of {} {kind}", block.base, block.length)?)
         }
-        (None, None) => said.push_str("free"),
-        _ => said.push_str("a cell without a block, or a block without its cell"),
+        (None, None) => Ok(said.push_str("free")?),
+        _ => Err(anyhow!("a cell without a block, or a block without its cell")),
     }
 }
 
-fn add_op(said: &mut String, op: Op) -> Result<(), AllocError> {
+fn add_op(said: &mut String, op: Op) -> Result<()> {
     match op {
-        Op::Alloc(Kind::I, n) => write!(said, "alloc i {n}"),
-        Op::Alloc(Kind::M, n) => write!(said, "alloc m {n}"),
-        Op::Release(a) => write!(said, "release {a}"),
-        Op::Fetch(a) => write!(said, "fetch {a}"),
-        Op::Store(a, value) => write!(said, "store {a} {value}"),
-        Op::Take(a) => write!(said, "take {a}"),
-        Op::Put(a, value) => write!(said, "put {a} {value}"),
+        Op::Alloc(Kind::I, n) => Ok(write!(said, "alloc i {n}")?),
+        Op::Alloc(Kind::M, n) => Ok(write!(said, "alloc m {n}")?),
+        Op::Release(a) => Ok(write!(said, "release {a}")?),
+        Op::Fetch(a) => Ok(write!(said, "fetch {a}")?),
+        Op::Store(a, value) => Ok(write!(said, "store {a} {value}")?),
+        Op::Take(a) => Ok(write!(said, "take {a}")?),
+        Op::Put(a, value) => Ok(write!(said, "put {a} {value}")?),
     }
 }
 
 /// Adds what is kept under a number, or `none`.
-pub fn add_kept(said: &mut String, kept: Option<Kept>) -> Result<(), AllocError> {
-    match kept {
-        Some(kept) => {
-            add_entry(said, kept.entry)?;
-            said.push_str(" for ")?;
-            add_op(said, kept.op)
-        }
-        None => said.push_str("none"),
-    }
-}
-
-/// Adds a number, or `none`.
-pub fn add_number(said: &mut String, number: Option<u32>) -> Result<(), AllocError> {
-    match number {
-        Some(number) => write!(said, "{number}"),
-        None => said.push_str("none"),
-    }
+pub fn add_kept(said: &mut String, kept: Option<Kept>) -> Result<()> {
+    let Some(kept) = kept else {
+        return Ok(said.push_str("none")?);
+    };
+    add_entry(said, kept.entry)?;
+    said.push_str(" for ")?;
+    add_op(said, kept.op)
 }

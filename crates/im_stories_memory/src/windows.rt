@@ -1,12 +1,10 @@
 //! Windows of kept replies.
 
 use crate::plain_windows::walk;
-use crate::texts::{add_kept, entry, waiter};
+use crate::texts::{add_kept, add_steps, entry, waiter};
 use anyhow::{Result, anyhow};
 use im_sessions::Sessions;
-use im_story::{
-    add_answer, add_entry, add_refusal, add_window, element, name, number, op, request,
-};
+use im_story::{add_answer, add_entry, add_refusal, add_window, element, number, op, request};
 use im_types::{Entry, Judged, Kept, LAST, Op, Refusal, Reply, Request, WINDOW, Waiter};
 use std::alloc::Global;
 
@@ -61,38 +59,32 @@ pub fn restore(sessions: &mut Sessions, element: u16, base: u64, kept: &[Kept]) 
 
 fn add_judged(said: &mut String, judged: Result<Judged, Refusal>) -> Result<()> {
     match judged {
-        Ok(Judged::Fresh) => said.push_str("fresh")?,
+        Ok(Judged::Fresh) => Ok(said.push_str("fresh")?),
         Ok(Judged::Repeat(entry)) => {
             said.push_str("repeat ")?;
-            add_entry(said, entry)?;
+            Ok(add_entry(said, entry)?)
         }
-        Err(refusal) => add_refusal(said, refusal)?,
+        Err(refusal) => Ok(add_refusal(said, refusal)?),
     }
-    Ok(())
 }
 
-// An entry, and the words behind it and `for`.
-fn entry_for<'a, 'b>(words: &'a [&'b str]) -> Result<(Entry, &'a [&'b str])> {
-    match words {
-        [of, "for", asked @ ..] => Ok((entry(of, "")?, asked)),
-        [of, with, "for", asked @ ..] => Ok((entry(of, with)?, asked)),
-        _ => Err(anyhow!("no entry for a request")),
+fn add_confirmed(said: &mut String, answer: Result<(), Refusal>) -> Result<()> {
+    match answer {
+        Ok(()) => Ok(said.push_str("confirmed")?),
+        Err(refusal) => Ok(add_refusal(said, refusal)?),
     }
 }
 
 // How a request is judged; a new one is kept with an entry.
-fn keep(windows: &mut Windows, words: &[&str], said: &mut String) -> Result<()> {
-    let (entry, asked) = entry_for(words)?;
-    let judged = ask(&mut windows.sessions, &request(asked)?, entry);
-    add_judged(said, judged)
+fn keep(windows: &mut Windows, entry: Entry, asked: &[&str], said: &mut String) -> Result<()> {
+    add_judged(said, ask(&mut windows.sessions, &request(asked)?, entry))
 }
 
 // One more entry that the next window is restored from.
-fn show(windows: &mut Windows, words: &[&str]) -> Result<()> {
-    let (entry, asked) = entry_for(words)?;
+fn show(windows: &mut Windows, entry: Entry, asked: &[&str], said: &mut String) -> Result<()> {
     let op = op(asked)?;
     windows.shown.push(Kept { op, entry })?;
-    Ok(())
+    Ok(said.push_str("shown")?)
 }
 
 // Sixteen fetches, with the values 100 to 115.
@@ -107,45 +99,49 @@ fn fetches(alloc: Global) -> Result<Vec<Kept>> {
     Ok(kept)
 }
 
+fn show_fetches(alloc: Global, windows: &mut Windows, said: &mut String) -> Result<()> {
+    windows.shown = fetches(alloc)?;
+    Ok(said.push_str("shown")?)
+}
+
 // A window is restored from what was shown.
-fn restore_shown(windows: &mut Windows, of: &str, base: &str, said: &mut String) -> Result<()> {
-    let (element, base) = (element(of)?, number(base)?);
+fn restore_shown(windows: &mut Windows, element: u16, base: u64, said: &mut String) -> Result<()> {
     let kept = windows.shown.as_slice();
-    if restore(&mut windows.sessions, element, base, kept) {
-        write!(said, "{} entries", kept.len())?;
-    } else {
-        said.push_str("out of bounds")?;
+    if !restore(&mut windows.sessions, element, base, kept) {
+        return Err(anyhow!("out of bounds"));
     }
+    write!(said, "{} entries", kept.len())?;
     windows.shown.clear();
     Ok(())
+}
+
+fn tell_answer(windows: &mut Windows, who: Waiter, value: u64, said: &mut String) -> Result<()> {
+    let waited = answer(&mut windows.sessions, who, Reply::Value(value));
+    Ok(said.push_str(if waited { "answered" } else { "nobody waits" })?)
+}
+
+fn tell_entry(sessions: &Sessions, who: Waiter, said: &mut String) -> Result<()> {
+    Ok(add_answer(said, sessions.entry(who.element, who.number))?)
+}
+
+fn tell_kept(sessions: &Sessions, who: Waiter, said: &mut String) -> Result<()> {
+    add_kept(said, sessions.kept(who.element, who.number))
 }
 
 /// Makes a call of windows.
 pub fn tell(alloc: Global, windows: &mut Windows, words: &[&str], said: &mut String) -> Result<()> {
     match words {
-        ["keep", rest @ ..] => keep(windows, rest, said)?,
-        ["answer", who, "value", value] => {
-            let reply = Reply::Value(number(value)?);
-            let waited = answer(&mut windows.sessions, waiter(who)?, reply);
-            said.push_str(if waited { "answered" } else { "nobody waits" })?;
+        ["keep", of, "for", asked @ ..] => keep(windows, entry(of, "")?, asked, said),
+        ["keep", of, with, "for", asked @ ..] => keep(windows, entry(of, with)?, asked, said),
+        ["answer", who, "value", value] => tell_answer(windows, waiter(who)?, number(value)?, said),
+        ["confirm", of, upto] => {
+            add_confirmed(said, windows.sessions.confirm(element(of)?, number(upto)?))
         }
-        ["confirm", of, upto] => match windows.sessions.confirm(element(of)?, number(upto)?) {
-            Ok(()) => said.push_str("confirmed")?,
-            Err(refusal) => add_refusal(said, refusal)?,
-        },
-        ["entry", who] => {
-            let (element, number) = name(who)?;
-            add_answer(said, windows.sessions.entry(element, number))?;
-        }
-        ["kept", who] => {
-            let (element, number) = name(who)?;
-            add_kept(said, windows.sessions.kept(element, number))?;
-        }
-        ["window", of] => add_window(said, windows.sessions.window(element(of)?))?,
-        ["elements"] => write!(said, "{}", windows.sessions.elements())?,
-        _ => tell_restored(alloc, windows, words, said)?,
+        ["entry", who] => tell_entry(&windows.sessions, waiter(who)?, said),
+        ["kept", who] => tell_kept(&windows.sessions, waiter(who)?, said),
+        ["window", of] => Ok(add_window(said, windows.sessions.window(element(of)?))?),
+        _ => tell_restored(alloc, windows, words, said),
     }
-    Ok(())
 }
 
 // Windows that are restored, and long runs.
@@ -156,44 +152,33 @@ fn tell_restored(
     said: &mut String,
 ) -> Result<()> {
     match words {
-        ["show", "16", "fetches"] => {
-            windows.shown = fetches(alloc)?;
-            said.push_str("shown")?;
-        }
-        ["show", rest @ ..] => {
-            show(windows, rest)?;
-            said.push_str("shown")?;
-        }
-        ["restore", of, "from", base] => restore_shown(windows, of, base, said)?,
-        ["restore", "each"] => {
-            let kept = fetches(alloc)?;
-            let agreed = restored_each(&mut windows.sessions, kept.as_slice());
-            write!(said, "{agreed} windows go on")?;
-        }
+        ["elements"] => Ok(write!(said, "{}", windows.sessions.elements())?),
+        ["show", of, "for", asked @ ..] => show(windows, entry(of, "")?, asked, said),
+        ["show", of, with, "for", asked @ ..] => show(windows, entry(of, with)?, asked, said),
+        ["show", "16", "fetches"] => show_fetches(alloc, windows, said),
+        ["restore", of, "from", base] => restore_shown(windows, element(of)?, number(base)?, said),
+        ["restore", "each"] => restore_each(alloc, &mut windows.sessions, said),
+        ["past", base] => add_past(said, past(&windows.sessions, number(base)?)),
         ["walk", steps, "from", seed] => {
-            let agreed = walk(
-                alloc,
-                &mut windows.sessions,
-                number(steps)?,
-                number(seed)?,
-                false,
-            )?;
-            write!(said, "{agreed} steps agree")?;
+            let sessions = &mut windows.sessions;
+            add_steps(
+                said,
+                walk(alloc, sessions, number(steps)?, number(seed)?, false)?,
+            )
         }
         ["walk", steps, "from", seed, "restored"] => {
-            let agreed = walk(
-                alloc,
-                &mut windows.sessions,
-                number(steps)?,
-                number(seed)?,
-                true,
-            )?;
-            write!(said, "{agreed} steps agree")?;
+            let sessions = &mut windows.sessions;
+            add_steps(
+                said,
+                walk(alloc, sessions, number(steps)?, number(seed)?, true)?,
+            )
         }
-        ["past", base] => write!(said, "{} windows", past(&windows.sessions, number(base)?))?,
-        _ => return Err(anyhow!("no call of windows")),
+        _ => Err(anyhow!("no call of windows")),
     }
-    Ok(())
+}
+
+fn add_past(said: &mut String, windows: u32) -> Result<()> {
+    Ok(write!(said, "{windows} windows")?)
 }
 
 // How many windows begin past a number.
@@ -250,4 +235,13 @@ fn restored_each(sessions: &mut Sessions, kept: &[Kept]) -> u32 {
         }
     }
     agreed
+}
+
+fn restore_each(alloc: Global, sessions: &mut Sessions, said: &mut String) -> Result<()> {
+    let kept = fetches(alloc)?;
+    Ok(write!(
+        said,
+        "{} windows go on",
+        restored_each(sessions, kept.as_slice())
+    )?)
 }
