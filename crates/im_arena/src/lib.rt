@@ -239,6 +239,3 @@ fn rows_of(alloc: Global, nodes: u32, lists: u32) -> Result<Vec<Row>, AllocError
     rows[lists as usize] = Row::full(nodes);
     Ok(rows)
 }
-
-#[cfg(test)]
-mod tests;

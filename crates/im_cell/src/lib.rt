@@ -12,6 +12,3 @@ mod table;
 
 pub use slots::{Cell, Slot};
 pub use table::CellTable;
-
-#[cfg(test)]
-mod tests;

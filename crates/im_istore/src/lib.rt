@@ -126,6 +126,3 @@ pub fn drain(arena: &mut Arena, a: u32, readers: &mut Vec<Waiter>)
         readers.push_reserved(reader);
     }
 }
-
-#[cfg(test)]
-mod tests;

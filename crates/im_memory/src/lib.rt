@@ -18,6 +18,3 @@ pub use im_arena::Waiters;
 pub use memory::Memory;
 pub use records::MemoryRecords;
 pub use restore::Restoring;
-
-#[cfg(test)]
-mod tests;

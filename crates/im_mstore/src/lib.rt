@@ -101,6 +101,3 @@ pub fn put(table: &mut CellTable, arena: &mut Arena, a: u32, value: u64) -> (Rep
 pub fn are_operations()
     ensures { AreOperations }
 {}
-
-#[cfg(test)]
-mod tests;

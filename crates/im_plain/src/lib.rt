@@ -9,6 +9,3 @@ mod windows;
 
 pub use cells::Presence;
 pub use memory::PlainMemory;
-
-#[cfg(test)]
-mod tests;

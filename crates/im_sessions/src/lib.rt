@@ -152,6 +152,3 @@ impl Sessions {
         }
     }
 }
-
-#[cfg(test)]
-mod tests;

@@ -1,0 +1,207 @@
+# A block goes to the least place that has room for it
+table 4096 cells = made
+place i 2 = 0
+place i 3 = 2
+place m 2 = 5
+release 2 = true
+-- The hole from 2 to 4 is too small for four cells, and right for three.
+place i 4 = 7
+place i 3 = 2
+-- 3 lies within a block, and is the base of none.
+release 3 = false
+cell 5 = empty in block 5 of 2 m
+cell 6 = empty in block 5 of 2 m
+
+# A block stays as long as one of its cells is waited for
+table 8 cells = made
+place i 3 = 0
+cell 1 = empty in block 0 of 3 i
+set 1 waiting = set
+release 0 = false
+cell 1 = waiting in block 0 of 3 i
+set 1 full 9 = set
+release 0 = true
+cell 1 = free
+
+# A table without cells has no place
+table 0 cells = made
+place i 1 = none
+cell 0 = free
+
+# All cells are taken one by one and given back in another order, and the holes are one again
+table 65536 cells = made
+fill 65536 = 65536 blocks
+place i 1 = none
+-- The even cells, from the last, and then the odd cells, from the first.
+release 32768 from 65534 down = 32768 blocks
+release 32768 from 1 up = 32768 blocks
+place m 65536 = 0
+
+# Thrown calls do to a table what they do to plain slots
+-- After each call every address shows the same in both, those past the last cell too.
+table 24 cells = made
+walk 20000 from 1 = 20000 steps agree
+
+# A table of free cells alone is one hole when it is restored
+table 8 cells = made
+restore = 8 cells
+place i 8 = 0
+place i 1 = none
+
+# A table that is one block is restored with no hole
+table 8 cells = made
+place i 8 = 0
+restore = 8 cells
+place i 1 = none
+
+# A table of three blocks is restored with no hole
+table 8 cells = made
+place i 2 = 0
+place i 3 = 2
+place i 3 = 5
+restore = 8 cells
+place i 1 = none
+
+# A hole before a block is found in the restored table
+table 8 cells = made
+place i 3 = 0
+place i 5 = 3
+release 0 = true
+restore = 8 cells
+place i 4 = none
+place i 3 = 0
+place i 1 = none
+
+# A hole between two blocks is found in the restored table
+table 8 cells = made
+place i 3 = 0
+place i 2 = 3
+place i 3 = 5
+release 3 = true
+restore = 8 cells
+place i 3 = none
+place i 2 = 3
+place i 1 = none
+
+# A hole behind a block is found in the restored table
+table 8 cells = made
+place i 5 = 0
+restore = 8 cells
+place i 4 = none
+place i 3 = 5
+place i 1 = none
+
+# Two blocks that went side by side are one hole of the restored table
+table 8 cells = made
+place i 2 = 0
+place i 3 = 2
+place i 3 = 5
+release 0 = true
+release 2 = true
+restore = 8 cells
+place i 6 = none
+place i 5 = 0
+place i 1 = none
+
+# Of three holes in a restored table the least that has room is taken
+table 8 cells = made
+place i 1 = 0
+place i 2 = 1
+place i 2 = 3
+place i 1 = 5
+place i 2 = 6
+release 0 = true
+release 3 = true
+release 6 = true
+restore = 8 cells
+place i 3 = none
+place i 2 = 3
+place i 2 = 6
+place i 1 = 0
+place i 1 = none
+
+# The block of a restored table goes, and its cells are one hole
+table 8 cells = made
+place i 8 = 0
+restore = 8 cells
+-- 1 lies within the block.
+release 1 = false
+release 0 = true
+place i 8 = 0
+place i 1 = none
+
+# Cells that come back join the hole before them in a restored table
+table 8 cells = made
+place i 3 = 0
+place i 2 = 3
+place i 3 = 5
+release 0 = true
+restore = 8 cells
+release 3 = true
+place i 6 = none
+place i 5 = 0
+place i 1 = none
+
+# Cells that come back join the hole behind them in a restored table
+table 8 cells = made
+place i 3 = 0
+place i 2 = 3
+place i 3 = 5
+release 3 = true
+restore = 8 cells
+release 0 = true
+place i 6 = none
+place i 5 = 0
+place i 1 = none
+
+# Cells that come back between two holes of a restored table make one of both
+table 8 cells = made
+place i 3 = 0
+place i 2 = 3
+place i 3 = 5
+release 0 = true
+release 5 = true
+restore = 8 cells
+release 3 = true
+place i 8 = 0
+place i 1 = none
+
+# A restored cell has its presence tag, its block and its value
+table 6 cells = made
+place m 4 = 0
+set 0 empty = set
+set 1 waiting = set
+set 2 full 9 = set
+set 3 clashed 18446744073709551615 = set
+restore = 6 cells
+cell 0 = empty in block 0 of 4 m
+cell 1 = waiting in block 0 of 4 m
+cell 2 = full 9 in block 0 of 4 m
+cell 3 = clashed 18446744073709551615 in block 0 of 4 m
+cells = 6
+cell 4 = free
+-- Cell 1 is still waited for.
+release 0 = false
+place i 2 = 4
+
+# No records are a table without cells
+table 0 cells = made
+restore = 0 cells
+cells = 0
+place i 1 = none
+
+# Thrown calls go on in a table that is restored after each fourth of them
+table 24 cells = made
+walk 5000 from 3 restored = 5000 steps agree
+
+# A table of as many holes as there can be is restored
+table 65536 cells = made
+fill 65536 = 65536 blocks
+-- The odd cells, from the last.
+release 32768 from 65535 down = 32768 blocks
+restore = 65536 cells
+place i 2 = none
+release 0 = true
+place i 3 = none
+place i 2 = 0
+place i 1 = 3

@@ -1,0 +1,14 @@
+use Rattle.std.proofs.Common.{◌<◌, List, Option, length}
+use Rattle.im_cell.specs.declared.slots.Slot.{Slot}
+use Rattle.im_arena.specs.Lists.{list_at}
+use Rattle.im_istore.specs.Agreement.{AgreeBut}
+use Rattle.im_stories_memory.proofs.accesses.resume.Given as goal
+
+abbrev pub invariant-loop-reader : goal.invariant-loop-reader
+invariant-loop-reader l = record {
+  inside : l.a < length l.arena.held.lists;
+  draining : (slots : List (Option Slot)) → AgreeBut l.a slots l.initial.arena → AgreeBut l.a slots l.arena;
+}
+
+abbrev pub decreases-loop-reader : goal.decreases-loop-reader
+decreases-loop-reader l = length (list_at l.arena.held l.a)

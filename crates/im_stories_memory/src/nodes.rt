@@ -1,0 +1,93 @@
+//! What records show of the fast memory.
+
+use crate::texts::{add_place, add_waiter};
+use anyhow::{Result, anyhow};
+use im_cell::Cell;
+use im_memory::Memory;
+use im_types::{CellRecord, NONE, NodeRecord, PresenceTag};
+
+fn cell_of(tag: PresenceTag) -> Cell {
+    match tag {
+        PresenceTag::Empty => Cell::Empty,
+        PresenceTag::Waiting { .. } => Cell::Waiting,
+        PresenceTag::Full(value) => Cell::Full(value),
+        PresenceTag::Clashed(value) => Cell::Clashed(value),
+    }
+}
+
+fn add_link(said: &mut String, link: u32) -> Result<()> {
+    if link == NONE {
+        Ok(said.push_str("none")?)
+    } else {
+        Ok(write!(said, "{link}")?)
+    }
+}
+
+/// Adds what the record of a cell shows; of one that waits, not which nodes its list has.
+pub fn add_cell_record(said: &mut String, memory: &Memory, a: u32) -> Result<()> {
+    match memory.records().cell_record(a) {
+        CellRecord::Free { hole, next } => {
+            write!(said, "free, hole of {hole}, next ")?;
+            add_link(said, next)
+        }
+        CellRecord::Held { block, tag } => add_place(said, Some(cell_of(tag)), Some(block)),
+    }
+}
+
+/// Adds what the record of a node shows.
+pub fn add_node_record(said: &mut String, memory: &Memory, n: u32) -> Result<()> {
+    match memory.records().node_record(n) {
+        NodeRecord::Listed { next, waiter } => {
+            write!(said, "{}.{}, next ", waiter.element, waiter.number)?;
+            add_link(said, next)
+        }
+        NodeRecord::Free { next } => {
+            said.push_str("free, next ")?;
+            add_link(said, next)
+        }
+    }
+}
+
+/// How many of the first nodes are in a list.
+pub fn listed(memory: &Memory, nodes: u32) -> u32 {
+    let mut count = 0u32;
+    for n in 0..nodes {
+        if let NodeRecord::Listed { .. } = memory.records().node_record(n) {
+            count = count.saturating_add(1);
+        }
+    }
+    count
+}
+
+// The first and the last node of the list of a cell, if its record says that somebody waits.
+fn ends(memory: &Memory, a: u32) -> Option<(u32, u32)> {
+    match memory.records().cell_record(a) {
+        CellRecord::Held {
+            tag: PresenceTag::Waiting { first, last },
+            ..
+        } => Some((first, last)),
+        _ => None,
+    }
+}
+
+/// Adds those that the nodes of a cell's list hold, from the first on. The last of them has to be the one that the cell's
+/// record names, and to lead to none.
+pub fn add_nodes(said: &mut String, memory: &Memory, a: u32) -> Result<()> {
+    let Some((first, last)) = ends(memory, a) else {
+        return Err(anyhow!("nobody waits"));
+    };
+    let (mut at, mut before) = (first, NONE);
+    for _ in 0..1_025u32 {
+        let NodeRecord::Listed { next, waiter } = memory.records().node_record(at) else {
+            break;
+        };
+        said.push_str(" ")?;
+        add_waiter(said, Some(waiter))?;
+        before = at;
+        at = next;
+    }
+    if at != NONE || before != last {
+        return Err(anyhow!("the last node is another one"));
+    }
+    Ok(())
+}

@@ -1,0 +1,70 @@
+//! A cell by the rules, one by one.
+
+use im_cell::Cell;
+use im_types::{Entry, Kind, Reply, Waiter};
+use std::alloc::{AllocError, Global};
+use std::collections::VecDeque;
+
+/// A cell in a block of its own, kept plainly.
+#[derive(Drop)]
+pub struct PlainCell {
+    pub kind: Kind,
+    pub value: Option<u64>,
+    pub clashed: bool,
+    pub waiters: VecDeque<Waiter>,
+}
+
+impl PlainCell {
+    /// An empty cell.
+    pub fn new(alloc: Global, kind: Kind) -> PlainCell {
+        PlainCell {
+            kind,
+            value: None,
+            clashed: false,
+            waiters: VecDeque::new(alloc),
+        }
+    }
+
+    /// A fetch, which asks for an I cell, or a take, for an M cell.
+    pub fn read(&mut self, kind: Kind, who: Waiter) -> Result<Entry, AllocError> {
+        if self.kind != kind {
+            return Ok(Entry::Answered(Reply::WrongKind));
+        }
+        if self.clashed {
+            return Ok(Entry::Answered(Reply::Clash));
+        }
+        let Some(value) = self.value else {
+            self.waiters.push_back(who)?;
+            return Ok(Entry::Waiting);
+        };
+        if kind == Kind::M {
+            self.value = None;
+        }
+        Ok(Entry::Answered(Reply::Value(value)))
+    }
+
+    /// A store or a put.
+    pub fn write(&mut self, kind: Kind, value: u64) -> Reply {
+        if self.kind != kind {
+            return Reply::WrongKind;
+        }
+        if self.clashed || self.value.is_some() {
+            self.clashed = true;
+            return Reply::Clash;
+        }
+        if kind == Kind::I || self.waiters.is_empty() {
+            self.value = Some(value);
+        }
+        Reply::Stored
+    }
+
+    /// What it shows.
+    pub fn cell(&self) -> Cell {
+        match self.value {
+            Some(value) if self.clashed => Cell::Clashed(value),
+            Some(value) => Cell::Full(value),
+            None if self.waiters.is_empty() => Cell::Empty,
+            None => Cell::Waiting,
+        }
+    }
+}

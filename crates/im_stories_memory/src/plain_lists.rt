@@ -1,0 +1,121 @@
+//! A random walk over the lists of an arena, beside lists that are kept plainly.
+ghost use Rattle.std.specs.Prelude.{◌<◌, length};
+
+use crate::dice::Dice;
+use anyhow::Result;
+use im_arena::Arena;
+use im_types::{NONE, Waiter};
+use std::alloc::Global;
+use std::collections::VecDeque;
+
+// One thrown call on a list and on the plain one: whether they answer the same.
+fn call(
+    arena: &mut Arena,
+    list: u32,
+    queue: &mut VecDeque<Waiter>,
+    who: Waiter,
+    pushes: bool,
+) -> Result<bool>
+    requires { list < length arena.old.held.lists }
+{
+    if !pushes {
+        return Ok(arena.pop_front(list) == queue.pop_front());
+    }
+    let has_room = !arena.is_full();
+    let pushed = arena.push_back(list, who);
+    if has_room {
+        queue.push_back(who)?;
+    }
+    Ok(pushed == has_room)
+}
+
+// The first and the last node of a list.
+fn ends_of(arena: &Arena, list: u32) -> (u32, u32)
+    requires { list < length arena.now.held.lists }
+{
+    match arena.ends(list) {
+        Some(ends) => (ends.first, ends.last),
+        None => (NONE, NONE),
+    }
+}
+
+// Whether a list is this one, read by its places, by a walk, and by the links of its nodes.
+fn is_list(arena: &Arena, list: u32, queue: &VecDeque<Waiter>) -> bool
+    requires { list < length arena.now.held.lists }
+{
+    let mut walk = arena.waiters(list);
+    let (mut link, end) = ends_of(arena, list);
+    let mut last = NONE;
+    for place in 0..arena.len(list) {
+        let wanted = queue.get(place as usize).copied();
+        if link >= arena.node_count() || wanted.is_none() {
+            return false;
+        }
+        let record = arena.node(link);
+        if arena.at(list, place) != wanted || walk.next() != wanted || record.waiter != wanted {
+            return false;
+        }
+        last = link;
+        link = record.next;
+    }
+    walk.next() == None
+        && link == NONE
+        && end == last
+        && arena.len(list) as usize == queue.len()
+        && arena.is_empty(list) == queue.is_empty()
+        && arena.front(list) == queue.front().copied()
+}
+
+// How many nodes hold a waiter.
+fn used(arena: &Arena) -> u32 {
+    let mut used = 0u32;
+    for index in 0..arena.node_count() {
+        if arena.node(index).waiter.is_some() {
+            used = used.saturating_add(1);
+        }
+    }
+    used
+}
+
+// Whether the lists are these, and the counts of nodes are right.
+fn agrees(arena: &Arena, plain: &[VecDeque<Waiter>]) -> bool {
+    let mut held = 0u32;
+    for list in 0..arena.list_count() {
+        let Some(queue) = plain.get(list as usize) else {
+            return false;
+        };
+        if !is_list(arena, list, queue) {
+            return false;
+        }
+        held = held.saturating_add(arena.len(list));
+    }
+    arena.list_count() as usize == plain.len()
+        && used(arena) == held
+        && arena.free_count().saturating_add(held) == arena.node_count()
+        && arena.is_full() == (held == arena.node_count())
+}
+
+/// So many thrown calls: how many of them agree with plain lists, up to the first that does not.
+pub fn walk(alloc: Global, arena: &mut Arena, steps: u64, seed: u64) -> Result<u64> {
+    let mut plain = Vec::new(alloc);
+    for _list in 0..arena.list_count() {
+        plain.push(VecDeque::new(alloc))?;
+    }
+    let mut dice = Dice::new(seed);
+    for number in 0..steps {
+        let count = arena.list_count();
+        if count == 0 {
+            return Ok(number);
+        }
+        let list = dice.below(count);
+        let pushes = dice.below(2) == 0;
+        let who = Waiter { element: 1, number };
+        let Some(queue) = plain.get_mut(list as usize) else {
+            return Ok(number);
+        };
+        if !call(arena, list, queue, who, pushes)? || !agrees(arena, plain.as_slice()) {
+            return Ok(number);
+        }
+    }
+    Ok(steps)
+}
