@@ -1,16 +1,15 @@
 -- A file means one thing, and a new image the empty memory.
-use Rattle.std.proofs.Common.{◌≡◌, ◌⊎◌, inl, inr, ℕ, ◌+◌, ◌*◌, ◌<◌, ◌≤◌, Bool, true, false, List, [], length, Option, None, Some, Result, Ok, Err, MatchOption, refl, sym, ap, ◌∙◌, subst, arith}
+use Rattle.std.proofs.Common.{◌≡◌, ◌⊎◌, inl, inr, ℕ, ◌<◌, Bool, true, false, List, [], Option, None, Some, Result, Ok, Err, MatchOption, refl, sym, ap, ◌∙◌, subst, arith}
 use Rattle.im_types.specs.declared.refusals.Refusal.{Refusal}
 use Rattle.im_types.specs.declared.refusals.Refusal.TheVariants.{BadPage}
 use Rattle.im_types.specs.Contents.{Contents, empty_contents}
 use Rattle.im_types.specs.Sizes.{AreLimits}
 use Rattle.im_types.specs.Header.{Header, header_place, header_of, header_fault}
 use Rattle.im_types.specs.Layout.{Sizes, layout_1, area_of, ring_of}
-use Rattle.im_types.specs.Journal.{tail}
 use Rattle.im_types.specs.Pages.{Shows}
 use Rattle.im_types.specs.Meaning.{Reached, IsShown, Reads, read_journal}
 use Rattle.im_image.specs.Fresh.{new_header, new_image}
-use Rattle.im_image.proofs.FreshImage.{new_image_good, new_image_shows, new_header_of, length-image}
+use Rattle.im_image.proofs.FreshImage.{new_image_good, new_image_shows, new_header_of}
 use Rattle.im_image.proofs.Headers.{limits_of_spelled}
 use Rattle.im_image.proofs.Restored.{one-memory}
 use Rattle.im_journal.proofs.Tails.{tail_closed}
