@@ -9,6 +9,3 @@ mod run;
 
 pub use engine::Engine;
 pub use run::{Answer, Event};
-
-#[cfg(test)]
-mod tests;
