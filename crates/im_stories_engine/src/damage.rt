@@ -10,7 +10,7 @@ use im_story::{add_refusal, place};
 use im_types::Limits;
 use std::alloc::Global;
 
-/// What an opening comes to: its count and its room, or why it was refused.
+// Adds what an opening comes to: its count and its room, or why it was refused.
 fn add_opening(alloc: Global, disk: MemDisk, said: &mut String) -> Result<()> {
     match Engine::open(alloc, disk) {
         Ok(engine) => write!(said, "count {} room {}", engine.count(), engine.room())?,

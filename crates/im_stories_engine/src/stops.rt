@@ -264,6 +264,9 @@ fn tell_each(
     way: Way,
     said: &mut String,
 ) -> Result<()> {
+    if way.next.is_some() && of != "serve" {
+        return Err(anyhow!("one crash too many"));
+    }
     let script = engines.script()?;
     let plain = meant(alloc, script)?;
     let sweep = of_script(engines, alloc, script, &plain)?;
