@@ -11,6 +11,3 @@ mod run;
 pub use engine::Engine;
 pub use laws::{files_mean_one_thing, new_images_mean_the_empty_memory};
 pub use run::{Answer, Event};
-
-#[cfg(test)]
-mod tests;

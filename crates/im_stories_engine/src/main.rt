@@ -1,12 +1,72 @@
-//! Stories of a layer.
+//! Stories of the engine: what is formatted, served, turned, stopped, crashed and opened again, what is damaged, and random
+//! walks beside the plain memory.
+//!
+//! Beside the commands, and `count`, `room`, `failed`, `window`, `collect`, `cell` and `waiting` of the engine, its words are:
+//!
+//! ```text
+//! fuse 11 stop = set              the disk of the next format or opening passes 11 calls, and then stops; or fails once, or
+//!                                 once with a byte all over what was to be written, scar:a5
+//! format 4096 16 256 = formatted  a new image of so many cells, elements and slots; or in a file of so many bytes
+//! 16 times 1.1 fetch 0 = 16 nocell    sixteen requests, 1.1 to 1.16
+//! turns 3 = began, page 0 to 1; room 3x0
+//! plan 1.1 fetch 0 = 1 events     what the next run does: commands, turns, or all commands as told
+//! run = 1 answers
+//! answers 0 to 0 = nocell
+//! close = closed                  leaves the file, and how many calls were made of it
+//! slot 0 = 64 zeros               a slot of its journal; bytes 8 2: two bytes from place 8 on
+//! crash kept = crashed            what a crash leaves of what wasn't synced: kept, lost, or a byte
+//! damage 16:05 = done             puts a byte at a place
+//! open = opened
+//! with 16:05 = count 5 room 256   what the opening of a copy comes to in which this byte stands
+//! each 0 to 3 as 00 ff = ..       the same for each of these bytes at each of these places
+//! in each serve stop kept = ..    a stop in each call of each serve, a crash, and all is sent again; `stops` has the others
+//! ```
 #![tactic(auto)]
 
-use anyhow::Result;
+mod alike;
+mod calls;
+mod damage;
+mod disks;
+mod engines;
+mod files;
+mod runs;
+mod scripts;
+mod states;
+mod stops;
+mod texts;
+mod walks;
+mod wanders;
+
+use crate::engines::Engines;
+use anyhow::{Result, anyhow};
+use im_story::Scene;
+use std::alloc::Global;
 use std::process::ExitCode;
 
+impl Scene for Engines {
+    fn begin(&mut self) {
+        self.forget();
+    }
+
+    fn tell(&mut self, alloc: Global, words: &[&str], said: &mut String) -> Result<()> {
+        if files::tell(self, alloc, words, said)?
+            || states::tell(self, words, said)?
+            || runs::tell(self, alloc, words, said)?
+            || damage::tell(self, alloc, words, said)?
+            || stops::tell(self, alloc, words, said)?
+            || wanders::tell(alloc, words, said)?
+            || calls::tell(self, words, said)?
+        {
+            Ok(())
+        } else {
+            Err(anyhow!("no call"))
+        }
+    }
+}
+
 fn start(rt: &HostRuntime) -> Result<u8> {
-    println!(rt; "no story")?;
-    Ok(0)
+    let mut engines = Engines::none(rt.alloc());
+    im_story::walk_files(rt, &mut engines)
 }
 
 fn main(rt: HostRuntime) -> ExitCode {

@@ -1,26 +1,22 @@
-//! Random commands, and what two memories have in common after each: tests that hold the memory, and an engine that is
-//! stopped again and again, against the plain one.
-#![tactic(auto)]
+//! Commands that look random, and are the same for the same seed.
 
 ghost use Rattle.std.specs.Prelude.{◌<◌};
 
+use im_plain::PlainMemory;
 use im_types::{Command, Kind, Op, Request};
 
-/// A source of commands that look random, and are the same for the same seed.
+/// A source of random commands.
 #[derive(Drop)]
 pub struct Walk {
     seed: u64,
 }
 
-/// What a command is chosen by: its element, and the bounds of that element's window.
+// What a command is chosen by: its element, and the bounds of that element's window.
 #[derive(Clone, Copy)]
-pub struct Asker {
-    /// The element.
-    pub element: u16,
-    /// The first number that is kept.
-    pub base: u64,
-    /// The next new number.
-    pub next: u64,
+struct Asker {
+    element: u16,
+    base: u64,
+    next: u64,
 }
 
 impl Walk {
@@ -41,8 +37,8 @@ impl Walk {
         (self.seed >> 33) % bound
     }
 
-    /// An operation that never waits, on a cell at an address up to `cells`, or for a block of up to five cells.
-    pub fn answered_at_once(&mut self, cells: u32) -> Op {
+    // An operation that never waits, on a cell at an address up to `cells`, or for a block of up to five cells.
+    fn answered_at_once(&mut self, cells: u32) -> Op {
         let a = self.below(cells as u64 + 1) as u32;
         let value = self.below(100);
         match self.below(8) {
@@ -54,8 +50,8 @@ impl Walk {
         }
     }
 
-    /// One of the seven operations, on a cell at an address up to `cells`. One in two may wait.
-    pub fn operation(&mut self, cells: u32) -> Op {
+    // One of the seven operations, on a cell at an address up to `cells`. One in two may wait.
+    fn operation(&mut self, cells: u32) -> Op {
         let a = self.below(cells as u64 + 1) as u32;
         match self.below(4) {
             0 => Op::Fetch(a),
@@ -64,8 +60,8 @@ impl Walk {
         }
     }
 
-    /// A number that the asker may name: most often its next one, else one about its window.
-    pub fn number(&mut self, asker: Asker) -> u64 {
+    // A number that the asker may name: most often its next one, else one about its window.
+    fn number(&mut self, asker: Asker) -> u64 {
         match self.below(16) {
             0 => asker.base.saturating_sub(1),
             1 => asker.next.saturating_add(1),
@@ -74,9 +70,9 @@ impl Walk {
         }
     }
 
-    /// A command of this asker: one in five confirms. Element 0 asks for nothing that may wait, so that there is always
-    /// one that goes on.
-    pub fn command(&mut self, asker: Asker, cells: u32) -> Command {
+    // A command of this asker: one in five confirms. Element 0 asks for nothing that may wait, so that there is always one
+    // that goes on.
+    fn asked(&mut self, asker: Asker, cells: u32) -> Command {
         if self.below(5) == 0 {
             let upto = asker.base.saturating_add(self.below(18));
             return Command::Confirm {
@@ -95,7 +91,27 @@ impl Walk {
             op,
         })
     }
-}
 
-#[cfg(test)]
-mod tests;
+    /// A command for a memory of four elements, of one of these or of one more. One in two requests under a number that is
+    /// kept asks for what was asked for before.
+    pub fn command(&mut self, plain: &PlainMemory, cells: u32) -> Command {
+        let element = self.below(5) as u16;
+        let (base, next) = plain.window(element).unwrap_or((1, 1));
+        let asker = Asker {
+            element,
+            base,
+            next,
+        };
+        let command = self.asked(asker, cells);
+        let Command::Request(request) = command else {
+            return command;
+        };
+        match plain.kept(element, request.number) {
+            Some(kept) if self.below(2) == 0 => Command::Request(Request {
+                op: kept.op,
+                ..request
+            }),
+            _ => command,
+        }
+    }
+}

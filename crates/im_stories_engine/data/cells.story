@@ -1,0 +1,111 @@
+# A fetch comes before its store
+-- An I cell is written at most once. A fetch that comes too early is deferred, and the store answers it.
+format 4096 16 256 = formatted
+0.1 alloc i 2 = base 0
+1.1 fetch 0 = waiting
+2.1 store 0 42 = stored
+1.2 fetch 0 = value 42
+collect 1.1 = value 42
+close = closed
+-- Each command stands in a slot of the journal: gate, group, code, element; sequence number; request; address; value.
+slot 0 = a501010000000000 0000000000000000 0100000000000000 0200000000000000 and 32 zeros
+slot 1 = a501040001000000 0100000000000000 0100000000000000 and 40 zeros
+slot 2 = a501050002000000 0200000000000000 0100000000000000 0000000000000000 2a00000000000000 and 24 zeros
+slot 3 = a501040001000000 0300000000000000 0200000000000000 and 40 zeros
+slot 4 = 64 zeros
+bytes 311296 8 = a501010000000000
+
+# Readers wait in their order, and one store answers them all
+format 4096 16 256 = formatted
+0.1 alloc i 1 = base 0
+waiting 0 =
+1.1 fetch 0 = waiting
+waiting 0 = 1.1
+2.1 fetch 0 = waiting
+waiting 0 = 1.1 2.1
+1.2 fetch 0 = waiting
+waiting 0 = 1.1 2.1 1.2
+3.1 store 0 7 = stored
+waiting 0 =
+collect 1.1 = value 7
+collect 2.1 = value 7
+collect 1.2 = value 7
+count = 5
+room = 251
+failed = false
+window 1 = 1 3
+
+# A second store clashes, and the cell stays so
+format 4096 16 256 = formatted
+0.1 alloc i 1 = base 0
+1.1 store 0 5 = stored
+1.2 fetch 0 = value 5
+1.3 store 0 5 = clash
+1.4 fetch 0 = clash
+collect 1.2 = value 5
+cell 0 = clashed 5 in block 0 of 1 i
+
+# Takers are served in their order, one by each put
+-- An M cell is filled by a put and emptied by a take. Here three takes come first.
+format 4096 16 256 = formatted
+0.1 alloc m 1 = base 0
+3.1 take 0 = waiting
+1.1 take 0 = waiting
+2.1 take 0 = waiting
+4.1 put 0 10 = stored
+4.2 put 0 20 = stored
+collect 3.1 = value 10
+collect 1.1 = value 20
+collect 2.1 = waiting
+4.3 put 0 30 = stored
+collect 2.1 = value 30
+cell 0 = empty in block 0 of 1 m
+
+# A block goes to the least hole that has room for it
+format 4096 16 256 = formatted
+0.1 alloc i 2 = base 0
+0.2 alloc i 3 = base 2
+0.3 alloc m 2 = base 5
+0.4 release 2 = released
+0.5 alloc i 4 = base 7
+0.6 alloc i 3 = base 2
+-- Cell 3 is inside a block, and cell 5 is one for takes and puts.
+0.7 release 3 = noblock
+1.1 fetch 5 = wrongkind
+
+# A block that is waited for stays
+format 4096 16 256 = formatted
+0.1 alloc i 1 = base 0
+1.1 fetch 0 = waiting
+0.2 release 0 = stillwaiting
+2.1 store 0 9 = stored
+0.3 release 0 = released
+-- A repeat is answered as at first. The fetch was answered before its block went.
+0.2 release 0 = stillwaiting
+1.2 fetch 0 = nocell
+0.4 alloc i 1 = base 0
+1.3 fetch 0 = waiting
+collect 1.1 = value 9
+
+# Blocks and addresses have edges
+format 4096 16 256 = formatted
+0.1 alloc i 4096 = base 0
+0.2 alloc i 1 = nospace
+0.3 alloc i 0 = badlength
+0.4 alloc m 4097 = nospace
+1.1 fetch 4096 = nocell
+1.2 fetch 4294967295 = nocell
+
+# The greatest memory serves
+format 65536 64 4096 = formatted
+0.1 alloc i 65536 = base 0
+63.1 store 65535 18446744073709551615 = stored
+63.2 fetch 65535 = value 18446744073709551615
+
+# The least memory serves
+format 1 1 16 = formatted
+0.1 alloc i 1 = base 0
+0.2 fetch 0 = waiting
+0.3 store 0 0 = stored
+1.1 fetch 0 = refused 5 NoElement
+collect 0.2 = value 0

@@ -1,0 +1,118 @@
+# The least image is checkpointed by seven turns
+-- A checkpoint goes a turn at a time: the pages into the other area, a sync, the other header, and then the slots that
+-- the new area holds are swept, three by a turn.
+format 1 1 16 = formatted
+0.1 alloc i 1 = base 0
+0.2 fetch 0 = waiting
+0.3 store 0 0 = stored
+turn = began
+turn = page 0
+turn = page 1
+turn = page 2
+turn = synced
+turn = in force
+turn = swept
+turn = idle
+room = 16
+close = closed
+-- The format makes four calls, the three commands twelve, and the turns thirteen.
+calls = 29
+
+# A full journal is emptied by 46 turns
+format 4096 16 16 = formatted
+16 times 1.1 fetch 0 = 16 nocell
+2.1 fetch 0 = refused 7 JournalFull
+count = 16
+-- There is no room before the first sweep. An area has 37 pages.
+turns 47 = began, page 0 to 36, synced, in force, 6 swept, idle; room 40x0 3 6 9 12 15 2x16
+count = 16
+close = closed
+-- The format, sixteen commands, and the turns: 37, 2, 4, five times 4, and 2.
+calls = 133
+
+# A run wraps the journal three times
+format 4096 16 16 = formatted
+plan 16 times 1.1 fetch 0 = 16 events
+plan 47 turns = 63 events
+plan 16 times 2.1 fetch 0 = 79 events
+plan 47 turns = 126 events
+plan 16 times 3.1 fetch 0 = 142 events
+plan 47 turns = 189 events
+plan 4.1 fetch 0 = 190 events
+plan 4.2 fetch 0 = 191 events
+run = 191 answers
+answers 0 to 62 = 16 nocell, began, page 0 to 36, synced, in force, 6 swept, idle
+answers 63 to 125 = 16 nocell, began, page 0 to 36, synced, in force, 6 swept, idle
+answers 126 to 188 = 16 nocell, began, page 0 to 36, synced, in force, 6 swept, idle
+answers 189 to 190 = 2 nocell
+close = closed
+open = opened
+count = 50
+room = 14
+
+# The third header is in force after three checkpoints
+format 4096 16 16 = formatted
+16 times 1.1 fetch 0 = 16 nocell
+turns 46 = began, page 0 to 36, synced, in force, 6 swept; room 40x0 3 6 9 12 15 16
+16 times 2.1 fetch 0 = 16 nocell
+turns 46 = began, page 0 to 36, synced, in force, 6 swept; room 40x0 3 6 9 12 15 16
+16 times 3.1 fetch 0 = 16 nocell
+turns 46 = began, page 0 to 36, synced, in force, 6 swept; room 40x0 3 6 9 12 15 16
+4.1 fetch 0 = nocell
+close = closed
+-- The gate and the area of the other header, its generation and its count.
+bytes 4096 2 = a501
+bytes 4104 1 = 04
+bytes 4112 1 = 30
+-- The gate of the first slot, and its sequence number.
+bytes 311296 1 = a5
+bytes 311304 1 = 30
+
+# A run answers as its commands do one by one
+format 3 6 32 = formatted
+0.1 alloc i 1 = base 0
+1.1 fetch 0 = waiting
+2.1 fetch 0 = waiting
+1.2 fetch 0 = waiting
+3.1 store 0 7 = stored
+0.2 alloc m 1 = base 1
+3.2 take 1 = waiting
+1.3 take 1 = waiting
+2.2 take 1 = waiting
+4.1 put 1 10 = stored
+4.2 put 1 20 = stored
+4.3 put 1 30 = stored
+confirm 1 4 = confirmed
+5.1 fetch 0 = value 7
+5.2 store 0 8 = clash
+5.3 fetch 1 = wrongkind
+0.3 release 1 = released
+0.4 alloc i 2 = base 1
+5.4 store 2 9 = stored
+5.5 fetch 2 = value 9
+plan as told = 20 events
+format 3 6 32 = formatted
+run = 20 answers
+answers 0 to 8 = base 0, 3 waiting, stored, base 1, 3 waiting
+answers 9 to 15 = 3 stored, confirmed, value 7, clash, wrongkind
+answers 16 to 19 = released, base 1, stored, value 9
+count = 20
+room = 12
+
+# A run goes on after a refusal and after a fault
+-- The disk stops behind the format, two commands, and the write of the third one's body.
+fuse 13 stop = set
+format 3 6 32 = formatted
+plan 0.1 alloc i 1 = 1 events
+plan 1.2 fetch 0 = 2 events
+plan 1.1 fetch 0 = 3 events
+plan 1.1 fetch 1 = 4 events
+plan 1.1 fetch 0 = 5 events
+plan 2.1 store 0 7 = 6 events
+plan 1.1 fetch 0 = 7 events
+plan 1.2 fetch 0 = 8 events
+run = 8 answers
+answers 0 to 3 = base 0, refused 1 Gap, waiting, refused 4 Mismatch
+answers 4 to 7 = waiting, refused 8 Device, 2 refused 9 Failed
+count = 2
+room = 30

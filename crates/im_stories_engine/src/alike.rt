@@ -1,0 +1,71 @@
+//! Whether a memory is the plain one, cell for cell and entry for entry.
+
+use anyhow::{Result, anyhow};
+use im_memory::Memory;
+use im_plain::PlainMemory;
+use im_types::Limits;
+
+fn is_same_presence(one: Option<im_memory::Presence>, other: Option<im_plain::Presence>) -> bool {
+    use im_memory::Presence as Fast;
+    use im_plain::Presence as Plain;
+    match (one, other) {
+        (None, None) => true,
+        (Some(Fast::Empty), Some(Plain::Empty)) => true,
+        (Some(Fast::Waiting), Some(Plain::Waiting)) => true,
+        (Some(Fast::Full(v)), Some(Plain::Full(w))) => v == w,
+        (Some(Fast::Clashed(v)), Some(Plain::Clashed(w))) => v == w,
+        _ => false,
+    }
+}
+
+// The same requests wait at a cell, in the same order.
+fn has_same_waiters(fast: &Memory, plain: &PlainMemory, limits: Limits, a: u32) -> Result<()> {
+    for place in 0..(limits.elements as usize * 16 + 1) {
+        let waiter = plain.waiter(a, place);
+        if fast.waiter(a, place) != waiter {
+            return Err(anyhow!("other requests wait at cell {a}"));
+        }
+        if waiter.is_none() {
+            break;
+        }
+    }
+    Ok(())
+}
+
+// Every cell with its block and its waiters is the same in both.
+fn has_same_cells(fast: &Memory, plain: &PlainMemory, limits: Limits) -> Result<()> {
+    for a in 0..limits.cells.saturating_add(1) {
+        if !is_same_presence(fast.cell(a), plain.cell(a)) {
+            return Err(anyhow!("cell {a} is another"));
+        }
+        if fast.block(a) != plain.block(a) {
+            return Err(anyhow!("the block of cell {a} is another"));
+        }
+        has_same_waiters(fast, plain, limits, a)?;
+    }
+    Ok(())
+}
+
+// The same entries are kept for an element.
+fn has_same_entries(fast: &Memory, plain: &PlainMemory, element: u16) -> Result<()> {
+    let bounds = plain.window(element);
+    if fast.window(element) != bounds {
+        return Err(anyhow!("the window of element {element} is another"));
+    }
+    let (base, next) = bounds.unwrap_or((0, 0));
+    for number in base..next {
+        if fast.kept(element, number) != plain.kept(element, number) {
+            return Err(anyhow!("entry {element}.{number} is another"));
+        }
+    }
+    Ok(())
+}
+
+/// Sees that every cell with its block and its waiters, and every window with its entries, is the same in both.
+pub fn are_alike(fast: &Memory, plain: &PlainMemory, limits: Limits) -> Result<()> {
+    has_same_cells(fast, plain, limits)?;
+    for element in 0..limits.elements.saturating_add(1) {
+        has_same_entries(fast, plain, element)?;
+    }
+    Ok(())
+}

@@ -1,0 +1,114 @@
+//! Turns, and runs of commands and turns.
+
+use crate::calls::later;
+use crate::engines::Engines;
+use crate::texts::{add_answers, add_numbers, add_turn};
+use anyhow::{Result, anyhow};
+use im_engine::{Answer, Event};
+use im_story::{command, number, place};
+use im_types::Command;
+use std::alloc::Global;
+
+// Makes one turn.
+fn turn(engines: &mut Engines, said: &mut String) -> Result<()> {
+    let Some(engine) = &mut engines.engine else {
+        return Err(anyhow!("no engine"));
+    };
+    Ok(add_turn(said, engine.turn())?)
+}
+
+// Makes so many turns, none of which changes the count. Tells their answers, and the room after each.
+fn turns(engines: &mut Engines, alloc: Global, times: u64, said: &mut String) -> Result<()> {
+    let Some(engine) = &mut engines.engine else {
+        return Err(anyhow!("no engine"));
+    };
+    let count = engine.count();
+    let mut rooms = Vec::new(alloc);
+    engines.answers.clear();
+    for _ in 0..times {
+        engines.answers.push(Answer::Turned(engine.turn()))?;
+        rooms.push(engine.room() as u64)?;
+        if engine.count() != count {
+            return Err(anyhow!("a turn has changed the count"));
+        }
+    }
+    add_answers(said, engines.answers.as_slice())?;
+    said.push_str("; room")?;
+    Ok(add_numbers(said, rooms.as_slice())?)
+}
+
+// The next run serves a command under so many numbers, one after another.
+fn plan_commands(engines: &mut Engines, times: u64, first: Command) -> Result<()> {
+    for more in 0..times {
+        engines.events.push(Event::Command(later(first, more)))?;
+    }
+    Ok(())
+}
+
+fn plan_turns(engines: &mut Engines, times: u64) -> Result<()> {
+    for _ in 0..times {
+        engines.events.push(Event::Turn)?;
+    }
+    Ok(())
+}
+
+// The next run serves the commands of the story so far.
+fn plan_as_told(engines: &mut Engines) -> Result<()> {
+    let Some(script) = &engines.script else {
+        return Err(anyhow!("no image was formatted"));
+    };
+    for told in script.accepted.iter() {
+        engines.events.push(Event::Command(told.command))?;
+    }
+    Ok(())
+}
+
+// Runs what was planned.
+fn run(engines: &mut Engines, alloc: Global, said: &mut String) -> Result<()> {
+    let Some(engine) = &mut engines.engine else {
+        return Err(anyhow!("no engine"));
+    };
+    let answers = engine.run(alloc, engines.events.as_slice())?;
+    write!(said, "{} answers", answers.len())?;
+    engines.answers = answers;
+    engines.events.clear();
+    Ok(())
+}
+
+// Tells the answers of the last run from one place to another.
+fn tell_answers(engines: &Engines, from: usize, to: usize, said: &mut String) -> Result<()> {
+    match engines.answers.get(from..to.saturating_add(1)) {
+        Some(answers) => add_answers(said, answers),
+        None => Err(anyhow!("there are not so many answers")),
+    }
+}
+
+// What the next run does.
+fn plan(engines: &mut Engines, words: &[&str], said: &mut String) -> Result<()> {
+    match words {
+        ["as", "told"] => plan_as_told(engines)?,
+        ["turn"] => plan_turns(engines, 1)?,
+        [times, "turns"] => plan_turns(engines, number(times)?)?,
+        [times, "times", rest @ ..] => plan_commands(engines, number(times)?, command(rest)?)?,
+        _ => plan_commands(engines, 1, command(words)?)?,
+    }
+    Ok(write!(said, "{} events", engines.events.len())?)
+}
+
+/// Whether the words are `turn`, `turns`, `plan`, `run` or `answers`.
+pub fn tell(
+    engines: &mut Engines,
+    alloc: Global,
+    words: &[&str],
+    said: &mut String,
+) -> Result<bool> {
+    match words {
+        ["turn"] => turn(engines, said)?,
+        ["turns", times] => turns(engines, alloc, number(times)?, said)?,
+        ["plan", rest @ ..] => plan(engines, rest, said)?,
+        ["run"] => run(engines, alloc, said)?,
+        ["answers", from, "to", to] => tell_answers(engines, place(from)?, place(to)?, said)?,
+        _ => return Ok(false),
+    }
+    Ok(true)
+}

@@ -1,0 +1,172 @@
+//! The texts of cells, of turns, of runs of answers, and of bytes.
+
+use anyhow::Result;
+use im_checkpoint::TurnDone;
+use im_engine::Answer;
+use im_memory::Presence;
+use im_story::{add_outcome, add_refusal};
+use im_types::{Block, Kind, Refusal};
+use std::alloc::AllocError;
+
+/// Adds what a cell is.
+pub fn add_presence(said: &mut String, presence: Presence) -> Result<(), AllocError> {
+    match presence {
+        Presence::Empty => said.push_str("empty"),
+        Presence::Waiting => said.push_str("waiting"),
+        Presence::Full(value) => write!(said, "full {value}"),
+        Presence::Clashed(value) => write!(said, "clashed {value}"),
+    }
+}
+
+/// Adds ` in block BASE of LENGTH KIND`.
+pub fn add_block(said: &mut String, block: Block) -> Result<(), AllocError> {
+    let kind = match block.kind {
+        Kind::I => "i",
+        Kind::M => "m",
+    };
+    let (base, length) = (block.base, block.length);
+    write!(said, " in block {base} of {length} {kind}")
+}
+
+/// Adds what a turn did.
+pub fn add_turn(said: &mut String, turn: Result<TurnDone, Refusal>) -> Result<(), AllocError> {
+    match turn {
+        Ok(TurnDone::Idle) => said.push_str("idle"),
+        Ok(TurnDone::Began) => said.push_str("began"),
+        Ok(TurnDone::Page(page)) => write!(said, "page {page}"),
+        Ok(TurnDone::Synced) => said.push_str("synced"),
+        Ok(TurnDone::InForce) => said.push_str("in force"),
+        Ok(TurnDone::Swept) => said.push_str("swept"),
+        Err(refusal) => add_refusal(said, refusal),
+    }
+}
+
+fn add_answer(said: &mut String, answer: Answer) -> Result<(), AllocError> {
+    match answer {
+        Answer::Served(outcome) => add_outcome(said, outcome),
+        Answer::Turned(turn) => add_turn(said, turn),
+    }
+}
+
+// Whether an answer goes on from the one before it: the next page, or the same again.
+fn goes_on(last: Answer, next: Answer) -> bool {
+    match (last, next) {
+        (Answer::Turned(Ok(TurnDone::Page(one))), Answer::Turned(Ok(TurnDone::Page(other)))) => {
+            one < other && other - one == 1
+        }
+        _ => last == next,
+    }
+}
+
+// Adds a row of answers, each of which goes on from the one before: `page 0 to 36`, `6 swept`, `synced`.
+fn add_row(said: &mut String, row: &[Answer]) -> Result<()> {
+    let Some(first) = row.first() else {
+        return Ok(());
+    };
+    let times = row.len();
+    if let Some(Answer::Turned(Ok(TurnDone::Page(last)))) = row.last() {
+        add_answer(said, *first)?;
+        if times > 1 {
+            write!(said, " to {last}")?;
+        }
+        return Ok(());
+    }
+    if times > 1 {
+        write!(said, "{times} ")?;
+    }
+    Ok(add_answer(said, *first)?)
+}
+
+// How many answers from the first one on make a row.
+fn row_length(answers: &[Answer]) -> usize {
+    let mut length = 0;
+    let mut last = None;
+    for answer in answers {
+        if let Some(last) = last {
+            if !goes_on(last, *answer) {
+                return length;
+            }
+        }
+        last = Some(*answer);
+        length = answers.len().min(length.saturating_add(1));
+    }
+    length
+}
+
+/// Adds answers in their order, those that go on from one another as one.
+pub fn add_answers(said: &mut String, answers: &[Answer]) -> Result<()> {
+    let mut rest = answers;
+    for _ in 0..answers.len() {
+        let length = row_length(rest);
+        let (Some(row), Some(behind)) = (rest.get(..length), rest.get(length..)) else {
+            return Ok(());
+        };
+        if row.is_empty() {
+            return Ok(());
+        }
+        if rest.len() < answers.len() {
+            said.push_str(", ")?;
+        }
+        add_row(said, row)?;
+        rest = behind;
+    }
+    Ok(())
+}
+
+// Adds a number, and before it how often it came where that is more than once.
+fn add_times(said: &mut String, value: u64, times: u64) -> Result<(), AllocError> {
+    match times {
+        0 => Ok(()),
+        1 => write!(said, " {value}"),
+        _ => write!(said, " {times}x{value}"),
+    }
+}
+
+/// Adds numbers in their order, those that are the same as one: ` 19 4x20`.
+pub fn add_numbers(said: &mut String, numbers: &[u64]) -> Result<(), AllocError> {
+    let mut value = 0;
+    let mut times: u64 = 0;
+    for number in numbers {
+        if *number != value {
+            add_times(said, value, times)?;
+            value = *number;
+            times = 0;
+        }
+        times = times.saturating_add(1);
+    }
+    add_times(said, value, times)
+}
+
+/// Adds bytes as hexadecimal digits, eight together, and counts the zeros behind the last eight that aren't all zero.
+pub fn add_bytes(said: &mut String, bytes: &[u8]) -> Result<(), AllocError> {
+    let mut zeros: usize = 0;
+    for group in bytes.chunks(8) {
+        if group.len() == 8 && group.iter().all(|byte| *byte == 0) {
+            zeros = zeros.saturating_add(8);
+        } else {
+            add_zeros(said, zeros)?;
+            zeros = 0;
+            add_group(said, group)?;
+        }
+    }
+    match zeros {
+        0 => Ok(()),
+        _ if zeros == bytes.len() => write!(said, " {zeros} zeros"),
+        _ => write!(said, " and {zeros} zeros"),
+    }
+}
+
+fn add_zeros(said: &mut String, zeros: usize) -> Result<(), AllocError> {
+    for _ in 0..zeros / 8 {
+        said.push_str(" 0000000000000000")?;
+    }
+    Ok(())
+}
+
+fn add_group(said: &mut String, group: &[u8]) -> Result<(), AllocError> {
+    said.push_str(" ")?;
+    for byte in group {
+        write!(said, "{byte:02x}")?;
+    }
+    Ok(())
+}
