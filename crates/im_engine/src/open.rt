@@ -1,16 +1,43 @@
 //! How an image is opened.
-ghost use Rattle.std.specs.Prelude.{◌≡◌, ◌⊎◌, false, IfOk, IfErr, MatchResult};
+ghost use Rattle.std.specs.Prelude.{◌≡◌, ◌⊎◌, ◌≤◌, false, length, IfOk, IfErr, IsErrOf, MatchResult};
 ghost use Rattle.im_types.specs.declared.refusals.Refusal.TheVariants.{NoMemory, Device};
 ghost use Rattle.im_disk.specs.Moment.{Left, Rises};
 ghost use Rattle.im_disk.specs.Since.{Leaves, LeavesNow};
+ghost use Rattle.im_image.specs.Headers.{seen};
+ghost use Rattle.im_image.specs.Reading.{JournalOf};
+ghost use Rattle.im_checkpoint.specs.Step.{NoCheckpoint};
+ghost use Rattle.im_checkpoint.specs.Keeping.{IsKept};
 ghost use Rattle.im_engine.specs.State.{MeansState, IsFirstFault};
 
 use crate::engine::Engine;
 use im_checkpoint::Checkpoint;
 use im_disk::Disk;
-use im_image::read_image;
+use im_image::{Image, read_image};
 use im_types::Refusal;
 use std::alloc::Global;
+
+// Puts all that was written on the disk, and reads the image then: what is read is what each file left means.
+fn read_synced<D: Disk>(alloc: Global, disk: &mut D) -> Result<Image, Refusal>
+    ensures area { IfOk result (λ i. i.header.area ≤ 1) }
+    ensures cells { IfOk result (λ i. length i.memory.cells ≡ i.header.limits.cells) }
+    ensures elements { IfOk result (λ i. length i.memory.windows ≡ i.header.limits.elements) }
+    ensures journal { IfOk result (λ i. JournalOf (seen i.header) i.journal) }
+    ensures kept { IfOk result (λ i. D.honest disk.new → IsKept (record { header = seen i.header; step = NoCheckpoint }) i.memory i.journal (D.now disk.new)) }
+    ensures leaves { D.honest disk.new → Leaves (D.now disk.old) (D.now disk.new) (D.past disk.old) (D.past disk.new) (Left (D.now disk.old)) }
+    ensures fault { IfErr result (λ e. (e ≡ NoMemory) ⊎ (e ≡ Device) ⊎ (D.honest disk.new → LeavesNow (D.now disk.new) (IsFirstFault e))) }
+    ensures device { IsErrOf result Refusal.Device → Rises (D.failures disk.old) (D.failures disk.new) }
+    ensures honest { D.honest disk.new → D.honest disk.old }
+{
+    // A crash after a write that wasn't synced may leave less than is read: a sync makes it sure. A stop in it leaves
+    // what a stop before it leaves, and so do all the reads behind it.
+    if let Err(_) = disk.sync() {
+        return Err(Refusal::Device);
+    }
+    match read_image(alloc, disk) {
+        Ok(image) => Ok(image),
+        Err(refusal) => Err(refusal),
+    }
+}
 
 impl<D: Disk> Engine<D> {
     /// Opens an image. It syncs first, then reads, and writes nothing.
@@ -30,12 +57,7 @@ impl<D: Disk> Engine<D> {
         ensures device { IfErr result (λ e. e.0 ≡ Device → Rises (D.failures disk) (D.failures e.1)) }
         ensures honest { MatchResult result (λ e. D.honest e.disk → D.honest disk) (λ e. D.honest e.1 → D.honest disk) }
     {
-        // A crash after a write that wasn't synced may leave less than is read: a sync makes it sure. A stop in it leaves
-        // what a stop before it leaves, and so do all the reads behind it.
-        if let Err(_) = disk.sync() {
-            return Err((Refusal::Device, disk));
-        }
-        match read_image(alloc, &mut disk) {
+        match read_synced(alloc, &mut disk) {
             Ok(image) => match Checkpoint::idle(alloc, &image.header) {
                 Ok(checkpoint) => Ok(Engine::started(
                     disk,
