@@ -1,4 +1,4 @@
-use Rattle.std.proofs.Common.{◌≡◌, Ok, inl, inr, ⊎_elim}
+use Rattle.std.proofs.Common.{Ok, ◌≡◌, inl, inr, ⊎_elim}
 use Rattle.im_types.specs.Layout.{layout_1}
 use Rattle.im_types.specs.Header.{header_of}
 use Rattle.im_types.specs.Meaning.{Reads}
@@ -16,8 +16,8 @@ returns-in-Ok-clause-kept g c = λ h.
 
 pub returns-in-Ok-clause-leaves : goal.returns-in-Ok-clause-leaves
 returns-in-Ok-clause-leaves g c = λ h.
-    opens_leaves (g.D.Disk.now c.args.disk.now) (g.D.Disk.now c.sync.new.self) (g.D.Disk.now c.read_image.new.disk) (g.D.Disk.past c.args.disk.now) (g.D.Disk.past c.sync.new.self) (g.D.Disk.past c.read_image.new.disk)
-    (c.sync.ensures.moment (c.read_image.ensures.honest h)) (c.read_image.ensures.reads h)
+    let shaken = c.sync.ensures.moment (c.read_image.ensures.honest h) in
+    opens_leaves (g.D.Disk.now c.args.disk.now) (g.D.Disk.now c.sync.new.self) (g.D.Disk.now c.read_image.new.disk) (g.D.Disk.past c.args.disk.now) (g.D.Disk.past c.sync.new.self) (g.D.Disk.past c.read_image.new.disk) shaken (c.read_image.ensures.reads h)
 
 pub returns-in-Err-read_image-clause-fault : goal.returns-in-Err-read_image-clause-fault
 returns-in-Err-read_image-clause-fault g c =
@@ -29,13 +29,14 @@ returns-in-Err-read_image-clause-fault g c =
 
 pub returns-in-Err-read_image-clause-leaves : goal.returns-in-Err-read_image-clause-leaves
 returns-in-Err-read_image-clause-leaves g c = λ h.
-    opens_leaves (g.D.Disk.now c.args.disk.now) (g.D.Disk.now c.sync.new.self) (g.D.Disk.now c.read_image.new.disk) (g.D.Disk.past c.args.disk.now) (g.D.Disk.past c.sync.new.self) (g.D.Disk.past c.read_image.new.disk)
-    (c.sync.ensures.moment (c.read_image.ensures.honest h)) (c.read_image.ensures.reads h)
+    let ticked = c.sync.ensures.moment (c.read_image.ensures.honest h) in
+    opens_leaves (g.D.Disk.now c.args.disk.now) (g.D.Disk.now c.sync.new.self) (g.D.Disk.now c.read_image.new.disk) (g.D.Disk.past c.args.disk.now) (g.D.Disk.past c.sync.new.self) (g.D.Disk.past c.read_image.new.disk) ticked (c.read_image.ensures.reads h)
 
 pub returns-in-Ok-clause-found : goal.returns-in-Ok-clause-found
 returns-in-Ok-clause-found g c = λ h.
     let i = c.in-Ok.image in
+    let synced = c.sync.new.self in
     let sure = (c.in_default.ensures.tick (c.read_image.ensures.honest h)).now in
-    settled (g.D.Disk.now c.args.disk.now) (g.D.Disk.now c.sync.new.self) (g.D.Disk.now c.read_image.new.disk)
+    settled (g.D.Disk.now c.args.disk.now) (g.D.Disk.now synced) (g.D.Disk.now c.read_image.new.disk)
     (λ file. (seen i.header ≡ header_of file) × Reads layout_1 file (Ok (record { contents = i.memory; count = i.journal.count; room = i.journal.room })))
     sure (c.read_image.ensures.reads h).now (c.in-Ok.ensures.header h, c.in-Ok.ensures.means h)

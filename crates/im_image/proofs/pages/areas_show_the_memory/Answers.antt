@@ -1,5 +1,6 @@
+use Rattle.std.proofs.Common.{arith}
 use Rattle.im_image.proofs.Encoding.{area-shows}
 use Rattle.im_image.proofs.pages.areas_show_the_memory.Goals as goal
 
 pub returns : goal.returns
-returns c = area-shows
+returns c = λ s r m area count shows long pages. area-shows s r m area count shows (omega (arith, long)) pages
