@@ -1,0 +1,181 @@
+//! Calls on a disk in memory.
+//!
+//! ```text
+//! disk N                         a new one, of so many zero bytes
+//! fuse stop|once N, fuse scar N BYTE     from now on it passes so many calls, and then fails
+//! read AT N, write AT BYTE.., sync, length
+//! fail write AT N [BYTE], fail sync      a call that fails, and may leave a byte all over its range
+//! gate AT BYTE..                 writes the bytes behind a gate
+//! six calls                      a dot for each that passed, and an x for each that failed
+//! crash KIND                     a crash: kept, lost, or a byte
+//! bytes, calls                   all bytes, with no call and no fuse from then on; how many calls there were
+//! ```
+
+use crate::blind::Blind;
+use crate::bytes::{add_bytes, hex_byte, hex_bytes};
+use crate::place::Place;
+use crate::tries::crash_kind;
+use anyhow::{Result, anyhow};
+use im_disk::{DeviceFault, Disk, MemDisk, Mode, write_behind_gate};
+use im_story::{add_refusal, number, place};
+use std::alloc::{AllocError, Global};
+
+/// Adds `ok`, or that the call failed.
+pub fn add_passed(said: &mut String, answer: Result<(), DeviceFault>) -> Result<(), AllocError> {
+    match answer {
+        Ok(()) => said.push_str("ok"),
+        Err(_) => said.push_str("fault"),
+    }
+}
+
+fn mode(words: &[&str]) -> Result<(Mode, u64)> {
+    match words {
+        ["stop", passes] => Ok((Mode::Stop, number(passes)?)),
+        ["once", passes] => Ok((Mode::Once, number(passes)?)),
+        ["scar", passes, byte] => Ok((Mode::Scar(hex_byte(byte)?), number(passes)?)),
+        _ => Err(anyhow!("that is no fuse")),
+    }
+}
+
+// The disk with no fuse, to be put back.
+fn taken(here: &mut Place) -> Result<MemDisk> {
+    match here.disk.take() {
+        Some(disk) => Ok(disk.into_inner()),
+        None => Err(anyhow!("there is no disk")),
+    }
+}
+
+fn make(alloc: Global, here: &mut Place, len: usize, said: &mut String) -> Result<()> {
+    match MemDisk::new(alloc, len) {
+        Ok(disk) => {
+            here.disk = Some(Blind::new(disk));
+            said.push_str("blank")?;
+        }
+        Err(refusal) => add_refusal(said, refusal)?,
+    }
+    Ok(())
+}
+
+fn fuse(here: &mut Place, words: &[&str]) -> Result<()> {
+    let (mode, passes) = mode(words)?;
+    let disk = taken(here)?;
+    here.disk = Some(Blind::fused(disk, passes, mode));
+    Ok(())
+}
+
+// What is read there, or that the call failed.
+fn read(alloc: Global, disk: &mut Blind, at: usize, count: usize, said: &mut String) -> Result<()> {
+    let mut bytes = vec![in alloc; 0; count]?;
+    match disk.read(at, &mut bytes) {
+        Ok(()) => add_bytes(said, &bytes)?,
+        Err(_) => said.push_str("fault")?,
+    }
+    Ok(())
+}
+
+// A write that fails.
+fn fail_write(here: &mut Place, at: usize, count: usize, byte: Option<u8>) -> Result<()> {
+    let mut disk = taken(here)?;
+    let size = disk.bytes().len();
+    if at > size || count > size - at {
+        return Err(anyhow!("that is past the end"));
+    }
+    disk.fail_write(at, count, byte);
+    here.disk = Some(Blind::new(disk));
+    Ok(())
+}
+
+// A sync that fails.
+fn fail_sync(here: &mut Place) -> Result<()> {
+    let mut disk = taken(here)?;
+    disk.fail_call();
+    here.disk = Some(Blind::new(disk));
+    Ok(())
+}
+
+// All bytes of the disk.
+fn bytes(here: &mut Place, said: &mut String) -> Result<()> {
+    let disk = taken(here)?;
+    add_bytes(said, disk.bytes())?;
+    here.disk = Some(Blind::new(disk));
+    Ok(())
+}
+
+fn letter(failed: bool) -> char {
+    if failed { 'x' } else { '.' }
+}
+
+// A write of 1 at 0, a read, a sync, a write of 2 at 1, a read and a sync: a letter for each.
+fn six_calls(disk: &mut Blind, said: &mut String) -> Result<(), AllocError> {
+    let mut buf = [0];
+    said.push(letter(disk.write_at(0, &[1]).is_err()))?;
+    said.push(letter(disk.read(0, &mut buf).is_err()))?;
+    said.push(letter(disk.sync().is_err()))?;
+    said.push(letter(disk.write_at(1, &[2]).is_err()))?;
+    said.push(letter(disk.read(1, &mut buf).is_err()))?;
+    said.push(letter(disk.sync().is_err()))
+}
+
+// The bytes behind a gate.
+fn gate(disk: &mut Blind, at: usize, body: &[u8], said: &mut String) -> Result<()> {
+    if at == usize::MAX {
+        return Err(anyhow!("that is past the end"));
+    }
+    add_passed(said, write_behind_gate(disk, at, body))?;
+    Ok(())
+}
+
+fn length(disk: &mut Blind, said: &mut String) -> Result<(), AllocError> {
+    match disk.len() {
+        Ok(len) => write!(said, "{len}"),
+        Err(_) => said.push_str("fault"),
+    }
+}
+
+// Calls that fail, and what becomes of the disk by other hands.
+fn tell_of_fate(here: &mut Place, words: &[&str], said: &mut String) -> Result<bool> {
+    match words {
+        ["fuse", rest @ ..] => fuse(here, rest)?,
+        ["fail", "write", at, count] => fail_write(here, place(at)?, place(count)?, None)?,
+        ["fail", "write", at, count, byte] => {
+            let byte = hex_byte(byte)?;
+            fail_write(here, place(at)?, place(count)?, Some(byte))?;
+        }
+        ["fail", "sync"] => fail_sync(here)?,
+        ["crash", kind] => here.crash(crash_kind(kind)?)?,
+        _ => return Ok(false),
+    }
+    said.push_str("so")?;
+    Ok(true)
+}
+
+/// Makes a call on the disk. Whether the words name one.
+pub fn tell_of_disk(
+    alloc: Global,
+    here: &mut Place,
+    words: &[&str],
+    said: &mut String,
+) -> Result<bool> {
+    match words {
+        ["disk", len] => make(alloc, here, place(len)?, said)?,
+        ["read", at, count] => read(alloc, here.disk()?, place(at)?, place(count)?, said)?,
+        ["write", at, rest @ ..] => {
+            let bytes = hex_bytes(alloc, rest)?;
+            add_passed(said, here.disk()?.write_at(place(at)?, &bytes))?;
+        }
+        ["sync"] => add_passed(said, here.disk()?.sync())?,
+        ["gate", at, rest @ ..] => {
+            let bytes = hex_bytes(alloc, rest)?;
+            gate(here.disk()?, place(at)?, &bytes, said)?;
+        }
+        ["six", "calls"] => six_calls(here.disk()?, said)?,
+        ["length"] => length(here.disk()?, said)?,
+        ["bytes"] => bytes(here, said)?,
+        ["calls"] => {
+            let calls = here.disk()?.calls();
+            write!(said, "{calls}")?;
+        }
+        _ => return tell_of_fate(here, words, said),
+    }
+    Ok(true)
+}

@@ -1,0 +1,215 @@
+//! Calls on an image.
+//!
+//! ```text
+//! layout CELLS ELEMENTS SLOTS    the pages of an area, where the journal begins, and the length
+//! image CELLS ELEMENTS SLOTS     a new image on a disk of its own
+//! cut N                          a disk with the first bytes of the disk
+//! header AREA GENERATION COUNT CELLS ELEMENTS SLOTS    spells a header in its place
+//! header at AREA                 the header that stands there behind its gate
+//! in force                       the header in force, or the first fault of the length and the headers
+//! inspect                        what the image means, or its first fault
+//! encode AREA                    puts the pages of the memory there
+//! ```
+
+use crate::blind::Blind;
+use crate::journals::sizes;
+use crate::place::Place;
+use anyhow::{Result, anyhow};
+use im_disk::{Disk, MemDisk};
+use im_image::{
+    Header, PAGE, VERSION, area_at, area_pages, encode, image_length, inspect, journal_at,
+    new_image, read_header,
+};
+use im_memory::Memory;
+use im_story::{add_refusal, number, place};
+use im_types::{Limits, Refusal};
+use std::alloc::{AllocError, Global};
+
+/// A disk with these bytes.
+pub fn disk_of(alloc: Global, bytes: &[u8]) -> Result<MemDisk, Refusal> {
+    let mut disk = MemDisk::new(alloc, bytes.len())?;
+    disk.write_at(0, bytes)?;
+    Ok(disk)
+}
+
+fn layout(limits: Limits, said: &mut String) -> Result<(), AllocError> {
+    let (pages, at, length) = (area_pages(limits), journal_at(limits), image_length(limits));
+    write!(said, "{pages} pages, journal at {at}, {length} bytes")
+}
+
+fn image(alloc: Global, here: &mut Place, limits: Limits, said: &mut String) -> Result<()> {
+    let bytes = new_image(alloc, limits)?;
+    let length = bytes.len();
+    here.disk = Some(Blind::new(disk_of(alloc, &bytes)?));
+    here.limits = Some(limits);
+    write!(said, "{length} bytes")?;
+    Ok(())
+}
+
+/// All bytes of the disk, by a read.
+pub fn all_bytes(alloc: Global, disk: &mut Blind) -> Result<Vec<u8>> {
+    let Ok(length) = disk.len() else {
+        return Err(anyhow!("the length can't be read"));
+    };
+    let mut bytes = vec![in alloc; 0; length]?;
+    match disk.read(0, &mut bytes) {
+        Ok(()) => Ok(bytes),
+        Err(_) => Err(anyhow!("the disk can't be read")),
+    }
+}
+
+fn cut(alloc: Global, here: &mut Place, length: usize, said: &mut String) -> Result<()> {
+    let bytes = all_bytes(alloc, here.disk()?)?;
+    let Some(short) = bytes.get(..length) else {
+        return Err(anyhow!("the disk is shorter"));
+    };
+    here.disk = Some(Blind::new(disk_of(alloc, short)?));
+    write!(said, "{length} bytes")?;
+    Ok(())
+}
+
+// Where the header of an area stands.
+fn header_at(area: u8) -> Result<usize> {
+    match area {
+        0 => Ok(0),
+        1 => Ok(PAGE),
+        _ => Err(anyhow!("there is no such area")),
+    }
+}
+
+fn area(word: &str) -> Result<u8> {
+    match word {
+        "0" => Ok(0),
+        "1" => Ok(1),
+        _ => Err(anyhow!("there is no such area")),
+    }
+}
+
+// Spells a header in its place.
+fn put_header(here: &mut Place, header: &Header) -> Result<()> {
+    let at = header_at(header.area)?;
+    match here.disk()?.write_at(at, &header.spell()) {
+        Ok(()) => Ok(()),
+        Err(_) => Err(anyhow!("the header can't be written")),
+    }
+}
+
+fn add_header(said: &mut String, header: Header) -> Result<(), AllocError> {
+    let (version, area) = (header.version, header.area);
+    let (generation, count) = (header.generation, header.count);
+    let (cells, elements, slots) = (
+        header.limits.cells,
+        header.limits.elements,
+        header.limits.slots,
+    );
+    write!(
+        said,
+        "version {version}, area {area}, generation {generation}, count {count}, "
+    )?;
+    write!(said, "sizes {cells} {elements} {slots}")
+}
+
+// The header that stands behind the gate of an area's place.
+fn header_behind_gate(disk: &mut Blind, area: u8, said: &mut String) -> Result<()> {
+    let mut bytes = [0; 64];
+    let Ok(()) = disk.read(header_at(area)?, &mut bytes) else {
+        return Err(anyhow!("the header can't be read"));
+    };
+    match Header::read(&bytes, area) {
+        Some(header) => add_header(said, header)?,
+        None => said.push_str("none")?,
+    }
+    Ok(())
+}
+
+fn header_in_force(disk: &mut Blind, said: &mut String) -> Result<(), AllocError> {
+    match read_header(disk) {
+        Ok(header) => add_header(said, header),
+        Err(refusal) => add_refusal(said, refusal),
+    }
+}
+
+// What the image means. The memory is the one that is told of from then on.
+fn inspected(alloc: Global, here: &mut Place, said: &mut String) -> Result<()> {
+    match inspect(alloc, here.disk()?) {
+        Ok(report) => {
+            let (generation, count) = (report.header.generation, report.header.count);
+            let (run, room) = (report.run, report.room);
+            write!(
+                said,
+                "generation {generation}, count {count}, run {run}, room {room}"
+            )?;
+            here.memory = Some(report.memory);
+        }
+        Err(refusal) => add_refusal(said, refusal)?,
+    }
+    Ok(())
+}
+
+/// The pages of a memory, over bytes that are none of theirs; nothing where it is of other sizes.
+pub fn area_of(alloc: Global, memory: &Memory, limits: Limits) -> Result<Vec<u8>> {
+    let mut area = vec![in alloc; 0xEE; PAGE * area_pages(limits)]?;
+    if memory.cells() != limits.cells || memory.elements() != limits.elements {
+        return Err(anyhow!("a memory of other sizes"));
+    }
+    encode(memory, limits, &mut area);
+    Ok(area)
+}
+
+fn put_pages(alloc: Global, here: &mut Place, number: u8, said: &mut String) -> Result<()> {
+    let limits = here.limits()?;
+    let Some(memory) = &here.memory else {
+        return Err(anyhow!("there is no memory"));
+    };
+    let pages = area_of(alloc, memory, limits)?;
+    if number > 1 {
+        return Err(anyhow!("there is no such area"));
+    }
+    let at = area_at(limits, number as usize);
+    match here.disk()?.write_at(at, &pages) {
+        Ok(()) => said.push_str("ok")?,
+        Err(_) => said.push_str("fault")?,
+    }
+    Ok(())
+}
+
+// Calls on headers.
+fn tell_of_headers(here: &mut Place, words: &[&str], said: &mut String) -> Result<bool> {
+    match words {
+        ["header", "at", of] => header_behind_gate(here.disk()?, area(of)?, said)?,
+        ["header", of, generation, count, cells, elements, slots] => {
+            let header = Header {
+                version: VERSION,
+                area: area(of)?,
+                generation: number(generation)?,
+                count: number(count)?,
+                limits: sizes(cells, elements, slots)?,
+            };
+            put_header(here, &header)?;
+            said.push_str("ok")?;
+        }
+        ["in", "force"] => header_in_force(here.disk()?, said)?,
+        _ => return Ok(false),
+    }
+    Ok(true)
+}
+
+/// Makes a call on the image. Whether the words name one.
+pub fn tell_of_image(
+    alloc: Global,
+    here: &mut Place,
+    words: &[&str],
+    said: &mut String,
+) -> Result<bool> {
+    match words {
+        ["layout", cells, elements, slots] => layout(sizes(cells, elements, slots)?, said)?,
+        ["image", cells, elements, slots] => {
+            image(alloc, here, sizes(cells, elements, slots)?, said)?
+        }
+        ["cut", length] => cut(alloc, here, place(length)?, said)?,
+        ["inspect"] => inspected(alloc, here, said)?,
+        ["encode", of] => put_pages(alloc, here, area(of)?, said)?,
+        _ => return tell_of_headers(here, words, said),
+    }
+    Ok(true)
+}

@@ -1,0 +1,223 @@
+//! Calls on a journal.
+//!
+//! ```text
+//! journal CELLS ELEMENTS SLOTS   a new one, of an image of these sizes
+//! append COMMAND, append fetches 1 to N    the second: element 0 fetches cell 0, by its requests 1 to N
+//! tail FROM                      reads the run from this count on
+//! command I                      the command at this place of the run that was read
+//! first, count, room, to sweep   of the journal
+//! begin later FROM               the run begins at this count
+//! sweep                          a turn of the sweep: how many gates it closed
+//! slot S COMMAND, body S COMMAND puts the slot of a command in its place by hand, or all of it but the gate
+//! spell S COMMAND                its code, and whether it is read of it again
+//! ```
+
+use crate::blind::Blind;
+use crate::commands::add_command;
+use crate::disks::add_passed;
+use crate::place::Place;
+use anyhow::{Result, anyhow};
+use im_disk::Disk;
+use im_image::journal_at;
+use im_journal::{Journal, read, spell};
+use im_story::{add_refusal, address, command, element, number, place};
+use im_types::{Command, LAST, Limits, Op, Refusal, Request};
+use std::alloc::{AllocError, Global};
+
+fn fresh(here: &mut Place, limits: Limits) {
+    here.limits = Some(limits);
+    here.journal = Some(Journal::fresh(limits));
+    here.commands = None;
+}
+
+/// Adds `ok`, or the refusal.
+pub fn add_done(said: &mut String, answer: Result<(), Refusal>) -> Result<(), AllocError> {
+    match answer {
+        Ok(()) => said.push_str("ok"),
+        Err(refusal) => add_refusal(said, refusal),
+    }
+}
+
+// The disk and the journal.
+fn both(here: &mut Place) -> Result<(&mut Blind, &mut Journal)> {
+    match (&mut here.disk, &mut here.journal) {
+        (Some(disk), Some(journal)) => Ok((disk, journal)),
+        _ => Err(anyhow!("there is no journal on a disk")),
+    }
+}
+
+fn append(here: &mut Place, command: &Command, said: &mut String) -> Result<()> {
+    let (disk, journal) = both(here)?;
+    add_done(said, journal.append(disk, command))?;
+    Ok(())
+}
+
+// Element 0 fetches cell 0, by its requests 1 to so many.
+fn append_fetches(here: &mut Place, upto: u64, said: &mut String) -> Result<()> {
+    let (disk, journal) = both(here)?;
+    for number in 0..upto {
+        let command = Command::Request(Request {
+            element: 0,
+            number: number + 1,
+            op: Op::Fetch(0),
+        });
+        if let Err(refusal) = journal.append(disk, &command) {
+            add_refusal(said, refusal)?;
+            return Ok(());
+        }
+    }
+    said.push_str("ok")?;
+    Ok(())
+}
+
+fn tail(alloc: Global, here: &mut Place, from: u64, said: &mut String) -> Result<()> {
+    let limits = here.limits()?;
+    if from > LAST {
+        return Err(anyhow!("there is no such count"));
+    }
+    match Journal::read_tail(alloc, here.disk()?, limits, from) {
+        Ok((journal, commands)) => {
+            let (count, room) = (commands.len(), journal.room());
+            write!(said, "{count} commands, room {room}")?;
+            here.journal = Some(journal);
+            here.commands = Some(commands);
+        }
+        Err(refusal) => add_refusal(said, refusal)?,
+    }
+    Ok(())
+}
+
+fn command_read(here: &Place, at: usize) -> Option<Command> {
+    match &here.commands {
+        Some(commands) => commands.get(at).copied(),
+        None => None,
+    }
+}
+
+fn begin_later(here: &mut Place, first: u64) -> Result<()> {
+    let Some(journal) = &mut here.journal else {
+        return Err(anyhow!("there is no journal"));
+    };
+    if journal.first() > first || first > journal.count() {
+        return Err(anyhow!("the run has no such command"));
+    }
+    journal.begin_later(first);
+    Ok(())
+}
+
+fn sweep(here: &mut Place, said: &mut String) -> Result<()> {
+    let (disk, journal) = both(here)?;
+    if journal.to_sweep() == 0 {
+        return Err(anyhow!("there is nothing to sweep"));
+    }
+    match journal.sweep_turn(disk) {
+        Ok(gates) => write!(said, "{gates} gates")?,
+        Err(refusal) => add_refusal(said, refusal)?,
+    }
+    Ok(())
+}
+
+// Puts what stands from this byte on in the slot of a command in its place.
+fn put_slot(
+    here: &mut Place,
+    from: usize,
+    sequence: u64,
+    words: &[&str],
+    said: &mut String,
+) -> Result<()> {
+    let limits = here.limits()?;
+    let slot = spell(&command(words)?, sequence);
+    if from > 1 {
+        return Err(anyhow!("a slot begins at its gate or at its body"));
+    }
+    let place = (sequence % limits.slots as u64) as usize;
+    let at = journal_at(limits) + 64 * place + from;
+    add_passed(said, here.disk()?.write_at(at, &slot[from..]))?;
+    Ok(())
+}
+
+// The code in the slot of a command, and whether the same command is read of it again.
+fn spelled(sequence: u64, words: &[&str], said: &mut String) -> Result<()> {
+    let command = command(words)?;
+    let slot = spell(&command, sequence);
+    let code = slot[2];
+    let again = if read(&slot) == Some(command) {
+        "again"
+    } else {
+        "as another"
+    };
+    write!(said, "code {code}, read {again}")?;
+    Ok(())
+}
+
+// What a journal knows of itself.
+fn tell_of_counts(journal: &Journal, words: &[&str], said: &mut String) -> Result<bool> {
+    match words {
+        ["first"] => {
+            let first = journal.first();
+            write!(said, "{first}")?;
+        }
+        ["count"] => {
+            let count = journal.count();
+            write!(said, "{count}")?;
+        }
+        ["room"] => {
+            let room = journal.room();
+            write!(said, "{room}")?;
+        }
+        ["to", "sweep"] => {
+            let slots = journal.to_sweep();
+            write!(said, "{slots}")?;
+        }
+        _ => return Ok(false),
+    }
+    Ok(true)
+}
+
+// Calls on slots by themselves.
+fn tell_of_slots(here: &mut Place, words: &[&str], said: &mut String) -> Result<bool> {
+    match words {
+        ["slot", sequence, rest @ ..] => put_slot(here, 0, number(sequence)?, rest, said)?,
+        ["body", sequence, rest @ ..] => put_slot(here, 1, number(sequence)?, rest, said)?,
+        ["spell", sequence, rest @ ..] => spelled(number(sequence)?, rest, said)?,
+        ["command", at] => add_command(said, command_read(here, place(at)?))?,
+        _ => match here.journal() {
+            Some(journal) => return tell_of_counts(journal, words, said),
+            None => return Ok(false),
+        },
+    }
+    Ok(true)
+}
+
+/// Sizes that there may be.
+pub fn sizes(cells: &str, elements: &str, slots: &str) -> Result<Limits> {
+    match Limits::new(address(cells)?, element(elements)?, address(slots)?) {
+        Some(limits) => Ok(limits),
+        None => Err(anyhow!("there are no such sizes")),
+    }
+}
+
+/// Makes a call on the journal. Whether the words name one.
+pub fn tell_of_journal(
+    alloc: Global,
+    here: &mut Place,
+    words: &[&str],
+    said: &mut String,
+) -> Result<bool> {
+    match words {
+        ["journal", cells, elements, slots] => {
+            fresh(here, sizes(cells, elements, slots)?);
+            said.push_str("fresh")?;
+        }
+        ["append", "fetches", "1", "to", upto] => append_fetches(here, number(upto)?, said)?,
+        ["append", rest @ ..] => append(here, &command(rest)?, said)?,
+        ["tail", from] => tail(alloc, here, number(from)?, said)?,
+        ["begin", "later", from] => {
+            begin_later(here, number(from)?)?;
+            said.push_str("ok")?;
+        }
+        ["sweep"] => sweep(here, said)?,
+        _ => return tell_of_slots(here, words, said),
+    }
+    Ok(true)
+}

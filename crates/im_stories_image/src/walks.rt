@@ -1,0 +1,167 @@
+//! A random walk over a memory, whose pages are made and read again as it goes.
+
+use crate::images::area_of;
+use anyhow::{Result, anyhow};
+use im_image::{PAGE, area_pages, decode};
+use im_memory::Memory;
+use im_types::{Command, Kind, Limits, Op, Outcome, Request};
+use std::alloc::Global;
+
+// A number behind this one, as if drawn by lot.
+fn draw(seed: u64) -> u64 {
+    seed.wrapping_mul(6_364_136_223_846_793_005)
+        .wrapping_add(1_442_695_040_888_963_407)
+}
+
+// An operation drawn by lot, on a cell up to 7.
+fn drawn_op(lot: u64) -> Op {
+    let a = ((lot >> 16) % 8) as u32;
+    match (lot >> 24) % 9 {
+        0 => Op::Alloc(Kind::I, 1 + a % 3),
+        1 => Op::Alloc(Kind::M, 1 + a % 3),
+        2 => Op::Release(a),
+        3 => Op::Store(a, lot),
+        4 => Op::Put(a, lot),
+        5 => Op::Take(a),
+        _ => Op::Fetch(a),
+    }
+}
+
+// A command drawn by lot: of one of four elements, most often its next request, else a confirmation of all.
+fn drawn(memory: &Memory, lot: u64) -> Command {
+    let element = ((lot >> 8) % 4) as u16;
+    let number = match memory.window(element) {
+        Ok((_, next)) => next,
+        Err(_) => 1,
+    };
+    if (lot >> 24) % 9 == 6 {
+        return Command::Confirm {
+            element,
+            upto: number,
+        };
+    }
+    Command::Request(Request {
+        element,
+        number,
+        op: drawn_op(lot),
+    })
+}
+
+fn has_same_waiters(memory: &Memory, other: &Memory, a: u32) -> bool {
+    for at in 0..65usize {
+        if memory.waiter(a, at) != other.waiter(a, at) {
+            return false;
+        }
+    }
+    true
+}
+
+fn have_same_cells(memory: &Memory, other: &Memory, cells: u32) -> bool {
+    for a in 0..cells {
+        if memory.cell(a) != other.cell(a)
+            || memory.block(a) != other.block(a)
+            || !has_same_waiters(memory, other, a)
+        {
+            return false;
+        }
+    }
+    true
+}
+
+fn have_same_entries(memory: &Memory, other: &Memory, element: u16) -> bool {
+    let Ok((base, next)) = memory.window(element) else {
+        return false;
+    };
+    for number in base..next {
+        if memory.kept(element, number) != other.kept(element, number) {
+            return false;
+        }
+    }
+    true
+}
+
+fn have_same_windows(memory: &Memory, other: &Memory, elements: u16) -> bool {
+    for element in 0..elements {
+        if memory.window(element) != other.window(element)
+            || !have_same_entries(memory, other, element)
+        {
+            return false;
+        }
+    }
+    true
+}
+
+// Whether the memory that the pages of a memory show has the same cells and the same windows.
+fn is_read_again(alloc: Global, memory: &Memory, limits: Limits) -> Result<bool> {
+    let area = area_of(alloc, memory, limits)?;
+    if area.len() != PAGE * area_pages(limits) {
+        return Err(anyhow!("an area of another length"));
+    }
+    let again = decode(alloc, &area, limits)?;
+    Ok(
+        have_same_cells(memory, &again, limits.cells)
+            && have_same_windows(memory, &again, limits.elements),
+    )
+}
+
+// What a walk came to.
+#[derive(Drop)]
+struct Walked {
+    accepted: u32,
+    alike: u32,
+    others: u32,
+}
+
+impl Walked {
+    fn step(&mut self, memory: &mut Memory, lot: u64) {
+        let command = drawn(memory, lot);
+        if let Ok(Outcome::Entry(_)) = memory.step(&command) {
+            self.accepted = self.accepted.saturating_add(1);
+        }
+    }
+
+    fn compare(&mut self, alloc: Global, memory: &Memory, limits: Limits) -> Result<()> {
+        if is_read_again(alloc, memory, limits)? {
+            self.alike = self.alike.saturating_add(1);
+        } else {
+            self.others = self.others.saturating_add(1);
+        }
+        Ok(())
+    }
+}
+
+/// So many commands drawn by lot. After the first of each `every` the pages of the memory are made, and read again.
+/// Tells how many memories were the same then, how many weren't, and whether more than 100 requests were accepted.
+pub fn walk(
+    alloc: Global,
+    memory: &mut Memory,
+    limits: Limits,
+    turns: u32,
+    every: u32,
+    said: &mut String,
+) -> Result<()> {
+    let mut walked = Walked {
+        accepted: 0,
+        alike: 0,
+        others: 0,
+    };
+    let mut lot = 1;
+    for turn in 0..turns {
+        lot = draw(lot);
+        walked.step(memory, lot);
+        if every != 0 && turn % every == 0 {
+            walked.compare(alloc, memory, limits)?;
+        }
+    }
+    let (alike, others) = (walked.alike, walked.others);
+    let more = if walked.accepted > 100 {
+        "more"
+    } else {
+        "no more"
+    };
+    write!(
+        said,
+        "{alike} alike, {others} not, {more} than 100 accepted"
+    )?;
+    Ok(())
+}
