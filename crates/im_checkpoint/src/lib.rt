@@ -7,7 +7,5 @@
 
 mod checkpoint;
 mod header;
-#[cfg(test)]
-mod tests;
 
 pub use checkpoint::{Checkpoint, TurnDone};

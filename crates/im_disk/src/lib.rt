@@ -10,8 +10,6 @@ mod fuse;
 mod gate;
 mod memory;
 mod record;
-#[cfg(test)]
-mod tests;
 
 pub use disk::{DeviceFault, Disk};
 pub use file::FileDisk;

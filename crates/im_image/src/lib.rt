@@ -13,8 +13,6 @@ mod layout;
 mod open_area;
 mod pages;
 mod reading;
-#[cfg(test)]
-mod tests;
 
 pub use area::{areas_show_one_memory, decode};
 pub use fresh::new_image;

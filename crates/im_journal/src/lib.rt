@@ -11,6 +11,3 @@ mod slot;
 
 pub use journal::Journal;
 pub use slot::{read, spell};
-
-#[cfg(test)]
-mod tests;
