@@ -1,4 +1,8 @@
-.PHONY: test imem demo
+.PHONY: check test imem examples demo try try-tests
+
+# What the gate can't see, in seconds: documents against the sources, links, layout, what stands twice.
+check:
+	scripts/check
 
 # The gate: every proof from nothing, the wrong bodies that the prover must refuse, and the tests.
 test:
@@ -6,12 +10,16 @@ test:
 
 # The proved program, as out/imem.
 imem:
-	cd crates/imem && rt run > /dev/null
-	mkdir -p out
-	cp crates/imem/out/imem out/imem
+	scripts/build-imem
 
-# The main job on a real file: a script, the program ended, and another script on the same image.
-demo: imem
-	out/imem format out/demo.img
-	out/imem serial out/demo.img examples/first_fetch.script
-	out/imem serial out/demo.img examples/second_fetch.script
+# The main job on a real file: scripts, the program ended between them, what it prints compared with examples/.
+examples demo: imem
+	scripts/examples
+
+# The same at first sight, with no proof.
+try:
+	scripts/examples --unproved
+
+# Every story, with no proof.
+try-tests:
+	scripts/try-stories

@@ -1,5 +1,5 @@
 -- Cells lie in blocks exactly where each block begins behind others and is whole.
-use Rattle.std.proofs.Common.{◌≡◌, ℕ, zero, suc, ◌+◌, ◌<◌, ◌≤◌, List, [], ◌∷◌, None, Some, length, refl, sym, ap, subst, ◌∙◌, arith, ⊎_elim}
+use Rattle.std.proofs.Common.{◌≡◌, ℕ, zero, suc, ◌+◌, ◌<◌, ◌≤◌, List, [], ◌∷◌, None, Some, length, refl, sym, ap, ◌∙◌, arith, ⊎_elim}
 use Rattle.std.proofs.lemmas.Bool.{cases_lt}
 use Rattle.std.proofs.lemmas.List.{get_or_past}
 use Rattle.im_types.specs.declared.TheConstants.{NONE}
@@ -34,26 +34,11 @@ in_cells cells a block e = ⊎_elim
     (λ (past : length cells ≤ a). absurd (none_some block (sym (ap block_of (get_or_past cells a (FreeCell 0 NONE) past)) ∙ e)))
     (cases_lt a (length cells))
 
--- below the first cell there is none
-pub none_below : (cells : List CellRecord) → HaveBlocksBelow cells 0
-none_below cells a block lt here = absurd (omega arith)
-
 -- a free cell is no part of a block
 pub free_below : (cells : List CellRecord) (place : ℕ) → HaveBlocksBelow cells place → None ≡ block_in cells place → HaveBlocksBelow cells (place + 1)
 free_below cells place below free a block lt here = ⊎_elim
     (λ (less : a < place). let e = below a block less here in record { from = e.from; to = e.to; end = omega (arith, e.end); whole = e.whole })
     (λ (past : place ≤ a). absurd (none_some block (free ∙ ap (block_in cells) (let same : place ≡ a = omega arith in same) ∙ here)))
-    (cases_lt a place)
-
-same_block : (block other : Block) → Some block ≡ Some other → block ≡ other
-same_block block other same = cc
-
--- a whole block behind others
-pub block_below : (cells : List CellRecord) (place : ℕ) (block : Block) → HaveBlocksBelow cells place → IsBlockAt cells place block → HaveBlocksBelow cells (place + block.length)
-block_below cells place block below it a other lt here = ⊎_elim
-    (λ (less : a < place). let e = below a other less here in record { from = e.from; to = e.to; end = omega (arith, e.end); whole = e.whole })
-    (λ (past : place ≤ a). subst (λ (b : Block). EndsBefore cells (place + block.length) a b) (same_block block other (sym (it.whole a (omega (arith, it.from)) (omega (arith, it.from))) ∙ here))
-    (record { from = omega (arith, it.from); to = omega (arith, it.from); end = omega (arith, it.from); whole = it.whole }))
     (cases_lt a place)
 
 -- where cells lie in blocks, the first cell behind some of them begins one

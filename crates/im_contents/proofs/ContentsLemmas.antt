@@ -10,7 +10,6 @@ use Rattle.im_types.specs.Agreement.{WaitersAgree}
 use Rattle.im_types.specs.Layout.{Sizes}
 use Rattle.im_types.specs.Chains.{ShowLists}
 use Rattle.im_types.specs.Pages.{Records, ShowsRecords, cells_shown}
-use Rattle.im_contents.specs.Marking.{AreFew}
 use Rattle.im_contents.specs.Parts.{AreWindows, HaveParts}
 use Rattle.im_contents.proofs.BlockLemmas.{length-cells_shown, blocks_of_others}
 use Rattle.im_contents.proofs.ListLemmas.{lists_unique}
@@ -24,9 +23,6 @@ one_more P xs n x is here before = λ i y lt there. ⊎_elim
     let same : i ≡ n = omega arith in
     subst P (is ∙ ap (λ (k : ℕ). get_or xs k x) (sym same) ∙ get_or_from_slice_get xs i y x there) here)
     (cases_lt i n)
-
-pub few_of : (windows : List Window) → AreWindows windows → AreFew windows
-few_of windows within = λ element w there. (within element w there).few
 
 module _ (s : Sizes) (r : Records) where
   -- the memory that the records and lists stand for

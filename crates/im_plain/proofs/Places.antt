@@ -12,10 +12,6 @@ shift : (o : Option ℕ) (base : ℕ) → option_map (λ b. base + b) (option_ma
 shift None base = refl
 shift (Some b) base = ap Some (omega arith)
 
-option_map-zero : (o : Option ℕ) → o ≡ option_map (λ b. 0 + b) o
-option_map-zero None = refl
-option_map-zero (Some b) = ap Some (omega arith)
-
 module _ {X : Type 0} where
   take-length : (xs : List X) → take (length xs) xs ≡ xs
   take-length [] = refl
@@ -52,10 +48,6 @@ module _ {X : Type 0} where
       let e : n - i ≡ suc (n - suc i) = omega arith in
       rw (e, drop-cons xs i d within, add-one) (begins_free-cons (n - suc i) (get_or xs i d) (drop (suc i) xs) free)
 
-  place-here : (n : ℕ) (xs : List (Option X)) → 0 < length xs → begins_free n xs ≡ true → place n xs ≡ Some 0
-  place-here n [] h e = absurd (omega arith)
-  place-here n (x ∷ xs) h e = ap (λ b. cond b (Some 0) (option_map suc (place n xs))) e
-
   place-later : (n : ℕ) (x : Option X) (xs : List (Option X)) → begins_free n (x ∷ xs) ≡ false → place n (x ∷ xs) ≡ option_map suc (place n xs)
   place-later n x xs e = ap (λ b. cond b (Some 0) (option_map suc (place n xs))) e
 
@@ -63,27 +55,11 @@ module _ {X : Type 0} where
   abbrev pub place_from : ℕ → ℕ → List (Option X) → Option ℕ
   place_from base n xs = option_map (λ b. base + b) (place n (drop base xs))
 
-  pub place_from-here : (base n : ℕ) (xs : List (Option X)) → base < length xs → begins_free n (drop base xs) ≡ true → place_from base n xs ≡ Some base
-  place_from-here base n xs within e =
-      ap (option_map (λ b. base + b)) (place-here n (drop base xs) (rw (drop-cons xs base None within) (omega arith)) e) ∙ ap Some (omega arith)
-
   pub place_from-later : (base n : ℕ) (xs : List (Option X)) → base < length xs → begins_free n (drop base xs) ≡ false → place_from base n xs ≡ place_from (base + 1) n xs
   place_from-later base n xs within e =
       let cut = drop-cons xs base None within in
       ap (option_map (λ b. base + b)) (ap (place n) cut ∙ place-later n (get_or xs base None) (drop (suc base) xs) (ap (begins_free n) (sym cut) ∙ e))
       ∙ shift (place n (drop (suc base) xs)) base ∙ ap (λ k. place_from k n xs) (sym (add-one base))
-
-  pub place_from-end : (base n : ℕ) (xs : List (Option X)) → length xs ≤ base → place_from base n xs ≡ None
-  place_from-end base n xs past = ap (λ ys. option_map (λ b. base + b) (place n ys)) (drop_past base xs past)
-    where
-      drop_past : (i : ℕ) (xs : List (Option X)) → length xs ≤ i → drop i xs ≡ []
-      drop_past zero [] past = refl
-      drop_past (suc i) [] past = refl
-      drop_past zero (x ∷ xs) past = absurd (omega arith)
-      drop_past (suc i) (x ∷ xs) past = drop_past i xs (omega arith)
-
-  pub place_from-start : (n : ℕ) (xs : List (Option X)) → place n xs ≡ place_from 0 n xs
-  place_from-start n xs = option_map-zero (place n xs)
 
   pub fill-none : (xs : List (Option X)) (base : ℕ) (x : Option X) → xs ≡ fill xs base 0 x
   fill-none [] base x = refl

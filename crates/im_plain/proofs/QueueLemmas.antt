@@ -1,5 +1,5 @@
 -- Those that wait at a cell, found in the one queue.
-use Rattle.std.proofs.Common.{◌≡◌, ◌≢◌, ℕ, zero, suc, ◌+◌, ◌<◌, List, [], ◌∷◌, ◌++◌, length, get_or, take, drop, Bool, true, false, cond, refl, sym, ap, ◌∙◌, arith}
+use Rattle.std.proofs.Common.{◌≡◌, ◌≢◌, ℕ, zero, suc, List, [], ◌∷◌, ◌++◌, drop, Bool, true, false, cond, refl, sym, ap, ◌∙◌, arith}
 use Rattle.std.specs.Prelude.{◌==◌}
 use Rattle.std.proofs.lemmas.Bool.Decides.{nat_tests}
 use Rattle.im_types.specs.declared.operations.Waiter.{Waiter}
@@ -11,24 +11,6 @@ use Rattle.im_plain.specs.Waiting.{waiting_at, without, parked, with_asker}
 -- one more that waits, if it is here
 abbrev pub and_waits : Bool → Waiter → List Waiter → List Waiter
 and_waits b who waiters = cond b (who ∷ waiters) waiters
-
--- the queue from a place on, by what stands there
-pub waiting_at-drop : (a : ℕ) (queue : List Deferred) (i : ℕ) (d : Deferred) → i < length queue → (b : Bool) → ((get_or queue i d).address == a) ≡ b
-    → waiting_at a (drop i queue) ≡ and_waits b (get_or queue i d).waiter (waiting_at a (drop (i + 1) queue))
-waiting_at-drop a queue i d h b e = ap (waiting_at a) (cut queue i h) ∙ ap (λ t. and_waits t (get_or queue i d).waiter (waiting_at a (drop (i + 1) queue))) e
-  where
-    cut : (queue : List Deferred) (i : ℕ) → i < length queue → drop i queue ≡ get_or queue i d ∷ drop (i + 1) queue
-    cut [] i h = absurd (omega arith)
-    cut (x ∷ queue) zero h = refl
-    cut (x ∷ queue) (suc i) h = let e : suc (i + 1) ≡ suc i + 1 = omega arith in cut queue i (omega arith) ∙ ap (λ n. get_or queue i d ∷ drop n (x ∷ queue)) e
-
-pub without-skip : (a : ℕ) (queue : List Deferred) (i : ℕ) (d : Deferred) → i < length queue → ((get_or queue i d).address == a) ≡ false
-    → take i queue ++ without 1 a (drop i queue) ≡ take (i + 1) queue ++ without 1 a (drop (i + 1) queue)
-without-skip a [] i d h e = absurd (omega arith)
-without-skip a (x ∷ queue) zero d h e = ap (λ t. cond t (without 0 a queue) (x ∷ without 1 a queue)) e
-without-skip a (x ∷ queue) (suc i) d h e =
-    let same : suc (i + 1) ≡ suc i + 1 = omega arith in
-    ap (λ xs. x ∷ xs) (without-skip a queue i d (omega arith) e) ∙ ap (λ n. take n (x ∷ queue) ++ without 1 a (drop n (x ∷ queue))) same
 
 -- those that wait at the cell, after the first ones left
 pub waiting_at-without : (n a : ℕ) (queue : List Deferred) → waiting_at a (without n a queue) ≡ drop n (waiting_at a queue)

@@ -14,7 +14,7 @@ use Rattle.im_types.specs.Contents.{Held, Window, held_at, kept_for}
 use Rattle.im_types.specs.Window.{judge, answer_at, answer_in, answer, is_waiting}
 use Rattle.im_types.specs.Agreement.{same_waiter, times, waits_in, WaitersAgree}
 use Rattle.im_types.specs.Memory.{IsWindow}
-use Rattle.im_laws.proofs.Tests.{true_or_false, some_same}
+use Rattle.im_laws.proofs.Tests.{true_or_false}
 use Rattle.im_laws.proofs.WindowLemmas.{kept_under-from, window_at, kept_for-here, kept_for-window}
 use Rattle.im_laws.proofs.AgreementLemmas.{one_if, same_waiter-equal, same_waiter-self, waits_in-other, waits_for-kept}
 use Rattle.im_laws.proofs.StepLemmas.{judge-fresh, answer-other}
@@ -198,13 +198,4 @@ room-fresh slots queue capacity windows makes r fresh =
     let all = length-queue (joined slots queue) queue windows (agrees-AreAwaited slots queue windows makes.fits makes.memory.agrees) in
     let less = waiting_counts-less windows makes.memory.windows r.element next.window next.there next.room in
     let room = makes.room in
-    omega arith
-
--- and its window has
-pub window_room-fresh : (windows : List Window) (r : Request) → judge windows r ≡ Ok Fresh → (w : Window) → slice_get windows r.element ≡ Some w → length w.kept < WINDOW
-window_room-fresh windows r fresh w at =
-    let next = judge-fresh windows r fresh in
-    let room = next.room in
-    let same : Some next.window ≡ Some w = sym next.there ∙ at in
-    let kept : length next.window.kept ≡ length w.kept = ap (λ (w : Window). length w.kept) (some_same next.window w same) in
     omega arith

@@ -5,8 +5,8 @@ use Rattle.std.specs.Char.{digit_value, is_ascii_digit}
 use Rattle.std.specs.Option.{option_and_then}
 use Rattle.std.specs.Str.{all_ascii_digits}
 use Rattle.std.specs.Str.Parse.{digits_value_after}
-use Rattle.std.proofs.lemmas.Bool.{cases_Bool, cases_lt, leb-true, and_parts, lt-ltb, le-ltb, le-leb, lt-leb, and_right, cond-true, cond-false}
-use Rattle.std.proofs.lemmas.List.{at_drop_more, at_drop_all}
+use Rattle.std.proofs.lemmas.Bool.{cases_Bool, cases_lt, leb-true, and_parts, lt-ltb, le-ltb, lt-leb, and_right, cond-false}
+use Rattle.std.proofs.lemmas.List.{at_drop_more}
 use Rattle.std.proofs.lemmas.Str.{digit_value_digit}
 use Rattle.im_script.specs.Grammar.{digit_after, number_up_to}
 
@@ -66,16 +66,3 @@ pub number_stops : (most n i : ℕ) (text : List ℕ) → most < 2 ^ 64 → i < 
 number_stops most n i text limit inside so_far none =
     entry most text (omega arith) ∙ sym so_far ∙ at_drop_more (number_past most n) text i 0 inside ∙ number_step most n (get_or text i 0) (drop (i + 1) text) limit
     ∙ ap (option_and_then (λ m. number_past most m (drop (i + 1) text))) none
-
--- it goes on past a byte
-pub number_goes_on : (most n m i : ℕ) (text : List ℕ) → most < 2 ^ 64 → i < length text → number_past most n (drop i text) ≡ number_past most 0 text → digit_after n (get_or text i 0) ≡ Some m → number_past most m (drop (i + 1) text) ≡ number_past most 0 text
-number_goes_on most n m i text limit inside so_far some =
-    sym (at_drop_more (number_past most n) text i 0 inside ∙ number_step most n (get_or text i 0) (drop (i + 1) text) limit
-    ∙ ap (option_and_then (λ m. number_past most m (drop (i + 1) text))) some) ∙ so_far
-
--- it ends with the number
-pub number_ends : (most n i : ℕ) (text : List ℕ) → 0 < length text → length text ≤ i → number_past most n (drop i text) ≡ number_past most 0 text → n ≤ most → number_up_to most text ≡ Some n
-number_ends most n i text full all so_far small = entry most text full ∙ sym so_far ∙ at_drop_all (number_past most n) text i all ∙ cond-true _ _ _ (le-leb n most small)
-
-pub number_too_large : (most n i : ℕ) (text : List ℕ) → 0 < length text → length text ≤ i → number_past most n (drop i text) ≡ number_past most 0 text → most < n → number_up_to most text ≡ None
-number_too_large most n i text full all so_far large = entry most text full ∙ sym so_far ∙ at_drop_all (number_past most n) text i all ∙ cond-false _ _ _ (lt-leb n most large)
