@@ -5,3 +5,4 @@ pub mod Records
 pub mod Headers
 pub mod Sessions
 mod Vectors
+mod Counterexamples

@@ -11,3 +11,4 @@ pub mod TakeLaw
 pub mod AllLives
 pub mod AllEntries
 pub mod Laws
+mod Counterexamples

@@ -44,7 +44,7 @@ request : ℕ → ℕ → Op → Request
 request element number op = record { element = element; number = number; op = op }
 
 -- memories: that of each trace is one
-end_of-memory : (trace : List Line) → IsMemory 16 16 (end_of sixteen_cells trace)
+pub end_of-memory : (trace : List Line) → IsMemory 16 16 (end_of sixteen_cells trace)
 end_of-memory trace = subst (IsMemory 16 16) (sym (end_of-commands sixteen_cells trace)) (after-memory 16 16 sixteen_cells (commands_of trace) (empty-memory 16 16))
 
 waiting-memory : IsMemory 16 16 waiting

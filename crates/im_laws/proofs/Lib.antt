@@ -21,3 +21,5 @@ pub mod AllocateLemmas
 pub mod CellLemmas
 pub mod RefusalLemmas
 pub mod Instances
+mod Counterexamples
+mod Plans

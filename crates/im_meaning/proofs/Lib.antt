@@ -1,3 +1,4 @@
 pub mod Headers
 pub mod Writes
 pub mod Meanings
+mod Counterexamples
