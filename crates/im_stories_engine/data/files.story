@@ -176,6 +176,19 @@ each 33 to 33 as 00 01 ff = count 0 room 16, refused 12 WrongLength, refused 14 
 each 34 to 63 as 00 01 ff = count 0 room 16, refused 14 BadHeader, refused 14 BadHeader
 each 64 to 69 as 00 01 ff = count 0 room 16, count 0 room 16, count 0 room 16
 each 4096 to 4159 as 00 01 ff = count 0 room 16, count 0 room 16, count 0 room 16
+-- The values where the answer changes, and those beside them.
+each 0 to 0 as a4 a5 a6 = refused 13 NoHeader, count 0 room 16, refused 13 NoHeader
+each 4 to 4 as 48 49 4a = refused 14 BadHeader, count 0 room 16, refused 14 BadHeader
+each 5 to 5 as 4c 4d 4e = refused 14 BadHeader, count 0 room 16, refused 14 BadHeader
+each 6 to 6 as 44 45 46 = refused 14 BadHeader, count 0 room 16, refused 14 BadHeader
+each 7 to 7 as 4c 4d 4e = refused 14 BadHeader, count 0 room 16, refused 14 BadHeader
+each 15 to 15 as 3f 40 = count 0 room 16, refused 14 BadHeader
+each 23 to 23 as 3f 40 41 = count 4539628424389459968 room 16, count 4611686018427387904 room 0, refused 14 BadHeader
+each 24 to 24 as 80 81 = refused 15 BadPage, refused 12 WrongLength
+each 28 to 28 as 02 04 05 40 = refused 15 BadPage, refused 15 BadPage, refused 12 WrongLength, refused 12 WrongLength
+each 28 to 28 as 41 = refused 14 BadHeader
+each 32 to 32 as 0f 10 11 = refused 14 BadHeader, count 0 room 16, refused 12 WrongLength
+each 33 to 33 as 0f 10 = refused 12 WrongLength, refused 14 BadHeader
 
 # Each byte of a slot counts
 -- The slot of an allocation of one cell by request 0.1, where any one of its bytes is 0, 1 or 255.
