@@ -1,6 +1,6 @@
 # A fetch comes before its store
 -- An I cell is written at most once. A fetch that comes too early is deferred, and the store answers it.
-format 4096 16 256 = formatted
+format 4096 16 256 in 327680 bytes = formatted
 0.1 alloc i 2 = base 0
 1.1 fetch 0 = waiting
 2.1 store 0 42 = stored
@@ -30,6 +30,7 @@ waiting 0 =
 collect 1.1 = value 7
 collect 2.1 = value 7
 collect 1.2 = value 7
+cell 0 = full 7 in block 0 of 1 i
 count = 5
 room = 251
 failed = false
@@ -78,13 +79,21 @@ format 4096 16 256 = formatted
 0.1 alloc i 1 = base 0
 1.1 fetch 0 = waiting
 0.2 release 0 = stillwaiting
+-- The block is still there, and the fetch waits at its cell as before.
+cell 0 = waiting in block 0 of 1 i
+waiting 0 = 1.1
+collect 1.1 = waiting
 2.1 store 0 9 = stored
 0.3 release 0 = released
+cell 0 = in no block
 -- A repeat is answered as at first. The fetch was answered before its block went.
 0.2 release 0 = stillwaiting
 1.2 fetch 0 = nocell
+collect 1.1 = value 9
 0.4 alloc i 1 = base 0
+-- What was answered stands. The new block's cell is another one, at which a new fetch waits.
 1.3 fetch 0 = waiting
+waiting 0 = 1.3
 collect 1.1 = value 9
 
 # Blocks and addresses have edges
@@ -97,13 +106,13 @@ format 4096 16 256 = formatted
 1.2 fetch 4294967295 = nocell
 
 # The greatest memory serves
-format 65536 64 4096 = formatted
+format 65536 64 4096 in 4628480 bytes = formatted
 0.1 alloc i 65536 = base 0
 63.1 store 65535 18446744073709551615 = stored
 63.2 fetch 65535 = value 18446744073709551615
 
 # The least memory serves
-format 1 1 16 = formatted
+format 1 1 16 in 33792 bytes = formatted
 0.1 alloc i 1 = base 0
 0.2 fetch 0 = waiting
 0.3 store 0 0 = stored

@@ -59,6 +59,25 @@ bytes 8208 4 = 02000000
 bytes 139296 4 = ffffffff
 with 139296:00 139297:00 139298:00 139299:00 = refused 15 BadPage
 
+# A list that leads back to its first node is a bad page of the area that a checkpoint brought into force
+format 4096 16 256 = formatted
+0.1 alloc i 1 = base 0
+1.1 fetch 0 = waiting
+2.1 fetch 0 = waiting
+1.2 fetch 0 = waiting
+turns 43 = began, page 0 to 36, synced, in force, 2 swept, idle; room 40x252 255 2x256
+close = closed
+bytes 4096 2 = a501
+with = count 4 room 256
+-- Area 1 stands behind the 37 pages of area 0. The first and the last node of cell 0 are 0 and 2, and the last leads to
+-- none.
+bytes 159756 4 = 00000000
+bytes 159760 4 = 02000000
+bytes 290848 4 = ffffffff
+with 290848:00 290849:00 290850:00 290851:00 = refused 15 BadPage
+-- The same bytes of area 0, which isn't in force any more.
+with 139296:00 139297:00 139298:00 139299:00 = count 4 room 256
+
 # A damaged header is told
 format 1 1 16 = formatted
 close = closed
@@ -100,6 +119,19 @@ with 8200:00 8201:00 8202:00 8203:00 = count 0 room 16
 with 8192:01 8193:01 8196:00 8200:02 8201:00 8202:00 8203:00 = refused 15 BadPage
 with 16392:11 = refused 15 BadPage
 with 20480:01 = count 0 room 16
+
+# A hole that leads to itself shows the empty memory
+-- The link of a free cell may be any address. The first cell is given out as ever.
+format 1 1 16 = formatted
+close = closed
+damage 8200:00 8201:00 8202:00 8203:00 = done
+open = opened
+count = 0
+room = 16
+cell 0 = in no block
+window 0 = 1 1
+0.1 alloc i 1 = base 0
+0.2 alloc i 1 = nospace
 
 # A damaged journal is told
 format 1 1 16 = formatted
@@ -144,6 +176,19 @@ each 33 to 33 as 00 01 ff = count 0 room 16, refused 12 WrongLength, refused 14 
 each 34 to 63 as 00 01 ff = count 0 room 16, refused 14 BadHeader, refused 14 BadHeader
 each 64 to 69 as 00 01 ff = count 0 room 16, count 0 room 16, count 0 room 16
 each 4096 to 4159 as 00 01 ff = count 0 room 16, count 0 room 16, count 0 room 16
+-- The values where the answer changes, and those beside them.
+each 0 to 0 as a4 a5 a6 = refused 13 NoHeader, count 0 room 16, refused 13 NoHeader
+each 4 to 4 as 48 49 4a = refused 14 BadHeader, count 0 room 16, refused 14 BadHeader
+each 5 to 5 as 4c 4d 4e = refused 14 BadHeader, count 0 room 16, refused 14 BadHeader
+each 6 to 6 as 44 45 46 = refused 14 BadHeader, count 0 room 16, refused 14 BadHeader
+each 7 to 7 as 4c 4d 4e = refused 14 BadHeader, count 0 room 16, refused 14 BadHeader
+each 15 to 15 as 3f 40 = count 0 room 16, refused 14 BadHeader
+each 23 to 23 as 3f 40 41 = count 4539628424389459968 room 16, count 4611686018427387904 room 0, refused 14 BadHeader
+each 24 to 24 as 80 81 = refused 15 BadPage, refused 12 WrongLength
+each 28 to 28 as 02 04 05 40 = refused 15 BadPage, refused 15 BadPage, refused 12 WrongLength, refused 12 WrongLength
+each 28 to 28 as 41 = refused 14 BadHeader
+each 32 to 32 as 0f 10 11 = refused 14 BadHeader, count 0 room 16, refused 12 WrongLength
+each 33 to 33 as 0f 10 = refused 12 WrongLength, refused 14 BadHeader
 
 # Each byte of a slot counts
 -- The slot of an allocation of one cell by request 0.1, where any one of its bytes is 0, 1 or 255.
@@ -208,11 +253,49 @@ format 1 1 16 = formatted
 close = closed
 damage 23:40 = done
 open = opened
+count = 4611686018427387904
+room = 0
 0.1 fetch 0 = refused 7 JournalFull
+-- Nothing is to be swept, and nothing to be checkpointed.
+turn = idle
 
 # No command goes over a stale slot
 format 1 1 16 = formatted
 close = closed
 damage 33088:a5 33096:05 16:15 = done
 open = opened
+count = 21
+room = 0
 0.1 fetch 0 = refused 7 JournalFull
+-- All sixteen slots are swept, three by a turn: the stale one is the first.
+turn = swept
+room = 3
+turns 6 = 5 swept, idle; room 6 9 12 15 2x16
+0.1 fetch 0 = nocell
+count = 22
+room = 15
+close = closed
+bytes 33088 2 = a501
+bytes 33096 1 = 15
+
+# There is room again behind the first turn that sweeps
+-- The same image, and a command behind each turn.
+format 1 1 16 = formatted
+close = closed
+damage 33088:a5 33096:05 16:15 = done
+open = opened
+0.1 fetch 0 = refused 7 JournalFull
+turn = swept
+room = 3
+3 times 0.1 fetch 0 = 3 nocell
+room = 0
+0.4 fetch 0 = refused 7 JournalFull
+turn = swept
+room = 3
+2 times 0.4 fetch 0 = 2 nocell
+count = 26
+room = 1
+close = closed
+open = opened
+count = 26
+room = 11

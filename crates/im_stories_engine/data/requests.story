@@ -45,9 +45,15 @@ confirm 1 18 = refused 1 Gap
 confirm 1 17 = confirmed
 1.1 fetch 0 = refused 2 Forgotten
 1.17 fetch 0 = value 8
+count = 20
+room = 236
+window 1 = 17 18
 -- A confirmation that forgets nothing isn't counted.
 confirm 1 1 = confirmed
 count = 20
+room = 236
+window 1 = 17 18
+collect 1.17 = value 8
 
 # A confirmation stands in its slot
 format 4096 16 256 = formatted

@@ -19,9 +19,11 @@ close = closed
 calls = 29
 
 # A full journal is emptied by 46 turns
-format 4096 16 16 = formatted
+format 4096 16 16 in 312320 bytes = formatted
 16 times 1.1 fetch 0 = 16 nocell
+room = 0
 2.1 fetch 0 = refused 7 JournalFull
+collect 2.1 = refused 1 Gap
 count = 16
 -- There is no room before the first sweep. An area has 37 pages.
 turns 47 = began, page 0 to 36, synced, in force, 6 swept, idle; room 40x0 3 6 9 12 15 2x16

@@ -86,6 +86,8 @@ with 24:02 inspect = refused 15 BadPage
 with 28:02 inspect = refused 15 BadPage
 -- A hole that leads to itself, half a block, and 17 entries.
 with 8200:00 8201:00 8202:00 8203:00 inspect = generation 1, count 0, run 0, room 16
+block 0 = none
+window 0 = 1 1
 with 8192:01 8193:01 8200:02 8201:00 8202:00 8203:00 inspect = refused 15 BadPage
 with 16392:11 inspect = refused 15 BadPage
 -- An open gate ahead of the count, one behind it, and a slot behind that one that isn't stale.

@@ -7,6 +7,12 @@ printed 0 = version 1
 printed 1 = limits 4096 16 256
 printed 2 = header 0 generation 1 area 0 count 0
 printed 3 = journal 0 room 256
+-- Gate, area, version, IMEM; generation; count; cells, elements; slots. Then the gate of the other header.
+bytes 0 16 = a5 00 01 00 49 4d 45 4d 01 00 00 00 00 00 00 00
+bytes 16 16 = 00 00 00 00 00 00 00 00 00 10 00 00 10 00 00 00
+bytes 32 16 = 00 01 00 00 00 00 00 00 00 00 00 00 00 00 00 00
+bytes 48 16 = 00 00 00 00 00 00 00 00 00 00 00 00 00 00 00 00
+bytes 4096 1 = 00
 
 # A fetch and a store are told, and no byte is changed
 disk 327680 = 327680 bytes
@@ -151,6 +157,145 @@ inspect = 1
 printed = 1 lines
 printed 0 = refused 15 BadPage
 
+# In an image of the default sizes too those who wait are told in their order
+-- The same memory. Its cells have 32 pages, its nodes one, and its windows four.
+disk 327680 = 327680 bytes
+format 4096 16 256 = formatted
+write 16 04 00 00 00 00 00 00 00 = 00 00 00 00 00 00 00 00
+write 8192 02 01 00 00 00 00 00 00 = 00 00 00 00 00 00 00 00
+write 8200 01 00 00 00 00 00 00 00 = ff ff ff ff ff ff ff ff
+write 8208 02 00 00 00 = ff ff ff ff
+write 139264 01 00 00 00 01 00 01 00 = ff ff ff ff 00 00 00 00
+write 139272 01 00 00 00 00 00 00 00 = 00 00 00 00 00 00 00 00
+write 139280 02 00 00 00 02 00 01 00 = ff ff ff ff 00 00 00 00
+write 139288 01 00 00 00 00 00 00 00 = 00 00 00 00 00 00 00 00
+write 139296 ff ff ff ff 01 00 01 00 = ff ff ff ff 00 00 00 00
+write 139304 02 00 00 00 00 00 00 00 = 00 00 00 00 00 00 00 00
+write 143368 01 = 00
+write 143424 01 00 01 00 01 00 00 00 = 00 00 00 00 00 00 00 00
+write 144392 02 = 00
+write 144448 04 = 00
+write 144480 04 = 00
+write 145416 01 = 00
+write 145472 04 = 00
+count = 4
+inspect = 0
+printed = 13 lines
+printed 0 = version 1
+printed 1 = limits 4096 16 256
+printed 2 = header 0 generation 1 area 0 count 4
+printed 3 = journal 0 room 256
+printed 4 = block 0 i 1
+printed 5 = cell 0 waiting 1.1 2.1 1.2
+printed 6 = element 0 base 1 kept 1
+printed 7 = entry 0.1 alloc i 1 -> base 0
+printed 8 = element 1 base 1 kept 2
+printed 9 = entry 1.1 fetch 0 -> waiting
+printed 10 = entry 1.2 fetch 0 -> waiting
+printed 11 = element 2 base 1 kept 1
+printed 12 = entry 2.1 fetch 0 -> waiting
+-- Now node 2 leads to node 0.
+write 139296 00 00 00 00 = ff ff ff ff
+inspect = 1
+printed = 1 lines
+printed 0 = refused 15 BadPage
+
+# A journal that has wrapped three times is told
+-- Sixteen commands of each of three elements, and two more, in sixteen slots.
+disk 312320 = 312320 bytes
+format 4096 16 16 = formatted
+script element 1 / = 1 lines
+repeat 16 fetch 0 / = 17 lines
+script element 2 / = 18 lines
+repeat 16 fetch 0 / = 34 lines
+script element 3 / = 35 lines
+repeat 16 fetch 0 / = 51 lines
+script element 4 / fetch 0 / fetch 0 / = 54 lines
+read = 0 blocks, 4 parts, 50 requests
+serve = 0
+printed = 50 lines
+printed 0 to 15 = 1.1 to 1.16 nocell
+printed 16 to 31 = 2.1 to 2.16 nocell
+printed 32 to 47 = 3.1 to 3.16 nocell
+printed 48 to 49 = 4.1 to 4.2 nocell
+-- The first slot has an open gate and sequence number 48.
+bytes 311296 1 = a5
+bytes 311304 8 = 30 00 00 00 00 00 00 00
+-- Three slots were swept for the last two commands. The other thirteen are swept here: each gate is closed.
+write 311488 00 = a5
+write 311552 00 = a5
+write 311616 00 = a5
+write 311680 00 = a5
+write 311744 00 = a5
+write 311808 00 = a5
+write 311872 00 = a5
+write 311936 00 = a5
+write 312000 00 = a5
+write 312064 00 = a5
+write 312128 00 = a5
+write 312192 00 = a5
+write 312256 00 = a5
+inspect = 0
+printed = 58 lines
+printed 0 = version 1
+printed 1 = limits 4096 16 16
+printed 2 = header 1 generation 4 area 1 count 48
+printed 3 = journal 2 room 14
+printed 4 = element 1 base 1 kept 16
+printed 5 = entry 1.1 fetch 0 -> nocell
+printed 6 = entry 1.2 fetch 0 -> nocell
+printed 7 = entry 1.3 fetch 0 -> nocell
+printed 8 = entry 1.4 fetch 0 -> nocell
+printed 9 = entry 1.5 fetch 0 -> nocell
+printed 10 = entry 1.6 fetch 0 -> nocell
+printed 11 = entry 1.7 fetch 0 -> nocell
+printed 12 = entry 1.8 fetch 0 -> nocell
+printed 13 = entry 1.9 fetch 0 -> nocell
+printed 14 = entry 1.10 fetch 0 -> nocell
+printed 15 = entry 1.11 fetch 0 -> nocell
+printed 16 = entry 1.12 fetch 0 -> nocell
+printed 17 = entry 1.13 fetch 0 -> nocell
+printed 18 = entry 1.14 fetch 0 -> nocell
+printed 19 = entry 1.15 fetch 0 -> nocell
+printed 20 = entry 1.16 fetch 0 -> nocell
+printed 21 = element 2 base 1 kept 16
+printed 22 = entry 2.1 fetch 0 -> nocell
+printed 23 = entry 2.2 fetch 0 -> nocell
+printed 24 = entry 2.3 fetch 0 -> nocell
+printed 25 = entry 2.4 fetch 0 -> nocell
+printed 26 = entry 2.5 fetch 0 -> nocell
+printed 27 = entry 2.6 fetch 0 -> nocell
+printed 28 = entry 2.7 fetch 0 -> nocell
+printed 29 = entry 2.8 fetch 0 -> nocell
+printed 30 = entry 2.9 fetch 0 -> nocell
+printed 31 = entry 2.10 fetch 0 -> nocell
+printed 32 = entry 2.11 fetch 0 -> nocell
+printed 33 = entry 2.12 fetch 0 -> nocell
+printed 34 = entry 2.13 fetch 0 -> nocell
+printed 35 = entry 2.14 fetch 0 -> nocell
+printed 36 = entry 2.15 fetch 0 -> nocell
+printed 37 = entry 2.16 fetch 0 -> nocell
+printed 38 = element 3 base 1 kept 16
+printed 39 = entry 3.1 fetch 0 -> nocell
+printed 40 = entry 3.2 fetch 0 -> nocell
+printed 41 = entry 3.3 fetch 0 -> nocell
+printed 42 = entry 3.4 fetch 0 -> nocell
+printed 43 = entry 3.5 fetch 0 -> nocell
+printed 44 = entry 3.6 fetch 0 -> nocell
+printed 45 = entry 3.7 fetch 0 -> nocell
+printed 46 = entry 3.8 fetch 0 -> nocell
+printed 47 = entry 3.9 fetch 0 -> nocell
+printed 48 = entry 3.10 fetch 0 -> nocell
+printed 49 = entry 3.11 fetch 0 -> nocell
+printed 50 = entry 3.12 fetch 0 -> nocell
+printed 51 = entry 3.13 fetch 0 -> nocell
+printed 52 = entry 3.14 fetch 0 -> nocell
+printed 53 = entry 3.15 fetch 0 -> nocell
+printed 54 = entry 3.16 fetch 0 -> nocell
+printed 55 = element 4 base 1 kept 2
+printed 56 = entry 4.1 fetch 0 -> nocell
+printed 57 = entry 4.2 fetch 0 -> nocell
+
 # A header that is closed, or isn't spelled as it should be, is refused
 -- The gate.
 disk 33792 = 33792 bytes
@@ -173,6 +318,35 @@ write 36 01 = 00
 inspect = 1
 printed = 1 lines
 printed 0 = refused 14 BadHeader
+write 36 00 = 01
+-- The other area.
+write 1 01 = 00
+inspect = 1
+printed = 1 lines
+printed 0 = refused 14 BadHeader
+write 1 00 = 01
+-- No generation, and one past the last.
+write 8 00 = 01
+inspect = 1
+printed = 1 lines
+printed 0 = refused 14 BadHeader
+write 8 01 = 00
+write 15 40 = 00
+inspect = 1
+printed = 1 lines
+printed 0 = refused 14 BadHeader
+write 15 00 = 40
+-- No cell, and a slot too few.
+write 24 00 = 01
+inspect = 1
+printed = 1 lines
+printed 0 = refused 14 BadHeader
+write 24 01 = 00
+write 32 0f = 10
+inspect = 1
+printed = 1 lines
+printed 0 = refused 14 BadHeader
+write 32 10 = 0f
 
 # A header of other sizes is refused
 -- 17 slots take a longer file.
@@ -189,8 +363,77 @@ write 24 02 = 01
 inspect = 1
 printed = 1 lines
 printed 0 = refused 15 BadPage
+write 24 01 = 02
+-- Or for 2 elements, but no window of the second.
+write 28 02 = 01
+inspect = 1
+printed = 1 lines
+printed 0 = refused 15 BadPage
+write 28 01 = 02
+-- 129 cells have two pages.
+write 24 81 = 01
+inspect = 1
+printed = 1 lines
+printed 0 = refused 12 WrongLength
+write 24 01 = 81
+
+# A block past the last cell, and a window of too many entries, are refused
+disk 33792 = 33792 bytes
+format 1 1 16 = formatted
+-- Cell 0 is empty, in a block of two I cells.
+write 8192 01 01 00 00 00 00 00 00 = 00 00 00 00 00 00 00 00
+write 8200 02 00 00 00 = ff ff ff ff
+inspect = 1
+printed = 1 lines
+printed 0 = refused 15 BadPage
+-- A block of one I cell is a good one.
+write 8200 01 00 00 00 = 02 00 00 00
+inspect = 0
+printed = 5 lines
+printed 0 = version 1
+printed 1 = limits 1 1 16
+printed 2 = header 0 generation 1 area 0 count 0
+printed 3 = journal 0 room 16
+printed 4 = block 0 i 1
+-- Seventeen entries.
+disk 33792 = 33792 bytes
+format 1 1 16 = formatted
+write 16392 11 = 00
+inspect = 1
+printed = 1 lines
+printed 0 = refused 15 BadPage
+
+# A free cell's link to another hole may be any address, its own too
+disk 33792 = 33792 bytes
+format 1 1 16 = formatted
+write 8200 00 00 00 00 = ff ff ff ff
+inspect = 0
+printed = 4 lines
+printed 0 = version 1
+printed 1 = limits 1 1 16
+printed 2 = header 0 generation 1 area 0 count 0
+printed 3 = journal 0 room 16
 
 # A header may have any generation and any count, and what stands behind it isn't read
+-- The byte behind it.
+disk 33792 = 33792 bytes
+format 1 1 16 = formatted
+write 64 01 = 00
+inspect = 0
+printed = 4 lines
+printed 0 = version 1
+printed 1 = limits 1 1 16
+printed 2 = header 0 generation 1 area 0 count 0
+printed 3 = journal 0 room 16
+-- Five commands, none of them in the journal.
+write 16 05 = 00
+inspect = 0
+printed = 4 lines
+printed 0 = version 1
+printed 1 = limits 1 1 16
+printed 2 = header 0 generation 1 area 0 count 5
+printed 3 = journal 0 room 16
+-- The second generation.
 disk 33792 = 33792 bytes
 format 1 1 16 = formatted
 write 8 02 = 01
@@ -233,6 +476,12 @@ printed 0 = version 1
 printed 1 = limits 1 1 16
 printed 2 = header 0 generation 1 area 0 count 21
 printed 3 = journal 0 room 0
+-- Slot 7 is closed, and says that it has command 200: what stands behind an open gate may be no later one, whatever its
+-- own gate.
+write 33224 c8 = 00
+inspect = 1
+printed = 1 lines
+printed 0 = refused 16 BadRecord
 
 # An image of another length is refused
 disk 327680 = 327680 bytes
@@ -242,6 +491,19 @@ inspect = 1
 printed = 1 lines
 printed 0 = refused 12 WrongLength
 cut 100 = 100 bytes
+inspect = 1
+printed = 1 lines
+printed 0 = refused 12 WrongLength
+-- A byte more than the least image has, which the header of that image stands in.
+disk 33793 = 33793 bytes
+format 1 1 16 = refused 12 WrongLength
+inspect = 1
+printed = 1 lines
+printed 0 = refused 13 NoHeader
+write 0 a5 00 01 00 49 4d 45 4d = 00 00 00 00 00 00 00 00
+write 8 01 00 00 00 00 00 00 00 = 00 00 00 00 00 00 00 00
+write 24 01 00 00 00 01 00 00 00 = 00 00 00 00 00 00 00 00
+write 32 10 00 00 00 00 00 00 00 = 00 00 00 00 00 00 00 00
 inspect = 1
 printed = 1 lines
 printed 0 = refused 12 WrongLength

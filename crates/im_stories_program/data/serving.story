@@ -16,6 +16,19 @@ serve = 0
 printed = 1 lines
 printed 0 = 1.2 value 42
 count = 4
+-- Each command stands in a slot of the journal: gate, group, code, element; sequence number; request; address; value.
+bytes 311296 16 = a5 01 01 00 00 00 00 00 00 00 00 00 00 00 00 00
+bytes 311312 16 = 01 00 00 00 00 00 00 00 02 00 00 00 00 00 00 00
+bytes 311328 32 = 00 00 00 00 00 00 00 00 00 00 00 00 00 00 00 00 00 00 00 00 00 00 00 00 00 00 00 00 00 00 00 00
+bytes 311360 16 = a5 01 04 00 01 00 00 00 01 00 00 00 00 00 00 00
+bytes 311376 16 = 01 00 00 00 00 00 00 00 00 00 00 00 00 00 00 00
+bytes 311392 32 = 00 00 00 00 00 00 00 00 00 00 00 00 00 00 00 00 00 00 00 00 00 00 00 00 00 00 00 00 00 00 00 00
+bytes 311424 16 = a5 01 05 00 02 00 00 00 02 00 00 00 00 00 00 00
+bytes 311440 16 = 01 00 00 00 00 00 00 00 00 00 00 00 00 00 00 00
+bytes 311456 32 = 2a 00 00 00 00 00 00 00 00 00 00 00 00 00 00 00 00 00 00 00 00 00 00 00 00 00 00 00 00 00 00 00
+bytes 311488 16 = a5 01 04 00 01 00 00 00 03 00 00 00 00 00 00 00
+bytes 311504 16 = 02 00 00 00 00 00 00 00 00 00 00 00 00 00 00 00
+bytes 311520 32 = 00 00 00 00 00 00 00 00 00 00 00 00 00 00 00 00 00 00 00 00 00 00 00 00 00 00 00 00 00 00 00 00
 
 # Blocks and addresses have edges
 disk 327680 = 327680 bytes
@@ -86,8 +99,12 @@ read = 0 blocks, 1 parts, 17 requests
 serve = 0
 printed = 17 lines
 printed 0 to 16 = 1.1 to 1.17 nocell
--- The confirmation is a command too.
+-- The confirmation is a command too, and stands before the last fetch: operation 8 of element 1, sequence number 16, up
+-- to 17.
 count = 18
+bytes 312320 16 = a5 01 08 00 01 00 00 00 10 00 00 00 00 00 00 00
+bytes 312336 16 = 11 00 00 00 00 00 00 00 00 00 00 00 00 00 00 00
+bytes 312352 32 = 00 00 00 00 00 00 00 00 00 00 00 00 00 00 00 00 00 00 00 00 00 00 00 00 00 00 00 00 00 00 00 00
 
 # A full window whose first entry waits refuses the next request
 disk 327680 = 327680 bytes
@@ -137,6 +154,28 @@ printed 5 = entry 1.17 fetch 5 -> nocell
 printed 6 = entry 1.18 fetch 5 -> nocell
 printed 7 = entry 1.19 fetch 5 -> nocell
 printed 8 = entry 1.20 fetch 5 -> nocell
+
+# A stale slot where the next command goes is swept first
+disk 33792 = 33792 bytes
+format 1 1 16 = formatted
+-- Slot 5 has an open gate and sequence number 5, and the header has a count of 21 commands.
+write 33088 a5 = 00
+write 33096 05 = 00
+write 16 15 = 00
+read element 0 / fetch 0 / = 0 blocks, 1 parts, 1 requests
+serve = 0
+printed = 1 lines
+printed 0 = 0.1 nocell
+inspect = 0
+printed = 6 lines
+printed 0 = version 1
+printed 1 = limits 1 1 16
+printed 2 = header 0 generation 1 area 0 count 21
+printed 3 = journal 1 room 15
+printed 4 = element 0 base 1 kept 1
+printed 5 = entry 0.1 fetch 0 -> nocell
+bytes 33088 2 = a5 01
+bytes 33096 2 = 15 00
 
 # A disk that fails ends the script
 disk 327680 = 327680 bytes
