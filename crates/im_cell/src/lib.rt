@@ -1,7 +1,8 @@
 //! A table of cells, each free or in a block. The holes are threaded through the free cells themselves, so that nothing
 //! but the table takes memory.
 //!
-//! Stands on `im_types`. Contracts see a list by address: a slot with its block and its cell, or none for a free cell.
+//! Stands on `im_types`, and its proofs on `im_laws`. Contracts see a list by address: a slot with its block and its
+//! cell, or none for a free cell.
 #![tactic(auto)]
 
 mod holes;

@@ -121,8 +121,7 @@ fn find_lists(
 /// The lists of waiters that stand in the nodes of an image, a list for each cell: each begins and ends where its cell's
 /// presence tag says, and each node that is marked as one of a list stands once in one of them.
 ///
-/// `BadPage` where there are no such lists, `NoMemory` where there is no room for them. It ends whatever the links are, visits
-/// each node at most once, and takes at most a step for each cell and each node.
+/// `BadPage` where there are no such lists, `NoMemory` where there is no room for them. It ends whatever the links are.
 pub fn read_lists(
     alloc: Global,
     nodes: &[NodeRecord],

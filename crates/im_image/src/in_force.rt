@@ -132,7 +132,7 @@ fn read_beginning<D: Disk>(disk: &mut D) -> Result<Option<Beginning>, DeviceFaul
 
 /// The header in force of an image, or the first fault of its length and its headers.
 ///
-/// Device calls: reads of the two header places; none where the file is shorter than these. Memory: none.
+/// It only reads, the length and the two header places, and takes no memory.
 /// `WrongLength`, `NoHeader`, `BadHeader`: the first fault in the order of the definition. `Device`: a call failed.
 pub fn read_header<D: Disk>(disk: &mut D) -> Result<Header, Refusal>
     ensures found { IfOk result (λ h. D.honest disk.new → seen h ≡ header_of (D.now disk.old).bytes) }

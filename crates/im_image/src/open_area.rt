@@ -69,7 +69,7 @@ fn read_area<D: Disk>(
 
 /// The memory that the area of a header in force shows. `BadPage` exactly where it shows none.
 ///
-/// Device calls: one read of the area. Memory: as much as the area is long, at most 2,179,072 bytes, its records, and the
+/// It only reads, the area. Memory: as much as the area is long, at most 2,179,072 bytes, its records, and the
 /// memory; `NoMemory` where it is refused. `Device`: the read failed.
 pub fn read_memory<D: Disk>(alloc: Global, disk: &mut D, header: &Header) -> Result<Memory, Refusal>
     requires area { header.now.area ≤ 1 }
