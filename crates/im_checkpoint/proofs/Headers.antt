@@ -1,16 +1,13 @@
 -- The header in force, and the one that follows it.
 use Rattle.std.proofs.Common.{◌≡◌, ℕ, zero, suc, ◌+◌, ◌-◌, ◌*◌, ◌<◌, ◌≤◌, ◌==◌, ◌&&◌, nat_le, Bool, true, false, List, refl, ◌∙◌, ap, subst, arith}
 use Rattle.std.proofs.lemmas.Bool.Decides.{nat_tests}
+use Rattle.im_types.proofs.Tests.{and_both}
 use Rattle.im_types.specs.declared.TheConstants.{LAST, MAX_CELLS, MAX_ELEMENTS, MIN_SLOTS, MAX_SLOTS}
 use Rattle.im_types.specs.Layout.{Sizes, layout_1, are_sizes}
 use Rattle.im_types.specs.Sizes.{AreLimits}
 use Rattle.im_types.specs.Header.{Header, header_in, header_place, is_header}
 use Rattle.im_meaning.specs.Images.{InForce, Follows}
 use Rattle.im_checkpoint.specs.Turns.{next_header}
-
-both_true : (a b : Bool) → (a && b) ≡ true → (a ≡ true) × (b ≡ true)
-both_true true b is = (refl, is)
-both_true false b is = absurd (cc)
 
 joined : (a b : Bool) → a ≡ true → b ≡ true → (a && b) ≡ true
 joined a b first second = ap (λ (t : Bool). t && b) first ∙ second
@@ -30,11 +27,11 @@ is_least m n le = grind (arith, nat_tests)
 -- sizes in their ranges
 pub limits_of : (s : Sizes) → are_sizes layout_1 s ≡ true → AreLimits s.cells s.elements s.slots
 limits_of s are =
-    let e = both_true _ (nat_le s.slots MAX_SLOTS) are in
-    let d = both_true _ (nat_le MIN_SLOTS s.slots) e.0 in
-    let c = both_true _ (nat_le s.elements MAX_ELEMENTS) d.0 in
-    let b = both_true _ (nat_le 1 s.elements) c.0 in
-    let a = both_true (nat_le 1 s.cells) (nat_le s.cells MAX_CELLS) b.0 in
+    let e = and_both _ (nat_le s.slots MAX_SLOTS) are in
+    let d = and_both _ (nat_le MIN_SLOTS s.slots) e.0 in
+    let c = and_both _ (nat_le s.elements MAX_ELEMENTS) d.0 in
+    let b = and_both _ (nat_le 1 s.elements) c.0 in
+    let a = and_both (nat_le 1 s.cells) (nat_le s.cells MAX_CELLS) b.0 in
     record {
       some_cell = least _ _ a.0;
       few_cells = least _ _ a.1;
@@ -56,13 +53,13 @@ pub record IsGood (h : Header) : Type 0 where
 
 pub good : (h : Header) (file : List ℕ) → InForce layout_1 h file → IsGood h
 good h file it =
-    let spelled : is_header layout_1 h.area (header_in (header_place h.area file)) ≡ true = (both_true _ _ it.spelled).1 in
+    let spelled : is_header layout_1 h.area (header_in (header_place h.area file)) ≡ true = (and_both _ _ it.spelled).1 in
     let is : is_header layout_1 h.area h ≡ true = subst (λ (x : Header). is_header layout_1 h.area x ≡ true) it.fields spelled in
-    let e = both_true _ (are_sizes layout_1 h.sizes) is in
-    let d = both_true _ (nat_le h.count LAST) e.0 in
-    let c = both_true _ (nat_le h.generation LAST) d.0 in
-    let b = both_true _ (nat_le 1 h.generation) c.0 in
-    let a = both_true (h.version == 1) (h.area == h.area) b.0 in
+    let e = and_both _ (are_sizes layout_1 h.sizes) is in
+    let d = and_both _ (nat_le h.count LAST) e.0 in
+    let c = and_both _ (nat_le h.generation LAST) d.0 in
+    let b = and_both _ (nat_le 1 h.generation) c.0 in
+    let a = and_both (h.version == 1) (h.area == h.area) b.0 in
     record {
       version = same_number _ _ a.0;
       area = it.number;

@@ -1,5 +1,6 @@
 -- A file means one thing, and a new image the empty memory.
 use Rattle.std.proofs.Common.{◌≡◌, ◌⊎◌, inl, inr, ℕ, ◌<◌, Bool, true, false, List, [], Option, None, Some, Result, Ok, Err, MatchOption, refl, sym, ap, ◌∙◌, subst, arith}
+use Rattle.im_types.proofs.Tests.{true_false}
 use Rattle.im_types.specs.declared.refusals.Refusal.{Refusal}
 use Rattle.im_types.specs.declared.refusals.Refusal.TheVariants.{BadPage}
 use Rattle.im_types.specs.Contents.{Contents, empty_contents}
@@ -52,9 +53,6 @@ ok_or d (Err e) = d
 abbrev fails_as : Result Reached Refusal → Bool
 fails_as (Ok a) = false
 fails_as (Err e) = true
-
-true_false : true ≡ false → ⊥
-true_false e = absurd (cc)
 
 abbrev reached : Contents → ℕ → ℕ → Reached
 reached m c r = record { contents = m; count = c; room = r }

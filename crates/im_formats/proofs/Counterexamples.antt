@@ -3,6 +3,7 @@
 use Rattle.std.proofs.Common.{◌≡◌, inr, ℕ, ◌+◌, ◌<◌, ◌≤◌, ◌^◌, Bool, true, false, List, [], ◌∷◌, ◌++◌, Option, None, Some, refl, sym, ap, arith}
 use Rattle.std.specs.Prelude.{◌==◌, slice_range, slice_index}
 use Rattle.std.proofs.lemmas.Bool.Decides.{nat_tests}
+use Rattle.im_types.proofs.Tests.{differ, true_false}
 use Rattle.im_types.specs.declared.operations.Op.TheVariants.{Fetch}
 use Rattle.im_types.specs.declared.operations.Kind.TheVariants.{I}
 use Rattle.im_types.specs.declared.operations.Entry.TheVariants.{Waiting}
@@ -22,13 +23,6 @@ use Rattle.im_types.specs.declared.records.NodeRecord.TheVariants.{Free as FreeN
 use Rattle.im_types.specs.Records.{cell_bytes, node_bytes, place_bytes, session_bytes, FitsWindow, FitsCell, FitsNode}
 use Rattle.im_formats.specs.Fitting.{FitsHeader}
 use Rattle.im_formats.specs.Reading.{place_in, read_place, cell_in, read_cell, node_in, read_node}
-
--- two numbers that differ
-differ : (a b : ℕ) → (a == b) ≡ false → a ≡ b → ⊥
-differ a b other same = grind (arith, nat_tests)
-
-true_false : true ≡ false → ⊥
-true_false e = cc
 
 -- a header of a small image, of this generation and with so many elements
 abbrev header : ℕ → ℕ → Header

@@ -4,6 +4,7 @@ use Rattle.std.specs.Prelude.{Option, ◌==◌, ◌&&◌, ◌||◌, option_map}
 use Rattle.std.specs.List.{list_any}
 use Rattle.std.proofs.lemmas.Option.{none-some, same_Some}
 use Rattle.std.proofs.lemmas.Bool.Decides.{nat_tests}
+use Rattle.im_types.proofs.Tests.{true_false}
 use Rattle.im_types.specs.declared.operations.Op.{Op}
 use Rattle.im_types.specs.declared.operations.Op.TheVariants.{Alloc, Release, Fetch, Store, Take, Put}
 use Rattle.im_types.specs.declared.operations.Kind.{Kind}
@@ -85,9 +86,6 @@ pub data Meets (a : ℕ) (held : Held) (who : Waiter) (op : Op) (cells : List (O
   Passes : is_for held.block.kind a op ≡ false → releases held.block.base op acted.entry ≡ false → held_at acted.cells a ≡ Some held → Meets a held who op cells acted
   Serves : is_for held.block.kind a op ≡ true → releases held.block.base op acted.entry ≡ false → acted ≡ serve_cell cells a held.block (serve_op who op held.state) → Meets a held who op cells acted
   Frees : releases held.block.base op acted.entry ≡ true → waiters_of held.state ≡ [] → Meets a held who op cells acted
-
-true_false : true ≡ false → ⊥
-true_false e = cc
 
 self_test : (a : ℕ) → (a == a) ≡ true
 self_test a = grind (arith, nat_tests)

@@ -4,6 +4,7 @@ use Rattle.std.proofs.Common.{◌≡◌, ℕ, ◌+◌, ◌<◌, ◌≤◌, List,
 use Rattle.std.specs.Prelude.{◌==◌, reverse, IfSome}
 use Rattle.std.specs.List.{AllByRecursion}
 use Rattle.std.proofs.lemmas.Bool.Decides.{nat_tests}
+use Rattle.im_types.proofs.Tests.{differ}
 use Rattle.im_types.specs.declared.operations.Op.{Op}
 use Rattle.im_types.specs.declared.operations.Op.TheVariants.{Fetch, Store, Take, Put}
 use Rattle.im_types.specs.declared.operations.Kind.TheVariants.{I, M}
@@ -21,10 +22,6 @@ use Rattle.im_laws.specs.Examples.{fetches, takes_and_puts}
 abbrev value_in : Option Entry → ℕ
 value_in (Some (Answered (Value v))) = v
 value_in other = 99
-
--- two numbers that differ
-differ : (a b : ℕ) → (a == b) ≡ false → a ≡ b → ⊥
-differ a b other same = grind (arith, nat_tests)
 
 -- the value law, but with a value after the second store too: as if no store came before any fetch
 abbrev AlwaysTheFirstValue : Contents → List Command → Type 0

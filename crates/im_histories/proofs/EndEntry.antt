@@ -4,6 +4,7 @@ use Rattle.std.specs.Prelude.{Option, Result, ◌==◌, ◌&&◌, slice_get, nat
 use Rattle.std.specs.List.{list_any}
 use Rattle.std.proofs.lemmas.Option.{none-some, same_Some}
 use Rattle.std.proofs.lemmas.Bool.Decides.{nat_tests}
+use Rattle.im_types.proofs.Tests.{and_both, false_true}
 use Rattle.im_types.specs.declared.operations.Reply.{Reply}
 use Rattle.im_types.specs.declared.operations.Entry.{Entry}
 use Rattle.im_types.specs.declared.operations.Entry.TheVariants.{Answered}
@@ -87,13 +88,6 @@ get-set_same [] e w new at = absurd (none-some w at)
 get-set_same (v ∷ windows) zero w new at = refl
 get-set_same (v ∷ windows) (suc e) w new at = get-set_same windows e w new at
 
-and_both : (a b : Bool) → (a && b) ≡ true → (a ≡ true) × (b ≡ true)
-and_both true b e = (refl, e)
-and_both false b e = absurd (cc)
-
-differ : false ≡ true → ⊥
-differ e = cc
-
 -- one command leaves an answered entry, or drops it for good
 answered-step : (m : Contents) (command : Command) (who : Waiter) (k : Kept) → WaitingAgrees m → kept_for m.windows who ≡ Some k → is_waiting k ≡ false
     → (kept_for (step m command).contents.windows who ≡ Some k) ⊎ IsPast who.element who.number (step m command).contents.windows
@@ -101,11 +95,11 @@ answered-step m command who k agrees is answered = ⊎_elim (by_command command)
   where
     stays : {o : Option Kept} → StaysOrIsAnswered k o → o ≡ Some k
     stays (inl same) = same
-    stays (inr now) = absurd (differ (sym answered ∙ now.1))
+    stays (inr now) = absurd (false_true (sym answered ∙ now.1))
 
     by_command : (command : Command) → drops command who ≡ true
         → (kept_for (step m command).contents.windows who ≡ Some k) ⊎ IsPast who.element who.number (step m command).contents.windows
-    by_command (Asks r) e = absurd (differ e)
+    by_command (Asks r) e = absurd (false_true e)
     by_command (Confirm element upto) e = by_window (slice_get m.windows element) refl
       where
         parts : (who.element ≡ element) × (who.number < upto)

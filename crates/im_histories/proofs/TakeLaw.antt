@@ -6,6 +6,7 @@ use Rattle.std.proofs.lemmas.Option.{none-some, slice_get_past}
 use Rattle.std.proofs.lemmas.List.Elements.{filter_map-append}
 use Rattle.std.proofs.lemmas.List.Sums.{sum_by-append}
 use Rattle.std.proofs.lemmas.Bool.Decides.{nat_tests}
+use Rattle.im_types.proofs.Tests.{false_true}
 use Rattle.im_types.specs.declared.operations.Op.{Op}
 use Rattle.im_types.specs.declared.operations.Op.TheVariants.{Alloc, Release, Fetch, Store, Take, Put}
 use Rattle.im_types.specs.declared.operations.Kind.TheVariants.{M}
@@ -22,9 +23,6 @@ use Rattle.im_histories.proofs.ListLemmas.{get-left, get-end, if_tested, filter_
 use Rattle.im_histories.proofs.CellStep.{is_for}
 use Rattle.im_histories.proofs.OneStep.{times-get}
 use Rattle.im_histories.proofs.CellLaw.{event_with, served_by, IsServed, served_at_once, CellLaw}
-
-false_true : false ≡ true → ⊥
-false_true e = cc
 
 or_false : (t : Bool) → (t || false) ≡ t
 or_false true = refl

@@ -3,15 +3,12 @@ use Rattle.std.proofs.Common.{◌≡◌, inl, inr, ℕ, zero, suc, ◌+◌, ◌*
 use Rattle.std.proofs.Math.Nat.{add-mul-mod_self_right}
 use Rattle.std.proofs.lemmas.Bool.{ltb-true, lt-ltb}
 use Rattle.std.proofs.lemmas.Bool.Decides.{nat_tests}
+use Rattle.im_types.proofs.Tests.{and_both}
 use Rattle.im_types.specs.declared.TheConstants.{LAST}
 use Rattle.im_types.specs.declared.commands.Command.{Command}
 use Rattle.im_types.specs.Slot.{is_open, sequence_of, read_slot}
 use Rattle.im_types.specs.Journal.{Ring, slot, continues, run_from, commands_in, closed_from, are_stale}
 use Rattle.im_journal.proofs.Runs.{bool_cases, stops, goes, firsts}
-
-both_true : (a b : Bool) → (a && b) ≡ true → (a ≡ true) × (b ≡ true)
-both_true true b e = (refl, e)
-both_true false b e = absurd (cc)
 
 same_number : (m n : ℕ) → (m == n) ≡ true → m ≡ n
 same_number m n is = grind (arith, nat_tests)
@@ -27,7 +24,7 @@ other_number m n apart = by_test (m == n) refl
 pub continues_is : (bytes : List ℕ) (s : ℕ) → continues bytes s ≡ true → (is_open bytes ≡ true) × (sequence_of bytes ≡ s)
 unfolding continues
 continues_is bytes s is =
-    let both = both_true (is_open bytes) (sequence_of bytes == s) (both_true (is_open bytes && (sequence_of bytes == s)) (nat_lt s LAST) is).0 in
+    let both = and_both (is_open bytes) (sequence_of bytes == s) (and_both (is_open bytes && (sequence_of bytes == s)) (nat_lt s LAST) is).0 in
     (both.0, same_number (sequence_of bytes) s both.1)
 
 pub continues_not : (bytes : List ℕ) (s : ℕ) → (sequence_of bytes ≡ s → ⊥) → continues bytes s ≡ false
@@ -139,7 +136,7 @@ module _ (r : Ring) (c : List ℕ) where
       let none : b ≡ 0 + b = omega arith in
       subst (λ (n : ℕ). are_stale r n s first c ≡ true) none (subst (λ (n : ℕ). are_stale r b n first c ≡ true) here back)
   stale_joined (suc a) b s first front back =
-      let both = both_true (nat_lt (sequence_of (slot r s c)) first) (are_stale r a (s + 1) first c) front in
+      let both = and_both (nat_lt (sequence_of (slot r s c)) first) (are_stale r a (s + 1) first c) front in
       let one_less : suc a + b ≡ suc (a + b) = omega arith in
       let start : s + suc a ≡ s + 1 + a = omega arith in
       ap (λ (n : ℕ). are_stale r n s first c) one_less
@@ -158,7 +155,7 @@ module _ (r : Ring) (c : List ℕ) where
   pub stale_at : (n s first i : ℕ) → are_stale r n s first c ≡ true → i < n → sequence_of (slot r (s + i) c) < first
   stale_at zero s first i stale low = absurd (omega (arith, low))
   stale_at (suc n) s first i stale low =
-      let both = both_true (nat_lt (sequence_of (slot r s c)) first) (are_stale r n (s + 1) first c) stale in
+      let both = and_both (nat_lt (sequence_of (slot r s c)) first) (are_stale r n (s + 1) first c) stale in
       by_place i low both.0 (λ j less. stale_at n (s + 1) first j both.1 less)
     where
       by_place : (i : ℕ) → i < suc n → nat_lt (sequence_of (slot r s c)) first ≡ true → ((j : ℕ) → j < n → sequence_of (slot r (s + 1 + j) c) < first) → sequence_of (slot r (s + i) c) < first

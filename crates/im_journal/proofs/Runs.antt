@@ -1,6 +1,7 @@
 -- How a run, and what is behind it, depend on the slots.
 use Rattle.std.proofs.Common.{◌≡◌, ◌⊎◌, inl, inr, ℕ, zero, suc, ◌+◌, ◌<◌, ◌≤◌, ◌&&◌, Bool, true, false, List, [], ◌∷◌, ◌++◌, Option, None, Some, length, nat_lt, refl, sym, ◌∙◌, ap, subst, arith, if◌then◌else◌}
 use Rattle.std.proofs.lemmas.Bool.{ltb-true}
+use Rattle.im_types.proofs.Tests.{and_both}
 use Rattle.im_types.specs.declared.commands.Command.{Command}
 use Rattle.im_types.specs.Slot.{is_open, sequence_of, read_slot}
 use Rattle.im_types.specs.Journal.{Ring, slot, continues, next_if, run_from, with_first, commands_in, closed_from, are_stale}
@@ -8,10 +9,6 @@ use Rattle.im_types.specs.Journal.{Ring, slot, continues, next_if, run_from, wit
 pub bool_cases : (b : Bool) → (b ≡ true) ⊎ (b ≡ false)
 bool_cases true = inl refl
 bool_cases false = inr refl
-
-both_of : (a b : Bool) → (a && b) ≡ true → (a ≡ true) × (b ≡ true)
-both_of true b e = (refl, e)
-both_of false b e = absurd (cc)
 
 module _ (r : Ring) where
   pub stops : (k s : ℕ) (c : List ℕ) → (0 < k → continues (slot r s c) s ≡ false) → run_from r k s c ≡ []
@@ -102,7 +99,7 @@ module _ (r : Ring) where
       ∙ ap (λ (b : Bool). nat_lt (sequence_of (slot r s d)) first && b) (same_stale n (s + 1) first c d (λ i low high. same i (omega arith) (omega arith)))
 
   pub stale_first : (n s first : ℕ) (c : List ℕ) → are_stale r (suc n) s first c ≡ true → sequence_of (slot r s c) < first
-  stale_first n s first c stale = ltb-true (sequence_of (slot r s c)) first (both_of (nat_lt (sequence_of (slot r s c)) first) (are_stale r n (s + 1) first c) stale).0
+  stale_first n s first c stale = ltb-true (sequence_of (slot r s c)) first (and_both (nat_lt (sequence_of (slot r s c)) first) (are_stale r n (s + 1) first c) stale).0
 
 -- rings with the same slots
 module _ (q r : Ring) (c d : List ℕ) (same : (i : ℕ) → slot q i c ≡ slot r i d) where

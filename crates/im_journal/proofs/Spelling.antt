@@ -2,6 +2,7 @@
 use Rattle.std.proofs.Common.{◌≡◌, ℕ, ◌<◌, ◌^◌, ◌∷◌, ◌++◌, Bool, true, false, List, [], Option, None, Some, take, drop, length, length-drop, refl, sym, ap, ◌∙◌, arith, if◌then◌else◌, option_and_then}
 use Rattle.std.proofs.lemmas.List.{take_all}
 use Rattle.std.proofs.lemmas.Slice.Eq.{bytes_eq-Decides}
+use Rattle.im_types.proofs.Tests.{false_true}
 use Rattle.byteorder.specs.Endian.{little_number, little_bytes}
 use Rattle.byteorder.specs.Numbers.{little_number-reads_back}
 use Rattle.im_types.specs.declared.operations.Op.{Op}
@@ -90,11 +91,8 @@ pub read_slot-only : (slot : List ℕ) (c : Command) → read_slot slot ≡ Some
 unfolding read_slot
 read_slot-only slot c e = found slot (command_in slot) c refl e
 
-clash : false ≡ true → ⊥
-clash h = cc
-
 differs : (xs ys : List ℕ) (t : Bool) → same_bytes xs ys ≡ false → same_bytes ys xs ≡ t → same_bytes ys xs ≡ false
-differs xs ys true differ is_same = absurd (clash (sym differ ∙ ap (λ (l : List ℕ). same_bytes xs l) ((bytes_eq-Decides ys xs).0 is_same) ∙ same_self xs))
+differs xs ys true differ is_same = absurd (false_true (sym differ ∙ ap (λ (l : List ℕ). same_bytes xs l) ((bytes_eq-Decides ys xs).0 is_same) ∙ same_self xs))
 differs xs ys false differ is_same = is_same
 
 turned : (xs ys : List ℕ) (t : Bool) → same_bytes xs ys ≡ t → same_bytes ys xs ≡ t

@@ -4,6 +4,7 @@ use Rattle.std.proofs.Common.{◌≡◌, ◌≢◌, ◌↔◌, ℕ, zero, suc, �
 use Rattle.std.specs.Prelude.{IsTrue, IsOk, ◌==◌, nat_le}
 use Rattle.std.proofs.lemmas.Bool.Decides.{nat_tests}
 use Rattle.std.specs.Bool.{IsFalse}
+use Rattle.im_types.proofs.Tests.{differ}
 use Rattle.im_types.specs.declared.TheConstants.{WINDOW, LAST}
 use Rattle.im_types.specs.declared.operations.Op.{Op}
 use Rattle.im_types.specs.declared.operations.Op.TheVariants.{Alloc, Release, Fetch, Store, Take, Put}
@@ -67,10 +68,6 @@ two_blocks =
     Some (record { block = record { base = 0; length = 2; kind = I }; state = Empty [] })
     ∷ Some (record { block = record { base = 1; length = 1; kind = I }; state = Empty [] })
     ∷ []
-
--- two numbers that differ
-differ : (a b : ℕ) → (a == b) ≡ false → a ≡ b → ⊥
-differ a b other same = grind (arith, nat_tests)
 
 -- a number above another one
 exceeds : (a b : ℕ) → nat_le a b ≡ false → a ≤ b → ⊥

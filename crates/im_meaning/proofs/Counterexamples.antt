@@ -3,6 +3,7 @@
 use Rattle.std.proofs.Common.{◌≡◌, ◌⊎◌, inl, inr, ℕ, zero, suc, ◌+◌, ◌-◌, ◌<◌, ◌≤◌, false, List, [], ◌∷◌, ◌++◌, length, take, drop, Option, None, Some, Result, Ok, Err, refl, ap, arith}
 use Rattle.std.specs.Prelude.{◌==◌, nat_lt}
 use Rattle.std.proofs.lemmas.Bool.Decides.{nat_tests}
+use Rattle.im_types.proofs.Tests.{differ}
 use Rattle.im_types.specs.declared.TheConstants.{LAST}
 use Rattle.im_types.specs.declared.operations.Op.TheVariants.{Alloc}
 use Rattle.im_types.specs.declared.operations.Kind.TheVariants.{I}
@@ -18,10 +19,6 @@ use Rattle.im_types.specs.Journal.{Ring, Tail, tail, slot, continues, room_of}
 use Rattle.im_types.specs.Layout.{layout_1, image_length}
 use Rattle.im_types.specs.Header.{header_of, header_place, is_open_header}
 use Rattle.im_types.specs.Meaning.{Reached, Reads, reached_after}
-
--- two numbers that differ
-differ : (a b : ℕ) → (a == b) ≡ false → a ≡ b → ⊥
-differ a b other same = grind (arith, nat_tests)
 
 -- a number that isn't below another one
 reaches : (a b : ℕ) → nat_lt a b ≡ false → a < b → ⊥

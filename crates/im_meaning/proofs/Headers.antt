@@ -1,14 +1,12 @@
 -- Which header is in force, read from the definition and told to it.
 use Rattle.std.proofs.Common.{◌≡◌, ◌⊎◌, inl, inr, ℕ, zero, suc, ◌-◌, ◌<◌, ◌≤◌, ◌==◌, ◌&&◌, ◌||◌, not, nat_lt, Bool, true, false, List, length, Option, None, Some, refl, sym, ◌∙◌, ap, subst, arith, if◌then◌else◌}
 use Rattle.std.proofs.lemmas.Bool.Decides.{nat_tests}
+use Rattle.im_types.proofs.Tests.{and_both, false_true}
 use Rattle.im_types.specs.declared.refusals.Refusal.{Refusal}
 use Rattle.im_types.specs.declared.refusals.Refusal.TheVariants.{WrongLength, NoHeader, BadHeader}
 use Rattle.im_types.specs.Layout.{Layout, image_length}
 use Rattle.im_types.specs.Header.{Header, header_in, header_place, is_open_header, generation_in, is_second, number_in_force, place_in_force, are_ambiguous, place_fault, spells_header, is_header, or_else, header_of, header_fault}
 use Rattle.im_meaning.specs.Images.{IsBelow, InForce}
-
-false_true : false ≡ true → ⊥
-false_true e = absurd (cc)
 
 -- of two headers the second is in force exactly where it is open and the first is below it
 abbrev second : Bool → Bool → ℕ → ℕ → Bool
@@ -64,18 +62,14 @@ not_false : (b : Bool) → not b ≡ false → b ≡ true
 not_false true is = refl
 not_false false is = absurd (cc)
 
-both_true : (a b : Bool) → (a && b) ≡ true → (a ≡ true) × (b ≡ true)
-both_true true b is = (refl, is)
-both_true false b is = absurd (cc)
-
 same_number : (m n : ℕ) → (m == n) ≡ true → m ≡ n
 same_number m n is = grind (arith, nat_tests)
 
 spelled_area : (l : Layout) (number : ℕ) (bytes : List ℕ) → spells_header l number bytes ≡ true → (header_in bytes).area ≡ number
 spelled_area l number bytes is =
     let h : Header = header_in bytes in
-    let fits : is_header l number h ≡ true = (both_true _ _ is).1 in
-    same_number h.area number (both_true _ _ (both_true _ _ (both_true _ _ (both_true _ _ (both_true _ _ fits).0).0).0).0).1
+    let fits : is_header l number h ≡ true = (and_both _ _ is).1 in
+    same_number h.area number (and_both _ _ (and_both _ _ (and_both _ _ (and_both _ _ (and_both _ _ fits).0).0).0).0).1
 
 -- what is known of two header places without a fault
 record Sound (l : Layout) (zero_place one_place : List ℕ) : Type 0 where

@@ -5,6 +5,7 @@ use Rattle.std.specs.List.{list_any}
 use Rattle.std.proofs.lemmas.List.{get_or-set_same, get_or-set_other}
 use Rattle.std.proofs.lemmas.Bool.{cases_eq}
 use Rattle.std.proofs.lemmas.Bool.Decides.{nat_tests}
+use Rattle.im_types.proofs.Tests.{true_false}
 use denote.Enum.Bare.{sameb}
 use Rattle.im_types.specs.declared.operations.Waiter.{Waiter}
 use Rattle.im_types.specs.declared.operations.Block.{Block}
@@ -29,9 +30,6 @@ use Rattle.im_plain.specs.Joined.{state_of, held_of, joined, is_open_state, is_o
 use Rattle.im_plain.specs.Served.{AreWaiting, HasServed, HasActed}
 use Rattle.im_plain.proofs.QueueLemmas.{waiting_at-without, waiting_at-without_other, waiting_at-parked, waiting_at-parked_other}
 use Rattle.im_plain.proofs.JoinedLemmas.{NobodyWaits, held_at-joined, held_at-None, held_at-Some, length-joined, place-joined, joined-fill, joined-set}
-
-true_false : true ≡ false → ⊥
-true_false e = cc
 
 -- a test that fails of all fails of each
 or_left : (a b : Bool) → (a || b) ≡ false → a ≡ false
