@@ -54,6 +54,29 @@ in each serve stop kept = 0 0 0 2 of 2
 in each serve stop lost = 0 0 0 0 of 2
 in each serve stop a5 = 0 0 2 2 of 2
 in each serve stop 00 = 0 0 0 0 of 2
+in each serve stop a5 lost = 0 0 2 2 of 2
+
+# A crash right behind an opening takes away nothing that it found
+-- The disk stops within the write of the fetch's gate, and the crash leaves a5 there: the gate is open, though no sync
+-- followed it. The opening syncs before it reads, so the next crash, which loses what wasn't synced, leaves the fetch.
+fuse 10 stop = set
+format 4096 16 256 = formatted
+0.1 alloc i 1 = base 0
+1.1 fetch 0 = refused 8 Device
+close = closed
+crash a5 = crashed
+open = opened
+count = 2
+collect 1.1 = waiting
+close = closed
+crash lost = crashed
+open = opened
+count = 2
+collect 1.1 = waiting
+1.1 fetch 0 = waiting
+count = 2
+room = 254
+waiting 0 = 1.1
 
 # Twenty commands are sent again after a stop at any call, and each acts once
 format 3 6 32 = formatted
@@ -137,12 +160,19 @@ in each opening scar:a5 kept = 5x20
 in each opening scar:a5 lost = 5x20
 in each opening scar:a5 a5 = 5x20
 in each opening scar:a5 00 = 5x20
+-- With no crash behind it the same disk is opened a second time.
+in each opening once = 5x20
+in each opening scar:a5 = 5x20
+in each opening scar:00 = 5x20
 -- The gate of the twentieth command is written, and its sync fails. The first call of an opening settles what was in
 -- doubt.
 in each reopening stop kept = 5x20
 in each reopening stop lost = 19 4x20
 in each reopening stop a5 = 5x20
 in each reopening stop 00 = 19 4x20
+in each reopening once = 5x20
+in each reopening once lost = 19 4x20
+in each reopening scar:a5 = 5x20
 
 # A stop within the turns of a checkpoint loses nothing
 -- The 46 turns behind a full journal make 65 calls. After a stop in any of them, and a crash, all sixteen commands are
@@ -153,6 +183,50 @@ in each turn stop kept = 65x16
 in each turn stop lost = 65x16
 in each turn stop 00 = 65x16
 in each turn stop a5 = 65x16
+
+# One fault in any call of three commands and of the turns behind them takes nothing away
+-- The least image. The commands make twelve calls, and the turns of their checkpoint thirteen. The call that fails is
+-- answered Device, and each later one Failed. The same disk is opened again; the three commands are sent again, are
+-- answered as they were, and each has acted once.
+format 1 1 16 in 33792 bytes = formatted
+0.1 alloc i 1 = base 0
+0.2 fetch 0 = waiting
+0.3 store 0 0 = stored
+0.2 fetch 0 = value 0
+collect 0.2 = value 0
+count = 3
+in each serve once = 0 0 0 3 of 3
+in each serve scar:00 = 0 0 0 3 of 3
+in each serve scar:a5 = 0 0 3 3 of 3
+in each turn once = 13x3
+in each turn scar:00 = 13x3
+in each turn scar:5a = 13x3
+in each turn scar:a5 = 13x3
+-- A crash behind the fault.
+in each turn once kept = 13x3
+in each turn once lost = 13x3
+in each turn once 00 = 13x3
+in each turn once a5 = 13x3
+in each turn scar:00 kept = 13x3
+in each turn scar:00 lost = 13x3
+in each turn scar:00 00 = 13x3
+in each turn scar:00 a5 = 13x3
+in each turn scar:a5 kept = 13x3
+in each turn scar:a5 lost = 13x3
+in each turn scar:a5 00 = 13x3
+in each turn scar:a5 a5 = 13x3
+-- Behind the turns an opening makes five calls. One of them fails, and a second opening of the same disk finds all
+-- three.
+turns 8 = began, page 0 to 2, synced, in force, swept, idle; room 6x13 2x16
+close = closed
+calls = 29
+in each call once = 5x3
+in each call scar:00 = 5x3
+in each call scar:a5 = 5x3
+in each call stop kept = 5x3
+in each call stop lost = 5x3
+in each call stop 00 = 5x3
+in each call stop a5 = 5x3
 
 # A header that a stop left torn under a closed gate never comes into force
 -- The disk stops behind five calls of the turns. The sixth would have written the next header behind its closed gate,
@@ -178,6 +252,9 @@ in each call stop kept = 20x4
 in each call stop lost = 20x4
 in each call stop 00 = 20x4
 in each call stop a5 = 20x4
+in each call once = 20x4
+in each call scar:00 = 20x4
+in each call scar:a5 = 20x4
 
 # A header that a stop left whole under a closed gate never comes into force
 -- The disk stops behind seven calls of the turns: the next header is whole, and its gate, though written, is lost.
@@ -201,3 +278,6 @@ in each call stop kept = 20x4
 in each call stop lost = 20x4
 in each call stop 00 = 20x4
 in each call stop a5 = 20x4
+in each call once = 20x4
+in each call scar:00 = 20x4
+in each call scar:a5 = 20x4
