@@ -4,3 +4,4 @@ pub mod Views
 pub mod Start
 pub mod Threads
 pub mod Walks
+pub mod Room

@@ -7,10 +7,12 @@ ghost use Rattle.im_arena.specs.Lists.{list_at, with_list, free, IsThreaded};
 ghost use Rattle.im_arena.specs.Table.{AreFree, start_rows};
 ghost use Rattle.im_types.specs.declared.refusals.Refusal.TheVariants.{NoMemory};
 
+mod pairs;
 mod table;
 mod walk;
 
 use im_types::{NONE, Refusal, Waiter};
+pub use pairs::hand_over;
 use std::alloc::{AllocError, Global};
 use std::marker::Model;
 pub use table::{Ends, NodeRecord};

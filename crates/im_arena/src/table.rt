@@ -33,12 +33,16 @@ pub(crate) struct Node {
     pub(crate) number: u64,
 }
 
+const _: () = prove!(size_of::<Node>() == 16);
+
 /// Where a row of nodes begins and ends, in 8 bytes; both NONE where it is empty. How long it is the links tell.
 #[derive(Clone, Copy)]
 pub(crate) struct Row {
     pub(crate) first: u32,
     pub(crate) last: u32,
 }
+
+const _: () = prove!(size_of::<Row>() == 8);
 
 impl Node {
     pub(crate) fn with(waiter: Waiter) -> Node

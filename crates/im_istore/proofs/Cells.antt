@@ -6,7 +6,7 @@ use Rattle.im_types.specs.declared.operations.Waiter.{Waiter}
 use Rattle.im_types.specs.Contents.{CellState, Held, held_at}
 use Rattle.im_cell.specs.declared.slots.Slot.{Slot}
 use Rattle.im_cell.specs.declared.slots.Cell.TheVariants.{Full}
-use Rattle.im_cell.specs.Slots.{slot_at, cell_in, is_waiting, is_waiting_cell}
+use Rattle.im_cell.specs.Slots.{slot_at, cell_at, cell_in, is_waiting, is_waiting_cell}
 use Rattle.im_arena.specs.Lists.{Lists, Shown, list_at, with_list}
 use Rattle.im_istore.specs.Joined.{state_of, held_of, joined, cells_of}
 use Rattle.im_istore.specs.Agreement.{has_some, Agree, AgreeBut}
@@ -141,3 +141,12 @@ AgreeBut-filled slots arena a slot v agree lt is_full = record {
   others = λ b other. ap is_waiting (get_or-set_other slots a b (Some slot) None other) ∙ agree.each b;
   full = (v, ap cell_in (get_or-set_same slots a (Some slot) None lt) ∙ ap (λ cell. Some cell) is_full);
 }
+
+-- a full cell has a list
+pub AgreeBut-inside : (slots : List (Option Slot)) (arena : Shown) (a : ℕ) → AgreeBut a slots arena → a < length arena.held.lists
+AgreeBut-inside slots arena a but = omega (arith, but.lists, cell_at-within slots a but.full.0 but.full.1)
+  where
+    cell_at-within : (slots : List (Option Slot)) (a v : ℕ) → cell_at slots a ≡ Some (Full v) → a < length slots
+    cell_at-within [] a v e = absurd (cc)
+    cell_at-within (slot ∷ slots) zero v e = omega arith
+    cell_at-within (slot ∷ slots) (suc a) v e = let h : a < length slots = cell_at-within slots a v e in omega arith

@@ -2,8 +2,10 @@
 use Rattle.std.proofs.Common.{◌≡◌, ℕ, ◌<◌, List, [], ◌∷◌, ◌++◌, None, Some, length, drop, refl, sym, ap, ◌∙◌, length-set, append_assoc}
 use Rattle.std.specs.Prelude.{slice_get}
 use Rattle.std.proofs.lemmas.List.{set-set}
+use Rattle.im_types.specs.declared.operations.Reply.{Reply}
 use Rattle.im_types.specs.declared.operations.Waiter.{Waiter}
 use Rattle.im_arena.specs.Lists.{Lists, Shown, list_at, with_list}
+use Rattle.im_istore.specs.Access.{askers_of, replies_to}
 use Rattle.im_istore.proofs.Cells.{list_at-same, with_list-same}
 
 abbrev with_lists : Lists → List (List Waiter) → Lists
@@ -37,3 +39,20 @@ moved before left old reader e = append_assoc before (reader ∷ []) left ∙ ap
 -- no reader is left
 pub emptied : (arena : Shown) (a : ℕ) → list_at arena.held a ≡ [] → arena.held ≡ with_list arena.held a []
 emptied arena a none = with_list-same arena.held a ∙ ap (with_list arena.held a) none
+
+-- those who get the replies to these waiters are these waiters
+pub askers_of-replies : (waiters : List Waiter) (v : ℕ) → askers_of (replies_to waiters v) ≡ waiters
+askers_of-replies [] v = refl
+askers_of-replies (waiter ∷ waiters) v = ap (λ others. waiter ∷ others) (askers_of-replies waiters v)
+
+-- so each of these replies is to one of them
+pub resumed_are : (waiters : List Waiter) (v : ℕ) (replies : List (Waiter × Reply)) → replies ≡ replies_to waiters v
+    → (askers_of replies ≡ waiters) × (replies ≡ replies_to (askers_of replies) v)
+resumed_are waiters v replies e =
+    let same : askers_of replies ≡ waiters = ap askers_of e ∙ askers_of-replies waiters v in
+    (same, e ∙ ap (λ ws. replies_to ws v) (sym same))
+
+-- behind those who were there
+pub behind : (before after waiters : List Waiter) (v : ℕ) (replies : List (Waiter × Reply)) → replies ≡ replies_to waiters v → after ≡ before ++ waiters
+    → after ≡ before ++ askers_of replies
+behind before after waiters v replies e put = put ∙ ap (λ ws. before ++ ws) (sym (resumed_are waiters v replies e).0)

@@ -6,14 +6,16 @@
 #![tactic(auto)]
 
 ghost use Rattle.std.specs.Prelude.{◌≡◌, ◌≢◌, ◌<◌, ◌++◌, [], List, Option, length, drop, slice_get, IfNone, ◌+◌, ◌≤◌, vec_len, vec_capacity};
+ghost use Rattle.im_types.specs.declared.operations.Op.TheVariants.{Fetch, Store};
 ghost use Rattle.im_types.specs.declared.operations.Reply.TheVariants.{Stored};
 ghost use Rattle.im_types.specs.declared.operations.Entry.TheVariants.{Answered};
+ghost use Rattle.im_types.specs.Act.{act};
 ghost use Rattle.im_cell.specs.declared.slots.Slot.{Slot};
 ghost use Rattle.im_cell.specs.Slots.{slot_at};
 ghost use Rattle.im_arena.specs.Lists.{list_at, with_list, free};
 ghost use Rattle.im_istore.specs.Joined.{cells_of};
 ghost use Rattle.im_istore.specs.Agreement.{Agree, AgreeBut};
-ghost use Rattle.im_istore.specs.Access.{fetched, stored, replies_to, access_in};
+ghost use Rattle.im_istore.specs.Access.{access_in, askers_of, replies_to};
 
 use im_arena::Arena;
 use im_cell::{Cell, CellTable};
@@ -39,9 +41,9 @@ pub fn look(table: &CellTable, a: u32, kind: Kind) -> Result<Cell, Reply>
 pub fn fetch(table: &mut CellTable, arena: &mut Arena, a: u32, who: Waiter) -> Entry
     requires agree { Agree table.old arena.old }
     requires room { 0 < free arena.old.held }
-    ensures entry { result ≡ (fetched (cells_of table.old arena.old) a who).entry }
-    ensures cells { cells_of table.new arena.new ≡ (fetched (cells_of table.old arena.old) a who).cells }
-    ensures nobody { (fetched (cells_of table.old arena.old) a who).resumed ≡ [] }
+    ensures entry { result ≡ (act (cells_of table.old arena.old) who (Fetch a)).entry }
+    ensures cells { cells_of table.new arena.new ≡ (act (cells_of table.old arena.old) who (Fetch a)).cells }
+    ensures nobody { (act (cells_of table.old arena.old) who (Fetch a)).resumed ≡ [] }
 
     ensures agree { Agree table.new arena.new }
     ensures nodes { arena.new.held.nodes ≡ arena.old.held.nodes }
@@ -63,18 +65,22 @@ pub fn fetch(table: &mut CellTable, arena: &mut Arena, a: u32, who: Waiter) -> E
 
 /// Writes the cell at an address. After `Stored` its readers, if there are any, still stand on its list:
 /// [`next_reader`] hands them out, and each of them gets the value. A cell that has a value keeps it, and is clashed.
+/// The two are for who answers each reader at once; what they come to, [`store_and_drain`] says.
 #[tactic(auto, using(crate::proofs::Cells::held_there, crate::proofs::Cells::cells_there, crate::proofs::Cells::joined_there, crate::proofs::Cells::same_there))]
 pub fn store(table: &mut CellTable, arena: &Arena, a: u32, value: u64) -> Reply
     requires { Agree table.old arena.now }
-    ensures reply { Answered result ≡ (stored (cells_of table.old arena.now) a value).entry }
-    ensures cells { cells_of table.new arena.now ≡ (stored (cells_of table.old arena.now) a value).cells }
+
+    // Whoever asks.
+    ensures reply { (who : Waiter) → Answered result ≡ (act (cells_of table.old arena.now) who (Store a value)).entry }
+    ensures cells { (who : Waiter) → cells_of table.new arena.now ≡ (act (cells_of table.old arena.now) who (Store a value)).cells }
 
     // The readers are those on the list, and until they are off it the cell has no need of it.
-    ensures readers { result ≡ Stored → (stored (cells_of table.old arena.now) a value).resumed ≡ replies_to (list_at arena.now.held a) value }
+    ensures readers { (who : Waiter) → result ≡ Stored
+        → (act (cells_of table.old arena.now) who (Store a value)).resumed ≡ replies_to (list_at arena.now.held a) value }
     ensures draining { result ≡ Stored → AgreeBut a table.new arena.now }
 
     // Any other answer is the whole of it.
-    ensures nobody { result ≢ Stored → (stored (cells_of table.old arena.now) a value).resumed ≡ [] }
+    ensures nobody { (who : Waiter) → result ≢ Stored → (act (cells_of table.old arena.now) who (Store a value)).resumed ≡ [] }
     ensures agree { result ≢ Stored → Agree table.new arena.now }
 {
     let cell = match look(table, a, Kind::I) {
@@ -111,7 +117,7 @@ pub fn next_reader(arena: &mut Arena, a: u32) -> Option<Waiter>
 }
 
 /// Takes the readers off the list of a cell that a store made full, until none is left, and puts them in their order
-/// behind those in `readers`. So a store and this call are the whole of what the definitions say of a store.
+/// behind those in `readers`.
 pub fn drain(arena: &mut Arena, a: u32, readers: &mut Vec<Waiter>)
     requires list { a < length arena.old.held.lists }
     requires room { vec_len readers.old + length (list_at arena.old.held a) ≤ vec_capacity readers.old }
@@ -125,4 +131,37 @@ pub fn drain(arena: &mut Arena, a: u32, readers: &mut Vec<Waiter>)
     while let Some(reader) = next_reader(arena, a) {
         readers.push_reserved(reader);
     }
+}
+
+/// Writes the cell at an address, and takes its readers off its list: those who get the value are put behind the
+/// waiters in `readers`, in the order in which they came. A cell that has a value keeps it, and is clashed.
+///
+/// It is [`store`], and [`next_reader`] until there is none.
+pub fn store_and_drain(
+    table: &mut CellTable,
+    arena: &mut Arena,
+    a: u32,
+    value: u64,
+    readers: &mut Vec<Waiter>,
+) -> Reply
+    requires agree { Agree table.old arena.old }
+    requires room { vec_len readers.old + length (list_at arena.old.held a) ≤ vec_capacity readers.old }
+
+    // Whoever asks.
+    ensures entry { (who : Waiter) → Answered result ≡ (act (cells_of table.old arena.old) who (Store a value)).entry }
+    ensures cells { (who : Waiter) → cells_of table.new arena.new ≡ (act (cells_of table.old arena.old) who (Store a value)).cells }
+    ensures resumed { (who : Waiter) → let resumed = (act (cells_of table.old arena.old) who (Store a value)).resumed in
+        readers.new.items ≡ readers.old.items ++ askers_of resumed }
+    ensures values { (who : Waiter) → let resumed = (act (cells_of table.old arena.old) who (Store a value)).resumed in
+        resumed ≡ replies_to (askers_of resumed) value }
+
+    ensures agree { Agree table.new arena.new }
+    ensures nodes { arena.new.held.nodes ≡ arena.old.held.nodes }
+{
+    let reply = store(table, arena, a, value);
+    let Reply::Stored = reply else {
+        return reply;
+    };
+    drain(arena, a, readers);
+    reply
 }

@@ -1,14 +1,14 @@
 //! What an operation does to the cells, and who is answered by it.
 ghost use Rattle.std.specs.Prelude.{◌≡◌, ◌<◌, List, Option, length};
-ghost use Rattle.im_types.specs.Act.{act, allocate, release_block, block_with_base};
+ghost use Rattle.im_types.specs.declared.operations.Kind.TheVariants.{I, M};
+ghost use Rattle.im_types.specs.Act.{act, allocate, at_cell, block_with_base, put, release_block, store};
 ghost use Rattle.im_types.specs.Contents.{held_at};
 ghost use Rattle.im_types.specs.Window.{answer_each};
 ghost use Rattle.im_cell.specs.declared.slots.Slot.{Slot};
 ghost use Rattle.im_arena.specs.Lists.{list_at, free};
 ghost use Rattle.im_istore.specs.Joined.{cells_of};
 ghost use Rattle.im_istore.specs.Agreement.{Agree, AgreeBut};
-ghost use Rattle.im_istore.specs.Access.{stored, replies_to};
-ghost use Rattle.im_mstore.specs.Access.{given};
+ghost use Rattle.im_istore.specs.Access.{replies_to};
 ghost use Rattle.im_memory.specs.Resuming.{replies_of, AreListed, AgreeFor, AreAwaited, HasActed};
 
 use im_arena::Arena;
@@ -46,10 +46,10 @@ fn told(entry: Entry) -> Acted
     }
 }
 
-// A store: its readers stay on the list of the cell.
+// A store: its readers stay on the list of the cell, until `resume` answers them.
 fn store(table: &mut CellTable, arena: &Arena, a: u32, value: u64) -> Acted
     requires { Agree table.old arena.now }
-    ensures { HasActed table.new arena.now result (stored (cells_of table.old arena.now) a value) }
+    ensures { let cells = cells_of table.old arena.now in HasActed table.new arena.now result (at_cell I (store value) cells a (held_at cells a)) }
 {
     let reply = im_istore::store(table, arena, a, value);
     match reply {
@@ -64,7 +64,7 @@ fn store(table: &mut CellTable, arena: &Arena, a: u32, value: u64) -> Acted
 // A put: its taker is off the list of the cell.
 fn put(table: &mut CellTable, arena: &mut Arena, a: u32, value: u64) -> Acted
     requires { Agree table.old arena.old }
-    ensures acted { HasActed table.new arena.new result (given (cells_of table.old arena.old) a value) }
+    ensures acted { let cells = cells_of table.old arena.old in HasActed table.new arena.new result (at_cell M (put value) cells a (held_at cells a)) }
     ensures nodes { arena.new.held.nodes ≡ arena.old.held.nodes }
 {
     let (reply, taker) = im_mstore::put(table, arena, a, value);
@@ -126,7 +126,8 @@ pub fn act(table: &mut CellTable, arena: &mut Arena, who: Waiter, op: Op) -> Act
     }
 }
 
-// Each reader on a list is answered with a value, and leaves the list.
+// Each reader on a list is answered with a value, and leaves the list: what `im_istore::store_and_drain` does after its
+// store, with the reader answered in place of being handed out, so that it takes no memory.
 fn drain(sessions: &mut Sessions, arena: &mut Arena, a: u32, value: u64)
     requires awaited { AreAwaited sessions.old (replies_to (list_at arena.old.held a) value) }
     requires listed { a < length arena.old.held.lists }

@@ -6,12 +6,14 @@
 #![tactic(auto)]
 
 ghost use Rattle.std.specs.Prelude.{◌≡◌, ◌<◌, ◌∷◌, [], length, MatchOption};
+ghost use Rattle.im_types.specs.declared.operations.Op.TheVariants.{Take, Put};
 ghost use Rattle.im_types.specs.declared.operations.Entry.TheVariants.{Answered};
+ghost use Rattle.im_types.specs.Act.{act};
 ghost use Rattle.im_arena.specs.Lists.{list_at, free};
 ghost use Rattle.im_istore.specs.Joined.{cells_of};
 ghost use Rattle.im_istore.specs.Agreement.{Agree};
 ghost use Rattle.im_istore.specs.Access.{replies_to};
-ghost use Rattle.im_mstore.specs.Access.{taken, given, open_cell, AreOperations};
+ghost use Rattle.im_mstore.specs.Access.{open_cell};
 
 use im_arena::Arena;
 use im_cell::{Cell, CellTable};
@@ -36,9 +38,9 @@ fn open_cell(arena: &Arena, list: u32) -> Cell
 pub fn take(table: &mut CellTable, arena: &mut Arena, a: u32, who: Waiter) -> Entry
     requires agree { Agree table.old arena.old }
     requires room { 0 < free arena.old.held }
-    ensures entry { result ≡ (taken (cells_of table.old arena.old) a who).entry }
-    ensures cells { cells_of table.new arena.new ≡ (taken (cells_of table.old arena.old) a who).cells }
-    ensures nobody { (taken (cells_of table.old arena.old) a who).resumed ≡ [] }
+    ensures entry { result ≡ (act (cells_of table.old arena.old) who (Take a)).entry }
+    ensures cells { cells_of table.new arena.new ≡ (act (cells_of table.old arena.old) who (Take a)).cells }
+    ensures nobody { (act (cells_of table.old arena.old) who (Take a)).resumed ≡ [] }
 
     ensures agree { Agree table.new arena.new }
     ensures nodes { arena.new.held.nodes ≡ arena.old.held.nodes }
@@ -66,9 +68,11 @@ pub fn take(table: &mut CellTable, arena: &mut Arena, a: u32, who: Waiter) -> En
 #[tactic(auto, using(im_istore::proofs::Cells::held_there, im_istore::proofs::Cells::cells_there, im_istore::proofs::Cells::joined_there, im_istore::proofs::Cells::same_there))]
 pub fn put(table: &mut CellTable, arena: &mut Arena, a: u32, value: u64) -> (Reply, Option<Waiter>)
     requires { Agree table.old arena.old }
-    ensures reply { Answered result.0 ≡ (given (cells_of table.old arena.old) a value).entry }
-    ensures cells { cells_of table.new arena.new ≡ (given (cells_of table.old arena.old) a value).cells }
-    ensures taker { let resumed = (given (cells_of table.old arena.old) a value).resumed in
+
+    // Whoever asks.
+    ensures reply { (who : Waiter) → Answered result.0 ≡ (act (cells_of table.old arena.old) who (Put a value)).entry }
+    ensures cells { (who : Waiter) → cells_of table.new arena.new ≡ (act (cells_of table.old arena.old) who (Put a value)).cells }
+    ensures taker { (who : Waiter) → let resumed = (act (cells_of table.old arena.old) who (Put a value)).resumed in
         MatchOption result.1 (resumed ≡ []) (λ taker. resumed ≡ replies_to (taker ∷ []) value) }
 
     ensures agree { Agree table.new arena.new }
@@ -95,9 +99,3 @@ pub fn put(table: &mut CellTable, arena: &mut Arena, a: u32, value: u64) -> (Rep
         }
     }
 }
-
-/// That `fetch`, `store` with its readers, `take` and `put` do what the definitions say of the four operations. It does
-/// nothing.
-pub fn are_operations()
-    ensures { AreOperations }
-{}

@@ -1,0 +1,24 @@
+//! Calls on two lists, one after the other, by the public calls of an arena alone.
+ghost use Rattle.std.specs.Prelude.{◌≡◌, ◌≢◌, ℕ, ◌<◌, ◌∷◌, ◌++◌, [], length, drop, slice_get, IfSome, IfNone};
+ghost use Rattle.im_arena.specs.Lists.{list_at, free};
+
+use crate::Arena;
+use im_types::Waiter;
+
+/// Takes the first waiter off one list, and puts another one at the end of another list; `None` where the first list is
+/// empty, and then nothing changes. What is on one list is never reached from another, whatever node it stands on.
+pub fn hand_over(arena: &mut Arena, from: u32, to: u32, waiter: Waiter) -> Option<Waiter>
+    requires from { from < length arena.old.held.lists }
+    requires to { to < length arena.old.held.lists }
+    requires apart { from ≢ to }
+    requires room { 0 < free arena.old.held }
+    ensures first { result ≡ slice_get (list_at arena.old.held from) 0 }
+    ensures rest { list_at arena.new.held from ≡ drop 1 (list_at arena.old.held from) }
+    ensures behind { IfSome result (λ _. list_at arena.new.held to ≡ list_at arena.old.held to ++ waiter ∷ []) }
+    ensures others { (list : ℕ) → list ≢ from → list ≢ to → list_at arena.new.held list ≡ list_at arena.old.held list }
+    ensures none { IfNone result (arena.new ≡ arena.old) }
+{
+    let first = arena.pop_front(from)?;
+    let _ = arena.push_back(to, waiter);
+    Some(first)
+}

@@ -1,0 +1,24 @@
+use Rattle.std.proofs.Common.{sym}
+use Rattle.im_types.specs.declared.operations.Waiter.{Waiter}
+use Rattle.im_memory.proofs.acts.put.Goals as goal
+
+anyone : Waiter
+anyone = record { element = 0; number = 0 }
+
+pub returns-in-Some-clause-acted : goal.returns-in-Some-clause-acted
+returns-in-Some-clause-acted c = record {
+  cells = c.put-reply.ensures.cells anyone;
+  told = c.put-reply.ensures.reply anyone;
+  replies = sym (rw c.in-Some.is at (c.put-reply.ensures.taker anyone));
+  listed = tt;
+  agree = c.put-reply.ensures.agree;
+}
+
+pub returns-in-None-clause-acted : goal.returns-in-None-clause-acted
+returns-in-None-clause-acted c = rw c.told.ensures (record {
+  cells = c.put-reply.ensures.cells anyone;
+  told = c.put-reply.ensures.reply anyone;
+  replies = sym (rw c.in-None.is at (c.put-reply.ensures.taker anyone));
+  listed = tt;
+  agree = c.put-reply.ensures.agree;
+})
