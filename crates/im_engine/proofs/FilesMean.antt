@@ -28,7 +28,7 @@ limits_in file good =
     subst (λ (h : Header). AreLimits h.sizes.cells h.sizes.elements h.sizes.slots) it.fields
     (limits_of_spelled (header_of file).area (header_place (header_of file).area file) it.spelled)
 
-abbrev Outcome_by : List ℕ → Result Reached Refusal → Option Refusal → Type 0
+abbrev pub Outcome_by : List ℕ → Result Reached Refusal → Option Refusal → Type 0
 Outcome_by file outcome fault = MatchOption fault
     (((m : Contents) × IsShown layout_1 file m × (outcome ≡ read_journal layout_1 file m)) ⊎ (((m : Contents) → IsShown layout_1 file m → ⊥) × (outcome ≡ Err BadPage)))
     (λ fault. outcome ≡ Err fault)

@@ -5,3 +5,4 @@ pub mod Accepting
 pub mod Running
 pub mod Opening
 pub mod FilesMean
+mod Counterexamples
