@@ -15,7 +15,7 @@ use Rattle.im_image.proofs.Headers.{limits_of_spelled}
 use Rattle.im_image.proofs.Restored.{one-memory}
 use Rattle.im_journal.proofs.Tails.{tail_closed}
 use Rattle.im_laws.proofs.MemoryLemmas.{empty-memory}
-use Rattle.im_meaning.specs.Images.{InForce}
+use Rattle.im_meaning.specs.Images.{InForce, IsImage}
 use Rattle.im_meaning.proofs.Headers.{in_force}
 use Rattle.im_meaning.proofs.Meanings.{image_reads}
 use Rattle.im_checkpoint.specs.Keeping.{Means}
@@ -73,19 +73,24 @@ no_fault_and_meaning file e m c r x y = true_false (ap fails_as (reads_one file 
 
 -- ---- a new image
 
-pub new_image_means : (s : Sizes) → AreLimits s.cells s.elements s.slots → Means (empty_contents s.cells s.elements) 0 s.slots (new_image 0xA5 s)
-new_image_means s limits =
+-- it is an image: its header in force, the empty memory, and an empty journal
+pub new_image_is_one : (s : Sizes) → AreLimits s.cells s.elements s.slots → IsImage layout_1 (new_header s) (empty_contents s.cells s.elements) [] s.slots (new_image 0xA5 s)
+new_image_is_one s limits =
     let file : List ℕ = new_image 0xA5 s in
     let m : Contents = empty_contents s.cells s.elements in
     let some : 0 < s.slots = omega (arith, limits.enough_slots) in
     let good : header_fault layout_1 file ≡ None = new_image_good s limits in
-    let shows : IsShown layout_1 file m = new_image_shows s limits (empty-memory s.cells s.elements) in (
+    let shows : IsShown layout_1 file m = new_image_shows s limits (empty-memory s.cells s.elements) in
+    record {
+      in_force = subst (λ (h : Header). InForce layout_1 h file) (new_header_of s limits) (in_force layout_1 file good);
+      shows = subst (λ (h : Header). Shows layout_1 h.sizes (area_of layout_1 h.sizes h.area file) m) (new_header_of s limits) shows;
+      journal = tail_closed (ring_of layout_1 s) file some (new_image_closed s);
+    }
+
+pub new_image_means : (s : Sizes) → AreLimits s.cells s.elements s.slots → Means (empty_contents s.cells s.elements) 0 s.slots (new_image 0xA5 s)
+new_image_means s limits =
+    let m : Contents = empty_contents s.cells s.elements in (
       s.slots,
       omega arith,
-      image_reads layout_1 (new_header s) m m [] s.slots file
-          (record {
-            in_force = subst (λ (h : Header). InForce layout_1 h file) (new_header_of s limits) (in_force layout_1 file good);
-            shows = subst (λ (h : Header). Shows layout_1 h.sizes (area_of layout_1 h.sizes h.area file) m) (new_header_of s limits) shows;
-            journal = tail_closed (ring_of layout_1 s) file some (new_image_closed s);
-          }) refl,
+      image_reads layout_1 (new_header s) m m [] s.slots (new_image 0xA5 s) (new_image_is_one s limits) refl,
     )
