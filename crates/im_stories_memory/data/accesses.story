@@ -13,6 +13,29 @@ lists = 4
 waiting 0 = 0
 free = 3
 
+# A store that is drained gives its value to each reader in their order, and to nobody who waits to take
+accesses 4 cells 4 nodes = made
+place i 1 = 0
+place m 1 = 1
+2.1 fetch 0 = waiting
+1.1 fetch 0 = waiting
+3.1 take 1 = waiting
+2.2 fetch 0 = waiting
+free = 0
+store 0 7 drained = stored for 2.1 1.1 2.2
+cell 0 = full 7 in block 0 of 1 i
+waiting 0 = 0
+free = 3
+-- A second store clashes, an M cell is not stored to, and neither is a cell in no block.
+store 0 8 drained = clash
+cell 0 = clashed 7 in block 0 of 1 i
+store 1 9 drained = wrongkind
+waiting 1 = 1
+cell 1 = waiting in block 1 of 1 m
+store 2 9 drained = nocell
+cell 2 = free
+free = 3
+
 # A second store clashes, and the cell keeps its value
 accesses 4 cells 1 nodes = made
 place i 1 = 0

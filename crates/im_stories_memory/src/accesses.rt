@@ -8,7 +8,7 @@ use crate::texts::{add_cell, add_count, add_number, add_place, add_steps, kind, 
 use anyhow::{Result, anyhow};
 use im_arena::Arena;
 use im_cell::{Cell, CellTable};
-use im_istore::{drain, fetch, look, next_reader, store};
+use im_istore::{fetch, look, next_reader, store, store_and_drain};
 use im_mstore::{put, take};
 use im_story::{add_entry, add_reply, address, number};
 use im_types::{Entry, Kind, Refusal, Reply, Waiter};
@@ -114,7 +114,7 @@ impl Accesses {
         put(&mut self.table, &mut self.arena, a, value)
     }
 
-    /// Writes an I cell, and takes its readers off their list, one by one or all of them at once.
+    /// Writes an I cell, and takes its readers off their list: one by one, or with the store.
     pub fn store(
         &mut self,
         alloc: Global,
@@ -126,13 +126,13 @@ impl Accesses {
             return Err(anyhow!("no cell {a}"));
         }
         let mut readers = Vec::with_capacity(alloc, self.arena.len(a) as usize)?;
+        if at_once {
+            let reply = store_and_drain(&mut self.table, &mut self.arena, a, value, &mut readers);
+            return Ok((reply, readers));
+        }
         let reply = store(&mut self.table, &self.arena, a, value);
         if let Reply::Stored = reply {
-            if at_once {
-                drain(&mut self.arena, a, &mut readers);
-            } else {
-                resume(&mut self.arena, a, &mut readers);
-            }
+            resume(&mut self.arena, a, &mut readers);
         }
         Ok((reply, readers))
     }

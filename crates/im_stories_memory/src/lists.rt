@@ -4,8 +4,9 @@ ghost use Rattle.std.specs.Prelude.{◌<◌, length};
 use crate::plain_lists::walk;
 use crate::texts::{add_count, add_steps, add_truth, add_waiter, waiter};
 use anyhow::{Result, anyhow};
-use im_arena::{Arena, Ends};
+use im_arena::{Arena, Ends, hand_over};
 use im_story::{address, number};
+use im_types::Waiter;
 use std::alloc::Global;
 
 // A call of one list.
@@ -41,10 +42,26 @@ fn tell_if(arena: &mut Arena, list: u32, words: &[&str], said: &mut String) -> R
     }
 }
 
+// The first waiter of a list goes, and another one comes to another list, if both are there and a node is free.
+fn hand_over_if(arena: &mut Arena, from: u32, to: u32, waiter: Waiter) -> Result<Option<Waiter>> {
+    let lists = arena.list_count();
+    if from >= lists || to >= lists || from == to {
+        return Err(anyhow!("no lists {from} and {to}"));
+    }
+    if arena.is_full() {
+        return Err(anyhow!("no node is free"));
+    }
+    Ok(hand_over(arena, from, to, waiter))
+}
+
 /// Makes a call of lists.
 pub fn tell(alloc: Global, arena: &mut Arena, words: &[&str], said: &mut String) -> Result<()> {
     match words {
         ["list", list, rest @ ..] => tell_if(arena, address(list)?, rest, said),
+        ["hand", "over", from, to, who] => add_waiter(
+            said,
+            hand_over_if(arena, address(from)?, address(to)?, waiter(who)?)?,
+        ),
         ["lists"] => add_count(said, arena.list_count()),
         ["nodes"] => add_count(said, arena.node_count()),
         ["free"] => add_count(said, arena.free_count()),
