@@ -7,7 +7,7 @@ pub record Account : Type 0 where
   -- the file now, and the moments before it, the newest first
   pub now : Moment
   pub past : List Moment
-  -- What the failing calls to come leave, the next one first. Nobody knows it, as nobody knows the first moment.
+  -- What the failing calls to come leave, the next one first. Like the first moment, a `Start` tells it.
   pub outcomes : List (List ℕ)
   -- each answer so far was that of an honest file
   pub agrees : Bool
@@ -64,6 +64,23 @@ after_call (suc (suc zero)) at ok bytes a = record { now = a.now; past = a.now �
 after_call (suc (suc (suc zero))) at ok bytes a = after_write ok at bytes a
 after_call (suc (suc (suc (suc more)))) at ok bytes a = after_sync ok a
 
--- after the call that is noted by these numbers: which call, an offset or a length, and 1 for success
-abbrev pub noted : List ℕ → List ℕ → Account → Account
-noted numbers bytes a = after_call (slice_index numbers 0) (slice_index numbers 1) (slice_index numbers 2 == 1) bytes a
+-- A call with its answer: its number, an offset or a length, whether it succeeded, and the bytes.
+pub record Event : Type 0 where
+  pub call : ℕ
+  pub at : ℕ
+  pub ok : Bool
+  pub bytes : List ℕ
+
+-- the call that is noted by these numbers: which call, an offset or a length, and 1 for success
+abbrev pub event_of : List ℕ → List ℕ → Event
+event_of numbers bytes = record { call = slice_index numbers 0; at = slice_index numbers 1; ok = slice_index numbers 2 == 1; bytes = bytes }
+
+-- a file with this first moment, whose failing calls come to these outcomes, after these calls, the newest first
+abbrev pub replay : Moment → List (List ℕ) → List Event → Account
+replay first outcomes [] = record { now = first; past = []; outcomes = outcomes; agrees = true }
+replay first outcomes (e ∷ earlier) = after_call e.call e.at e.ok e.bytes (replay first outcomes earlier)
+
+-- No sync has failed. After one has, nothing more is asked of the file: what was written may be lost with no further error.
+abbrev pub is_usable : List Event → Bool
+is_usable [] = true
+is_usable (e ∷ earlier) = (e.ok || not (e.call == 4)) && is_usable earlier

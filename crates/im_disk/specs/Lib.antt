@@ -5,3 +5,4 @@ pub mod Record
 pub mod Fuse
 pub mod Gate
 pub mod Account
+pub mod File

@@ -1,13 +1,14 @@
 //! A disk over a file of the operating system.
-ghost use Rattle.std.specs.Prelude.{◌≡◌, [], replicate, IfOk, IfErr};
+ghost use Rattle.std.specs.Prelude.{◌≡◌, ◌∷◌, [], replicate, IsTrue, IfOk};
 ghost use Rattle.im_disk.specs.Moment.{Counts};
+ghost use Rattle.im_disk.specs.Account.{event_of, is_usable};
 
 use crate::account::Ledger;
+use crate::opening::{made, readable, settled};
 use crate::record::fault;
-use crate::{DeviceFault, Disk};
-use im_types::Refusal;
-use std::fs::{File, OpenOptions};
-use std::io;
+use crate::{DeviceFault, Disk, OpenFault, Start};
+use std::fs::File;
+use std::marker::PhantomData;
 use std::os::unix::fs::FileExt;
 use std::rt::Files;
 
@@ -25,151 +26,189 @@ const SYNCED: u64 = 4;
 /// A file of the operating system.
 ///
 /// What its clauses say of bytes and crashes has honesty as its premise, as on any [`Disk`], and nothing promises that a
-/// real file is honest. It is defined over an account of the calls and their answers, which clauses alone read: the file
-/// is honest as long as each answer was one that an honest file could have given, with the bytes that it held when it
-/// was opened, and with the outcomes that its failing calls had. No clause tells what those were, so what is proved
-/// over a `FileDisk` is proved for each of them. For the account to be that of the real file, nobody else writes it, its
-/// length stays, and a sync that answers `Ok` has put the bytes down: docs/CRASH.md tells all that is assumed.
+/// real file is honest. Its members are read off the list of its calls with their answers, which clauses alone read, and
+/// off `S`, which says what the file held when it was opened and what its failing calls came to: the file is honest as
+/// long as each answer was one that an honest file with that start could have given. What is proved over any `S: Start`
+/// is proved for each of them, and so for the real one. For the list to be that of the real file, nobody else writes
+/// it, its length stays, and a sync that answers `Ok` has put the bytes down: docs/CRASH.md tells all that is assumed.
 #[derive(Drop)]
-pub struct FileDisk {
+pub struct FileDisk<S: Start> {
     file: File,
+    /// The length that it had when it was opened.
+    len: u64,
+    /// No sync has failed, and each length was that one. Else each call fails, and asks nothing of the file.
+    usable: bool,
     failures: u64,
     ledger: Ledger,
+    start: PhantomData<S>,
+    ghost held: { IsTrue usable → IsTrue (is_usable ledger.events) },
 }
 
-impl FileDisk {
-    /// Makes a file of so many zero bytes at the path, also over one that is there, and puts it on the disk. Refused
-    /// `Device` where that fails, and what is at the path may then be any file. That the bytes are zero and none is in
-    /// doubt is what an honest file would have, as everywhere.
+impl<S: Start> FileDisk<S> {
+    /// Makes a file of so many zero bytes at the path, also over one that is there, and puts it and its name on the disk.
+    /// It is locked before a byte is changed, for as long as the disk lives.
+    ///
+    /// `InUse` where another opening has its lock, and `Device` where what is there is no regular file: then nothing is
+    /// changed. `Device` where another call of the system fails, and what is at the path may then be any file. That the
+    /// bytes are zero and none is in doubt is what an honest file would have, as everywhere.
     pub fn create<R: Files<File = File>>(
         rt: &R,
         path: &str,
         len: usize,
-    ) -> Result<FileDisk, Refusal>
-        ensures refused { IfErr result (λ refusal. refusal ≡ Refusal.Device) }
-        ensures failures { IfOk result (λ disk. ⟦<FileDisk as Disk>⟧.failures disk ≡ 0) }
-        ensures now { IfOk result (λ disk. ⟦<FileDisk as Disk>⟧.now disk ≡ record { bytes = replicate len 0; ranges = [] }) }
-        ensures past { IfOk result (λ disk. ⟦<FileDisk as Disk>⟧.past disk ≡ []) }
-        ensures honest { IfOk result (λ disk. ⟦<FileDisk as Disk>⟧.honest disk) }
+        start: S,
+    ) -> Result<FileDisk<S>, OpenFault>
+        ensures failures { IfOk result (λ disk. ⟦<FileDisk<S> as Disk>⟧.failures disk ≡ 0) }
+        ensures now { IfOk result (λ disk. ⟦<FileDisk<S> as Disk>⟧.now disk
+            ≡ record { bytes = replicate len 0; ranges = [] }) }
+        ensures past { IfOk result (λ disk. ⟦<FileDisk<S> as Disk>⟧.past disk ≡ []) }
+        ensures honest { IfOk result (λ disk. ⟦<FileDisk<S> as Disk>⟧.honest disk) }
     {
-        match created(rt, path, len) {
-            Ok(file) => {
-                let mut disk = over(file);
-                disk.ledger.note(&[MADE, len as u64, 1], &[]);
-                Ok(disk)
-            }
-            Err(_) => Err(Refusal::Device),
-        }
+        let file = made(rt, path, len)?;
+        let mut disk = over(file, len as u64, start);
+        note(&mut disk.ledger, &[MADE, len as u64, 1], &[]);
+        Ok(disk)
     }
 
-    /// Opens the file at the path to read and write it. Refused `Device` where that fails, and nothing is changed.
-    pub fn open<R: Files<File = File>>(rt: &R, path: &str) -> Result<FileDisk, Refusal>
-        ensures refused { IfErr result (λ refusal. refusal ≡ Refusal.Device) }
-        ensures failures { IfOk result (λ disk. ⟦<FileDisk as Disk>⟧.failures disk ≡ 0) }
-        ensures honest { IfOk result (λ disk. ⟦<FileDisk as Disk>⟧.honest disk) }
+    /// Opens the file at the path to read and write it, and puts it on the disk. It is locked for as long as the disk
+    /// lives. `InUse` where another opening has its lock, `Device` where it is no regular file or a call of the system
+    /// fails. Its bytes aren't changed.
+    pub fn open<R: Files<File = File>>(
+        rt: &R,
+        path: &str,
+        start: S,
+    ) -> Result<FileDisk<S>, OpenFault>
+        ensures failures { IfOk result (λ disk. ⟦<FileDisk<S> as Disk>⟧.failures disk ≡ 0) }
+        ensures now { IfOk result (λ disk. ⟦<FileDisk<S> as Disk>⟧.now disk ≡ S.first) }
+        ensures past { IfOk result (λ disk. ⟦<FileDisk<S> as Disk>⟧.past disk ≡ []) }
+        ensures honest { IfOk result (λ disk. ⟦<FileDisk<S> as Disk>⟧.honest disk) }
     {
-        match OpenOptions::new().read(true).write(true).open(rt, path) {
-            Ok(file) => Ok(over(file)),
-            Err(_) => Err(Refusal::Device),
-        }
+        let (file, len) = settled(rt, path)?;
+        Ok(over(file, len, start))
     }
 
-    /// Opens the file at the path to read it alone: each write to it fails. Refused `Device` where that fails.
-    pub fn open_to_read<R: Files<File = File>>(rt: &R, path: &str) -> Result<FileDisk, Refusal>
-        ensures refused { IfErr result (λ refusal. refusal ≡ Refusal.Device) }
-        ensures failures { IfOk result (λ disk. ⟦<FileDisk as Disk>⟧.failures disk ≡ 0) }
-        ensures honest { IfOk result (λ disk. ⟦<FileDisk as Disk>⟧.honest disk) }
+    /// Opens the file at the path to read it alone: each write to it fails. Others may read it at the same time. `InUse`
+    /// where one that writes it has its lock, `Device` where it is no regular file or a call of the system fails.
+    pub fn open_to_read<R: Files<File = File>>(
+        rt: &R,
+        path: &str,
+        start: S,
+    ) -> Result<FileDisk<S>, OpenFault>
+        ensures failures { IfOk result (λ disk. ⟦<FileDisk<S> as Disk>⟧.failures disk ≡ 0) }
+        ensures now { IfOk result (λ disk. ⟦<FileDisk<S> as Disk>⟧.now disk ≡ S.first) }
+        ensures past { IfOk result (λ disk. ⟦<FileDisk<S> as Disk>⟧.past disk ≡ []) }
+        ensures honest { IfOk result (λ disk. ⟦<FileDisk<S> as Disk>⟧.honest disk) }
     {
-        match OpenOptions::new().read(true).open(rt, path) {
-            Ok(file) => Ok(over(file)),
-            Err(_) => Err(Refusal::Device), // It isn't there, or may not be read.
-        }
+        let (file, len) = readable(rt, path)?;
+        Ok(over(file, len, start))
     }
 }
 
-// The disk over a file that was opened.
-fn over(file: File) -> FileDisk
-    ensures failures { ⟦<FileDisk as Disk>⟧.failures result ≡ 0 }
-    ensures honest { ⟦<FileDisk as Disk>⟧.honest result }
+// The disk over a file that was opened. One value of a start is used up for each.
+fn over<S: Start>(file: File, len: u64, _start: S) -> FileDisk<S>
+    ensures failures { ⟦<FileDisk<S> as Disk>⟧.failures result ≡ 0 }
+    ensures events { result.ledger.events ≡ [] }
 {
     FileDisk {
         file,
+        len,
+        usable: true,
         failures: 0,
         ledger: Ledger::new(),
+        start: PhantomData,
     }
 }
 
-fn created<R: Files<File = File>>(rt: &R, path: &str, len: usize) -> io::Result<File> {
-    let file = OpenOptions::new()
-        .read(true)
-        .write(true)
-        .create(true)
-        .truncate(true)
-        .open(rt, path)?;
-    file.set_len(len as u64)?;
-    file.sync_all()?;
-    Ok(file)
+// Notes a call of the system. There is none after a sync that failed.
+fn note(ledger: &mut Ledger, numbers: &[u64], bytes: &[u8])
+    requires usable { IsTrue (is_usable ledger.old.events) }
+    ensures { ledger.new.events ≡ event_of numbers.now bytes.now ∷ ledger.old.events }
+{
+    ledger.note(numbers, bytes);
 }
 
-impl Disk for FileDisk {
+// Whether the range lies inside a file of this length.
+fn is_inside(at: usize, size: usize, len: u64) -> bool {
+    let (at, size) = (at as u64, size as u64);
+    size <= len && at <= len - size
+}
+
+impl<S: Start> Disk for FileDisk<S> {
     ghost use Rattle.im_disk.specs.Account.{IsHonest};
+    ghost use Rattle.im_disk.specs.File.{account_of};
 
-    ghost now = { λ f. f.ledger.account.now };
+    ghost now = { λ f. (account_of S.Start f).now };
 
-    ghost past = { λ f. f.ledger.account.past };
+    ghost past = { λ f. (account_of S.Start f).past };
 
     ghost failures = { λ f. f.failures };
 
-    ghost honest = { λ f. IsHonest f.ledger.account };
+    ghost honest = { λ f. IsHonest (account_of S.Start f) };
 
     fn len(&mut self) -> Result<usize, DeviceFault> {
+        if !self.usable {
+            return Err(fault(&mut self.failures));
+        }
         match self.file.metadata() {
             Ok(data) => {
                 let len = data.len();
-                self.ledger.note(&[MEASURED, len, 1], &[]);
+                note(&mut self.ledger, &[MEASURED, len, 1], &[]);
+                if len != self.len {
+                    self.usable = false;
+                    return Err(fault(&mut self.failures));
+                }
                 Ok(len as usize)
             }
             Err(_) => {
-                self.ledger.note(&[MEASURED, 0, 0], &[]);
+                note(&mut self.ledger, &[MEASURED, 0, 0], &[]);
                 Err(fault(&mut self.failures))
             }
         }
     }
 
     fn read(&mut self, at: usize, buf: &mut [u8]) -> Result<(), DeviceFault> {
+        if !self.usable || !is_inside(at, buf.len(), self.len) {
+            return Err(fault(&mut self.failures));
+        }
         match self.file.read_exact_at(buf, at as u64) {
             Ok(()) => {
-                self.ledger.note(&[READ, at as u64, 1], buf);
+                note(&mut self.ledger, &[READ, at as u64, 1], buf);
                 Ok(())
             }
             Err(_) => {
-                self.ledger.note(&[READ, at as u64, 0], &[]);
+                note(&mut self.ledger, &[READ, at as u64, 0], &[]);
                 Err(fault(&mut self.failures))
             }
         }
     }
 
     fn write_at(&mut self, at: usize, bytes: &[u8]) -> Result<(), DeviceFault> {
+        if !self.usable || !is_inside(at, bytes.len(), self.len) {
+            return Err(fault(&mut self.failures));
+        }
         match self.file.write_all_at(bytes, at as u64) {
             Ok(()) => {
-                self.ledger.note(&[WRITTEN, at as u64, 1], bytes);
+                note(&mut self.ledger, &[WRITTEN, at as u64, 1], bytes);
                 Ok(())
             }
             Err(_) => {
-                self.ledger.note(&[WRITTEN, at as u64, 0], bytes);
+                note(&mut self.ledger, &[WRITTEN, at as u64, 0], bytes);
                 Err(fault(&mut self.failures))
             }
         }
     }
 
     fn sync(&mut self) -> Result<(), DeviceFault> {
+        if !self.usable {
+            return Err(fault(&mut self.failures));
+        }
         match self.file.sync_data() {
             Ok(()) => {
-                self.ledger.note(&[SYNCED, 0, 1], &[]);
+                note(&mut self.ledger, &[SYNCED, 0, 1], &[]);
                 Ok(())
             }
             Err(_) => {
-                self.ledger.note(&[SYNCED, 0, 0], &[]);
+                note(&mut self.ledger, &[SYNCED, 0, 0], &[]);
+                self.usable = false; // What was written may be lost, whatever the next sync answers.
                 Err(fault(&mut self.failures))
             }
         }

@@ -9,10 +9,14 @@ mod file;
 mod fuse;
 mod gate;
 mod memory;
+mod opening;
 mod record;
+mod start;
 
 pub use disk::{DeviceFault, Disk};
 pub use file::FileDisk;
 pub use fuse::{FuseDisk, Mode};
 pub use gate::write_behind_gate;
 pub use memory::{Crash, MemDisk};
+pub use opening::OpenFault;
+pub use start::{Start, Unknown};

@@ -1,5 +1,5 @@
 -- What serving a script leaves on a disk. (Own.)
-use Rattle.std.specs.Prelude.{◌≡◌, ℕ, ◌+◌, List, length, Some, true, false}
+use Rattle.std.specs.Prelude.{◌≡◌, ◌⊎◌, ℕ, ◌+◌, List, [], length, Some, true, false}
 use Rattle.im_types.specs.declared.commands.Command.{Command}
 use Rattle.im_types.specs.Meaning.{accept_each}
 use Rattle.im_types.specs.Run.{after}
@@ -56,3 +56,10 @@ pub record Served {D : Type 0} (now : D → Moment) (past : D → List Moment) (
 pub record NotOpened {D : Type 0} (now : D → Moment) (past : D → List Moment) (old new : D) (status : ℕ) : Type 0 where
   pub status_is : status ≡ 1
   pub leaves : Leaves (now old) (now new) (past old) (past new) (Left (now old))
+
+-- The same of a disk that was opened at this moment, before which there was none.
+pub record ServedFrom {D : Type 0} (now : D → Moment) (past : D → List Moment) (failures : D → ℕ) (first : Moment) (new : D) (status : ℕ) : Type 0 where
+  pub old : D
+  pub was : now old ≡ first
+  pub none : past old ≡ []
+  pub served : NotOpened now past old new status ⊎ Served now past failures old new status

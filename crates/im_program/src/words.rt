@@ -69,6 +69,10 @@ Example:
   imem serial a.img fetch.script
   imem inspect a.img
 
+While imem works on an image it holds the file's lock: another imem is refused 8 Device, and a line on
+standard error says that the image is in use. Any number may inspect it at the same time. The lock is
+advisory: it keeps no other program from writing the file, nor one that makes another file of its name.
+
 Exit status: 0 done; 1 refused, with 'refused N NAME' as the last line; 2 a bad command line.";
 
 const BAD_NUMBER: &str = "--cells, --elements and --slots take decimal numbers below 4294967296";

@@ -15,8 +15,15 @@ file read 0 4 = 00 01 02 00
 put image_story/image ab = so
 file read 0 4 = fault
 file read 0 2 = 61 62
-file length = 2
+-- Its length isn't what it was: from here on nothing more is asked of it.
+file length = fault
+file length = fault
+file read 0 2 = fault
+file write 0 07 = fault
+file sync = fault
 file close = closed
+open image_story/image = open
+file read 0 2 = 61 62
 remove image_story = so
 
 # A file that was opened to be read isn't written
@@ -32,3 +39,36 @@ remove image_story = so
 create no_folder/image 4 = refused 8 Device
 open no_folder/image = refused 8 Device
 open no_folder/image to read = refused 8 Device
+
+# A file that is open is in use, and is left as it is
+folder image_story = so
+create image_story/image 4 = open
+file write 0 61 62 63 64 = ok
+open image_story/image = in use
+open image_story/image to read = in use
+create image_story/image 8 = in use
+file read 0 4 = 61 62 63 64
+file length = 4
+file close = closed
+-- Others may read what one only reads.
+open image_story/image to read = open
+open image_story/image to read = open
+open image_story/image = in use
+create image_story/image 8 = in use
+file close = closed
+open image_story/image = open
+file read 0 4 = 61 62 63 64
+file close = closed
+remove image_story = so
+
+# Only a regular file is opened
+folder image_story = so
+open image_story = refused 8 Device
+open image_story to read = refused 8 Device
+create image_story 4 = refused 8 Device
+open /dev/null = refused 8 Device
+open /dev/null to read = refused 8 Device
+create /dev/null 4 = refused 8 Device
+open /dev/full = refused 8 Device
+create /dev/full 4 = refused 8 Device
+remove image_story = so

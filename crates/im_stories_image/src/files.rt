@@ -12,7 +12,7 @@ ghost use Rattle.std.specs.Prelude.{◌≡◌, ◌+◌, ◌≤◌, true, length}
 use crate::bytes::{add_bytes, hex_bytes};
 use crate::disks::add_passed;
 use anyhow::{Result, anyhow};
-use im_disk::{Disk, FileDisk};
+use im_disk::{Disk, FileDisk, OpenFault, Unknown};
 use im_story::{add_refusal, place};
 use im_types::Refusal;
 use std::alloc::{AllocError, Global};
@@ -21,13 +21,13 @@ use std::fs;
 /// A file that is open, and its length when it was opened.
 #[derive(Drop)]
 pub struct Opened {
-    disk: FileDisk,
+    disk: FileDisk<Unknown>,
     size: usize,
-    ghost whole: { ⟦<FileDisk as Disk>⟧.honest disk → size ≡ length (⟦<FileDisk as Disk>⟧.now disk).bytes },
+    ghost whole: { ⟦<FileDisk<Unknown> as Disk>⟧.honest disk → size ≡ length (⟦<FileDisk<Unknown> as Disk>⟧.now disk).bytes },
 }
 
 impl Opened {
-    fn new(mut disk: FileDisk) -> Result<Opened> {
+    fn new(mut disk: FileDisk<Unknown>) -> Result<Opened> {
         match disk.len() {
             Ok(size) => Ok(Opened { disk, size }),
             Err(_) => Err(anyhow!("the length can't be read")),
@@ -85,14 +85,19 @@ impl Files {
         Files { open: None }
     }
 
-    fn take(&mut self, made: Result<FileDisk, Refusal>, said: &mut String) -> Result<()> {
-        self.open = None;
+    // Where it isn't opened, the one that was open stays so.
+    fn take(
+        &mut self,
+        made: Result<FileDisk<Unknown>, OpenFault>,
+        said: &mut String,
+    ) -> Result<()> {
         match made {
             Ok(disk) => {
                 self.open = Some(Opened::new(disk)?);
                 said.push_str("open")?;
             }
-            Err(refusal) => add_refusal(said, refusal)?,
+            Err(OpenFault::InUse) => said.push_str("in use")?,
+            Err(OpenFault::Device) => add_refusal(said, Refusal::from(OpenFault::Device))?,
         }
         Ok(())
     }
@@ -166,11 +171,13 @@ pub fn tell_of_files(
 ) -> Result<bool> {
     match words {
         ["create", path, len] => {
-            let made = FileDisk::create(rt, path, place(len)?);
+            let made = FileDisk::create(rt, path, place(len)?, Unknown);
             files.take(made, said)?;
         }
-        ["open", path] => files.take(FileDisk::open(rt, path), said)?,
-        ["open", path, "to", "read"] => files.take(FileDisk::open_to_read(rt, path), said)?,
+        ["open", path] => files.take(FileDisk::open(rt, path, Unknown), said)?,
+        ["open", path, "to", "read"] => {
+            files.take(FileDisk::open_to_read(rt, path, Unknown), said)?
+        }
         ["file", "close"] => {
             files.open = None;
             said.push_str("closed")?;

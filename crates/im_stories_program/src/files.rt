@@ -3,6 +3,7 @@
 use crate::Desk;
 use crate::command_lines::{spelled, texts};
 use anyhow::{Result, anyhow};
+use im_disk::Unknown;
 use im_program::{act, read_words};
 use std::{fs, io};
 
@@ -15,7 +16,7 @@ fn run(desk: &mut Desk, words: &[&str], said: &mut String) -> Result<()> {
         return Err(anyhow!("the words ask for no work"));
     };
     let mut out = String::new(alloc);
-    let status = act(desk.rt, &work, &mut out);
+    let status = act(desk.rt, &work, &mut out, Unknown);
     desk.printed.set(out);
     Ok(write!(said, "{status}")?)
 }

@@ -3,6 +3,7 @@
 
 ghost use Rattle.std.specs.Prelude.{◌≡◌, ◌≤◌};
 
+use im_disk::Unknown;
 use im_program::{WordFault, act, read_words, refuse};
 use im_types::Refusal;
 use std::alloc::{AllocError, Global};
@@ -25,7 +26,7 @@ fn run(rt: &HostRuntime, words: &[&str], out: &mut String) -> u8
     ensures { result ≤ 2 }
 {
     match read_words(rt.alloc(), words) {
-        Ok(work) => act(rt, &work, out),
+        Ok(work) => act(rt, &work, out, Unknown),
         Err(WordFault::NoMemory) => refuse(Refusal::NoMemory, out),
         Err(WordFault::Bad(error)) => {
             let printed = error.print(rt);

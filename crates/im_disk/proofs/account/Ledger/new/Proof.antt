@@ -1,7 +1,6 @@
 -- `new` makes a value of no bytes, at the empty list.
 use mathlib.Core.Path.{refl}
 use mathlib.Core.List.{[], ◌∷◌}
-use mathlib.Core.Bool.{true}
 use seplogic.Ra.Ura.{Ura}
 use mir.Val.{Val, vstruct, vcons, vnil}
 use base.Logic.{SProp}
@@ -33,7 +32,7 @@ abbrev v : Val
 v = vstruct (vcons (vstruct vnil) vnil)
 
 abbrev r : Ledger
-r = record { marker = record {}; account = record { now = record { bytes = []; ranges = [] }; past = []; outcomes = []; agrees = true } }
+r = record { marker = record {}; events = [] }
 
 meets : {M : Type 1} {𝓤 : Ura M} (𝓛 : Logic 𝓤) → (at_mem : Memory → SProp 𝓤) (run : Routine → Fun 𝓤) (𝓣 : Tables 𝓤 𝓛.H)
     → Meets 𝓛 it.signature (WpFn 𝓤 𝓛.H 𝓣.C 𝓣.Λ code.function) (it.spec 𝓛 at_mem run)
