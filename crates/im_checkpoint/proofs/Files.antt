@@ -6,7 +6,7 @@ use Rattle.im_types.specs.Contents.{Contents}
 use Rattle.im_types.specs.Step.{step, is_accepted}
 use Rattle.im_types.specs.Slot.{sequence_of}
 use Rattle.im_types.specs.Journal.{Ring, Tail, slot, tail}
-use Rattle.im_types.specs.Layout.{layout_1, area_at, area_bytes, journal_at, image_length, ring_of}
+use Rattle.im_types.specs.Layout.{layout_in_use, area_at, area_bytes, journal_at, image_length, ring_of}
 use Rattle.im_types.specs.Header.{Header, header_place, is_open_header, generation_in}
 use Rattle.im_types.specs.Meaning.{Reads, accept_each}
 use Rattle.im_disk.specs.Since.{SameBut}
@@ -58,12 +58,12 @@ room_in None = 0
 room_in (Some t) = t.room
 
 -- an image means the memory that its commands lead to
-pub means_of : (h : Header) (m : Contents) (j : JournalState) (shown : Contents) (commands : List Command) (there : ℕ) (file : List ℕ) → IsImage layout_1 h shown commands there file
+pub means_of : (h : Header) (m : Contents) (j : JournalState) (shown : Contents) (commands : List Command) (there : ℕ) (file : List ℕ) → IsImage layout_in_use h shown commands there file
     → accept_each shown commands ≡ Some m → j.count ≡ h.count + length commands → j.room ≤ there → MeansWith m j file
 means_of h m j shown commands there file image accepts count enough = (
   there,
   enough,
-  subst (λ (n : ℕ). Reads layout_1 file (Ok (record { contents = m; count = n; room = there }))) (sym count) (image_reads layout_1 h shown m commands there file image accepts),
+  subst (λ (n : ℕ). Reads layout_in_use file (Ok (record { contents = m; count = n; room = there }))) (sym count) (image_reads layout_in_use h shown m commands there file image accepts),
 )
 
 -- the gate of a header place
@@ -84,26 +84,26 @@ module _ (c : CheckpointState) (m : Contents) (j : JournalState) (file : List �
   pub enough : j.room ≤ it.there
   enough =
       let held : Holds j file = it.journal in
-      let read : tail (ring_of layout_1 c.header.sizes) c.header.count file ≡ Some (record { commands = held.commands; room = held.there }) =
-      subst (λ (n : ℕ). tail (ring_of layout_1 c.header.sizes) n file ≡ Some (record { commands = held.commands; room = held.there })) it.first
+      let read : tail (ring_of layout_in_use c.header.sizes) c.header.count file ≡ Some (record { commands = held.commands; room = held.there }) =
+      subst (λ (n : ℕ). tail (ring_of layout_in_use c.header.sizes) n file ≡ Some (record { commands = held.commands; room = held.there })) it.first
       (subst (λ (r : Ring). tail r j.first file ≡ Some (record { commands = held.commands; room = held.there })) it.ring held.reads) in
       omega (arith, held.enough, ap room_in (sym read ∙ it.image.journal))
 
-  pub size : length file ≡ image_length layout_1 c.header.sizes
+  pub size : length file ≡ image_length layout_in_use c.header.sizes
   size = it.image.in_force.size
 
-  other_from : 8192 ≤ area_at layout_1 c.header.sizes (other c.header)
-  other_from = area_from (area_bytes layout_1 c.header.sizes) (1 - c.header.area)
+  other_from : 8192 ≤ area_at layout_in_use c.header.sizes (other c.header)
+  other_from = area_from (area_bytes layout_in_use c.header.sizes) (1 - c.header.area)
 
-  other_to : area_at layout_1 c.header.sizes (other c.header) + area_bytes layout_1 c.header.sizes ≤ journal_at layout_1 c.header.sizes
-  other_to = area_to (area_bytes layout_1 c.header.sizes) c.header.area
+  other_to : area_at layout_in_use c.header.sizes (other c.header) + area_bytes layout_in_use c.header.sizes ≤ journal_at layout_in_use c.header.sizes
+  other_to = area_to (area_bytes layout_in_use c.header.sizes) c.header.area
 
-  base_is : j.ring.base ≡ journal_at layout_1 c.header.sizes
+  base_is : j.ring.base ≡ journal_at layout_in_use c.header.sizes
   base_is = ap (λ (r : Ring). r.base) it.ring
 
   -- another file with the same image and the same journal
   pub record Still (d : List ℕ) : Type 0 where
-    pub image : IsImage layout_1 c.header it.shown it.commands it.there d
+    pub image : IsImage layout_in_use c.header it.shown it.commands it.there d
     pub journal : Holds j d
 
   pub still_means : (d : List ℕ) → Still d → MeansWith m j d
@@ -127,10 +127,10 @@ module _ (c : CheckpointState) (m : Contents) (j : JournalState) (file : List �
   }
 
   -- what is written in the area that isn't in force
-  pub still_in_area : (at n : ℕ) (d : List ℕ) → SameBut at n file d → area_at layout_1 c.header.sizes (other c.header) ≤ at
-      → at + n ≤ area_at layout_1 c.header.sizes (other c.header) + area_bytes layout_1 c.header.sizes → Still d
+  pub still_in_area : (at n : ℕ) (d : List ℕ) → SameBut at n file d → area_at layout_in_use c.header.sizes (other c.header) ≤ at
+      → at + n ≤ area_at layout_in_use c.header.sizes (other c.header) + area_bytes layout_in_use c.header.sizes → Still d
   still_in_area at n d but from to = record {
-    image = write_in_other_area layout_1 c.header it.shown it.commands it.there file d at n it.image but some from to;
+    image = write_in_other_area layout_in_use c.header it.shown it.commands it.there file d at n it.image but some from to;
     journal = holds_behind j at n file d some_slots (omega (arith, to, other_to, base_is)) but it.journal;
   }
 
@@ -139,7 +139,7 @@ module _ (c : CheckpointState) (m : Contents) (j : JournalState) (file : List �
   holds_still at n d but to = holds_behind j at n file d some_slots (omega (arith, to, other_from, other_to, base_is)) but it.journal
 
   -- what is written in the place of the other header
-  still_in_header : (at n : ℕ) (d : List ℕ) → SameBut at n file d → at + n ≤ 4096 * other c.header + 64 → IsImage layout_1 c.header it.shown it.commands it.there d → Still d
+  still_in_header : (at n : ℕ) (d : List ℕ) → SameBut at n file d → at + n ≤ 4096 * other c.header + 64 → IsImage layout_in_use c.header it.shown it.commands it.there d → Still d
   still_in_header at n d but to image = record {
     image = image;
     journal = holds_still at n d but (omega (arith, to, place_to c.header.area));
@@ -147,12 +147,12 @@ module _ (c : CheckpointState) (m : Contents) (j : JournalState) (file : List �
 
   pub still_behind_gate : (d : List ℕ) → is_open_header (header_place (other c.header) file) ≡ false → SameBut (4096 * other c.header + 1) 63 file d → Still d
   still_behind_gate d closed but = still_in_header (4096 * other c.header + 1) 63 d but (omega arith)
-      (write_behind_closed_gate layout_1 c.header it.shown it.commands it.there file d (4096 * other c.header + 1) 63 it.image but some (omega arith) (omega arith) (omega arith) closed)
+      (write_behind_closed_gate layout_in_use c.header it.shown it.commands it.there file d (4096 * other c.header + 1) 63 it.image but some (omega arith) (omega arith) (omega arith) closed)
 
   -- the gate of a header that is open is of a lower generation
   pub still_gate : (d : List ℕ) → is_open_header (header_place (other c.header) file) ≡ true → SameBut (4096 * other c.header) 1 file d → Still d
   still_gate d opened but = still_in_header (4096 * other c.header) 1 d but (omega arith)
-      (write_lower_gate layout_1 c.header it.shown it.commands it.there file d (4096 * other c.header) 1 it.image but some (omega arith) (omega arith) (omega arith) (by_below it.image.in_force.below))
+      (write_lower_gate layout_in_use c.header it.shown it.commands it.there file d (4096 * other c.header) 1 it.image but some (omega arith) (omega arith) (omega arith) (by_below it.image.in_force.below))
     where
       clash : (b : Bool) → b ≡ true → b ≡ false → ⊥
       clash b is isnt = absurd (cc)
@@ -162,14 +162,14 @@ module _ (c : CheckpointState) (m : Contents) (j : JournalState) (file : List �
       by_below (inr lower) = lower
 
   -- the area is as long as its pages
-  pub area_fits : area_at layout_1 c.header.sizes (other c.header) + area_bytes layout_1 c.header.sizes ≤ length file
+  pub area_fits : area_at layout_in_use c.header.sizes (other c.header) + area_bytes layout_in_use c.header.sizes ≤ length file
   area_fits = omega (arith, other_to, size)
 
-  pub area_length : length (other_area c.header file) ≡ area_bytes layout_1 c.header.sizes
-  area_length = range_length file (area_at layout_1 c.header.sizes (other c.header)) (area_at layout_1 c.header.sizes (other c.header) + area_bytes layout_1 c.header.sizes) (omega arith) area_fits
+  pub area_length : length (other_area c.header file) ≡ area_bytes layout_in_use c.header.sizes
+  area_length = range_length file (area_at layout_in_use c.header.sizes (other c.header)) (area_at layout_in_use c.header.sizes (other c.header) + area_bytes layout_in_use c.header.sizes) (omega arith) area_fits
       ∙ omega arith
 
   -- the headers' places aren't of the area
   pub area_stays : (at n : ℕ) (d : List ℕ) → SameBut at n file d → at + n ≤ 8192 → other_area c.header d ≡ other_area c.header file
-  area_stays at n d but to = range_outside at n (area_at layout_1 c.header.sizes (other c.header)) (area_at layout_1 c.header.sizes (other c.header) + area_bytes layout_1 c.header.sizes) file d but
+  area_stays at n d but to = range_outside at n (area_at layout_in_use c.header.sizes (other c.header)) (area_at layout_in_use c.header.sizes (other c.header) + area_bytes layout_in_use c.header.sizes) file d but
       (omega arith) area_fits (inr (omega (arith, to, other_from)))

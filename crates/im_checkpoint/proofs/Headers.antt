@@ -3,7 +3,7 @@ use Rattle.std.proofs.Common.{◌≡◌, ℕ, zero, suc, ◌+◌, ◌-◌, ◌*�
 use Rattle.std.proofs.lemmas.Bool.Decides.{nat_tests}
 use Rattle.im_types.proofs.Tests.{and_both}
 use Rattle.im_types.specs.declared.TheConstants.{LAST, MAX_CELLS, MAX_ELEMENTS, MIN_SLOTS, MAX_SLOTS}
-use Rattle.im_types.specs.Layout.{Sizes, layout_1, are_sizes}
+use Rattle.im_types.specs.Layout.{Sizes, layout_in_use, are_sizes}
 use Rattle.im_types.specs.Sizes.{AreLimits}
 use Rattle.im_types.specs.Header.{Header, header_in, header_place, is_header}
 use Rattle.im_meaning.specs.Images.{InForce, Follows}
@@ -25,7 +25,7 @@ is_least : (m n : ℕ) → m ≤ n → nat_le m n ≡ true
 is_least m n le = grind (arith, nat_tests)
 
 -- sizes in their ranges
-pub limits_of : (s : Sizes) → are_sizes layout_1 s ≡ true → AreLimits s.cells s.elements s.slots
+pub limits_of : (s : Sizes) → are_sizes layout_in_use s ≡ true → AreLimits s.cells s.elements s.slots
 limits_of s are =
     let e = and_both _ (nat_le s.slots MAX_SLOTS) are in
     let d = and_both _ (nat_le MIN_SLOTS s.slots) e.0 in
@@ -48,14 +48,14 @@ pub record IsGood (h : Header) : Type 0 where
   pub from_one : 1 ≤ h.generation
   pub to_last : h.generation ≤ LAST
   pub count : h.count ≤ LAST
-  pub sizes : are_sizes layout_1 h.sizes ≡ true
+  pub sizes : are_sizes layout_in_use h.sizes ≡ true
   pub limits : AreLimits h.sizes.cells h.sizes.elements h.sizes.slots
 
-pub good : (h : Header) (file : List ℕ) → InForce layout_1 h file → IsGood h
+pub good : (h : Header) (file : List ℕ) → InForce layout_in_use h file → IsGood h
 good h file it =
-    let spelled : is_header layout_1 h.area (header_in (header_place h.area file)) ≡ true = (and_both _ _ it.spelled).1 in
-    let is : is_header layout_1 h.area h ≡ true = subst (λ (x : Header). is_header layout_1 h.area x ≡ true) it.fields spelled in
-    let e = and_both _ (are_sizes layout_1 h.sizes) is in
+    let spelled : is_header layout_in_use h.area (header_in (header_place h.area file)) ≡ true = (and_both _ _ it.spelled).1 in
+    let is : is_header layout_in_use h.area h ≡ true = subst (λ (x : Header). is_header layout_in_use h.area x ≡ true) it.fields spelled in
+    let e = and_both _ (are_sizes layout_in_use h.sizes) is in
     let d = and_both _ (nat_le h.count LAST) e.0 in
     let c = and_both _ (nat_le h.generation LAST) d.0 in
     let b = and_both _ (nat_le 1 h.generation) c.0 in
@@ -71,7 +71,7 @@ good h file it =
     }
 
 -- the next header may take the place of the one in force
-pub follows : (h : Header) (count : ℕ) → IsGood h → h.generation < LAST → count ≤ LAST → Follows layout_1 h (next_header h count)
+pub follows : (h : Header) (count : ℕ) → IsGood h → h.generation < LAST → count ≤ LAST → Follows layout_in_use h (next_header h count)
 follows h count g later few = record {
   area = refl;
   later = omega arith;
@@ -84,7 +84,7 @@ follows h count g later few = record {
     elements = omega (arith, g.limits.few_elements);
     slots = omega (arith, g.limits.few_slots);
   };
-  good = joined _ (are_sizes layout_1 h.sizes) (joined _ (nat_le count LAST) (joined _ (nat_le (h.generation + 1) LAST) (joined _ (nat_le 1 (h.generation + 1))
+  good = joined _ (are_sizes layout_in_use h.sizes) (joined _ (nat_le count LAST) (joined _ (nat_le (h.generation + 1) LAST) (joined _ (nat_le 1 (h.generation + 1))
       (joined (h.version == 1) (1 - h.area == 1 - h.area) (same_itself _ _ g.version) (same_itself _ _ refl)) (is_least _ _ (omega arith))) (is_least _ _ (omega (arith, later)))) (is_least _ _ few)) g.sizes;
 }
 

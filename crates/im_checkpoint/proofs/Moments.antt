@@ -2,7 +2,7 @@
 use Rattle.std.proofs.Common.{◌≡◌, inl, ⊎_elim, ℕ, ◌+◌, ◌*◌, ◌<◌, ◌≤◌, ◌==◌, true, false, List, [], ◌∷◌, length, refl, sym, ◌∙◌, ap, subst, arith}
 use Rattle.im_types.specs.Bytes.{open_gate}
 use Rattle.im_types.specs.Contents.{Contents}
-use Rattle.im_types.specs.Layout.{layout_1, page_bytes, area_at, area_bytes, area_pages, record_at}
+use Rattle.im_types.specs.Layout.{layout_in_use, page_bytes, area_at, area_bytes, area_pages, record_at}
 use Rattle.im_types.specs.Header.{header_place, header_body, is_open_header}
 use Rattle.im_disk.specs.Moment.{Moment, Left, Torn, Shaken, MayTick, overlaid, written, synced}
 use Rattle.im_disk.specs.Since.{Leaves, LeavesNow, SameBut}
@@ -33,8 +33,8 @@ calm_left taken (page ∷ left) now = tt
 pub kept_calm : (c : CheckpointState) (m : Contents) (j : JournalState) (now : Moment) → now.ranges ≡ [] → Keeps c m j now.bytes → IsKept c m j now
 kept_calm c m j now none read = record {
   read = read;
-  elsewhere = λ d left. subst (λ (l : List ℕ). SameBut (area_at layout_1 c.header.sizes (other c.header)) (area_bytes layout_1 c.header.sizes) now.bytes l) (sym (left_settled now d none left))
-      (same_all (area_at layout_1 c.header.sizes (other c.header)) (area_bytes layout_1 c.header.sizes) now.bytes);
+  elsewhere = λ d left. subst (λ (l : List ℕ). SameBut (area_at layout_in_use c.header.sizes (other c.header)) (area_bytes layout_in_use c.header.sizes) now.bytes l) (sym (left_settled now d none left))
+      (same_all (area_at layout_in_use c.header.sizes (other c.header)) (area_bytes layout_in_use c.header.sizes) now.bytes);
   calm = calm_all c.step now none;
 }
 
@@ -46,10 +46,10 @@ module _ (c : CheckpointState) (m : Contents) (j : JournalState) (m0 : Moment) (
   P = MeansWith m j
 
   abbrev start : ℕ
-  start = area_at layout_1 c.header.sizes (other c.header)
+  start = area_at layout_in_use c.header.sizes (other c.header)
 
   abbrev many : ℕ
-  many = area_bytes layout_1 c.header.sizes
+  many = area_bytes layout_in_use c.header.sizes
 
   still : (d : List ℕ) → SameBut start many m0.bytes d → Still c m j m0.bytes kept.read d
   still d but = still_in_area c m j m0.bytes kept.read start many d but (omega arith) (omega arith)
@@ -62,8 +62,8 @@ module _ (c : CheckpointState) (m : Contents) (j : JournalState) (m0 : Moment) (
   means_left d left = near_means d (kept.elsewhere d left)
 
   -- a page
-  module _ (taken : Taken) (i : ℕ) (left : List ℕ) (is : c.step ≡ PagesLeft taken (i ∷ left)) (few : i < area_pages layout_1 c.header.sizes) (bytes : List ℕ) (page : bytes ≡ record_at page_bytes taken.area i)
-      (at : ℕ) (at_is : at ≡ area_at layout_1 c.header.sizes (other c.header) + 4096 * i) where
+  module _ (taken : Taken) (i : ℕ) (left : List ℕ) (is : c.step ≡ PagesLeft taken (i ∷ left)) (few : i < area_pages layout_in_use c.header.sizes) (bytes : List ℕ) (page : bytes ≡ record_at page_bytes taken.area i)
+      (at : ℕ) (at_is : at ≡ area_at layout_in_use c.header.sizes (other c.header) + 4096 * i) where
     size_page : length bytes ≡ 4096
     size_page = page_length c m j m0.bytes kept.read taken i left is few bytes page at at_is
 

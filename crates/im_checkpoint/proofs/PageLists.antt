@@ -2,7 +2,7 @@
 use Rattle.std.proofs.Common.{◌≡◌, ℕ, zero, suc, ◌+◌, ◌-◌, ◌<◌, ◌≤◌, List, [], ◌∷◌, ◌++◌, length, get_or, take, drop, refl, sym, ◌∙◌, ap, subst, arith}
 use Rattle.std.specs.List.{Contains}
 use Rattle.std.proofs.lemmas.List.{take-append-le, take_all}
-use Rattle.im_types.specs.Layout.{layout_1, area_pages}
+use Rattle.im_types.specs.Layout.{layout_in_use, area_pages}
 use Rattle.im_types.specs.Header.{Header}
 use Rattle.im_checkpoint.specs.declared.checkpoint.Progress.{Progress}
 use Rattle.im_checkpoint.specs.declared.checkpoint.Progress.TheVariants.{NoCheckpoint as None_yet, PagesLeft as Some_left, PagesDone as All_written, Synced as On_disk}
@@ -95,11 +95,11 @@ module _ (s : CheckpointState) (h : Header) (p : Progress) (taken : Taken) (page
     state_left = sym view ∙ ap (λ (q : Progress). (let x : CheckpointState = record { header = h; step = step_of q taken (drop written pages) } in x)) (progress_left is)
         ∙ ap (λ (l : List ℕ). (let x : CheckpointState = record { header = h; step = PagesLeft taken l } in x)) (rest_is pages written some)
 
-    many : length pages ≡ area_pages layout_1 h.sizes
-    many = ap length known.all ∙ pages_length (area_pages layout_1 h.sizes) 0
+    many : length pages ≡ area_pages layout_in_use h.sizes
+    many = ap length known.all ∙ pages_length (area_pages layout_in_use h.sizes) 0
 
     pub next_page : get_or pages written 0 ≡ written
-    next_page = ap (λ (l : List ℕ). get_or l written 0) known.all ∙ pages_at (area_pages layout_1 h.sizes) 0 written 0 (omega (arith, some, many)) ∙ omega arith
+    next_page = ap (λ (l : List ℕ). get_or l written 0) known.all ∙ pages_at (area_pages layout_in_use h.sizes) 0 written 0 (omega (arith, some, many)) ∙ omega arith
 
-    pub page_low : get_or pages written 0 < area_pages layout_1 h.sizes
+    pub page_low : get_or pages written 0 < area_pages layout_in_use h.sizes
     page_low = omega (arith, next_page, some, many)

@@ -4,7 +4,7 @@ use Rattle.std.specs.List.{Contains}
 use Rattle.std.proofs.lemmas.Bool.{cases_eq, cases_lt}
 use Rattle.im_types.specs.Bytes.{open_gate}
 use Rattle.im_types.specs.Contents.{Contents}
-use Rattle.im_types.specs.Layout.{layout_1, page_bytes, area_at, area_pages, record_at}
+use Rattle.im_types.specs.Layout.{layout_in_use, page_bytes, area_at, area_pages, record_at}
 use Rattle.im_types.specs.Header.{Header, header_place, is_open_header}
 use Rattle.im_disk.specs.Moment.{overlaid}
 use Rattle.im_disk.specs.Since.{SameBut}
@@ -27,14 +27,14 @@ module _ (c : CheckpointState) (m : Contents) (j : JournalState) (file : List �
   h = c.header
 
   abbrev start : ℕ
-  start = area_at layout_1 c.header.sizes (other c.header)
+  start = area_at layout_in_use c.header.sizes (other c.header)
 
   abbrev pages : ℕ
-  pages = area_pages layout_1 c.header.sizes
+  pages = area_pages layout_in_use c.header.sizes
 
   -- the next page is written
-  module _ (i : ℕ) (left : List ℕ) (is : c.step ≡ PagesLeft taken (i ∷ left)) (few : i < area_pages layout_1 c.header.sizes) (bytes : List ℕ) (page : bytes ≡ record_at page_bytes taken.area i)
-      (at : ℕ) (at_is : at ≡ area_at layout_1 c.header.sizes (other c.header) + 4096 * i) where
+  module _ (i : ℕ) (left : List ℕ) (is : c.step ≡ PagesLeft taken (i ∷ left)) (few : i < area_pages layout_in_use c.header.sizes) (bytes : List ℕ) (page : bytes ≡ record_at page_bytes taken.area i)
+      (at : ℕ) (at_is : at ≡ area_at layout_in_use c.header.sizes (other c.header) + 4096 * i) where
     known : IsTaken c.header it.shown it.commands taken × AreWritten c.header taken (i ∷ left) file
     known = subst (λ (s : Step). KeepsStep c.header it.shown it.commands s file) is it.step
 

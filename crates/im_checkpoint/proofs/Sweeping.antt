@@ -3,7 +3,7 @@ use Rattle.std.proofs.Common.{◌≡◌, inl, ℕ, zero, suc, ◌+◌, ◌*◌, 
 use Rattle.im_types.specs.declared.commands.Command.{Command}
 use Rattle.im_types.specs.Contents.{Contents}
 use Rattle.im_types.specs.Journal.{Ring, Tail, tail}
-use Rattle.im_types.specs.Layout.{layout_1, area_at, area_bytes, area_of, journal_at, ring_of}
+use Rattle.im_types.specs.Layout.{layout_in_use, area_at, area_bytes, area_of, journal_at, ring_of}
 use Rattle.im_types.specs.Header.{header_in, header_place, is_open_header, spells_header}
 use Rattle.im_types.specs.Pages.{Shows}
 use Rattle.im_disk.specs.Moment.{Moment}
@@ -29,7 +29,7 @@ area_before bytes (suc (suc n)) low = absurd (omega (arith, low))
 
 -- what stands before the journal stays, where only the journal is written
 module _ (c : CheckpointState) (m : Contents) (j : JournalState) (file : List ℕ) (it : Keeps c m j file) (d : List ℕ) (but : SameBut j.ring.base (64 * j.ring.slots) file d) where
-  base_is : j.ring.base ≡ journal_at layout_1 c.header.sizes
+  base_is : j.ring.base ≡ journal_at layout_in_use c.header.sizes
   base_is = ap (λ (r : Ring). r.base) it.ring
 
   low_base : 8192 ≤ j.ring.base
@@ -50,46 +50,46 @@ module _ (c : CheckpointState) (m : Contents) (j : JournalState) (file : List �
   mine_low : (k : ℕ) → k ≤ 1 → 4096 * k + 64 ≤ 8192
   mine_low k low = omega (arith, low)
 
-  pub area_before_stays : (k : ℕ) → k ≤ 1 → area_of layout_1 c.header.sizes k d ≡ area_of layout_1 c.header.sizes k file
-  area_before_stays k low = before (area_at layout_1 c.header.sizes k) (area_at layout_1 c.header.sizes k + area_bytes layout_1 c.header.sizes) (omega arith)
-      (omega (arith, base_is, area_before (area_bytes layout_1 c.header.sizes) k low))
+  pub area_before_stays : (k : ℕ) → k ≤ 1 → area_of layout_in_use c.header.sizes k d ≡ area_of layout_in_use c.header.sizes k file
+  area_before_stays k low = before (area_at layout_in_use c.header.sizes k) (area_at layout_in_use c.header.sizes k + area_bytes layout_in_use c.header.sizes) (omega arith)
+      (omega (arith, base_is, area_before (area_bytes layout_in_use c.header.sizes) k low))
 
-  pub in_force_stays : InForce layout_1 c.header d
+  pub in_force_stays : InForce layout_in_use c.header d
   in_force_stays =
-      let f : InForce layout_1 c.header file = it.image.in_force in
+      let f : InForce layout_in_use c.header file = it.image.in_force in
       let mine : header_place c.header.area d ≡ header_place c.header.area file = place_stays c.header.area (mine_low c.header.area f.number) in
       record {
         number = f.number;
         size = but.size ∙ f.size;
         opened = ap is_open_header mine ∙ f.opened;
         fields = ap header_in mine ∙ f.fields;
-        spelled = ap (λ (place : List ℕ). spells_header layout_1 c.header.area place) mine ∙ f.spelled;
+        spelled = ap (λ (place : List ℕ). spells_header layout_in_use c.header.area place) mine ∙ f.spelled;
         below = subst (λ (place : List ℕ). IsBelow c.header.generation place) (sym other_place_stays) f.below;
       }
 
-  pub shows_stays : Shows layout_1 c.header.sizes (area_of layout_1 c.header.sizes c.header.area d) it.shown
-  shows_stays = subst (λ (area : List ℕ). Shows layout_1 c.header.sizes area it.shown) (sym (area_before_stays c.header.area it.image.in_force.number)) it.image.shows
+  pub shows_stays : Shows layout_in_use c.header.sizes (area_of layout_in_use c.header.sizes c.header.area d) it.shown
+  shows_stays = subst (λ (area : List ℕ). Shows layout_in_use c.header.sizes area it.shown) (sym (area_before_stays c.header.area it.image.in_force.number)) it.image.shows
 
-  pub tail_of_image : (t : Tail) → tail j.ring j.first d ≡ Some t → tail (ring_of layout_1 c.header.sizes) c.header.count d ≡ Some t
+  pub tail_of_image : (t : Tail) → tail j.ring j.first d ≡ Some t → tail (ring_of layout_in_use c.header.sizes) c.header.count d ≡ Some t
   tail_of_image t is =
-      subst (λ (n : ℕ). tail (ring_of layout_1 c.header.sizes) n d ≡ Some t) it.first
+      subst (λ (n : ℕ). tail (ring_of layout_in_use c.header.sizes) n d ≡ Some t) it.first
       (subst (λ (r : Ring). tail r j.first d ≡ Some t) it.ring is)
 
 -- a file whose run is the same
 module _ (c : CheckpointState) (m : Contents) (j : JournalState) (file : List ℕ) (it : Keeps c m j file) (d : List ℕ) (run : SameRun j file d) where
-  before_is : tail (ring_of layout_1 c.header.sizes) c.header.count file ≡ Some (record { commands = run.commands; room = run.there })
+  before_is : tail (ring_of layout_in_use c.header.sizes) c.header.count file ≡ Some (record { commands = run.commands; room = run.there })
   before_is =
-      subst (λ (n : ℕ). tail (ring_of layout_1 c.header.sizes) n file ≡ Some (record { commands = run.commands; room = run.there })) it.first
+      subst (λ (n : ℕ). tail (ring_of layout_in_use c.header.sizes) n file ≡ Some (record { commands = run.commands; room = run.there })) it.first
       (subst (λ (r : Ring). tail r j.first file ≡ Some (record { commands = run.commands; room = run.there })) it.ring run.before)
 
   same_commands : run.commands ≡ it.commands
   same_commands = ap commands_of (sym before_is ∙ it.image.journal)
 
-  pub swept_image : IsImage layout_1 c.header it.shown it.commands run.found d
+  pub swept_image : IsImage layout_in_use c.header it.shown it.commands run.found d
   swept_image = record {
     in_force = in_force_stays c m j file it d run.same;
     shows = shows_stays c m j file it d run.same;
-    journal = subst (λ (l : List Command). tail (ring_of layout_1 c.header.sizes) c.header.count d ≡ Some (record { commands = l; room = run.found })) same_commands
+    journal = subst (λ (l : List Command). tail (ring_of layout_in_use c.header.sizes) c.header.count d ≡ Some (record { commands = l; room = run.found })) same_commands
         (tail_of_image c m j file it d run.same (record { commands = run.commands; room = run.found }) run.after);
   }
 
@@ -99,7 +99,7 @@ module _ (c : CheckpointState) (m : Contents) (j : JournalState) (file : List �
 -- the journal is held by each file that may be left
 pub all_hold : (c : CheckpointState) (m : Contents) (j : JournalState) (now : Moment) → IsKept c m j now → AllHold j now
 all_hold c m j now kept d left =
-    let still : Still c m j now.bytes kept.read d = still_in_area c m j now.bytes kept.read (area_at layout_1 c.header.sizes (other c.header)) (area_bytes layout_1 c.header.sizes) d (kept.elsewhere d left) (omega arith) (omega arith) in
+    let still : Still c m j now.bytes kept.read d = still_in_area c m j now.bytes kept.read (area_at layout_in_use c.header.sizes (other c.header)) (area_bytes layout_in_use c.header.sizes) d (kept.elsewhere d left) (omega arith) (omega arith) in
     still.journal
 
 module _ (c : CheckpointState) (m : Contents) (j : JournalState) (m0 : Moment) (is : c.step ≡ NoCheckpoint) (kept : IsKept c m j m0) where

@@ -3,7 +3,7 @@ use Rattle.std.proofs.Common.{◌≡◌, ◌⊎◌, inl, ⊎_elim, ℕ, ◌+◌,
 use Rattle.std.proofs.lemmas.List.{ext_get_or}
 use Rattle.im_types.specs.Bytes.{open_gate}
 use Rattle.im_types.specs.Contents.{Contents}
-use Rattle.im_types.specs.Layout.{layout_1}
+use Rattle.im_types.specs.Layout.{layout_in_use}
 use Rattle.im_types.specs.Header.{Header, header_place, header_body, is_open_header}
 use Rattle.im_types.specs.Pages.{Shows}
 use Rattle.im_types.specs.Meaning.{accept_each}
@@ -78,14 +78,14 @@ module _ (c : CheckpointState) (m : Contents) (j : JournalState) (file : List �
       ∙ overlaid_inside file (4096 * other c.header + 1) body body_fits (4096 * other c.header + (1 + i)) (omega arith) (omega (arith, low, body_size))
       ∙ ap (λ (k : ℕ). get_or body k 0) (omega arith))
 
-  prepared : IsPrepared layout_1 c.header next known.0.memory staged
+  prepared : IsPrepared layout_in_use c.header next known.0.memory staged
   prepared = record {
     closed = staged_gate;
     body = staged_body ∙ body_is;
-    shows = subst (λ (area : List ℕ). Shows layout_1 c.header.sizes area known.0.memory) (sym (area_stays c m j file it (4096 * other c.header + 1) 63 staged staged_63 (omega (arith, place_low)) ∙ known.1)) known.0.shows;
+    shows = subst (λ (area : List ℕ). Shows layout_in_use c.header.sizes area known.0.memory) (sym (area_stays c m j file it (4096 * other c.header + 1) 63 staged staged_63 (omega (arith, place_low)) ∙ known.1)) known.0.shows;
   }
 
-  follow : Follows layout_1 c.header next
+  follow : Follows layout_in_use c.header next
   follow = follows c.header taken.count (facts c m j file it) known.0.later known.0.to_last
 
   left_over : accept_each known.0.memory (drop known.0.many it.commands) ≡ Some m
@@ -96,8 +96,8 @@ module _ (c : CheckpointState) (m : Contents) (j : JournalState) (file : List �
 
   -- the gate is being opened
   module _ (d : List ℕ) (but : SameBut (4096 * other c.header) 1 staged d) where
-    either : IsImage layout_1 c.header it.shown it.commands it.there d ⊎ IsImage layout_1 next known.0.memory (drop known.0.many it.commands) it.there d
-    either = one_of_two layout_1 c.header next it.shown known.0.memory it.commands it.there known.0.many staged d staged_still.image (some c m j file it) follow prepared but known.0.count known.0.few
+    either : IsImage layout_in_use c.header it.shown it.commands it.there d ⊎ IsImage layout_in_use next known.0.memory (drop known.0.many it.commands) it.there d
+    either = one_of_two layout_in_use c.header next it.shown known.0.memory it.commands it.there known.0.many staged d staged_still.image (some c m j file it) follow prepared but known.0.count known.0.few
 
     pub gate_torn : MeansWith m j d
     gate_torn = ⊎_elim
@@ -133,7 +133,7 @@ module _ (c : CheckpointState) (m : Contents) (j : JournalState) (file : List �
     shown = known.0.memory;
     commands = drop known.0.many it.commands;
     there = it.there;
-    image = opened_image layout_1 c.header next it.shown known.0.memory it.commands it.there known.0.many staged opened_file staged_still.image (some c m j file it) follow prepared opened_but known.0.count known.0.few opened_gate;
+    image = opened_image layout_in_use c.header next it.shown known.0.memory it.commands it.there known.0.many staged opened_file staged_still.image (some c m j file it) follow prepared opened_but known.0.count known.0.few opened_gate;
     accepts = left_over;
     count = left_count;
     ring = it.ring;

@@ -7,7 +7,7 @@ use Rattle.im_types.specs.declared.TheConstants.{LAST}
 use Rattle.im_types.specs.declared.commands.Command.{Command}
 use Rattle.im_types.specs.Bytes.{open_gate}
 use Rattle.im_types.specs.Contents.{Contents}
-use Rattle.im_types.specs.Layout.{layout_1, area_at, area_pages, area_bytes}
+use Rattle.im_types.specs.Layout.{layout_in_use, area_at, area_pages, area_bytes}
 use Rattle.im_types.specs.Header.{Header, header_place, header_body, is_open_header}
 use Rattle.im_types.specs.Pages.{Shows}
 use Rattle.im_types.specs.Meaning.{accept_each}
@@ -38,7 +38,7 @@ abbrev state : Header → Progress → Taken → List ℕ → CheckpointState
 state h p taken left = record { header = h; step = step_of p taken left }
 
 module _ (s : CheckpointState) (h : Header) (p : Progress) (taken : Taken) (pages : List ℕ) (done : ℕ) (view : state h p taken (drop done pages) ≡ s) (known : IsCheckpoint h p pages done taken.area) (is : IsPagesLeft s.step)
-    (page : ℕ) (page_is : page ≡ get_or pages done 0) (bytes : List ℕ) (bytes_are : bytes ≡ slice_range taken.area (4096 * page) (4096 * page + 4096)) (start : ℕ) (start_is : start ≡ area_at layout_1 h.sizes (1 - h.area))
+    (page : ℕ) (page_is : page ≡ get_or pages done 0) (bytes : List ℕ) (bytes_are : bytes ≡ slice_range taken.area (4096 * page) (4096 * page + 4096)) (start : ℕ) (start_is : start ≡ area_at layout_in_use h.sizes (1 - h.area))
     (m : Contents) (j : JournalState) (m0 : Moment) (kept : IsKept s m j m0) (past0 : List Moment) (m1 : Moment) (past1 : List Moment) (tick : MayTick (Torn (start + 4096 * page) (length bytes)) m0 m1 past0 past1) where
   abbrev before : CheckpointState
   before = record { header = h; step = PagesLeft taken (get_or pages done 0 ∷ drop (done + 1) pages) }
@@ -49,13 +49,13 @@ module _ (s : CheckpointState) (h : Header) (p : Progress) (taken : Taken) (page
   abbrev left : List ℕ
   left = drop (done + 1) pages
 
-  few : get_or pages done 0 < area_pages layout_1 h.sizes
+  few : get_or pages done 0 < area_pages layout_in_use h.sizes
   few = page_low s h p taken pages done view known is
 
   bytes_of : bytes ≡ slice_range taken.area (4096 * get_or pages done 0) (4096 * get_or pages done 0 + 4096)
   bytes_of = bytes_are ∙ ap (λ (n : ℕ). slice_range taken.area (4096 * n) (4096 * n + 4096)) page_is
 
-  at_is : start + 4096 * page ≡ area_at layout_1 h.sizes (1 - h.area) + 4096 * get_or pages done 0
+  at_is : start + 4096 * page ≡ area_at layout_in_use h.sizes (1 - h.area) + 4096 * get_or pages done 0
   at_is = (λ i. start_is i + 4096 * page_is i)
 
   pub wrote_now : LeavesNow m1 (MeansWith m j)
@@ -157,7 +157,7 @@ module _ (x : Header) (spelled : List ℕ) (spelled_is : spelled ≡ open_gate �
 
 -- a checkpoint that begins
 pub begun_kept : (h : Header) (m : Contents) (j : JournalState) (now : Moment) (area pages : List ℕ) → IsKept (record { header = h; step = NoCheckpoint }) m j now → j.count ≤ LAST → h.generation < LAST
-    → length area ≡ area_bytes layout_1 h.sizes → Shows layout_1 h.sizes area m → pages ≡ all_pages h.sizes → IsKept (record { header = h; step = PagesLeft (record { count = j.count; area = area }) pages }) m j now
+    → length area ≡ area_bytes layout_in_use h.sizes → Shows layout_in_use h.sizes area m → pages ≡ all_pages h.sizes → IsKept (record { header = h; step = PagesLeft (record { count = j.count; area = area }) pages }) m j now
 begun_kept h m j now area pages kept to_last later size shows all = record {
   read = record {
     shown = kept.read.shown;
@@ -181,7 +181,7 @@ begun_kept h m j now area pages kept to_last later size shows all = record {
         shows = shows;
         later = later;
       },
-      λ page low. inl (subst (λ (l : List ℕ). Contains l page) (sym all) (pages_contain (area_pages layout_1 h.sizes) 0 page (omega arith) (omega (arith, low)))),
+      λ page low. inl (subst (λ (l : List ℕ). Contains l page) (sym all) (pages_contain (area_pages layout_in_use h.sizes) 0 page (omega arith) (omega (arith, low)))),
     );
   };
   elsewhere = kept.elsewhere;

@@ -1,24 +1,20 @@
 -- What a checkpoint, a memory and a journal have to do with the file that they are kept in. (Own.)
-use Rattle.std.specs.Prelude.{◌≡◌, ◌⊎◌, ℕ, ◌+◌, ◌<◌, ◌≤◌, List, [], length, take, Some, Ok, false}
+use Rattle.std.specs.Prelude.{◌≡◌, ◌⊎◌, ℕ, ◌+◌, ◌<◌, ◌≤◌, List, [], length, take, Some, false}
 use Rattle.std.specs.List.{Contains}
 use Rattle.im_types.specs.declared.TheConstants.{LAST}
 use Rattle.im_types.specs.declared.commands.Command.{Command}
 use Rattle.im_types.specs.Contents.{Contents}
-use Rattle.im_types.specs.Layout.{layout_1, page_bytes, area_at, area_bytes, area_pages, area_of, record_at, ring_of}
+use Rattle.im_types.specs.Layout.{layout_in_use, page_bytes, area_at, area_bytes, area_pages, area_of, record_at, ring_of}
 use Rattle.im_types.specs.Header.{Header, header_place, is_open_header}
 use Rattle.im_types.specs.Pages.{Shows}
-use Rattle.im_types.specs.Meaning.{Reads, accept_each}
+use Rattle.im_types.specs.Meaning.{Means, accept_each}
 use Rattle.im_disk.specs.Moment.{Moment, Left}
 use Rattle.im_disk.specs.Since.{SameBut}
 use Rattle.im_journal.specs.Holding.{JournalState, Holds}
 use Rattle.im_meaning.specs.Images.{other, IsImage}
 use Rattle.im_checkpoint.specs.Step.{Taken, Step, NoCheckpoint, PagesLeft, PagesDone, Synced, CheckpointState}
 
--- the file means this memory after so many commands, with room for so many more at the least
-abbrev pub Means : Contents → ℕ → ℕ → List ℕ → Type 0
-Means m count room file = (there : ℕ) × (room ≤ there) × Reads layout_1 file (Ok (record { contents = m; count = count; room = there }))
-
--- the same, of a memory and the journal's count and room
+-- the file means this memory after as many commands as the journal has, with its room at the least
 abbrev pub MeansWith : Contents → JournalState → List ℕ → Type 0
 MeansWith m j file = Means m j.count j.room file
 
@@ -38,7 +34,7 @@ StepFits h j (Synced taken) = IsBetween h j taken
 pub record Fits (c : CheckpointState) (m : Contents) (j : JournalState) : Type 0 where
   pub cells : length m.cells ≡ c.header.sizes.cells
   pub elements : length m.windows ≡ c.header.sizes.elements
-  pub ring : j.ring ≡ ring_of layout_1 c.header.sizes
+  pub ring : j.ring ≡ ring_of layout_in_use c.header.sizes
   pub first : j.first ≡ c.header.count
   pub step : StepFits c.header j c.step
 
@@ -50,17 +46,17 @@ pub record IsTaken (h : Header) (shown : Contents) (commands : List Command) (ta
   pub to_last : taken.count ≤ LAST
   pub memory : Contents
   pub accepts : accept_each shown (take many commands) ≡ Some memory
-  pub size : length taken.area ≡ area_bytes layout_1 h.sizes
-  pub shows : Shows layout_1 h.sizes taken.area memory
+  pub size : length taken.area ≡ area_bytes layout_in_use h.sizes
+  pub shows : Shows layout_in_use h.sizes taken.area memory
   pub later : h.generation < LAST
 
 -- the area that isn't in force
 abbrev pub other_area : Header → List ℕ → List ℕ
-other_area h file = area_of layout_1 h.sizes (other h) file
+other_area h file = area_of layout_in_use h.sizes (other h) file
 
 -- each page is still to be written, or stands in the area that isn't in force as it was taken
 abbrev pub AreWritten : Header → Taken → List ℕ → List ℕ → Type 0
-AreWritten h taken left file = (page : ℕ) → page < area_pages layout_1 h.sizes
+AreWritten h taken left file = (page : ℕ) → page < area_pages layout_in_use h.sizes
     → Contains left page ⊎ (record_at page_bytes (other_area h file) page ≡ record_at page_bytes taken.area page)
 
 -- what the state of a checkpoint says of the file that is read
@@ -78,12 +74,12 @@ pub record Keeps (c : CheckpointState) (m : Contents) (j : JournalState) (file :
   pub commands : List Command
   pub there : ℕ
   -- the header is in force, its area shows that memory, and the journal has those commands and that room
-  pub image : IsImage layout_1 c.header shown commands there file
+  pub image : IsImage layout_in_use c.header shown commands there file
   -- they lead to this memory
   pub accepts : accept_each shown commands ≡ Some m
   pub count : j.count ≡ c.header.count + length commands
   -- the journal is that of the file, its run begins at the header's count
-  pub ring : j.ring ≡ ring_of layout_1 c.header.sizes
+  pub ring : j.ring ≡ ring_of layout_in_use c.header.sizes
   pub first : j.first ≡ c.header.count
   pub journal : Holds j file
   -- as far as the checkpoint has come, the area that isn't in force has what was taken
@@ -99,5 +95,5 @@ IsCalm (Synced taken) now = now.ranges ≡ []
 -- The one invariant: what is read is as the checkpoint says, and what a crash may leave differs from it in the area that isn't in force alone.
 pub record IsKept (c : CheckpointState) (m : Contents) (j : JournalState) (now : Moment) : Type 0 where
   pub read : Keeps c m j now.bytes
-  pub elsewhere : (file : List ℕ) → Left now file → SameBut (area_at layout_1 c.header.sizes (other c.header)) (area_bytes layout_1 c.header.sizes) now.bytes file
+  pub elsewhere : (file : List ℕ) → Left now file → SameBut (area_at layout_in_use c.header.sizes (other c.header)) (area_bytes layout_in_use c.header.sizes) now.bytes file
   pub calm : IsCalm c.step now

@@ -1,7 +1,7 @@
 -- How far a checkpoint has come. (Own.)
 use Rattle.std.specs.Prelude.{◌≡◌, ℕ, zero, suc, ◌+◌, ◌<◌, ◌≤◌, List, [], ◌∷◌, length}
 use Rattle.im_types.specs.declared.TheConstants.{LAST}
-use Rattle.im_types.specs.Layout.{Sizes, layout_1, area_pages, area_bytes}
+use Rattle.im_types.specs.Layout.{Sizes, layout_in_use, area_pages, area_bytes}
 use Rattle.im_types.specs.Header.{Header}
 use Rattle.im_checkpoint.specs.declared.checkpoint.Progress.{Progress}
 use Rattle.im_checkpoint.specs.declared.checkpoint.Progress.TheVariants.{NoCheckpoint as None_yet, PagesLeft as Some_left, PagesDone as All_written, Synced as On_disk}
@@ -35,7 +35,7 @@ pages_from (suc n) page = page ∷ pages_from n (page + 1)
 
 -- all pages of an area
 abbrev pub all_pages : Sizes → List ℕ
-all_pages s = pages_from (area_pages layout_1 s) 0
+all_pages s = pages_from (area_pages layout_in_use s) 0
 
 -- a checkpoint is under way
 abbrev pub IsUnderWay : Step → Type 0
@@ -91,5 +91,5 @@ pub record IsCheckpoint (h : Header) (progress : Progress) (pages : List ℕ) (w
   pub number : h.area ≤ 1
   pub all : pages ≡ all_pages h.sizes
   pub some : progress ≡ Some_left → written < length pages
-  pub size : length area ≡ area_bytes layout_1 h.sizes
+  pub size : length area ≡ area_bytes layout_in_use h.sizes
   pub later : HasNext h progress

@@ -2,7 +2,7 @@
 use Rattle.std.specs.Prelude.{◌≡◌, ℕ, ◌+◌, ◌-◌, ◌<◌, Bool, true, false, ◌&&◌, nat_lt, min, List, ◌∷◌}
 use Rattle.im_types.specs.declared.TheConstants.{LAST}
 use Rattle.im_types.specs.Contents.{Contents}
-use Rattle.im_types.specs.Layout.{layout_1, area_pages}
+use Rattle.im_types.specs.Layout.{layout_in_use, area_pages}
 use Rattle.im_types.specs.Header.{Header}
 use Rattle.im_types.specs.Pages.{Shows}
 use Rattle.im_journal.specs.Holding.{JournalState, to_sweep, with_room}
@@ -25,9 +25,9 @@ begun_at count j = record j { first = count }
 -- a checkpoint as it begins: it has the memory's pages and count as they are now, and all pages are left
 pub record Begins (h : Header) (m : Contents) (count : ℕ) (new : CheckpointState) : Type 0 where
   pub area : List ℕ
-  pub shows : Shows layout_1 h.sizes area m
+  pub shows : Shows layout_in_use h.sizes area m
   pub state : new ≡ record { header = h; step = PagesLeft (record { count = count; area = area }) (all_pages h.sizes) }
-  pub turns : turns_left new.step ≡ area_pages layout_1 h.sizes + 2
+  pub turns : turns_left new.step ≡ area_pages layout_in_use h.sizes + 2
 
 -- What a turn does, by the state that it finds.
 pub record Turned (old : CheckpointState) (j : JournalState) (m : Contents) (answer : TurnDone) (new : CheckpointState) (k : JournalState) : Type 0 where

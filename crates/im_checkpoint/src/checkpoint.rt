@@ -1,9 +1,22 @@
-//! A checkpoint, and its turns.
+//! A checkpoint, and its turns. In each state a turn does one thing, and its answer says which:
+//!
+//! | state | the turn | its answer | the next state |
+//! |---|---|---|---|
+//! | no checkpoint, old slots to be swept | closes the gates of three of them at most | `Swept` | no checkpoint |
+//! | no checkpoint, none to be swept, commands since the header's count | takes the memory's pages and count | `Began` | pages left |
+//! | no checkpoint, none of either | nothing | `Idle` | no checkpoint |
+//! | pages left | writes the next page into the area that isn't in force | `Page` | pages left, or after the last page pages done |
+//! | pages done | puts the pages on the disk, and closes the other header's gate | `Synced` | synced |
+//! | synced | writes the other area's header, and opens its gate | `InForce` | no checkpoint |
+//!
+//! A turn that answers `Device` leaves the state as it was. After generation [`LAST`] no checkpoint begins. The table is
+//! `Turned` (`specs/Turns.antt`); what holds of the disk in each state, and what a stop leaves, is `IsKept`
+//! (`specs/Keeping.antt`), told in docs/CRASH.md.
 ghost use Rattle.std.specs.Prelude.{◌≡◌, ◌+◌, ◌*◌, ◌<◌, ◌≤◌, ℕ, List, length, min, if◌then◌else◌, ◌==◌, OnOk, OnErr, IfOk, IfErr};
 ghost use Rattle.im_types.specs.declared.refusals.Refusal.TheVariants.{NoMemory, Device};
 ghost use Rattle.im_types.specs.Contents.{Contents};
 ghost use Rattle.im_types.specs.Layout as layout;
-ghost use Rattle.im_types.specs.Layout.{layout_1, sizes_of};
+ghost use Rattle.im_types.specs.Layout.{layout_in_use, sizes_of};
 ghost use Rattle.im_types.specs.Pages.{Shows};
 ghost use Rattle.im_disk.specs.Moment.{Moment, Faults};
 ghost use Rattle.im_disk.specs.Since.{Leaves, LeavesNow};
@@ -15,9 +28,10 @@ ghost use Rattle.im_checkpoint.specs.Keeping.{MeansWith, StepFits, Fits, IsKept}
 
 use crate::header::{close_other, next_header, open_next};
 use im_disk::Disk;
-use im_image::{Header, PAGE, area_at, area_pages, encode};
+use im_image::{Header, encode};
 use im_journal::Journal;
 use im_memory::Memory;
+use im_types::layout::{PAGE, area_at, area_pages};
 use im_types::{LAST, Limits, Refusal};
 use std::alloc::{AllocError, Global};
 use std::marker::Model;
@@ -152,7 +166,7 @@ impl Checkpoint {
     // Writes the next page into the area that isn't in force.
     fn write_page<D: Disk>(&mut self, disk: &mut D) -> Result<TurnDone, Refusal>
         requires step { IsPagesLeft self.old.step }
-        requires inside { D.honest disk.old → layout.journal_at layout_1 self.old.header.sizes ≤ length (D.now disk.old).bytes }
+        requires inside { D.honest disk.old → layout.journal_at layout_in_use self.old.header.sizes ≤ length (D.now disk.old).bytes }
         ensures turned { IfOk result (λ answer. (m : Contents) (j : JournalState) → Turned self.old j m answer self.new j) }
         ensures nearer { OnOk result (turns_left self.old.step ≡ turns_left self.new.step + 1) }
         ensures leaves { D.honest disk.new → (m : Contents) (j : JournalState) → IsKept self.old m j (D.now disk.old)

@@ -11,10 +11,9 @@ ghost use Rattle.im_checkpoint.specs.Turns.{next_header, begun_at};
 ghost use Rattle.im_checkpoint.specs.Keeping.{MeansWith, IsKept};
 
 use im_disk::{DeviceFault, Disk};
-use im_image::{Header, OPEN, PAGE};
+use im_image::Header;
 use im_types::LAST;
-
-const CLOSED: u8 = 0;
+use im_types::layout::{CLOSED, OPEN, PAGE};
 
 /// The header of the other area, once it has so many commands.
 pub(crate) fn next_header(header: &Header, count: u64) -> Header

@@ -5,7 +5,7 @@ use Rattle.im_types.specs.declared.TheConstants.{LAST}
 use Rattle.im_types.specs.declared.commands.Command.{Command}
 use Rattle.im_types.specs.Contents.{Contents}
 use Rattle.im_types.specs.Step.{step, is_accepted}
-use Rattle.im_types.specs.Layout.{layout_1, page_bytes, area_at, area_bytes, journal_at, ring_of, record_at}
+use Rattle.im_types.specs.Layout.{layout_in_use, page_bytes, area_at, area_bytes, journal_at, ring_of, record_at}
 use Rattle.im_types.specs.Header.{Header, header_place, is_open_header}
 use Rattle.im_types.specs.Journal.{Ring, Tail, tail, slot_at}
 use Rattle.im_types.specs.Meaning.{accept_each}
@@ -78,7 +78,7 @@ module _ (c : CheckpointState) (m : Contents) (j : JournalState) (now : Moment) 
   read = kept.read
 
   still : (file : List ℕ) → Left now file → Still c m j now.bytes kept.read file
-  still file left = still_in_area c m j now.bytes kept.read (area_at layout_1 c.header.sizes (other c.header)) (area_bytes layout_1 c.header.sizes) file (kept.elsewhere file left) (omega arith) (omega arith)
+  still file left = still_in_area c m j now.bytes kept.read (area_at layout_in_use c.header.sizes (other c.header)) (area_bytes layout_in_use c.header.sizes) file (kept.elsewhere file left) (omega arith) (omega arith)
 
   pub all_mean : LeavesNow now (MeansWith m j)
   all_mean file left = means_left c m j now kept file left
@@ -86,22 +86,22 @@ module _ (c : CheckpointState) (m : Contents) (j : JournalState) (now : Moment) 
   pub all_hold : AllHold j now
   all_hold file left = (still file left).journal
 
-  tail_is : (file : List ℕ) → tail j.ring j.first file ≡ tail (ring_of layout_1 c.header.sizes) c.header.count file
+  tail_is : (file : List ℕ) → tail j.ring j.first file ≡ tail (ring_of layout_in_use c.header.sizes) c.header.count file
   tail_is file = (λ i. tail (kept.read.ring i) (kept.read.first i) file)
 
-  behind_areas : journal_at layout_1 c.header.sizes ≤ slot_at j.ring j.count
-  behind_areas = subst (λ (r : Ring). journal_at layout_1 c.header.sizes ≤ slot_at r j.count) (sym kept.read.ring) (omega arith)
+  behind_areas : journal_at layout_in_use c.header.sizes ≤ slot_at j.ring j.count
+  behind_areas = subst (λ (r : Ring). journal_at layout_in_use c.header.sizes ≤ slot_at r j.count) (sym kept.read.ring) (omega arith)
 
   -- a file that might be left, but for the next slot
   module _ (command : Command) (accepted : is_accepted m command ≡ true) (from file : List ℕ) (left : Left now from) (same : SameBut (slot_at j.ring j.count) 64 from file) where
     there_is : tail j.ring j.first from ≡ Some (record { commands = kept.read.commands; room = kept.read.there })
     there_is = tail_is from ∙ (still from left).image.journal
 
-    put : (later : List Command) (there : ℕ) → tail j.ring j.first file ≡ Some (record { commands = later; room = there }) → IsImage layout_1 c.header kept.read.shown later there file
-    put later there e = write_in_journal layout_1 c.header kept.read.shown kept.read.commands kept.read.there from file (slot_at j.ring j.count) 64 (still from left).image same behind_areas later there (sym (tail_is file) ∙ e)
+    put : (later : List Command) (there : ℕ) → tail j.ring j.first file ≡ Some (record { commands = later; room = there }) → IsImage layout_in_use c.header kept.read.shown later there file
+    put later there e = write_in_journal layout_in_use c.header kept.read.shown kept.read.commands kept.read.there from file (slot_at j.ring j.count) 64 (still from left).image same behind_areas later there (sym (tail_is file) ∙ e)
 
     image_longer : tail j.ring j.first file ≡ option_map (longer_tail j.count command) (tail j.ring j.first from)
-        → IsImage layout_1 c.header kept.read.shown (kept.read.commands ++ command ∷ []) (room_after j.count kept.read.there) file
+        → IsImage layout_in_use c.header kept.read.shown (kept.read.commands ++ command ∷ []) (room_after j.count kept.read.there) file
     image_longer e = put (kept.read.commands ++ command ∷ []) (room_after j.count kept.read.there) (e ∙ ap (λ (t : Option Tail). option_map (longer_tail j.count command) t) there_is)
 
     more_accepted : accept_each kept.read.shown (kept.read.commands ++ command ∷ []) ≡ Some (step m command).contents
@@ -121,11 +121,11 @@ module _ (c : CheckpointState) (m : Contents) (j : JournalState) (now : Moment) 
     pub keeps_longer : tail j.ring j.first file ≡ option_map (longer_tail j.count command) (tail j.ring j.first from) → SameBut (slot_at j.ring j.count) 64 now.bytes file → Holds (longer j) file
         → Keeps c (step m command).contents (longer j) file
     keeps_longer e but holds =
-        let start : ℕ = area_at layout_1 c.header.sizes (other c.header) in
-        let end : start + area_bytes layout_1 c.header.sizes ≤ slot_at j.ring j.count = omega (arith, behind_areas, area_to (area_bytes layout_1 c.header.sizes) c.header.area) in
+        let start : ℕ = area_at layout_in_use c.header.sizes (other c.header) in
+        let end : start + area_bytes layout_in_use c.header.sizes ≤ slot_at j.ring j.count = omega (arith, behind_areas, area_to (area_bytes layout_in_use c.header.sizes) c.header.area) in
         let whole : 8192 ≤ length now.bytes = omega (arith, size c m j now.bytes kept.read) in
         let area : other_area c.header file ≡ other_area c.header now.bytes =
-        range_outside (slot_at j.ring j.count) 64 start (start + area_bytes layout_1 c.header.sizes) now.bytes file but (omega arith) (area_fits c m j now.bytes kept.read) (inl end) in
+        range_outside (slot_at j.ring j.count) 64 start (start + area_bytes layout_in_use c.header.sizes) now.bytes file but (omega arith) (area_fits c m j now.bytes kept.read) (inl end) in
         let place : header_place (other c.header) file ≡ header_place (other c.header) now.bytes =
         range_outside (slot_at j.ring j.count) 64 (4096 * other c.header) (4096 * other c.header + 64) now.bytes file but (omega arith) (omega (arith, whole, place_to c.header.area)) (inl (omega (arith, behind_areas, place_to c.header.area))) in
         record {

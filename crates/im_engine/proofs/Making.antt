@@ -6,7 +6,7 @@ use Rattle.im_types.specs.declared.sizes.Limits.{Limits}
 use Rattle.im_types.specs.Bytes.{zeros}
 use Rattle.im_types.specs.Sizes.{AreLimits}
 use Rattle.im_types.specs.Contents.{Contents, empty_contents}
-use Rattle.im_types.specs.Layout.{Sizes, layout_1, area_bytes, area_of, image_length, ring_of}
+use Rattle.im_types.specs.Layout.{Sizes, layout_in_use, area_bytes, area_of, image_length, ring_of}
 use Rattle.im_types.specs.Header.{Header, header_body, header_fault}
 use Rattle.im_types.specs.Journal.{Tail, tail}
 use Rattle.im_types.specs.Meaning.{IsShown}
@@ -37,39 +37,39 @@ gate_opened image m0 m1 m2 m3 size e1 e2 e3 =
 front : Sizes → List ℕ
 front s = (0xA5 ∷ header_body (new_header s)) ++ zeros 8128 ++ new_area s
 
-length-front : (s : Sizes) → length (front s) ≡ 8192 + area_bytes layout_1 s
+length-front : (s : Sizes) → length (front s) ≡ 8192 + area_bytes layout_in_use s
 unfolding front
 length-front s = omega (arith, length-append ((0xA5 ∷ header_body (new_header s)) ++ zeros 8128) (new_area s), length-append (0xA5 ∷ header_body (new_header s)) (zeros 8128), length-area s, length-zeros 8128)
 
-pub new_image_closed : (s : Sizes) → AreClosed (ring_of layout_1 s) (new_image 0xA5 s)
+pub new_image_closed : (s : Sizes) → AreClosed (ring_of layout_in_use s) (new_image 0xA5 s)
 unfolding front
-new_image_closed s = closed_zeros (ring_of layout_1 s) (new_image 0xA5 s) (λ i low high.
-    let n : ℕ = 8192 + area_bytes layout_1 s in
-    get_or-append_right (front s) (zeros (area_bytes layout_1 s + 64 * s.slots)) n i 0 (length-front s) (omega arith)
-    ∙ get_or-replicate (area_bytes layout_1 s + 64 * s.slots) (i - n) 0 0 (omega arith))
+new_image_closed s = closed_zeros (ring_of layout_in_use s) (new_image 0xA5 s) (λ i low high.
+    let n : ℕ = 8192 + area_bytes layout_in_use s in
+    get_or-append_right (front s) (zeros (area_bytes layout_in_use s + 64 * s.slots)) n i 0 (length-front s) (omega arith)
+    ∙ get_or-replicate (area_bytes layout_in_use s + 64 * s.slots) (i - n) 0 0 (omega arith))
 
 no_commands : (t : Option Tail) (commands : List Command) (room : ℕ) → t ≡ Some (record { commands = commands; room = room }) → commands ≡ [] → t ≡ Some (record { commands = []; room = room })
 no_commands t commands room is none = is ∙ ap (λ (l : List Command). Some (let t : Tail = record { commands = l; room = room } in t)) none
 
 -- so it keeps the empty memory, where its journal is the fresh one
 new_image_keeps : (s : Sizes) → AreLimits s.cells s.elements s.slots
-    → ((file : List ℕ) → (ring_of layout_1 s).base + 64 * (ring_of layout_1 s).slots ≤ length file → AreClosed (ring_of layout_1 s) file → Holds (journal_of (new_header s) 0 s.slots) file)
+    → ((file : List ℕ) → (ring_of layout_in_use s).base + 64 * (ring_of layout_in_use s).slots ≤ length file → AreClosed (ring_of layout_in_use s) file → Holds (journal_of (new_header s) 0 s.slots) file)
     → Keeps (record { header = new_header s; step = NoCheckpoint }) (empty_contents s.cells s.elements) (journal_of (new_header s) 0 s.slots) (new_image 0xA5 s)
 new_image_keeps s limits holds =
     let file : List ℕ = new_image 0xA5 s in
     let m : Contents = empty_contents s.cells s.elements in
     let held : Holds (journal_of (new_header s) 0 s.slots) (new_image 0xA5 s) = holds (new_image 0xA5 s) (omega (arith, length-image s)) (new_image_closed s) in
     let none : held.commands ≡ [] = nil_from_length held.commands (omega (arith, held.count)) in
-    let good : header_fault layout_1 file ≡ None = new_image_good s limits in
-    let shows : IsShown layout_1 file m = new_image_shows s limits (empty-memory s.cells s.elements) in
+    let good : header_fault layout_in_use file ≡ None = new_image_good s limits in
+    let shows : IsShown layout_in_use file m = new_image_shows s limits (empty-memory s.cells s.elements) in
     record {
       shown = m;
       commands = [];
       there = held.there;
       image = record {
-        in_force = subst (λ (h : Header). InForce layout_1 h file) (new_header_of s limits) (in_force layout_1 file good);
-        shows = subst (λ (h : Header). Shows layout_1 h.sizes (area_of layout_1 h.sizes h.area file) m) (new_header_of s limits) shows;
-        journal = no_commands (tail (ring_of layout_1 s) 0 file) held.commands held.there held.reads none;
+        in_force = subst (λ (h : Header). InForce layout_in_use h file) (new_header_of s limits) (in_force layout_in_use file good);
+        shows = subst (λ (h : Header). Shows layout_in_use h.sizes (area_of layout_in_use h.sizes h.area file) m) (new_header_of s limits) shows;
+        journal = no_commands (tail (ring_of layout_in_use s) 0 file) held.commands held.there held.reads none;
       };
       accepts = refl;
       count = refl;
@@ -80,7 +80,7 @@ new_image_keeps s limits holds =
     }
 
 -- the length, whatever its gate is
-pub length_new_image : (s : Sizes) → length (new_image 0 s) ≡ image_length layout_1 s
+pub length_new_image : (s : Sizes) → length (new_image 0 s) ≡ image_length layout_in_use s
 length_new_image s = length-image s
 
 module _ (l : Limits) (range : AreLimits l.cells l.elements l.slots) (c : CheckpointState) (c_is : c ≡ record { header = new_header (sizes_of l); step = NoCheckpoint })
@@ -98,7 +98,7 @@ module _ (l : Limits) (range : AreLimits l.cells l.elements l.slots) (c : Checkp
   pub fresh_kept : ((file : List ℕ) → j.ring.base + 64 * j.ring.slots ≤ length file → AreClosed j.ring file → Holds j file)
       → (now : Moment) → now.bytes ≡ new_image 0xA5 (sizes_of l) → now.ranges ≡ [] → IsKept c m j now
   fresh_kept holds now bytes calm =
-      let fresh : (file : List ℕ) → (ring_of layout_1 (sizes_of l)).base + 64 * (ring_of layout_1 (sizes_of l)).slots ≤ length file → AreClosed (ring_of layout_1 (sizes_of l)) file → Holds (journal_of (new_header (sizes_of l)) 0 l.slots) file =
+      let fresh : (file : List ℕ) → (ring_of layout_in_use (sizes_of l)).base + 64 * (ring_of layout_in_use (sizes_of l)).slots ≤ length file → AreClosed (ring_of layout_in_use (sizes_of l)) file → Holds (journal_of (new_header (sizes_of l)) 0 l.slots) file =
       subst (λ (x : JournalState). (file : List ℕ) → x.ring.base + 64 * x.ring.slots ≤ length file → AreClosed x.ring file → Holds x file) j_is holds in
       let keeps : Keeps (record { header = new_header (sizes_of l); step = NoCheckpoint }) (empty_contents l.cells l.elements) (journal_of (new_header (sizes_of l)) 0 l.slots) (new_image 0xA5 (sizes_of l)) =
       new_image_keeps (sizes_of l) range fresh in

@@ -1,7 +1,7 @@
 -- What is read of an image.
 use Rattle.std.proofs.Common.{ℕ, ◌+◌, List, length, Ok, ◌≡◌, sym, ◌∙◌, ap, subst}
 use Rattle.im_types.specs.Contents.{Contents}
-use Rattle.im_types.specs.Layout.{layout_1}
+use Rattle.im_types.specs.Layout.{layout_in_use}
 use Rattle.im_types.specs.Header.{Header, header_of}
 use Rattle.im_types.specs.Meaning.{Reached, Reads}
 use Rattle.im_disk.specs.Moment.{Moment, Left, Shaken, MayTick, synced}
@@ -31,16 +31,16 @@ opens_leaves m0 m1 m2 p0 p1 p2 tick reads =
 
 -- with no checkpoint under way, what is read of a file is kept in it
 pub keeps_read : (h : Header) (m : Contents) (j : JournalState) (file : List ℕ) → h ≡ header_of file → JournalOf h j → Holds j file
-    → Reads layout_1 file (Ok (record { contents = m; count = j.count; room = j.room })) → Keeps (record { header = h; step = NoCheckpoint }) m j file
+    → Reads layout_in_use file (Ok (record { contents = m; count = j.count; room = j.room })) → Keeps (record { header = h; step = NoCheckpoint }) m j file
 keeps_read h m j file is journal holds reads =
     let r : Reached = record { contents = m; count = j.count; room = j.room } in
-    let read : IsRead layout_1 file r = read_image layout_1 file r reads in
-    let same : read.header ≡ h = sym (in_force_is layout_1 read.header file read.image.in_force) ∙ sym is in
+    let read : IsRead layout_in_use file r = read_image layout_in_use file r reads in
+    let same : read.header ≡ h = sym (in_force_is layout_in_use read.header file read.image.in_force) ∙ sym is in
     record {
       shown = read.shown;
       commands = read.commands;
       there = j.room;
-      image = subst (λ (x : Header). IsImage layout_1 x read.shown read.commands j.room file) same read.image;
+      image = subst (λ (x : Header). IsImage layout_in_use x read.shown read.commands j.room file) same read.image;
       accepts = read.accepts;
       count = subst (λ (x : Header). j.count ≡ x.count + length read.commands) same read.count;
       ring = journal.ring;
@@ -51,7 +51,7 @@ keeps_read h m j file is journal holds reads =
 
 -- and after a sync, and calls that only read, the disk keeps it
 pub kept_read : (old mid new : Moment) (h : Header) (m : Contents) (j : JournalState) → mid ≡ synced old → new ≡ mid → h ≡ header_of mid.bytes → JournalOf h j → Holds j mid.bytes
-    → Reads layout_1 mid.bytes (Ok (record { contents = m; count = j.count; room = j.room })) → IsKept (record { header = h; step = NoCheckpoint }) m j new
+    → Reads layout_in_use mid.bytes (Ok (record { contents = m; count = j.count; room = j.room })) → IsKept (record { header = h; step = NoCheckpoint }) m j new
 kept_read old mid new h m j done same is journal holds reads =
     subst (λ (x : Moment). IsKept (record { header = h; step = NoCheckpoint }) m j x) (sym same)
     (kept_calm (record { header = h; step = NoCheckpoint }) m j mid (ap (λ (x : Moment). x.ranges) done) (keeps_read h m j mid.bytes is journal holds reads))

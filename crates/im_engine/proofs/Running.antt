@@ -12,18 +12,18 @@ use Rattle.im_laws.proofs.RunLemmas.{after-append}
 use Rattle.im_laws.proofs.RefusalLemmas.{step-refusals}
 use Rattle.im_types.specs.Refusals.{number_of}
 use Rattle.im_types.specs.declared.refusals.Refusal.TheVariants.{JournalFull}
+use Rattle.im_types.specs.Meaning.{Means}
 use Rattle.im_disk.specs.Moment.{Moment, Rises, Faults}
 use Rattle.im_disk.specs.Since.{Leaves, LeavesNow}
 use Rattle.im_disk.proofs.SinceLemmas.{leaves_then, leaves_weaker}
 use Rattle.im_journal.specs.Holding.{room_after}
 use Rattle.im_checkpoint.specs.declared.checkpoint.TurnDone.{TurnDone}
-use Rattle.im_checkpoint.specs.Keeping.{Means}
 use Rattle.im_engine.specs.declared.run.Event.{Event}
 use Rattle.im_engine.specs.declared.run.Event.TheVariants.{Command as Serve, Turn}
 use Rattle.im_engine.specs.declared.run.Answer.{Answer}
 use Rattle.im_engine.specs.declared.run.Answer.TheVariants.{Served, Turned as TookTurn}
 use Rattle.im_engine.specs.State.{EngineState, MeansState, MeansEither, with_command}
-use Rattle.im_engine.specs.Run.{Answered, TurnTaken, TurnAnswered, EventAnswered, AnsweredInTurn, is_put, one, put_by, taken, MeansBy, MeansAfter, MeansBeginning, MeansAllOrInDoubt, is_doubt, has_doubt, IsDevice, HasDevice, HasCause}
+use Rattle.im_engine.specs.Run.{Answered, TurnTaken, TurnAnswered, EventAnswered, AnsweredInTurn, is_put, put_by_command, put_by_event, put_on_disk, MeansBy, MeansAfter, MeansBeginning, MeansAllOrInDoubt, is_doubt, has_doubt, IsDevice, HasDevice, HasCause}
 use Rattle.im_engine.proofs.Accepting.{Answers, accepted_answers}
 
 -- after all these commands, or all but the last one
@@ -41,17 +41,17 @@ in_turn_more old mid new [] (b ∷ answers) e a it one = absurd it
 in_turn_more old mid new (d ∷ events) [] e a it one = absurd it
 in_turn_more old mid new (d ∷ events) (b ∷ answers) e a it one = (it.0, it.1, in_turn_more it.0 mid new events answers e a it.2 one)
 
-pub taken-push : (m : Contents) (events : List Event) (answers : List Answer) (e : Event) (a : Answer) → length events ≡ length answers
-    → taken m (events ++ e ∷ []) (answers ++ a ∷ []) ≡ taken m events answers ++ put_by (after m (taken m events answers)) e a
-taken-push m [] [] e a same = append-nil (put_by m e a)
-taken-push m [] (b ∷ answers) e a same = absurd (omega arith)
-taken-push m (d ∷ events) [] e a same = absurd (omega arith)
-taken-push m (d ∷ events) (b ∷ answers) e a same =
-    let p : List Command = put_by m d b in
-    let t : List Command = taken (after m (put_by m d b)) events answers in
-    ap (λ (l : List Command). put_by m d b ++ l) (taken-push (after m (put_by m d b)) events answers e a (omega arith))
-    ∙ ap (λ (x : Contents). put_by m d b ++ (taken (after m (put_by m d b)) events answers ++ put_by x e a)) (sym (after-append m (put_by m d b) (taken (after m (put_by m d b)) events answers)))
-    ∙ sym (append_assoc (put_by m d b) (taken (after m (put_by m d b)) events answers) (put_by (after m (put_by m d b ++ taken (after m (put_by m d b)) events answers)) e a))
+pub put_on_disk-push : (m : Contents) (events : List Event) (answers : List Answer) (e : Event) (a : Answer) → length events ≡ length answers
+    → put_on_disk m (events ++ e ∷ []) (answers ++ a ∷ []) ≡ put_on_disk m events answers ++ put_by_event (after m (put_on_disk m events answers)) e a
+put_on_disk-push m [] [] e a same = append-nil (put_by_event m e a)
+put_on_disk-push m [] (b ∷ answers) e a same = absurd (omega arith)
+put_on_disk-push m (d ∷ events) [] e a same = absurd (omega arith)
+put_on_disk-push m (d ∷ events) (b ∷ answers) e a same =
+    let p : List Command = put_by_event m d b in
+    let t : List Command = put_on_disk (after m (put_by_event m d b)) events answers in
+    ap (λ (l : List Command). put_by_event m d b ++ l) (put_on_disk-push (after m (put_by_event m d b)) events answers e a (omega arith))
+    ∙ ap (λ (x : Contents). put_by_event m d b ++ (put_on_disk (after m (put_by_event m d b)) events answers ++ put_by_event x e a)) (sym (after-append m (put_by_event m d b) (put_on_disk (after m (put_by_event m d b)) events answers)))
+    ∙ sym (append_assoc (put_by_event m d b) (put_on_disk (after m (put_by_event m d b)) events answers) (put_by_event (after m (put_by_event m d b ++ put_on_disk (after m (put_by_event m d b)) events answers)) e a))
 
 -- while the engine hasn't failed it has all that was put
 pub record Far {D : Type 0} (old now : EngineState D) (put : List Command) : Type 0 where
@@ -66,7 +66,7 @@ none_or_some : (n : ℕ) → (n ≡ 0) ⊎ (0 < n)
 none_or_some zero = inl refl
 none_or_some (suc n) = inr (omega arith)
 
-not_put : (m : Contents) (c : Command) (a : Result Outcome Refusal) → is_put a ≡ false → one m c a ≡ []
+not_put : (m : Contents) (c : Command) (a : Result Outcome Refusal) → is_put a ≡ false → put_by_command m c a ≡ []
 not_put m c a e = by_test (is_accepted m c) (is_put a) e
   where
     by_test : (b p : Bool) → p ≡ false → (if b && p then c ∷ [] else []) ≡ []
@@ -74,10 +74,10 @@ not_put m c a e = by_test (is_accepted m c) (is_put a) e
     by_test true false e = refl
     by_test false false e = refl
 
-not_accepted : (m : Contents) (c : Command) (a : Result Outcome Refusal) → is_accepted m c ≡ false → one m c a ≡ []
+not_accepted : (m : Contents) (c : Command) (a : Result Outcome Refusal) → is_accepted m c ≡ false → put_by_command m c a ≡ []
 not_accepted m c a e = ap (λ (b : Bool). if b && is_put a then c ∷ [] else []) e
 
-is_one : (m : Contents) (c : Command) (a : Result Outcome Refusal) → is_accepted m c ≡ true → is_put a ≡ true → one m c a ≡ c ∷ []
+is_one : (m : Contents) (c : Command) (a : Result Outcome Refusal) → is_accepted m c ≡ true → is_put a ≡ true → put_by_command m c a ≡ c ∷ []
 is_one m c a e p = ap (λ (b : Bool). if b && is_put a then c ∷ [] else []) e ∙ ap (λ (b : Bool). if b then c ∷ [] else []) p
 
 -- what is meant is meant with no room
@@ -101,10 +101,10 @@ Went mid new c more = ((new ≡ mid) × (more ≡ []))
 
 module _ {D : Type 0} (old mid new : EngineState D) (put : List Command) (c : Command) (a : Result Outcome Refusal) (far : Far old mid put) (it : Answered mid c a new) where
   abbrev more : List Command
-  more = one (after old.memory put) c a
+  more = put_by_command (after old.memory put) c a
 
-  same_one : mid.failed ≡ false → one mid.memory c a ≡ more
-  same_one f = ap (λ (m : Contents). one m c a) (far.memory f)
+  same_one : mid.failed ≡ false → put_by_command mid.memory c a ≡ more
+  same_one f = ap (λ (m : Contents). put_by_command m c a) (far.memory f)
 
   put_more : mid.failed ≡ false → is_accepted mid.memory c ≡ true
       → ((a ≡ (step mid.memory c).answer) × (new ≡ record (with_command mid c) { disk = new.disk })) ⊎ ((a ≡ Err Device) × (new ≡ record mid { disk = new.disk; failed = true }))
@@ -230,7 +230,7 @@ module _ {D : Type 0} (old mid new : EngineState D) (put : List Command) (a : Re
 
 -- one event more
 
-pub far_by : {D : Type 0} (old mid new : EngineState D) (put : List Command) (e : Event) (a : Answer) → Far old mid put → EventAnswered mid e a new → Far old new (put ++ put_by (after old.memory put) e a)
+pub far_by : {D : Type 0} (old mid new : EngineState D) (put : List Command) (e : Event) (a : Answer) → Far old mid put → EventAnswered mid e a new → Far old new (put ++ put_by_event (after old.memory put) e a)
 far_by old mid new put (Serve c) (Served a) far it = far_on old mid new put c a far it
 far_by old mid new put (Serve c) (TookTurn a) far it = absurd it
 far_by old mid new put Turn (Served a) far it = absurd it
@@ -240,7 +240,7 @@ module _ {D : Type 0} (now : D → Moment) (past : D → List Moment) where
   leaves_by : (old mid new : EngineState D) (put : List Command) (e : Event) (a : Answer) → Far old mid put → EventAnswered mid e a new
       → Leaves (now old.disk) (now mid.disk) (past old.disk) (past mid.disk) (MeansBeginning old put)
       → (mid.failed ≡ false → Leaves (now mid.disk) (now new.disk) (past mid.disk) (past new.disk) (MeansBy mid e))
-      → Leaves (now old.disk) (now new.disk) (past old.disk) (past new.disk) (MeansBeginning old (put ++ put_by (after old.memory put) e a))
+      → Leaves (now old.disk) (now new.disk) (past old.disk) (past new.disk) (MeansBeginning old (put ++ put_by_event (after old.memory put) e a))
   leaves_by old mid new put (Serve c) (Served a) far it so_far call = leaves_on old mid new put c a far it now past so_far call
   leaves_by old mid new put (Serve c) (TookTurn a) far it so_far call = absurd it
   leaves_by old mid new put Turn (Served a) far it so_far call = absurd it
@@ -250,7 +250,7 @@ module _ {D : Type 0} (now : D → Moment) (past : D → List Moment) where
 
   now_by : (old mid new : EngineState D) (put : List Command) (e : Event) (a : Answer) → Far old mid put → EventAnswered mid e a new
       → LeavesNow (now mid.disk) (AllOrLess old put) → (mid.failed ≡ false → LeavesNow (now new.disk) (MeansBy mid e))
-      → LeavesNow (now new.disk) (AllOrLess old (put ++ put_by (after old.memory put) e a))
+      → LeavesNow (now new.disk) (AllOrLess old (put ++ put_by_event (after old.memory put) e a))
   now_by old mid new put (Serve c) (Served a) far it so_far call = now_on old mid new put c a far it now so_far call
   now_by old mid new put (Serve c) (TookTurn a) far it so_far call = absurd it
   now_by old mid new put Turn (Served a) far it so_far call = absurd it
@@ -279,7 +279,7 @@ device_is_doubt a e = ap (λ (r : Result Outcome Refusal). is_doubt (Served r)) 
 module _ {D : Type 0} (now : D → Moment) where
   -- a command's call after which the engine has failed, and no doubt: it had failed before
   told_failed : (old mid new : EngineState D) (put : List Command) (c : Command) (a : Result Outcome Refusal) → Answered mid c a new → is_doubt (Served a) ≡ false → new.failed ≡ true
-      → (new ≡ mid) × (one (after old.memory put) c a ≡ [])
+      → (new ≡ mid) × (put_by_command (after old.memory put) c a ≡ [])
   told_failed old mid new put c a it sure dead = ⊎_elim
       (λ was. ((it.dead was).1, not_put (after old.memory put) c a (ap (λ (x : Result Outcome Refusal). is_put x) (it.dead was).0)))
       (λ f. ⊎_elim
@@ -303,13 +303,13 @@ module _ {D : Type 0} (now : D → Moment) where
 
   told_by : (old mid new : EngineState D) (put : List Command) (e : Event) (a : Answer) → Far old mid put → EventAnswered mid e a new → is_doubt a ≡ false
       → LeavesNow (now mid.disk) (All old put) → (mid.failed ≡ false → LeavesNow (now new.disk) (MeansBy mid e)) → (new.failed ≡ false → LeavesNow (now new.disk) (MeansState new))
-      → LeavesNow (now new.disk) (All old (put ++ put_by (after old.memory put) e a))
+      → LeavesNow (now new.disk) (All old (put ++ put_by_event (after old.memory put) e a))
   told_by old mid new put (Serve c) (Served a) far it sure so_far call works = ⊎_elim
       (λ dead. let same = told_failed old mid new put c a it sure dead in
       subst (λ (l : List Command). LeavesNow (now new.disk) (All old (put ++ l))) (sym same.1)
       (subst (λ (l : List Command). LeavesNow (now new.disk) (All old l)) (sym (append-nil put))
       (subst (λ (s : EngineState D). LeavesNow (now s.disk) (All old put)) (sym same.0) so_far)))
-      (λ f file left. means_all old new (put ++ one (after old.memory put) c a) (far_on old mid new put c a far it) f file (works f file left))
+      (λ f file left. means_all old new (put ++ put_by_command (after old.memory put) c a) (far_on old mid new put c a far it) f file (works f file left))
       (bool_cases new.failed)
   told_by old mid new put (Serve c) (TookTurn a) far it sure so_far call works = absurd it
   told_by old mid new put Turn (Served a) far it sure so_far call works = absurd it
@@ -337,40 +337,40 @@ now_start s file means = (0, inl refl, subst (λ (n : ℕ). Means s.memory n 0 f
 module _ {D : Type 0} (old mid new : EngineState D) (events : List Event) (answers longer_answers : List Answer) (i : ℕ) (d : Event) (a : Answer)
     (lt : i < length events) (size : length answers ≡ i) (items : longer_answers ≡ answers ++ a ∷ []) (it : EventAnswered mid (get_or events i d) a new) where
   abbrev put : List Command
-  put = taken old.memory (take i events) answers
+  put = put_on_disk old.memory (take i events) answers
 
   stepped : take (i + 1) events ≡ take i events ++ get_or events i d ∷ []
   stepped = take_more events i d lt
 
-  grown : taken old.memory (take (i + 1) events) longer_answers ≡ put ++ put_by (after old.memory put) (get_or events i d) a
-  grown = (λ k. taken old.memory (stepped k) (items k))
-      ∙ taken-push old.memory (take i events) answers (get_or events i d) a (let n : length (take i events) ≡ i = length-take-le i events (omega arith) in omega arith)
+  grown : put_on_disk old.memory (take (i + 1) events) longer_answers ≡ put ++ put_by_event (after old.memory put) (get_or events i d) a
+  grown = (λ k. put_on_disk old.memory (stepped k) (items k))
+      ∙ put_on_disk-push old.memory (take i events) answers (get_or events i d) a (let n : length (take i events) ≡ i = length-take-le i events (omega arith) in omega arith)
 
   pub answers_step : AnsweredInTurn old (take i events) answers mid → AnsweredInTurn old (take (i + 1) events) longer_answers new
   answers_step so_far = subst (λ (l : List Event). AnsweredInTurn old l longer_answers new) (sym stepped)
       (subst (λ (l : List Answer). AnsweredInTurn old (take i events ++ get_or events i d ∷ []) l new) (sym items) (in_turn_more old mid new (take i events) answers (get_or events i d) a so_far it))
 
   module _ (far : Far old mid put) where
-    pub far_step : Far old new (taken old.memory (take (i + 1) events) longer_answers)
+    pub far_step : Far old new (put_on_disk old.memory (take (i + 1) events) longer_answers)
     far_step = subst (λ (l : List Command). Far old new l) (sym grown) (far_by old mid new put (get_or events i d) a far it)
 
     pub leaves_step_on : (now : D → Moment) (past : D → List Moment)
         → Leaves (now old.disk) (now mid.disk) (past old.disk) (past mid.disk) (MeansBeginning old put)
         → (mid.failed ≡ false → Leaves (now mid.disk) (now new.disk) (past mid.disk) (past new.disk) (MeansBy mid (get_or events i d)))
-        → Leaves (now old.disk) (now new.disk) (past old.disk) (past new.disk) (MeansBeginning old (taken old.memory (take (i + 1) events) longer_answers))
+        → Leaves (now old.disk) (now new.disk) (past old.disk) (past new.disk) (MeansBeginning old (put_on_disk old.memory (take (i + 1) events) longer_answers))
     leaves_step_on now past so_far call =
         subst (λ (l : List Command). Leaves (now old.disk) (now new.disk) (past old.disk) (past new.disk) (MeansBeginning old l)) (sym grown)
         (leaves_by now past old mid new put (get_or events i d) a far it so_far call)
 
     pub now_step_on : (now : D → Moment) (past : D → List Moment) → LeavesNow (now mid.disk) (AllOrLess old put)
         → (mid.failed ≡ false → LeavesNow (now new.disk) (MeansBy mid (get_or events i d)))
-        → LeavesNow (now new.disk) (AllOrLess old (taken old.memory (take (i + 1) events) longer_answers))
+        → LeavesNow (now new.disk) (AllOrLess old (put_on_disk old.memory (take (i + 1) events) longer_answers))
     now_step_on now past so_far call =
         subst (λ (l : List Command). LeavesNow (now new.disk) (AllOrLess old l)) (sym grown) (now_by now past old mid new put (get_or events i d) a far it so_far call)
 
     pub told_step : (now : D → Moment) → (has_doubt answers ≡ false → LeavesNow (now mid.disk) (All old put))
         → (mid.failed ≡ false → LeavesNow (now new.disk) (MeansBy mid (get_or events i d))) → (new.failed ≡ false → LeavesNow (now new.disk) (MeansState new))
-        → has_doubt longer_answers ≡ false → LeavesNow (now new.disk) (All old (taken old.memory (take (i + 1) events) longer_answers))
+        → has_doubt longer_answers ≡ false → LeavesNow (now new.disk) (All old (put_on_disk old.memory (take (i + 1) events) longer_answers))
     told_step now so_far call works none =
         let sure = no_doubt_before answers a (subst (λ (l : List Answer). has_doubt l ≡ false) items none) in
         subst (λ (l : List Command). LeavesNow (now new.disk) (All old l)) (sym grown) (told_by now old mid new put (get_or events i d) a far it sure.1 (so_far sure.0) call works)

@@ -1,17 +1,16 @@
 -- Commands and turns one after another, and what the files mean that a crash may leave. (Own.)
-use Rattle.std.specs.Prelude.{◌≡◌, ◌⊎◌, ℕ, ◌+◌, ◌<◌, ◌≤◌, Bool, true, false, ◌&&◌, ◌||◌, ◌==◌, List, [], ◌∷◌, ◌++◌, length, take, Result, Ok, Err, IsErrOf, if◌then◌else◌}
+use Rattle.std.specs.Prelude.{◌≡◌, ◌⊎◌, ℕ, ◌+◌, ◌<◌, ◌≤◌, Bool, true, false, ◌&&◌, ◌||◌, List, [], ◌∷◌, ◌++◌, length, take, Result, Ok, Err, IsErrOf, if◌then◌else◌}
 use Rattle.im_types.specs.declared.commands.Command.{Command}
 use Rattle.im_types.specs.declared.commands.Outcome.{Outcome}
 use Rattle.im_types.specs.declared.refusals.Refusal.{Refusal}
 use Rattle.im_types.specs.declared.refusals.Refusal.TheVariants.{JournalFull, Device, Failed}
-use Rattle.im_types.specs.Refusals.{number_of}
 use Rattle.im_types.specs.Contents.{Contents}
 use Rattle.im_types.specs.Step.{step, is_accepted}
 use Rattle.im_types.specs.Run.{after}
+use Rattle.im_types.specs.Meaning.{Means}
 use Rattle.im_disk.specs.Moment.{Rises, Faults}
 use Rattle.im_checkpoint.specs.declared.checkpoint.TurnDone.{TurnDone}
 use Rattle.im_checkpoint.specs.Turns.{Turned}
-use Rattle.im_checkpoint.specs.Keeping.{Means}
 use Rattle.im_engine.specs.State.{EngineState, MeansState, MeansEither, with_command, journal_in, checkpoint_in}
 use Rattle.im_engine.specs.declared.run.Event.{Event}
 use Rattle.im_engine.specs.declared.run.Event.TheVariants.{Command as Serve, Turn}
@@ -60,26 +59,32 @@ AnsweredInTurn old [] (answer ∷ answers) new = ⊥
 AnsweredInTurn old (event ∷ events) [] new = ⊥
 AnsweredInTurn {D} old (event ∷ events) (answer ∷ answers) new = (mid : EngineState D) × EventAnswered old event answer mid × AnsweredInTurn mid events answers new
 
+-- the refusal says that a call of the disk failed
+abbrev pub is_device : Refusal → Bool
+is_device Device = true
+is_device refusal = false
+
 -- the answer says that a command was put on the disk, or is in doubt
 abbrev pub is_put : Result Outcome Refusal → Bool
 is_put (Ok outcome) = true
-is_put (Err refusal) = number_of refusal == 8
+is_put (Err refusal) = is_device refusal
 
 -- the command, if it was accepted and put on the disk, the one in doubt too
-abbrev pub one : Contents → Command → Result Outcome Refusal → List Command
-one m command answer = if is_accepted m command && is_put answer then command ∷ [] else []
+abbrev pub put_by_command : Contents → Command → Result Outcome Refusal → List Command
+put_by_command m command answer = if is_accepted m command && is_put answer then command ∷ [] else []
 
 -- the same, of an event
-abbrev pub put_by : Contents → Event → Answer → List Command
-put_by m (Serve command) (Served answer) = one m command answer
-put_by m (Serve command) (TookTurn answer) = []
-put_by m Turn answer = []
+abbrev pub put_by_event : Contents → Event → Answer → List Command
+put_by_event m (Serve command) (Served answer) = put_by_command m command answer
+put_by_event m (Serve command) (TookTurn answer) = []
+put_by_event m Turn answer = []
 
 -- the accepted commands that were put on the disk, the one in doubt among them, by what each was answered
-abbrev pub taken : Contents → List Event → List Answer → List Command
-taken m [] answers = []
-taken m (event ∷ events) [] = []
-taken m (event ∷ events) (answer ∷ answers) = put_by m event answer ++ taken (after m (put_by m event answer)) events answers
+abbrev pub put_on_disk : Contents → List Event → List Answer → List Command
+put_on_disk m [] answers = []
+put_on_disk m (event ∷ events) [] = []
+put_on_disk m (event ∷ events) (answer ∷ answers) =
+    put_by_event m event answer ++ put_on_disk (after m (put_by_event m event answer)) events answers
 
 -- the file means what the engine is after this many of these commands
 abbrev pub MeansAfter : {D : Type 0} → EngineState D → List Command → ℕ → List ℕ → Type 0
@@ -96,7 +101,7 @@ MeansAllOrInDoubt doubt s commands file = (many : ℕ) × ((many ≡ length comm
 -- the answer leaves its command in doubt
 abbrev pub is_doubt : Answer → Bool
 is_doubt (Served (Ok outcome)) = false
-is_doubt (Served (Err refusal)) = number_of refusal == 8
+is_doubt (Served (Err refusal)) = is_device refusal
 is_doubt (TookTurn answer) = false
 
 -- one of the answers does

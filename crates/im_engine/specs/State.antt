@@ -4,12 +4,11 @@ use Rattle.im_types.specs.declared.commands.Command.{Command}
 use Rattle.im_types.specs.declared.refusals.Refusal.{Refusal}
 use Rattle.im_types.specs.Contents.{Contents}
 use Rattle.im_types.specs.Step.{step}
-use Rattle.im_types.specs.Layout.{layout_1, ring_of}
+use Rattle.im_types.specs.Layout.{layout_in_use, ring_of}
 use Rattle.im_types.specs.Header.{Header, header_of}
-use Rattle.im_types.specs.Meaning.{Reads}
+use Rattle.im_types.specs.Meaning.{Means, Reads}
 use Rattle.im_journal.specs.Holding.{JournalState, room_after}
 use Rattle.im_checkpoint.specs.Step.{Step, CheckpointState}
-use Rattle.im_checkpoint.specs.Keeping.{Means}
 
 -- an engine: its disk, the header in force and how far the next one has come, the memory, the count of all commands, the room for more, and whether the disk has failed it
 pub record EngineState (D : Type 0) : Type 0 where
@@ -35,7 +34,7 @@ MeansEither s command file = MeansState s file ⊎ MeansState (with_command s co
 
 -- the journal behind a header
 abbrev pub journal_of : Header → ℕ → ℕ → JournalState
-journal_of h count room = record { ring = ring_of layout_1 h.sizes; first = h.count; count = count; room = room }
+journal_of h count room = record { ring = ring_of layout_in_use h.sizes; first = h.count; count = count; room = room }
 
 -- the journal of an engine
 abbrev pub journal_in : {D : Type 0} → EngineState D → JournalState
@@ -47,8 +46,8 @@ checkpoint_in s = record { header = s.header; step = s.step }
 
 -- reading the file comes to this fault first
 abbrev pub IsFirstFault : Refusal → List ℕ → Type 0
-IsFirstFault fault file = Reads layout_1 file (Err fault)
+IsFirstFault fault file = Reads layout_in_use file (Err fault)
 
 -- reading the file comes to what the engine is: its header, its memory, its count, and just its room
 abbrev pub IsFound : {D : Type 0} → EngineState D → List ℕ → Type 0
-IsFound s file = (s.header ≡ header_of file) × Reads layout_1 file (Ok (record { contents = s.memory; count = s.count; room = s.room }))
+IsFound s file = (s.header ≡ header_of file) × Reads layout_in_use file (Ok (record { contents = s.memory; count = s.count; room = s.room }))

@@ -2,7 +2,7 @@
 ghost use Rattle.std.specs.Prelude.{◌≡◌, ◌≢◌, false, ◌⊎◌, [], ◌∷◌, ◌<◌, length, drop, IfOk, IfErr, OnOk, IsErrOf, MatchResult};
 ghost use Rattle.im_types.specs.declared.refusals.Refusal.TheVariants.{WrongLength, NoMemory, Device};
 ghost use Rattle.im_types.specs.Contents.{empty_contents};
-ghost use Rattle.im_types.specs.Layout.{layout_1, image_length};
+ghost use Rattle.im_types.specs.Layout.{layout_in_use, image_length};
 ghost use Rattle.im_types.specs.Header.{Header as Seen};
 ghost use Rattle.im_disk.specs.Moment.{Counts, Fault, Faults};
 ghost use Rattle.im_disk.specs.Since.{LeavesNow};
@@ -15,9 +15,10 @@ ghost use Rattle.im_engine.specs.State.{MeansState};
 use crate::engine::Engine;
 use im_checkpoint::Checkpoint;
 use im_disk::{DeviceFault, Disk};
-use im_image::{Header, OPEN, VERSION, image_length, new_image};
+use im_image::{Header, VERSION, new_image};
 use im_journal::Journal;
 use im_memory::Memory;
+use im_types::layout::{OPEN, image_length};
 use im_types::{Limits, Refusal};
 use std::alloc::Global;
 
@@ -61,10 +62,10 @@ fn lay_down<D: Disk>(
     ensures written { OnOk result (D.honest disk.new → (D.now disk.new).bytes ≡ new_image 0xA5 (sizes_of limits)) }
     ensures calm { OnOk result (D.honest disk.new → (D.now disk.new).ranges ≡ []) }
     ensures wrong { IsErrOf result Refusal.WrongLength → D.honest disk.new
-        → (length (D.now disk.old).bytes ≢ image_length layout_1 (sizes_of limits)) × (D.now disk.new ≡ D.now disk.old) × (D.past disk.new ≡ D.past disk.old) }
-    ensures right { MatchResult result (λ r. D.honest disk.new → length (D.now disk.old).bytes ≡ image_length layout_1 (sizes_of limits))
+        → (length (D.now disk.old).bytes ≢ image_length layout_in_use (sizes_of limits)) × (D.now disk.new ≡ D.now disk.old) × (D.past disk.new ≡ D.past disk.old) }
+    ensures right { MatchResult result (λ r. D.honest disk.new → length (D.now disk.old).bytes ≡ image_length layout_in_use (sizes_of limits))
         (λ e. e ≡ NoMemory → D.honest disk.new
-        → (length (D.now disk.old).bytes ≡ image_length layout_1 (sizes_of limits)) × (D.now disk.new ≡ D.now disk.old) × (D.past disk.new ≡ D.past disk.old)) }
+        → (length (D.now disk.old).bytes ≡ image_length layout_in_use (sizes_of limits)) × (D.now disk.new ≡ D.now disk.old) × (D.past disk.new ≡ D.past disk.old)) }
     ensures faults { Faults (λ e. (e ≡ WrongLength) ⊎ (e ≡ NoMemory) ⊎ (e ≡ Device)) result (D.failures disk.old) (D.failures disk.new) }
     ensures honest { D.honest disk.new → D.honest disk.old }
 {
@@ -105,10 +106,10 @@ impl<D: Disk> Engine<D> {
         ensures means { IfOk result (λ e. D.honest e.disk → LeavesNow (D.now e.disk) (MeansState e)) }
         ensures works { IfOk result (λ e. e.failed ≡ false) }
         ensures wrong { IfErr result (λ e. e.0 ≡ WrongLength → D.honest e.1
-            → (length (D.now disk).bytes ≢ image_length layout_1 (sizes_of limits)) × (D.now e.1 ≡ D.now disk) × (D.past e.1 ≡ D.past disk)) }
-        ensures right { MatchResult result (λ e. D.honest e.disk → length (D.now disk).bytes ≡ image_length layout_1 (sizes_of limits))
+            → (length (D.now disk).bytes ≢ image_length layout_in_use (sizes_of limits)) × (D.now e.1 ≡ D.now disk) × (D.past e.1 ≡ D.past disk)) }
+        ensures right { MatchResult result (λ e. D.honest e.disk → length (D.now disk).bytes ≡ image_length layout_in_use (sizes_of limits))
             (λ e. e.0 ≡ NoMemory → D.honest e.1
-            → (length (D.now disk).bytes ≡ image_length layout_1 (sizes_of limits)) × (D.now e.1 ≡ D.now disk) × (D.past e.1 ≡ D.past disk)) }
+            → (length (D.now disk).bytes ≡ image_length layout_in_use (sizes_of limits)) × (D.now e.1 ≡ D.now disk) × (D.past e.1 ≡ D.past disk)) }
         ensures faults { MatchResult result (λ e. D.failures e.disk ≡ D.failures disk)
             (λ e. Fault (λ r. (r ≡ WrongLength) ⊎ (r ≡ NoMemory) ⊎ (r ≡ Device)) (D.failures disk) (D.failures e.1) e.0) }
         ensures honest { MatchResult result (λ e. D.honest e.disk → D.honest disk) (λ e. D.honest e.1 → D.honest disk) }

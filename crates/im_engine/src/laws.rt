@@ -4,9 +4,8 @@ ghost use Rattle.im_types.specs.declared.refusals.Refusal.{Refusal};
 ghost use Rattle.im_types.specs.Contents.{Contents, empty_contents};
 ghost use Rattle.im_types.specs.Sizes.{AreLimits};
 ghost use Rattle.im_types.specs.Layout.{Sizes, layout_1};
-ghost use Rattle.im_types.specs.Meaning.{Reached, Reads};
+ghost use Rattle.im_types.specs.Meaning.{Means, Reached, Reads};
 ghost use Rattle.im_image.specs.Fresh.{new_image};
-ghost use Rattle.im_checkpoint.specs.Keeping.{Means};
 ghost use Rattle.im_engine.specs.State.{IsFirstFault};
 
 /// A file means one thing: reading it comes to one memory, one count and one room, or to one first fault.

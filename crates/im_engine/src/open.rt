@@ -3,7 +3,7 @@ ghost use Rattle.std.specs.Prelude.{◌≡◌, ◌⊎◌, ◌≤◌, false, leng
 ghost use Rattle.im_types.specs.declared.refusals.Refusal.TheVariants.{NoMemory, Device};
 ghost use Rattle.im_disk.specs.Moment.{Left, Fault, Faults};
 ghost use Rattle.im_disk.specs.Since.{Leaves, LeavesNow};
-ghost use Rattle.im_types.specs.Layout.{layout_1};
+ghost use Rattle.im_types.specs.Layout.{layout_in_use};
 ghost use Rattle.im_types.specs.Header.{header_of};
 ghost use Rattle.im_types.specs.Meaning.{Reads};
 ghost use Rattle.im_image.specs.Headers.{seen, MayRefuseImage};
@@ -27,7 +27,7 @@ fn read_synced<D: Disk>(alloc: Global, disk: &mut D) -> Result<Image, Refusal>
     ensures journal { IfOk result (λ i. JournalOf (seen i.header) i.journal) }
     ensures kept { IfOk result (λ i. D.honest disk.new → IsKept (record { header = seen i.header; step = NoCheckpoint }) i.memory i.journal (D.now disk.new)) }
     ensures found { IfOk result (λ i. D.honest disk.new → LeavesNow (D.now disk.new)
-        (λ file. (seen i.header ≡ header_of file) × Reads layout_1 file (Ok (record { contents = i.memory; count = i.journal.count; room = i.journal.room })))) }
+        (λ file. (seen i.header ≡ header_of file) × Reads layout_in_use file (Ok (record { contents = i.memory; count = i.journal.count; room = i.journal.room })))) }
     ensures leaves { D.honest disk.new → Leaves (D.now disk.old) (D.now disk.new) (D.past disk.old) (D.past disk.new) (Left (D.now disk.old)) }
     ensures fault { IfErr result (λ e. (e ≡ NoMemory) ⊎ (e ≡ Device) ⊎ (D.honest disk.new → LeavesNow (D.now disk.new) (IsFirstFault e))) }
     ensures faults { Faults MayRefuseImage result (D.failures disk.old) (D.failures disk.new) }

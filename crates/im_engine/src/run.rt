@@ -3,7 +3,7 @@ ghost use Rattle.std.specs.Prelude.{◌≡◌, ◌+◌, ◌≤◌, length, true,
 ghost use Rattle.im_types.specs.declared.refusals.Refusal.TheVariants.{NoMemory};
 ghost use Rattle.im_types.specs.Run.{after};
 ghost use Rattle.im_disk.specs.Since.{Leaves, LeavesNow};
-ghost use Rattle.im_engine.specs.Run.{EventAnswered, AnsweredInTurn, taken, MeansBy, MeansBeginning, MeansAllOrInDoubt, has_doubt, HasCause, HaveCauses};
+ghost use Rattle.im_engine.specs.Run.{EventAnswered, AnsweredInTurn, put_on_disk, MeansBy, MeansBeginning, MeansAllOrInDoubt, has_doubt, HasCause, HaveCauses};
 ghost use Rattle.im_engine.specs.State.{MeansState};
 
 use crate::engine::Engine;
@@ -55,14 +55,14 @@ impl<D: Disk> Engine<D> {
     pub fn run(&mut self, alloc: Global, events: &[Event]) -> Result<Vec<Answer>, Refusal>
         ensures answers { IfOk result (λ v. AnsweredInTurn self.old events.now v.items self.new) }
         ensures leaves { IfOk result (λ v. D.honest self.new.disk → self.old.failed ≡ false
-            → Leaves (D.now self.old.disk) (D.now self.new.disk) (D.past self.old.disk) (D.past self.new.disk) (MeansBeginning self.old (taken self.old.memory events.now v.items))) }
+            → Leaves (D.now self.old.disk) (D.now self.new.disk) (D.past self.old.disk) (D.past self.new.disk) (MeansBeginning self.old (put_on_disk self.old.memory events.now v.items))) }
         ensures now { IfOk result (λ v. D.honest self.new.disk → self.old.failed ≡ false
-            → LeavesNow (D.now self.new.disk) (MeansAllOrInDoubt (has_doubt v.items ≡ true) self.old (taken self.old.memory events.now v.items))) }
+            → LeavesNow (D.now self.new.disk) (MeansAllOrInDoubt (has_doubt v.items ≡ true) self.old (put_on_disk self.old.memory events.now v.items))) }
         // `Device` exactly where a call of the disk failed.
         ensures faults { IfOk result (λ v. HaveCauses v.items (D.failures self.old.disk) (D.failures self.new.disk)) }
         // Where it hasn't failed, the memory and the count are those after all of them.
-        ensures memory { IfOk result (λ v. self.old.failed ≡ false → self.new.failed ≡ false → self.new.memory ≡ after self.old.memory (taken self.old.memory events.now v.items)) }
-        ensures count { IfOk result (λ v. self.old.failed ≡ false → self.new.failed ≡ false → self.new.count ≡ self.old.count + length (taken self.old.memory events.now v.items)) }
+        ensures memory { IfOk result (λ v. self.old.failed ≡ false → self.new.failed ≡ false → self.new.memory ≡ after self.old.memory (put_on_disk self.old.memory events.now v.items)) }
+        ensures count { IfOk result (λ v. self.old.failed ≡ false → self.new.failed ≡ false → self.new.count ≡ self.old.count + length (put_on_disk self.old.memory events.now v.items)) }
         ensures refused { IfErr result (λ e. e ≡ NoMemory) }
         ensures same { OnErr result (self.new ≡ self.old) }
         ensures honest { D.honest self.new.disk → D.honest self.old.disk }

@@ -9,7 +9,7 @@ use Rattle.im_types.specs.declared.refusals.Refusal.{Refusal}
 use Rattle.im_types.specs.declared.operations.Kept.{Kept}
 use Rattle.im_types.specs.Contents.{Window, Contents, new_window, kept_for}
 use Rattle.im_types.specs.Window.{next_number, bounds_of, bounds}
-use Rattle.im_types.specs.Layout.{Sizes, layout_1, area_bytes, area_pages, cell_pages, node_pages, session_pages, node_count, record_at}
+use Rattle.im_types.specs.Layout.{Sizes, layout_in_use, area_bytes, area_pages, cell_pages, node_pages, session_pages, node_count, record_at}
 use Rattle.im_types.specs.Memory.{IsWindow}
 use Rattle.im_types.specs.declared.records.CellRecord.TheVariants.{Free as FreeCell}
 use Rattle.im_types.specs.declared.records.NodeRecord.TheVariants.{Free as FreeNode}
@@ -155,21 +155,21 @@ pub counted : (s : Sizes) (m : Contents) (r : Records) → length m.cells ≡ s.
 counted s m r cells elements c n w = record { cells = c ∙ cells; nodes = n ∙ ap (λ k. WINDOW * k) elements; windows = ap length w ∙ elements }
 
 -- pages of records are an area that shows the memory
-module _ (s : Sizes) (r : Records) (page : ℕ → List ℕ) (count : AreCounted s r) (pages : (i : ℕ) → i < area_pages layout_1 s → IsAreaPage s r i (page i)) where
+module _ (s : Sizes) (r : Records) (page : ℕ → List ℕ) (count : AreCounted s r) (pages : (i : ℕ) → i < area_pages layout_in_use s → IsAreaPage s r i (page i)) where
   cell-page : (i : ℕ) → i < cell_pages s → SpellsCells s r i (page i)
-  cell-page i lt = (pages i (one (cell_pages s) (node_pages layout_1 s) (session_pages layout_1 s) i lt)).cells lt
+  cell-page i lt = (pages i (one (cell_pages s) (node_pages layout_in_use s) (session_pages layout_in_use s) i lt)).cells lt
     where
       one : (a b c i : ℕ) → i < a → i < a + b + c
       one a b c i lt = omega arith
 
-  node-page : (i : ℕ) → i < node_pages layout_1 s → SpellsNodes s r i (page (cell_pages s + i))
-  node-page i lt = (pages (cell_pages s + i) (two (cell_pages s) (node_pages layout_1 s) (session_pages layout_1 s) i lt)).nodes i refl lt
+  node-page : (i : ℕ) → i < node_pages layout_in_use s → SpellsNodes s r i (page (cell_pages s + i))
+  node-page i lt = (pages (cell_pages s + i) (two (cell_pages s) (node_pages layout_in_use s) (session_pages layout_in_use s) i lt)).nodes i refl lt
     where
       two : (a b c i : ℕ) → i < b → a + i < a + b + c
       two a b c i lt = omega arith
 
-  session-page : (i : ℕ) → i < session_pages layout_1 s → SpellsSessions r i (page (cell_pages s + node_pages layout_1 s + i))
-  session-page i lt = (pages (cell_pages s + node_pages layout_1 s + i) (three (cell_pages s + node_pages layout_1 s) (session_pages layout_1 s) i lt)).sessions i refl lt
+  session-page : (i : ℕ) → i < session_pages layout_in_use s → SpellsSessions r i (page (cell_pages s + node_pages layout_in_use s + i))
+  session-page i lt = (pages (cell_pages s + node_pages layout_in_use s + i) (three (cell_pages s + node_pages layout_in_use s) (session_pages layout_in_use s) i lt)).sessions i refl lt
     where
       three : (a b i : ℕ) → i < b → a + i < a + b
       three a b i lt = omega arith
@@ -181,26 +181,26 @@ module _ (s : Sizes) (r : Records) (page : ℕ → List ℕ) (count : AreCounted
     sessions = λ i lt. (session-page i lt).is_page;
   }
 
-  cell-fits : (j : ℕ) → j < s.cells → FitsCell s.cells (node_count layout_1 s) (slice_index_or r.cells j (FreeCell 0 NONE))
+  cell-fits : (j : ℕ) → j < s.cells → FitsCell s.cells (node_count layout_in_use s) (slice_index_or r.cells j (FreeCell 0 NONE))
   cell-fits j lt =
       let at : 128 * (j / 128) + j % 128 ≡ j = omega arith in
-      subst (λ j. FitsCell s.cells (node_count layout_1 s) (slice_index_or r.cells j (FreeCell 0 NONE))) at ((cell-page (j / 128) (within s.cells j lt)).fits (j % 128) (omega arith) (omega (arith, count.cells)))
+      subst (λ j. FitsCell s.cells (node_count layout_in_use s) (slice_index_or r.cells j (FreeCell 0 NONE))) at ((cell-page (j / 128) (within s.cells j lt)).fits (j % 128) (omega arith) (omega (arith, count.cells)))
     where
       within : (n j : ℕ) → j < n → j / 128 < (n + 128 - 1) / 128
       within n j lt = omega arith
 
-  node-fits : (j : ℕ) → j < node_count layout_1 s → FitsNode (node_count layout_1 s) (slice_index_or r.nodes j (FreeNode NONE))
+  node-fits : (j : ℕ) → j < node_count layout_in_use s → FitsNode (node_count layout_in_use s) (slice_index_or r.nodes j (FreeNode NONE))
   node-fits j lt =
       let at : 256 * (j / 256) + j % 256 ≡ j = omega arith in
-      subst (λ j. FitsNode (node_count layout_1 s) (slice_index_or r.nodes j (FreeNode NONE))) at ((node-page (j / 256) (within (node_count layout_1 s) j lt)).fits (j % 256) (omega arith) (omega (arith, count.nodes)))
+      subst (λ j. FitsNode (node_count layout_in_use s) (slice_index_or r.nodes j (FreeNode NONE))) at ((node-page (j / 256) (within (node_count layout_in_use s) j lt)).fits (j % 256) (omega arith) (omega (arith, count.nodes)))
     where
       within : (n j : ℕ) → j < n → j / 256 < (n + 256 - 1) / 256
       within n j lt = omega arith
 
-  session-fits : (j : ℕ) → j < s.elements → FitsWindow layout_1 (slice_index_or r.windows j new_window)
+  session-fits : (j : ℕ) → j < s.elements → FitsWindow layout_in_use (slice_index_or r.windows j new_window)
   session-fits j lt =
       let at : 4 * (j / 4) + j % 4 ≡ j = omega arith in
-      subst (λ j. FitsWindow layout_1 (slice_index_or r.windows j new_window)) at ((session-page (j / 4) (within s.elements j lt)).fits (j % 4) (omega arith) (omega (arith, count.windows)))
+      subst (λ j. FitsWindow layout_in_use (slice_index_or r.windows j new_window)) at ((session-page (j / 4) (within s.elements j lt)).fits (j % 4) (omega arith) (omega (arith, count.windows)))
     where
       within : (n j : ℕ) → j < n → j / 4 < (n + 4 - 1) / 4
       within n j lt = omega arith
@@ -216,11 +216,11 @@ module _ (s : Sizes) (r : Records) (page : ℕ → List ℕ) (count : AreCounted
   }
 
 pub pages-show : (s : Sizes) (r : Records) (m : Contents) (page : ℕ → List ℕ) → AreCounted s r → ShowsRecords s r m
-    → ((i : ℕ) → i < area_pages layout_1 s → IsAreaPage s r i (page i)) → Shows layout_1 s (joined (area_pages layout_1 s) page) m
+    → ((i : ℕ) → i < area_pages layout_in_use s → IsAreaPage s r i (page i)) → Shows layout_in_use s (joined (area_pages layout_in_use s) page) m
 pages-show s r m page count shows pages = record { records = r; spelled = joined_is_area s r page (they-fit s r page count pages) (are-pages s r page count pages); shown = shows }
 
-pub area-shows : (s : Sizes) (r : Records) (m : Contents) (area : List ℕ) → AreCounted s r → ShowsRecords s r m → length area ≡ area_bytes layout_1 s
-    → ((i : ℕ) → i < area_pages layout_1 s → IsAreaPage s r i (record_at 4096 area i)) → Shows layout_1 s area m
+pub area-shows : (s : Sizes) (r : Records) (m : Contents) (area : List ℕ) → AreCounted s r → ShowsRecords s r m → length area ≡ area_bytes layout_in_use s
+    → ((i : ℕ) → i < area_pages layout_in_use s → IsAreaPage s r i (record_at 4096 area i)) → Shows layout_in_use s area m
 area-shows s r m area count shows long pages =
     let page : ℕ → List ℕ = λ i. record_at 4096 area i in
     record { records = r; spelled = area_of_pages s r (they-fit s r page count pages) area long (are-pages s r page count pages); shown = shows }

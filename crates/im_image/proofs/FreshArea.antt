@@ -7,7 +7,7 @@ use Rattle.im_types.specs.declared.operations.Kept.{Kept}
 use Rattle.im_types.specs.Contents.{Held, new_window, empty_contents}
 use Rattle.im_types.specs.Memory.{IsMemory}
 use Rattle.im_types.specs.Bytes.{zeros}
-use Rattle.im_types.specs.Layout.{Sizes, layout_1, page_bytes, cell_pages, node_pages, session_pages, area_bytes, node_count, cell_record_bytes, node_record_bytes, session_record_bytes, cell_part, node_part, session_part, record_at}
+use Rattle.im_types.specs.Layout.{Sizes, layout_in_use, page_bytes, cell_pages, node_pages, session_pages, area_bytes, node_count, cell_record_bytes, node_record_bytes, session_record_bytes, cell_part, node_part, session_part, record_at}
 use Rattle.im_types.specs.declared.records.CellRecord.TheVariants.{Free as FreeCell}
 use Rattle.im_types.specs.declared.records.NodeRecord.{NodeRecord}
 use Rattle.im_types.specs.declared.records.NodeRecord.TheVariants.{Free as FreeNode}
@@ -95,38 +95,38 @@ abbrev cell_row : Sizes → List ℕ
 cell_row s = new_row (cell_pages s) cell_record_bytes (cell_bytes new_cell) s.cells
 
 abbrev node_row : Sizes → List ℕ
-node_row s = new_row (node_pages layout_1 s) node_record_bytes (node_bytes new_node) (node_count layout_1 s)
+node_row s = new_row (node_pages layout_in_use s) node_record_bytes (node_bytes new_node) (node_count layout_in_use s)
 
 abbrev session_row : Sizes → List ℕ
-session_row s = new_row (session_pages layout_1 s) (session_record_bytes layout_1) (session_bytes layout_1 new_window) s.elements
+session_row s = new_row (session_pages layout_in_use s) (session_record_bytes layout_in_use) (session_bytes layout_in_use new_window) s.elements
 
 length-cells : (s : Sizes) → length (cell_row s) ≡ 4096 * cell_pages s
 length-cells s = length-row (cell_pages s) 32 s.cells (cell_bytes new_cell) refl (cells_fit s.cells)
 
-length-nodes : (s : Sizes) → length (node_row s) ≡ 4096 * node_pages layout_1 s
-length-nodes s = length-row (node_pages layout_1 s) 16 (node_count layout_1 s) (node_bytes new_node) refl (nodes_fit (node_count layout_1 s))
+length-nodes : (s : Sizes) → length (node_row s) ≡ 4096 * node_pages layout_in_use s
+length-nodes s = length-row (node_pages layout_in_use s) 16 (node_count layout_in_use s) (node_bytes new_node) refl (nodes_fit (node_count layout_in_use s))
 
-length-sessions : (s : Sizes) → length (session_row s) ≡ 4096 * session_pages layout_1 s
-length-sessions s = length-row (session_pages layout_1 s) 1024 s.elements (session_bytes layout_1 new_window) refl (sessions_fit s.elements)
+length-sessions : (s : Sizes) → length (session_row s) ≡ 4096 * session_pages layout_in_use s
+length-sessions s = length-row (session_pages layout_in_use s) 1024 s.elements (session_bytes layout_in_use new_window) refl (sessions_fit s.elements)
 
-pub length-area : (s : Sizes) → length (new_area s) ≡ area_bytes layout_1 s
+pub length-area : (s : Sizes) → length (new_area s) ≡ area_bytes layout_in_use s
 length-area s = omega (arith, length-append (cell_row s ++ node_row s) (session_row s), length-append (cell_row s) (node_row s), length-cells s, length-nodes s, length-sessions s)
 
 -- the parts of a new area
 cell_part-new : (s : Sizes) → cell_part s (new_area s) ≡ cell_row s
 cell_part-new s = ap (λ (l : List ℕ). take (4096 * cell_pages s) l) (append_assoc (cell_row s) (node_row s) (session_row s)) ∙ take_at (cell_row s) (node_row s ++ session_row s) (4096 * cell_pages s) (length-cells s)
 
-node_part-new : (s : Sizes) → node_part layout_1 s (new_area s) ≡ node_row s
+node_part-new : (s : Sizes) → node_part layout_in_use s (new_area s) ≡ node_row s
 node_part-new s =
-    ap (λ (l : List ℕ). take (4096 * node_pages layout_1 s) (drop (4096 * cell_pages s) l)) (append_assoc (cell_row s) (node_row s) (session_row s))
-    ∙ ap (λ (l : List ℕ). take (4096 * node_pages layout_1 s) l) (drop_at (cell_row s) (node_row s ++ session_row s) (4096 * cell_pages s) (length-cells s))
-    ∙ take_at (node_row s) (session_row s) (4096 * node_pages layout_1 s) (length-nodes s)
+    ap (λ (l : List ℕ). take (4096 * node_pages layout_in_use s) (drop (4096 * cell_pages s) l)) (append_assoc (cell_row s) (node_row s) (session_row s))
+    ∙ ap (λ (l : List ℕ). take (4096 * node_pages layout_in_use s) l) (drop_at (cell_row s) (node_row s ++ session_row s) (4096 * cell_pages s) (length-cells s))
+    ∙ take_at (node_row s) (session_row s) (4096 * node_pages layout_in_use s) (length-nodes s)
 
-session_part-new : (s : Sizes) → session_part layout_1 s (new_area s) ≡ session_row s
-session_part-new s = drop_at (cell_row s ++ node_row s) (session_row s) (4096 * (cell_pages s + node_pages layout_1 s)) (omega (arith, length-append (cell_row s) (node_row s), length-cells s, length-nodes s))
+session_part-new : (s : Sizes) → session_part layout_in_use s (new_area s) ≡ session_row s
+session_part-new s = drop_at (cell_row s ++ node_row s) (session_row s) (4096 * (cell_pages s + node_pages layout_in_use s)) (omega (arith, length-append (cell_row s) (node_row s), length-cells s, length-nodes s))
 
 unfoldable pub new_records : Sizes → Records
-new_records s = record { cells = replicate s.cells new_cell; nodes = replicate (node_count layout_1 s) new_node; windows = replicate s.elements new_window }
+new_records s = record { cells = replicate s.cells new_cell; nodes = replicate (node_count layout_in_use s) new_node; windows = replicate s.elements new_window }
 
 no_kept : (i : ℕ) (k : Kept) → slice_get [] i ≡ Some k → ⊥
 no_kept i k e = none_some k e
@@ -134,18 +134,18 @@ no_kept i k e = none_some k e
     none_some : (k : Kept) → None ≡ Some k → ⊥
     none_some k e = cc
 
-pub new_window_fits : FitsWindow layout_1 new_window
+pub new_window_fits : FitsWindow layout_in_use new_window
 new_window_fits = record { base_from = omega arith; base_to = omega arith; few = omega arith; numbers = omega arith; fields = λ i k e. absurd (no_kept i k e) }
 
-pub new_area_spelled : (s : Sizes) → SpellsArea layout_1 s (new_area s) (new_records s)
+pub new_area_spelled : (s : Sizes) → SpellsArea layout_in_use s (new_area s) (new_records s)
 unfolding new_records
 new_area_spelled s = record {
-  cells = subst (λ (l : List ℕ). IsRow cell_record_bytes cell_bytes (FitsCell s.cells (node_count layout_1 s)) (FreeCell 0 NONE) s.cells l (replicate s.cells new_cell)) (sym (cell_part-new s))
-      (is_new_row (cell_pages s) 32 s.cells cell_bytes (FitsCell s.cells (node_count layout_1 s)) (FreeCell 0 NONE) new_cell refl (none_yet s.cells, inl refl));
-  nodes = subst (λ (l : List ℕ). IsRow node_record_bytes node_bytes (FitsNode (node_count layout_1 s)) (FreeNode NONE) (node_count layout_1 s) l (replicate (node_count layout_1 s) new_node)) (sym (node_part-new s))
-      (is_new_row (node_pages layout_1 s) 16 (node_count layout_1 s) node_bytes (FitsNode (node_count layout_1 s)) (FreeNode NONE) new_node refl (inl refl));
-  sessions = subst (λ (l : List ℕ). IsRow (session_record_bytes layout_1) (session_bytes layout_1) (FitsWindow layout_1) new_window s.elements l (replicate s.elements new_window)) (sym (session_part-new s))
-      (is_new_row (session_pages layout_1 s) 1024 s.elements (session_bytes layout_1) (FitsWindow layout_1) new_window new_window refl new_window_fits);
+  cells = subst (λ (l : List ℕ). IsRow cell_record_bytes cell_bytes (FitsCell s.cells (node_count layout_in_use s)) (FreeCell 0 NONE) s.cells l (replicate s.cells new_cell)) (sym (cell_part-new s))
+      (is_new_row (cell_pages s) 32 s.cells cell_bytes (FitsCell s.cells (node_count layout_in_use s)) (FreeCell 0 NONE) new_cell refl (none_yet s.cells, inl refl));
+  nodes = subst (λ (l : List ℕ). IsRow node_record_bytes node_bytes (FitsNode (node_count layout_in_use s)) (FreeNode NONE) (node_count layout_in_use s) l (replicate (node_count layout_in_use s) new_node)) (sym (node_part-new s))
+      (is_new_row (node_pages layout_in_use s) 16 (node_count layout_in_use s) node_bytes (FitsNode (node_count layout_in_use s)) (FreeNode NONE) new_node refl (inl refl));
+  sessions = subst (λ (l : List ℕ). IsRow (session_record_bytes layout_in_use) (session_bytes layout_in_use) (FitsWindow layout_in_use) new_window s.elements l (replicate s.elements new_window)) (sym (session_part-new s))
+      (is_new_row (session_pages layout_in_use s) 1024 s.elements (session_bytes layout_in_use) (FitsWindow layout_in_use) new_window new_window refl new_window_fits);
 }
   where
     none_yet : (n : ℕ) → 0 ≤ n
@@ -170,13 +170,13 @@ new_records_show s memory = record {
   lists = replicate s.cells [];
   chained = record {
     chains = replicate s.cells [];
-    have = have_none (replicate (node_count layout_1 s) new_node) s.cells;
-    once = λ n. no_uses n s.cells ∙ ap (λ (node : NodeRecord). bit (is_listed node)) (sym (get-replicate_default (node_count layout_1 s) n new_node));
+    have = have_none (replicate (node_count layout_in_use s) new_node) s.cells;
+    once = λ n. no_uses n s.cells ∙ ap (λ (node : NodeRecord). bit (is_listed node)) (sym (get-replicate_default (node_count layout_in_use s) n new_node));
   };
   cells = no_cells s.cells;
   windows = refl;
   memory = memory;
 }
 
-pub new_area_shows : (s : Sizes) → IsMemory s.cells s.elements (empty_contents s.cells s.elements) → Shows layout_1 s (new_area s) (empty_contents s.cells s.elements)
+pub new_area_shows : (s : Sizes) → IsMemory s.cells s.elements (empty_contents s.cells s.elements) → Shows layout_in_use s (new_area s) (empty_contents s.cells s.elements)
 new_area_shows s memory = record { records = new_records s; spelled = new_area_spelled s; shown = new_records_show s memory }

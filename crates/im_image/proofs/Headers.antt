@@ -4,7 +4,7 @@ use Rattle.std.proofs.lemmas.Bool.Decides.{nat_tests}
 use Rattle.im_types.specs.declared.TheConstants.{LAST, MAX_CELLS, MAX_ELEMENTS, MIN_SLOTS, MAX_SLOTS}
 use Rattle.im_types.specs.Sizes.{AreLimits}
 use Rattle.im_types.specs.Bytes.{same_bytes}
-use Rattle.im_types.specs.Layout.{Sizes, layout_1, are_sizes}
+use Rattle.im_types.specs.Layout.{Sizes, layout_in_use, are_sizes}
 use Rattle.im_types.specs.Header.{Header, header_in, header_body, is_header, spells_header, is_second, number_in_force, place_in_force}
 use Rattle.im_formats.proofs.Same.{both_true}
 use Rattle.im_formats.proofs.Headers.{spells_header-only}
@@ -12,7 +12,7 @@ use Rattle.im_formats.proofs.Headers.{spells_header-only}
 le_true : (m n : ℕ) → nat_le m n ≡ true → m ≤ n
 le_true m n e = grind (arith, nat_tests)
 
-pub sizes_in_range : (s : Sizes) → are_sizes layout_1 s ≡ true → AreLimits s.cells s.elements s.slots
+pub sizes_in_range : (s : Sizes) → are_sizes layout_in_use s ≡ true → AreLimits s.cells s.elements s.slots
 sizes_in_range s e =
     let a = both_true (nat_le 1 s.cells && nat_le s.cells MAX_CELLS && nat_le 1 s.elements && nat_le s.elements MAX_ELEMENTS && nat_le MIN_SLOTS s.slots) (nat_le s.slots MAX_SLOTS) e in
     let b = both_true (nat_le 1 s.cells && nat_le s.cells MAX_CELLS && nat_le 1 s.elements && nat_le s.elements MAX_ELEMENTS) (nat_le MIN_SLOTS s.slots) a.0 in
@@ -29,16 +29,16 @@ sizes_in_range s e =
     }
 
 -- what is a header's has its sizes in range
-pub limits_of_header : (area : ℕ) (h : Header) → is_header layout_1 area h ≡ true → AreLimits h.sizes.cells h.sizes.elements h.sizes.slots
+pub limits_of_header : (area : ℕ) (h : Header) → is_header layout_in_use area h ≡ true → AreLimits h.sizes.cells h.sizes.elements h.sizes.slots
 limits_of_header area h e =
-    sizes_in_range h.sizes (both_true ((h.version == 1) && (h.area == area) && nat_le 1 h.generation && nat_le h.generation LAST && nat_le h.count LAST) (are_sizes layout_1 h.sizes) e).1
+    sizes_in_range h.sizes (both_true ((h.version == 1) && (h.area == area) && nat_le 1 h.generation && nat_le h.generation LAST && nat_le h.count LAST) (are_sizes layout_in_use h.sizes) e).1
 
 -- a header of these fields is spelled where the bytes spell one
-pub spelled_is : (area : ℕ) (bytes : List ℕ) (h : Header) (b : Bool) → h ≡ header_in bytes → b ≡ (same_bytes (slice_range bytes 1 64) (header_body h) && is_header layout_1 area h) → b ≡ spells_header layout_1 area bytes
-spelled_is area bytes h b is tested = tested ∙ ap (λ (k : Header). same_bytes (slice_range bytes 1 64) (header_body k) && is_header layout_1 area k) is
+pub spelled_is : (area : ℕ) (bytes : List ℕ) (h : Header) (b : Bool) → h ≡ header_in bytes → b ≡ (same_bytes (slice_range bytes 1 64) (header_body h) && is_header layout_in_use area h) → b ≡ spells_header layout_in_use area bytes
+spelled_is area bytes h b is tested = tested ∙ ap (λ (k : Header). same_bytes (slice_range bytes 1 64) (header_body k) && is_header layout_in_use area k) is
 
-pub limits_of_spelled : (area : ℕ) (bytes : List ℕ) → spells_header layout_1 area bytes ≡ true → AreLimits (header_in bytes).sizes.cells (header_in bytes).sizes.elements (header_in bytes).sizes.slots
-limits_of_spelled area bytes e = limits_of_header area (header_in bytes) (spells_header-only layout_1 area bytes e).1
+pub limits_of_spelled : (area : ℕ) (bytes : List ℕ) → spells_header layout_in_use area bytes ≡ true → AreLimits (header_in bytes).sizes.cells (header_in bytes).sizes.elements (header_in bytes).sizes.slots
+limits_of_spelled area bytes e = limits_of_header area (header_in bytes) (spells_header-only layout_in_use area bytes e).1
 
 pub false_true : false ≡ true → ⊥
 false_true e = cc
@@ -47,8 +47,8 @@ pub no_some : {X : Type 0} (o : Option X) → o ≡ None → IsSome o → ⊥
 no_some o e some = false_true (sym (ap is_some e) ∙ some)
 
 -- which header is in force
-pub second_spells : (zero one : List ℕ) (b : Bool) → b ≡ is_second zero one → b ≡ true → spells_header layout_1 (number_in_force zero one) (place_in_force zero one) ≡ spells_header layout_1 1 one
-second_spells zero one b is second = ap (λ (s : Bool). spells_header layout_1 (if s then 1 else 0) (if s then one else zero)) (sym is ∙ second)
+pub second_spells : (zero one : List ℕ) (b : Bool) → b ≡ is_second zero one → b ≡ true → spells_header layout_in_use (number_in_force zero one) (place_in_force zero one) ≡ spells_header layout_in_use 1 one
+second_spells zero one b is second = ap (λ (s : Bool). spells_header layout_in_use (if s then 1 else 0) (if s then one else zero)) (sym is ∙ second)
 
-pub first_spells : (zero one : List ℕ) (b : Bool) → b ≡ is_second zero one → b ≡ false → spells_header layout_1 (number_in_force zero one) (place_in_force zero one) ≡ spells_header layout_1 0 zero
-first_spells zero one b is first = ap (λ (s : Bool). spells_header layout_1 (if s then 1 else 0) (if s then one else zero)) (sym is ∙ first)
+pub first_spells : (zero one : List ℕ) (b : Bool) → b ≡ is_second zero one → b ≡ false → spells_header layout_in_use (number_in_force zero one) (place_in_force zero one) ≡ spells_header layout_in_use 0 zero
+first_spells zero one b is first = ap (λ (s : Bool). spells_header layout_in_use (if s then 1 else 0) (if s then one else zero)) (sym is ∙ first)

@@ -6,7 +6,7 @@ use Rattle.im_types.specs.declared.refusals.Refusal.{Refusal}
 use Rattle.im_types.specs.declared.refusals.Refusal.TheVariants.{NoMemory, Device, BadPage, BadRecord}
 use Rattle.im_types.specs.Contents.{Contents}
 use Rattle.im_types.specs.Header.{Header, header_of, header_fault}
-use Rattle.im_types.specs.Layout.{layout_1, ring_of, image_length}
+use Rattle.im_types.specs.Layout.{layout_in_use, ring_of, image_length}
 use Rattle.im_types.specs.Journal.{Tail, tail}
 use Rattle.im_types.specs.Meaning.{Reached, IsShown, Reads, accept_each, reached_by, reached_after, read_journal}
 use Rattle.im_types.specs.Step.{step, is_accepted}
@@ -18,47 +18,47 @@ use Rattle.im_image.proofs.OpenArea.{length_of_image}
 -- the outcome of reading a file, by the fault of its headers
 abbrev Outcome_by : List ℕ → Result Reached Refusal → Option Refusal → Type 0
 Outcome_by file outcome fault = MatchOption fault
-    (((m : Contents) × IsShown layout_1 file m × (outcome ≡ read_journal layout_1 file m)) ⊎ (((m : Contents) → IsShown layout_1 file m → ⊥) × (outcome ≡ Err BadPage)))
+    (((m : Contents) × IsShown layout_in_use file m × (outcome ≡ read_journal layout_in_use file m)) ⊎ (((m : Contents) → IsShown layout_in_use file m → ⊥) × (outcome ≡ Err BadPage)))
     (λ fault. outcome ≡ Err fault)
 
-pub reads-fault : (file : List ℕ) (fault : Refusal) → header_fault layout_1 file ≡ Some fault → Reads layout_1 file (Err fault)
+pub reads-fault : (file : List ℕ) (fault : Refusal) → header_fault layout_in_use file ≡ Some fault → Reads layout_in_use file (Err fault)
 reads-fault file fault is = subst (λ (f : Option Refusal). Outcome_by file (Err fault) f) (sym is) refl
 
-pub reads-no-page : (file : List ℕ) → header_fault layout_1 file ≡ None → ((m : Contents) → IsShown layout_1 file m → ⊥) → Reads layout_1 file (Err BadPage)
+pub reads-no-page : (file : List ℕ) → header_fault layout_in_use file ≡ None → ((m : Contents) → IsShown layout_in_use file m → ⊥) → Reads layout_in_use file (Err BadPage)
 reads-no-page file good none = subst (λ (f : Option Refusal). Outcome_by file (Err BadPage) f) (sym good) (inr (none, refl))
 
-module _ (file : List ℕ) (h : Header) (m : Contents) (good : header_fault layout_1 file ≡ None) (is : h ≡ header_of file) (shown : IsShown layout_1 file m) where
+module _ (file : List ℕ) (h : Header) (m : Contents) (good : header_fault layout_in_use file ≡ None) (is : h ≡ header_of file) (shown : IsShown layout_in_use file m) where
   abbrev tail_in : Option Tail
-  tail_in = tail (ring_of layout_1 h.sizes) h.count file
+  tail_in = tail (ring_of layout_in_use h.sizes) h.count file
 
-  reads-outcome : (outcome : Result Reached Refusal) → outcome ≡ reached_after h.count m tail_in → Reads layout_1 file outcome
+  reads-outcome : (outcome : Result Reached Refusal) → outcome ≡ reached_after h.count m tail_in → Reads layout_in_use file outcome
   reads-outcome outcome e =
       subst (λ (f : Option Refusal). Outcome_by file outcome f) (sym good)
-      (inl (m, shown, subst (λ (x : Header). outcome ≡ reached_after x.count m (tail (ring_of layout_1 x.sizes) x.count file)) is e))
+      (inl (m, shown, subst (λ (x : Header). outcome ≡ reached_after x.count m (tail (ring_of layout_in_use x.sizes) x.count file)) is e))
 
-  pub reads-no-tail : tail_in ≡ None → Reads layout_1 file (Err BadRecord)
+  pub reads-no-tail : tail_in ≡ None → Reads layout_in_use file (Err BadRecord)
   reads-no-tail none = reads-outcome (Err BadRecord) (ap (λ (t : Option Tail). reached_after h.count m t) (sym none))
 
-  pub reads-unaccepted : (commands : List Command) (room : ℕ) → tail_in ≡ Some (record { commands = commands; room = room }) → accept_each m commands ≡ None → Reads layout_1 file (Err BadRecord)
+  pub reads-unaccepted : (commands : List Command) (room : ℕ) → tail_in ≡ Some (record { commands = commands; room = room }) → accept_each m commands ≡ None → Reads layout_in_use file (Err BadRecord)
   reads-unaccepted commands room run none = reads-outcome (Err BadRecord) (sym
       (ap (λ (t : Option Tail). reached_after h.count m t) run ∙ ap (λ (o : Option Contents). reached_by (h.count + length commands) room o) none))
 
   pub reads-all : (commands : List Command) (room count : ℕ) (new : Contents) → tail_in ≡ Some (record { commands = commands; room = room }) → accept_each m commands ≡ Some new → count ≡ h.count + length commands
-      → Reads layout_1 file (Ok (record { contents = new; count = count; room = room }))
+      → Reads layout_in_use file (Ok (record { contents = new; count = count; room = room }))
   reads-all commands room count new run accepted counts = reads-outcome (Ok (record { contents = new; count = count; room = room }))
       (ap (λ (n : ℕ). reached_by n room (Some new)) counts
       ∙ sym (ap (λ (t : Option Tail). reached_after h.count m t) run ∙ ap (λ (o : Option Contents). reached_by (h.count + length commands) room o) accepted))
 
 -- the journal lies inside an image
-pub in-room : (file : List ℕ) (h : Header) → h ≡ header_of file → header_fault layout_1 file ≡ None → (ring_of layout_1 h.sizes).base + 64 * h.sizes.slots ≤ length file
+pub in-room : (file : List ℕ) (h : Header) → h ≡ header_of file → header_fault layout_in_use file ≡ None → (ring_of layout_in_use h.sizes).base + 64 * h.sizes.slots ≤ length file
 in-room file h is good =
-    let size : length file ≡ image_length layout_1 (header_of file).sizes = length_of_image file good in
-    subst (λ (x : Header). (ring_of layout_1 x.sizes).base + 64 * x.sizes.slots ≤ length file) (sym is) (omega arith)
+    let size : length file ≡ image_length layout_in_use (header_of file).sizes = length_of_image file good in
+    subst (λ (x : Header). (ring_of layout_in_use x.sizes).base + 64 * x.sizes.slots ≤ length file) (sym is) (omega arith)
 
 -- what was read at one moment holds of another at which the bytes are the same
 pub read-ok : {T : Type 0} (r : Result T Refusal) (reached : T → Reached) (old mid : Moment) (Honest : Type 0) → (Honest → mid ≡ old)
-    → IfOk r (λ x. Honest → Reads layout_1 mid.bytes (Ok (reached x))) → IfOk r (λ x. Honest → Reads layout_1 old.bytes (Ok (reached x)))
-read-ok (Ok x) reached old mid Honest same means = λ h. subst (λ (m : Moment). Reads layout_1 m.bytes (Ok (reached x))) (same h) (means h)
+    → IfOk r (λ x. Honest → Reads layout_in_use mid.bytes (Ok (reached x))) → IfOk r (λ x. Honest → Reads layout_in_use old.bytes (Ok (reached x)))
+read-ok (Ok x) reached old mid Honest same means = λ h. subst (λ (m : Moment). Reads layout_in_use m.bytes (Ok (reached x))) (same h) (means h)
 read-ok (Err e) reached old mid Honest same means = means
 
 pub read-holds : {T : Type 0} (r : Result T Refusal) (journal : T → JournalState) (old mid : Moment) (Honest : Type 0) → (Honest → mid ≡ old)
@@ -67,20 +67,20 @@ read-holds (Ok x) journal old mid Honest same holds = λ h. subst (λ (m : Momen
 read-holds (Err e) journal old mid Honest same holds = holds
 
 pub read-err : {T : Type 0} (r : Result T Refusal) (old mid : Moment) (Honest : Type 0) → (Honest → mid ≡ old)
-    → IfErr r (λ e. (e ≡ NoMemory) ⊎ (e ≡ Device) ⊎ (Honest → Reads layout_1 mid.bytes (Err e))) → IfErr r (λ e. (e ≡ NoMemory) ⊎ (e ≡ Device) ⊎ (Honest → Reads layout_1 old.bytes (Err e)))
+    → IfErr r (λ e. (e ≡ NoMemory) ⊎ (e ≡ Device) ⊎ (Honest → Reads layout_in_use mid.bytes (Err e))) → IfErr r (λ e. (e ≡ NoMemory) ⊎ (e ≡ Device) ⊎ (Honest → Reads layout_in_use old.bytes (Err e)))
 read-err (Ok x) old mid Honest same fault = fault
 read-err (Err e) old mid Honest same fault = ⊎_elim
     (λ (none : e ≡ NoMemory). inl none)
     (λ more. ⊎_elim
     (λ (device : e ≡ Device). inr (inl device))
-    (λ (reads : Honest → Reads layout_1 mid.bytes (Err e)). inr (inr (λ h. subst (λ (m : Moment). Reads layout_1 m.bytes (Err e)) (same h) (reads h))))
+    (λ (reads : Honest → Reads layout_in_use mid.bytes (Err e)). inr (inr (λ h. subst (λ (m : Moment). Reads layout_in_use m.bytes (Err e)) (same h) (reads h))))
     more)
     fault
 
-pub reads-same : (file : List ℕ) (a b : Reached) → a.contents ≡ b.contents → a.count ≡ b.count → a.room ≡ b.room → Reads layout_1 file (Ok a) → Reads layout_1 file (Ok b)
+pub reads-same : (file : List ℕ) (a b : Reached) → a.contents ≡ b.contents → a.count ≡ b.count → a.room ≡ b.room → Reads layout_in_use file (Ok a) → Reads layout_in_use file (Ok b)
 reads-same file a b contents count room reads =
     let same : a ≡ b = (λ i. record { contents = contents i; count = count i; room = room i }) in
-    subst (λ (r : Reached). Reads layout_1 file (Ok r)) same reads
+    subst (λ (r : Reached). Reads layout_in_use file (Ok r)) same reads
 
 -- accepted commands keep the numbers of cells and of windows
 pub accepted-sizes : (m new : Contents) (commands : List Command) → accept_each m commands ≡ Some new → (length new.cells ≡ length m.cells) × (length new.windows ≡ length m.windows)

@@ -3,7 +3,7 @@ use Rattle.std.specs.Prelude.{ℕ, zero, suc, ◌+◌, ◌*◌, ◌-◌, List, [
 use Rattle.im_types.specs.declared.TheConstants.{NONE}
 use Rattle.im_types.specs.Contents.{new_window}
 use Rattle.im_types.specs.Bytes.{zeros}
-use Rattle.im_types.specs.Layout.{Sizes, layout_1, page_bytes, cell_pages, node_pages, session_pages, area_bytes, node_count, cell_record_bytes, node_record_bytes, session_record_bytes}
+use Rattle.im_types.specs.Layout.{Sizes, layout_in_use, page_bytes, cell_pages, node_pages, session_pages, area_bytes, node_count, cell_record_bytes, node_record_bytes, session_record_bytes}
 use Rattle.im_types.specs.Header.{Header, header_body}
 use Rattle.im_types.specs.declared.records.CellRecord.{CellRecord}
 use Rattle.im_types.specs.declared.records.CellRecord.TheVariants.{Free as FreeCell}
@@ -32,8 +32,8 @@ new_row pages size record_bytes count = repeated count record_bytes ++ zeros (pa
 abbrev pub new_area : Sizes → List ℕ
 new_area s =
     new_row (cell_pages s) cell_record_bytes (cell_bytes new_cell) s.cells
-    ++ new_row (node_pages layout_1 s) node_record_bytes (node_bytes new_node) (node_count layout_1 s)
-    ++ new_row (session_pages layout_1 s) (session_record_bytes layout_1) (session_bytes layout_1 new_window) s.elements
+    ++ new_row (node_pages layout_in_use s) node_record_bytes (node_bytes new_node) (node_count layout_in_use s)
+    ++ new_row (session_pages layout_in_use s) (session_record_bytes layout_in_use) (session_bytes layout_in_use new_window) s.elements
 
 -- the header of a new image
 abbrev pub new_header : Sizes → Header
@@ -42,4 +42,4 @@ new_header s = record { version = 1; area = 0; generation = 1; count = 0; sizes 
 -- a new image, with this byte as the gate of its first header: that header, the second one closed, the area, and zeros for the other area and the journal
 abbrev pub new_image : ℕ → Sizes → List ℕ
 new_image gate s =
-    (gate ∷ header_body (new_header s)) ++ zeros (2 * page_bytes - 64) ++ new_area s ++ zeros (area_bytes layout_1 s + 64 * s.slots)
+    (gate ∷ header_body (new_header s)) ++ zeros (2 * page_bytes - 64) ++ new_area s ++ zeros (area_bytes layout_in_use s + 64 * s.slots)

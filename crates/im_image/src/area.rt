@@ -5,7 +5,7 @@ ghost use Rattle.im_types.specs.declared.TheConstants.{WINDOW};
 ghost use Rattle.im_types.specs.Chains.{ShowLists};
 ghost use Rattle.im_types.specs.Contents.{Window, Contents};
 ghost use Rattle.im_types.specs.Layout as layout;
-ghost use Rattle.im_types.specs.Layout.{Sizes, layout_1, sizes_of};
+ghost use Rattle.im_types.specs.Layout.{Sizes, layout_in_use, sizes_of};
 ghost use Rattle.im_types.specs.Memory.{IsMemory, IsWindow};
 ghost use Rattle.im_types.specs.Pages.{Shows, cells_shown};
 ghost use Rattle.im_types.specs.Sizes.{AreLimits};
@@ -68,9 +68,9 @@ fn restore(
 ///
 /// It takes a step for each byte, each record, each waiter and each entry.
 pub fn decode(alloc: Global, area: &[u8], limits: Limits) -> Result<Memory, Refusal>
-    requires { length area.now ≡ layout.area_bytes layout_1 (sizes_of limits) }
-    ensures found { IfOk result (λ m. Shows layout_1 (sizes_of limits) area.now m) }
-    ensures bad { IsErrOf result Refusal.BadPage → (m : Contents) → Shows layout_1 (sizes_of limits) area.now m → ⊥ }
+    requires { length area.now ≡ layout.area_bytes layout_in_use (sizes_of limits) }
+    ensures found { IfOk result (λ m. Shows layout_in_use (sizes_of limits) area.now m) }
+    ensures bad { IsErrOf result Refusal.BadPage → (m : Contents) → Shows layout_in_use (sizes_of limits) area.now m → ⊥ }
     ensures only { IfErr result (λ e. (e ≡ Refusal.BadPage) ⊎ (e ≡ Refusal.NoMemory)) }
 {
     let records = match read_area(alloc, area, limits) {
@@ -87,5 +87,5 @@ pub fn decode(alloc: Global, area: &[u8], limits: Limits) -> Result<Memory, Refu
 /// The pages of an area show no two memories.
 pub fn areas_show_one_memory()
     ensures { (s : Sizes) (area : List ℕ) (m other : Contents) → AreLimits s.cells s.elements s.slots
-        → Shows layout_1 s area m → Shows layout_1 s area other → m ≡ other }
+        → Shows layout_in_use s area m → Shows layout_in_use s area other → m ≡ other }
 {}

@@ -2,7 +2,7 @@
 ghost use Rattle.std.specs.Prelude.{◌≡◌, ◌++◌, ◌∷◌, ◌≤◌, ◌*◌, ◌+◌, ◌-◌, ◌<◌, ◌^◌, length, IfOk, IfErr, OnOk};
 ghost use Rattle.im_types.specs.Bytes.{zeros};
 ghost use Rattle.im_types.specs.Contents.{new_window};
-ghost use Rattle.im_types.specs.Layout.{layout_1, area_bytes};
+ghost use Rattle.im_types.specs.Layout.{layout_in_use, area_bytes};
 ghost use Rattle.im_types.specs.Header.{header_body};
 ghost use Rattle.im_types.specs.Records.{cell_bytes, node_bytes, session_bytes};
 ghost use Rattle.im_types.specs.Layout.{sizes_of};
@@ -10,45 +10,43 @@ ghost use Rattle.im_image.specs.Fresh.{repeated, new_cell, new_node, new_row, ne
 ghost use Rattle.im_types.specs.declared.refusals.Refusal.TheVariants.{NoMemory};
 
 use crate::header::{Header, VERSION};
-use crate::layout::{SLOT, image_length};
-use im_records::{PAGE, area_pages, cell_pages, node_count, node_pages, session_pages};
+use im_types::layout::{
+    CELL_RECORD, CLOSED, NODE_RECORD, PAGE, SESSION_RECORD, SLOT, area_pages, cell_pages,
+    image_length, node_count, node_pages, session_pages,
+};
 use im_types::{Limits, Refusal};
 use std::alloc::{AllocError, Global};
 
 // The record of a free cell that names no hole.
-pub(crate) fn new_cell() -> [u8; 32]
+pub(crate) fn new_cell() -> [u8; CELL_RECORD]
     ensures { result ≡ cell_bytes new_cell }
 {
-    let mut bytes = [0; 32];
+    let mut bytes = [0; CELL_RECORD];
     bytes[8..20].fill(0xFF);
     bytes
 }
 
 // The record of a free node that names no other.
-fn new_node() -> [u8; 16]
+fn new_node() -> [u8; NODE_RECORD]
     ensures { result ≡ node_bytes new_node }
 {
-    let mut bytes = [0; 16];
+    let mut bytes = [0; NODE_RECORD];
     bytes[0..4].fill(0xFF);
     bytes
 }
 
 // The record of a session with no entry.
-pub(crate) fn new_session() -> [u8; 1024]
-    ensures { result ≡ session_bytes layout_1 new_window }
+pub(crate) fn new_session() -> [u8; SESSION_RECORD]
+    ensures { result ≡ session_bytes layout_in_use new_window }
 {
-    let mut bytes = [0; 1024];
+    let mut bytes = [0; SESSION_RECORD];
     bytes[0] = 1;
     bytes
 }
 
 // Puts bytes behind others, so many times.
 #[tactic(auto, using(crate::proofs::Rows::pushes))]
-pub(crate) fn push_repeated(
-    image: &mut Vec<u8>,
-    bytes: &[u8],
-    count: usize,
-) -> Result<(), AllocError>
+fn push_repeated(image: &mut Vec<u8>, bytes: &[u8], count: usize) -> Result<(), AllocError>
     ensures items { OnOk result (image.new.items ≡ image.old.items ++ repeated count bytes.now) }
     ensures longer { OnOk result (length image.new.items ≡ length image.old.items + length bytes.now * count) }
 {
@@ -83,7 +81,7 @@ fn push_row(image: &mut Vec<u8>, pages: usize, bytes: &[u8], count: usize) -> Re
 fn push_area(image: &mut Vec<u8>, limits: Limits) -> Result<(), AllocError>
     requires { length image.old.items < 2 ^ 62 }
     ensures items { OnOk result (image.new.items ≡ image.old.items ++ new_area (sizes_of limits)) }
-    ensures longer { OnOk result (length image.new.items ≡ length image.old.items + area_bytes layout_1 (sizes_of limits)) }
+    ensures longer { OnOk result (length image.new.items ≡ length image.old.items + area_bytes layout_in_use (sizes_of limits)) }
 {
     push_row(
         image,
@@ -112,14 +110,14 @@ fn new_header(limits: Limits) -> [u8; 64]
         limits,
     };
     let mut bytes = header.spell();
-    bytes[0] = 0;
+    bytes[0] = CLOSED;
     bytes
 }
 
 // The bytes of a new image that begins so.
 fn lay_out(alloc: Global, first: &[u8], limits: Limits) -> Result<Vec<u8>, AllocError>
     requires { length first.now ≡ 64 }
-    ensures { IfOk result (λ image. image.items ≡ first.now ++ zeros (2 * 4096 - 64) ++ new_area (sizes_of limits) ++ zeros (area_bytes layout_1 (sizes_of limits) + 64 * limits.slots)) }
+    ensures { IfOk result (λ image. image.items ≡ first.now ++ zeros (2 * 4096 - 64) ++ new_area (sizes_of limits) ++ zeros (area_bytes layout_in_use (sizes_of limits) + 64 * limits.slots)) }
 {
     let mut image = Vec::with_capacity(alloc, image_length(limits))?;
     image.extend_from_slice(first)?;
@@ -135,7 +133,7 @@ fn lay_out(alloc: Global, first: &[u8], limits: Limits) -> Result<Vec<u8>, Alloc
 /// The bytes of a new image, but for the gate of its first header, which is still closed: the empty memory in area 0 at
 /// generation 1 and count 0, the second header closed, and every gate of the journal closed.
 ///
-/// Memory: as much as the image is long, at most 4,628,480 bytes; `NoMemory` where it is refused.
+/// Memory: as much as the image is long, at most [`LONGEST_IMAGE`](im_types::layout::LONGEST_IMAGE) bytes; `NoMemory` where it is refused.
 pub fn new_image(alloc: Global, limits: Limits) -> Result<Vec<u8>, Refusal>
     ensures image { IfOk result (λ image. image.items ≡ new_image 0 (sizes_of limits)) }
     ensures only { IfErr result (λ e. e ≡ NoMemory) }

@@ -2,18 +2,16 @@
 ghost use Rattle.std.specs.Prelude.{◌≡◌, ◌↔◌, ◌≤◌, ◌∷◌, ◌&&◌, true, IfSome, IsSome, IsTrue, slice_range};
 ghost use Rattle.im_types.specs.Bytes.{same_bytes};
 ghost use Rattle.im_types.specs.Sizes.{AreLimits};
-ghost use Rattle.im_types.specs.Layout.{layout_1};
+ghost use Rattle.im_types.specs.Layout.{layout_in_use};
 ghost use Rattle.im_types.specs.Layout.{sizes_of};
 ghost use Rattle.im_types.specs.Header.{header_body, header_in, is_header, spells_header};
 
 use byteorder::{ByteOrder, LittleEndian};
+use im_types::layout::OPEN;
 use im_types::{LAST, Limits};
 
 /// The version of the layout.
 pub const VERSION: u16 = 1;
-
-/// The byte of an open gate; a gate with any other byte is closed.
-pub const OPEN: u8 = 0xA5;
 
 /// What stands in a header.
 #[derive(Clone, Copy, Debug, PartialEq, Eq)]
@@ -55,7 +53,7 @@ impl Header {
 
     // Whether its numbers may stand in the header of this area.
     fn is_of(&self, area: u8) -> bool
-        ensures is { result ≡ is_header layout_1 area (seen self.now) }
+        ensures is { result ≡ is_header layout_in_use area (seen self.now) }
         ensures range { IsTrue result → (self.now.area ≡ area) × (self.now.count ≤ LAST) }
     {
         self.version == VERSION
@@ -67,7 +65,7 @@ impl Header {
 
     // Whether these bytes spell it for this area.
     fn is_spelled(&self, bytes: &[u8; 64], area: u8) -> bool
-        ensures is { result ≡ (same_bytes (slice_range bytes.now 1 64) (header_body (seen self.now)) && is_header layout_1 area (seen self.now)) }
+        ensures is { result ≡ (same_bytes (slice_range bytes.now 1 64) (header_body (seen self.now)) && is_header layout_in_use area (seen self.now)) }
         ensures range { IsTrue result → (self.now.area ≡ area) × (self.now.count ≤ LAST) }
     {
         bytes[1..] == self.spell()[1..] && self.is_of(area)
@@ -91,7 +89,7 @@ impl Header {
     pub fn read(bytes: &[u8; 64], area: u8) -> Option<Header>
         ensures found { IfSome result (λ h. seen h ≡ header_in bytes.now) }
         ensures range { IfSome result (λ h. (h.area ≡ area) × (h.count ≤ LAST)) }
-        ensures only { IsSome result ↔ (spells_header layout_1 area bytes.now ≡ true) }
+        ensures only { IsSome result ↔ (spells_header layout_in_use area bytes.now ≡ true) }
     {
         let header = Header::with_limits(bytes, limits_in(bytes)?);
         if header.is_spelled(bytes, area) {

@@ -1,7 +1,7 @@
 //! Which header is in force.
 ghost use Rattle.std.specs.Prelude.{◌≡◌, ◌⊎◌, ◌↔◌, ◌≤◌, ◌||◌, not, true, Some, None, IfSome, IsSome, length, ◌<◌, IfOk, IfErr, OnOk, IsErrOf};
 ghost use Rattle.im_types.specs.declared.refusals.Refusal.TheVariants.{NoHeader, BadHeader, WrongLength, Device};
-ghost use Rattle.im_types.specs.Layout.{layout_1, image_length};
+ghost use Rattle.im_types.specs.Layout.{layout_in_use, image_length};
 ghost use Rattle.im_types.specs.Header.{header_in, header_of, header_fault, is_open_header, generation_in, is_second, are_ambiguous, number_in_force, place_in_force, place_fault, spells_header};
 ghost use Rattle.im_disk.specs.Moment.{Counts, Faults};
 ghost use Rattle.im_disk.specs.Since.{ReadsOnly};
@@ -9,12 +9,11 @@ ghost use Rattle.im_image.specs.Headers.{seen, IsHeaderFault, beginning_fault};
 ghost use Rattle.im_image.specs.Beginning.{IsBeginning};
 ghost use Rattle.im_types.specs.declared.TheConstants.{LAST};
 
-use crate::header::{Header, OPEN};
-use crate::layout::image_length;
+use crate::header::Header;
 use byteorder::{ByteOrder, LittleEndian};
 use im_disk::{DeviceFault, Disk};
-use im_records::PAGE;
 use im_types::Refusal;
+use im_types::layout::{OPEN, PAGE, image_length};
 
 fn is_open(place: &[u8; 64]) -> bool
     ensures { result ≡ is_open_header place.now }
@@ -53,7 +52,7 @@ fn are_ambiguous(zero: &[u8; 64], one: &[u8; 64]) -> bool
 fn read_in_force(zero: &[u8; 64], one: &[u8; 64]) -> Option<Header>
     ensures found { IfSome result (λ h. seen h ≡ header_in (place_in_force zero.now one.now)) }
     ensures range { IfSome result (λ h. (h.area ≤ 1) × (h.count ≤ LAST)) }
-    ensures only { IsSome result ↔ (spells_header layout_1 (number_in_force zero.now one.now) (place_in_force zero.now one.now) ≡ true) }
+    ensures only { IsSome result ↔ (spells_header layout_in_use (number_in_force zero.now one.now) (place_in_force zero.now one.now) ≡ true) }
 {
     if is_second(zero, one) {
         Header::read(one, 1)
@@ -74,8 +73,8 @@ struct Beginning {
 fn header_of_places(zero: &[u8; 64], one: &[u8; 64]) -> Result<Header, Refusal>
     ensures found { IfOk result (λ h. seen h ≡ header_in (place_in_force zero.now one.now)) }
     ensures range { IfOk result (λ h. (h.area ≤ 1) × (h.count ≤ LAST)) }
-    ensures good { OnOk result (place_fault layout_1 zero.now one.now ≡ None) }
-    ensures fault { IfErr result (λ e. place_fault layout_1 zero.now one.now ≡ Some e) }
+    ensures good { OnOk result (place_fault layout_in_use zero.now one.now ≡ None) }
+    ensures fault { IfErr result (λ e. place_fault layout_in_use zero.now one.now ≡ Some e) }
     ensures only { IfErr result (λ e. IsHeaderFault e) }
 {
     if are_closed(zero, one) {
@@ -94,8 +93,8 @@ fn header_of_places(zero: &[u8; 64], one: &[u8; 64]) -> Result<Header, Refusal>
 fn header_of(beginning: &Beginning) -> Result<Header, Refusal>
     ensures found { IfOk result (λ h. seen h ≡ header_in (place_in_force beginning.now.zero beginning.now.one)) }
     ensures range { IfOk result (λ h. (h.area ≤ 1) × (h.count ≤ LAST)) }
-    ensures good { OnOk result (beginning_fault layout_1 beginning.now.length beginning.now.zero beginning.now.one ≡ None) }
-    ensures fault { IfErr result (λ e. beginning_fault layout_1 beginning.now.length beginning.now.zero beginning.now.one ≡ Some e) }
+    ensures good { OnOk result (beginning_fault layout_in_use beginning.now.length beginning.now.zero beginning.now.one ≡ None) }
+    ensures fault { IfErr result (λ e. beginning_fault layout_in_use beginning.now.length beginning.now.zero beginning.now.one ≡ Some e) }
     ensures only { IfErr result (λ e. IsHeaderFault e) }
 {
     match header_of_places(&beginning.zero, &beginning.one) {
@@ -136,8 +135,8 @@ fn read_beginning<D: Disk>(disk: &mut D) -> Result<Option<Beginning>, DeviceFaul
 /// `WrongLength`, `NoHeader`, `BadHeader`: the first fault in the order of the definition. `Device`: a call failed.
 pub fn read_header<D: Disk>(disk: &mut D) -> Result<Header, Refusal>
     ensures found { IfOk result (λ h. D.honest disk.new → seen h ≡ header_of (D.now disk.old).bytes) }
-    ensures good { OnOk result (D.honest disk.new → header_fault layout_1 (D.now disk.old).bytes ≡ None) }
-    ensures fault { IfErr result (λ e. (e ≡ Device) ⊎ (D.honest disk.new → header_fault layout_1 (D.now disk.old).bytes ≡ Some e)) }
+    ensures good { OnOk result (D.honest disk.new → header_fault layout_in_use (D.now disk.old).bytes ≡ None) }
+    ensures fault { IfErr result (λ e. (e ≡ Device) ⊎ (D.honest disk.new → header_fault layout_in_use (D.now disk.old).bytes ≡ Some e)) }
     ensures reads { D.honest disk.new → ReadsOnly (D.now disk.old) (D.now disk.new) (D.past disk.old) (D.past disk.new) }
     ensures honest { D.honest disk.new → D.honest disk.old }
     ensures faults { Faults (λ e. (e ≡ Device) ⊎ IsHeaderFault e) result (D.failures disk.old) (D.failures disk.new) }

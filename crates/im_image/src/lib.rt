@@ -9,17 +9,18 @@ mod area;
 mod fresh;
 mod header;
 mod in_force;
-mod layout;
 mod open_area;
 mod pages;
 mod reading;
 
 pub use area::{areas_show_one_memory, decode};
 pub use fresh::new_image;
-pub use header::{Header, OPEN, VERSION};
-pub use im_records::{PAGE, area_pages, cell_pages, node_count, node_pages, session_pages};
+pub use header::{Header, VERSION};
+pub use im_types::layout::{
+    OPEN, PAGE, area_at, area_pages, cell_pages, image_length, journal_at, node_count, node_pages,
+    session_pages,
+};
 pub use in_force::read_header;
-pub use layout::{area_at, image_length, journal_at};
 pub use open_area::read_memory;
 pub use pages::{areas_show_the_memory, encode, encode_page, pages_show_the_memory};
 pub use reading::{Image, Report, inspect, read_image, replay};

@@ -2,7 +2,7 @@
 ghost use Rattle.std.specs.Prelude.{◌≡◌, ◌⊎◌, ◌↔◌, ◌≤◌, ◌+◌, None, length, drop, take, IsTrue, IfOk, IfErr, OnOk, IsErrOf};
 ghost use Rattle.im_types.specs.Contents.{Contents, empty_contents};
 ghost use Rattle.im_types.specs.Layout as layout;
-ghost use Rattle.im_types.specs.Layout.{layout_1, area_of};
+ghost use Rattle.im_types.specs.Layout.{layout_in_use, area_of};
 ghost use Rattle.im_types.specs.Header.{header_of, header_fault};
 ghost use Rattle.im_types.specs.Pages.{Shows};
 ghost use Rattle.im_types.specs.Meaning.{IsShown};
@@ -12,12 +12,10 @@ ghost use Rattle.im_types.specs.Layout.{sizes_of};
 ghost use Rattle.im_image.specs.Headers.{seen};
 
 use crate::area::decode;
-use crate::fresh::push_repeated;
 use crate::header::Header;
-use crate::layout::area_at;
 use im_disk::{DeviceFault, Disk};
 use im_memory::Memory;
-use im_records::{PAGE, area_pages};
+use im_types::layout::{PAGE, area_at, area_pages};
 use im_types::{Limits, Refusal};
 use std::alloc::{AllocError, Global};
 
@@ -33,14 +31,11 @@ fn read_part<D: Disk>(disk: &mut D, at: usize, part: &mut [u8]) -> Result<(), De
     disk.read(at, part)
 }
 
-// As many zeros as an area has bytes. They are copied, so many at a time: an instruction that fills a long buffer counts
-// once for each byte in some tools, and gains no time.
+// As many zeros as an area has bytes.
 fn zero_area(alloc: Global, limits: Limits) -> Result<Vec<u8>, AllocError>
-    ensures { IfOk result (λ v. length v.items ≡ layout.area_bytes layout_1 (sizes_of limits)) }
+    ensures { IfOk result (λ v. length v.items ≡ layout.area_bytes layout_in_use (sizes_of limits)) }
 {
-    let mut area = Vec::with_capacity(alloc, PAGE * area_pages(limits))?;
-    push_repeated(&mut area, &[0; 1024], 4 * area_pages(limits))?;
-    Ok(area)
+    vec![in alloc; 0; PAGE * area_pages(limits)]
 }
 
 // Reads an area.
@@ -51,9 +46,9 @@ fn read_area<D: Disk>(
     number: u8,
 ) -> Result<Vec<u8>, Refusal>
     requires number { number ≤ 1 }
-    requires length { D.honest disk.old → length (D.now disk.old).bytes ≡ layout.image_length layout_1 (sizes_of limits) }
-    ensures area { IfOk result (λ v. D.honest disk.new → v.items ≡ area_of layout_1 (sizes_of limits) number (D.now disk.old).bytes) }
-    ensures size { IfOk result (λ v. length v.items ≡ layout.area_bytes layout_1 (sizes_of limits)) }
+    requires length { D.honest disk.old → length (D.now disk.old).bytes ≡ layout.image_length layout_in_use (sizes_of limits) }
+    ensures area { IfOk result (λ v. D.honest disk.new → v.items ≡ area_of layout_in_use (sizes_of limits) number (D.now disk.old).bytes) }
+    ensures size { IfOk result (λ v. length v.items ≡ layout.area_bytes layout_in_use (sizes_of limits)) }
     ensures faults { Faults (λ e. (e ≡ Refusal.NoMemory) ⊎ (e ≡ Refusal.Device)) result (D.failures disk.old) (D.failures disk.new) }
     ensures reads { D.honest disk.new → ReadsOnly (D.now disk.old) (D.now disk.new) (D.past disk.old) (D.past disk.new) }
     ensures honest { D.honest disk.new → D.honest disk.old }
@@ -73,12 +68,12 @@ fn read_area<D: Disk>(
 /// memory; `NoMemory` where it is refused. `Device`: the read failed.
 pub fn read_memory<D: Disk>(alloc: Global, disk: &mut D, header: &Header) -> Result<Memory, Refusal>
     requires area { header.now.area ≤ 1 }
-    requires good { D.honest disk.old → header_fault layout_1 (D.now disk.old).bytes ≡ None }
+    requires good { D.honest disk.old → header_fault layout_in_use (D.now disk.old).bytes ≡ None }
     requires header { D.honest disk.old → seen header.now ≡ header_of (D.now disk.old).bytes }
-    ensures shown { IfOk result (λ m. D.honest disk.new → IsShown layout_1 (D.now disk.old).bytes m) }
+    ensures shown { IfOk result (λ m. D.honest disk.new → IsShown layout_in_use (D.now disk.old).bytes m) }
     ensures cells { IfOk result (λ m. length m.cells ≡ header.now.limits.cells) }
     ensures elements { IfOk result (λ m. length m.windows ≡ header.now.limits.elements) }
-    ensures bad { IsErrOf result Refusal.BadPage → D.honest disk.new → (m : Contents) → IsShown layout_1 (D.now disk.old).bytes m → ⊥ }
+    ensures bad { IsErrOf result Refusal.BadPage → D.honest disk.new → (m : Contents) → IsShown layout_in_use (D.now disk.old).bytes m → ⊥ }
     ensures faults { Faults (λ e. (e ≡ Refusal.BadPage) ⊎ (e ≡ Refusal.NoMemory) ⊎ (e ≡ Refusal.Device)) result
         (D.failures disk.old) (D.failures disk.new) }
     ensures reads { D.honest disk.new → ReadsOnly (D.now disk.old) (D.now disk.new) (D.past disk.old) (D.past disk.new) }

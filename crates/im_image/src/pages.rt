@@ -3,7 +3,7 @@ ghost use Rattle.std.specs.Prelude.{◌≡◌, ◌≢◌, ◌+◌, ◌*◌, ◌<
 ghost use Rattle.im_types.specs.declared.TheConstants.{NONE};
 ghost use Rattle.im_types.specs.Contents.{Contents, new_window};
 ghost use Rattle.im_types.specs.Layout as layout;
-ghost use Rattle.im_types.specs.Layout.{Sizes, layout_1, sizes_of, record_at, page_bytes};
+ghost use Rattle.im_types.specs.Layout.{Sizes, layout_in_use, sizes_of, record_at, page_bytes};
 ghost use Rattle.im_types.specs.Pages.{Records, Shows, ShowsRecords};
 ghost use Rattle.im_types.specs.Records.{session_bytes, FitsCell, FitsNode, FitsWindow};
 ghost use Rattle.im_types.specs.declared.records.CellRecord.TheVariants.{Free as FreeCell};
@@ -13,9 +13,10 @@ ghost use Rattle.im_records.specs.Placed.{placed};
 ghost use Rattle.im_image.specs.Encoding.{AreCounted, SpellsCells, SpellsNodes, SpellsSessions, IsAreaPage};
 
 use im_memory::{Memory, MemoryRecords};
-use im_records::{
-    CELLS_ON_A_PAGE, NODES_ON_A_PAGE, PAGE, SESSIONS_ON_A_PAGE, WindowRecord, area_pages,
-    cell_pages, node_count, node_pages, put_cell, put_node, put_session,
+use im_records::{WindowRecord, put_cell, put_node, put_session};
+use im_types::layout::{
+    CELLS_ON_A_PAGE, MOST_AREA_PAGES, NODES_ON_A_PAGE, PAGE, SESSION_RECORD, SESSIONS_ON_A_PAGE,
+    area_pages, cell_pages, node_count, node_pages,
 };
 use im_types::{CellRecord, Limits, NodeRecord};
 
@@ -23,7 +24,7 @@ use im_types::{CellRecord, Limits, NodeRecord};
 fn cell_at(records: &MemoryRecords<'_>, limits: Limits, a: usize) -> Option<CellRecord>
     requires { AreCounted (sizes_of limits) records.now }
     ensures found { result ≡ slice_get records.now.cells a }
-    ensures fits { a < length records.now.cells → FitsCell limits.cells (layout.node_count layout_1 (sizes_of limits)) (slice_index_or records.now.cells a (FreeCell 0 NONE)) }
+    ensures fits { a < length records.now.cells → FitsCell limits.cells (layout.node_count layout_in_use (sizes_of limits)) (slice_index_or records.now.cells a (FreeCell 0 NONE)) }
 {
     if a < limits.cells as usize {
         Some(records.cell_record(a as u32))
@@ -36,7 +37,7 @@ fn cell_at(records: &MemoryRecords<'_>, limits: Limits, a: usize) -> Option<Cell
 fn node_at(records: &MemoryRecords<'_>, limits: Limits, n: usize) -> Option<NodeRecord>
     requires { AreCounted (sizes_of limits) records.now }
     ensures found { result ≡ slice_get records.now.nodes n }
-    ensures fits { n < length records.now.nodes → FitsNode (layout.node_count layout_1 (sizes_of limits)) (slice_index_or records.now.nodes n (FreeNode NONE)) }
+    ensures fits { n < length records.now.nodes → FitsNode (layout.node_count layout_in_use (sizes_of limits)) (slice_index_or records.now.nodes n (FreeNode NONE)) }
 {
     if n < node_count(limits) {
         Some(records.node_record(n as u32))
@@ -48,7 +49,7 @@ fn node_at(records: &MemoryRecords<'_>, limits: Limits, n: usize) -> Option<Node
 // The window of an element; past the last element, one that is new.
 fn window_at(records: &MemoryRecords<'_>, element: u16) -> WindowRecord
     ensures window { result ≡ slice_index_or records.now.windows element new_window }
-    ensures fits { element < length records.now.windows → FitsWindow layout_1 result }
+    ensures fits { element < length records.now.windows → FitsWindow layout_in_use result }
 {
     let Ok((base, next)) = records.window(element) else {
         return WindowRecord::new(1);
@@ -66,7 +67,7 @@ fn window_at(records: &MemoryRecords<'_>, element: u16) -> WindowRecord
 
 fn encode_cells(records: &MemoryRecords<'_>, limits: Limits, i: usize, page: &mut [u8; PAGE])
     requires count { AreCounted (sizes_of limits) records.now }
-    requires near { i < 1024 }
+    requires near { i < MOST_AREA_PAGES }
     ensures { SpellsCells (sizes_of limits) records.now i page.new }
 {
     for place in 0..CELLS_ON_A_PAGE {
@@ -77,7 +78,7 @@ fn encode_cells(records: &MemoryRecords<'_>, limits: Limits, i: usize, page: &mu
 
 fn encode_nodes(records: &MemoryRecords<'_>, limits: Limits, i: usize, page: &mut [u8; PAGE])
     requires count { AreCounted (sizes_of limits) records.now }
-    requires near { i < 1024 }
+    requires near { i < MOST_AREA_PAGES }
     ensures { SpellsNodes (sizes_of limits) records.now i page.new }
 {
     for place in 0..NODES_ON_A_PAGE {
@@ -95,10 +96,10 @@ fn put_element(
     page: &mut [u8; PAGE],
 )
     requires count { AreCounted (sizes_of limits) records.now }
-    requires place { place < 4 }
-    ensures here { record_at 1024 page.new place ≡ bytes_or_zeros 1024 (session_bytes layout_1) (slice_get records.now.windows element) }
-    ensures others { (k : ℕ) → k < 4 → k ≢ place → record_at 1024 page.new k ≡ record_at 1024 page.old k }
-    ensures fits { element < length records.now.windows → FitsWindow layout_1 (slice_index_or records.now.windows element new_window) }
+    requires place { place < SESSIONS_ON_A_PAGE }
+    ensures here { record_at SESSION_RECORD page.new place ≡ bytes_or_zeros SESSION_RECORD (session_bytes layout_in_use) (slice_get records.now.windows element) }
+    ensures others { (k : ℕ) → k < SESSIONS_ON_A_PAGE → k ≢ place → record_at SESSION_RECORD page.new k ≡ record_at SESSION_RECORD page.old k }
+    ensures fits { element < length records.now.windows → FitsWindow layout_in_use (slice_index_or records.now.windows element new_window) }
 {
     if element < limits.elements as usize {
         put_session(page, place, Some(&window_at(records, element as u16)));
@@ -109,7 +110,7 @@ fn put_element(
 
 fn encode_sessions(records: &MemoryRecords<'_>, limits: Limits, i: usize, page: &mut [u8; PAGE])
     requires count { AreCounted (sizes_of limits) records.now }
-    requires near { i < 1024 }
+    requires near { i < MOST_AREA_PAGES }
     ensures { SpellsSessions records.now i page.new }
 {
     for place in 0..SESSIONS_ON_A_PAGE {
@@ -121,7 +122,7 @@ fn encode_sessions(records: &MemoryRecords<'_>, limits: Limits, i: usize, page: 
 /// are numbered from 0: those of cells, those of waiter nodes, and those of sessions. It takes no memory.
 pub fn encode_page(records: &MemoryRecords<'_>, limits: Limits, i: usize, page: &mut [u8; PAGE])
     requires count { AreCounted (sizes_of limits) records.now }
-    requires page { i < layout.area_pages layout_1 (sizes_of limits) }
+    requires page { i < layout.area_pages layout_in_use (sizes_of limits) }
     ensures { IsAreaPage (sizes_of limits) records.now i page.new }
 {
     let (cells, nodes) = (cell_pages(limits), node_pages(limits));
@@ -136,7 +137,7 @@ pub fn encode_page(records: &MemoryRecords<'_>, limits: Limits, i: usize, page: 
 
 // Puts a page in its place in an area.
 fn put_page(area: &mut [u8], i: usize, page: &[u8; PAGE])
-    requires near { i < 1024 }
+    requires near { i < MOST_AREA_PAGES }
     requires room { 4096 * i + 4096 ≤ length area.old }
     ensures { area.new ≡ placed (4096 * i) page.now area.old }
 {
@@ -147,8 +148,8 @@ fn put_page(area: &mut [u8], i: usize, page: &[u8; PAGE])
 pub fn encode(memory: &Memory, limits: Limits, area: &mut [u8])
     requires cells { length memory.now.cells ≡ limits.cells }
     requires elements { length memory.now.windows ≡ limits.elements }
-    requires area { length area.old ≡ layout.area_bytes layout_1 (sizes_of limits) }
-    ensures { Shows layout_1 (sizes_of limits) area.new memory.now }
+    requires area { length area.old ≡ layout.area_bytes layout_in_use (sizes_of limits) }
+    ensures { Shows layout_in_use (sizes_of limits) area.new memory.now }
 {
     let records = memory.records();
     let mut page = [0; PAGE];
@@ -161,11 +162,11 @@ pub fn encode(memory: &Memory, limits: Limits, area: &mut [u8])
 /// The pages that [`encode_page`] makes of a memory's records show the memory, one behind the other.
 pub fn pages_show_the_memory()
     ensures { (s : Sizes) (r : Records) (m : Contents) (page : ℕ → List ℕ) → AreCounted s r → ShowsRecords s r m
-        → ((i : ℕ) → i < layout.area_pages layout_1 s → IsAreaPage s r i (page i)) → Shows layout_1 s (joined (layout.area_pages layout_1 s) page) m }
+        → ((i : ℕ) → i < layout.area_pages layout_in_use s → IsAreaPage s r i (page i)) → Shows layout_in_use s (joined (layout.area_pages layout_in_use s) page) m }
 {}
 
 /// An area shows the memory whose records its pages have.
 pub fn areas_show_the_memory()
-    ensures { (s : Sizes) (r : Records) (m : Contents) (area : List ℕ) → AreCounted s r → ShowsRecords s r m → length area ≡ layout.area_bytes layout_1 s
-        → ((i : ℕ) → i < layout.area_pages layout_1 s → IsAreaPage s r i (record_at page_bytes area i)) → Shows layout_1 s area m }
+    ensures { (s : Sizes) (r : Records) (m : Contents) (area : List ℕ) → AreCounted s r → ShowsRecords s r m → length area ≡ layout.area_bytes layout_in_use s
+        → ((i : ℕ) → i < layout.area_pages layout_in_use s → IsAreaPage s r i (record_at page_bytes area i)) → Shows layout_in_use s area m }
 {}

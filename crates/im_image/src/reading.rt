@@ -3,7 +3,7 @@ ghost use Rattle.std.specs.Prelude.{◌≡◌, ◌⊎◌, ◌+◌, ◌≤◌, le
 ghost use Rattle.im_types.specs.declared.TheConstants.{LAST};
 ghost use Rattle.im_types.specs.declared.refusals.Refusal.TheVariants.{NoMemory, Device};
 ghost use Rattle.im_types.specs.Header.{header_of, header_fault};
-ghost use Rattle.im_types.specs.Layout.{layout_1, sizes_of, ring_of};
+ghost use Rattle.im_types.specs.Layout.{layout_in_use, sizes_of, ring_of};
 ghost use Rattle.im_types.specs.Meaning.{IsShown, Reads, accept_each};
 ghost use Rattle.im_types.specs.Step.{is_accepted};
 ghost use Rattle.im_disk.specs.Moment.{Faults};
@@ -78,9 +78,9 @@ fn read_run<D: Disk>(
     mut memory: Memory,
 ) -> Result<Image, Refusal>
     requires last { header.count ≤ LAST }
-    requires good { D.honest disk.old → header_fault layout_1 (D.now disk.old).bytes ≡ None }
+    requires good { D.honest disk.old → header_fault layout_in_use (D.now disk.old).bytes ≡ None }
     requires header { D.honest disk.old → seen header ≡ header_of (D.now disk.old).bytes }
-    requires shown { D.honest disk.old → IsShown layout_1 (D.now disk.old).bytes memory }
+    requires shown { D.honest disk.old → IsShown layout_in_use (D.now disk.old).bytes memory }
     requires cells { length memory.cells ≡ header.limits.cells }
     requires elements { length memory.windows ≡ header.limits.elements }
     ensures header { IfOk result (λ i. i.header ≡ header) }
@@ -88,8 +88,8 @@ fn read_run<D: Disk>(
     ensures elements { IfOk result (λ i. length i.memory.windows ≡ header.limits.elements) }
     ensures journal { IfOk result (λ i. JournalOf (seen i.header) i.journal) }
     ensures holds { IfOk result (λ i. D.honest disk.new → Holds i.journal (D.now disk.old).bytes) }
-    ensures means { IfOk result (λ i. D.honest disk.new → Reads layout_1 (D.now disk.old).bytes (Ok (record { contents = i.memory; count = i.journal.count; room = i.journal.room }))) }
-    ensures fault { IfErr result (λ e. (e ≡ NoMemory) ⊎ (e ≡ Device) ⊎ (D.honest disk.new → Reads layout_1 (D.now disk.old).bytes (Err e))) }
+    ensures means { IfOk result (λ i. D.honest disk.new → Reads layout_in_use (D.now disk.old).bytes (Ok (record { contents = i.memory; count = i.journal.count; room = i.journal.room }))) }
+    ensures fault { IfErr result (λ e. (e ≡ NoMemory) ⊎ (e ≡ Device) ⊎ (D.honest disk.new → Reads layout_in_use (D.now disk.old).bytes (Err e))) }
     ensures reads { D.honest disk.new → ReadsOnly (D.now disk.old) (D.now disk.new) (D.past disk.old) (D.past disk.new) }
     ensures honest { D.honest disk.new → D.honest disk.old }
     ensures faults { Faults MayRefuseImage result (D.failures disk.old) (D.failures disk.new) }
@@ -113,15 +113,15 @@ fn read_run<D: Disk>(
 fn read_behind<D: Disk>(alloc: Global, disk: &mut D, header: Header) -> Result<Image, Refusal>
     requires area { header.area ≤ 1 }
     requires last { header.count ≤ LAST }
-    requires good { D.honest disk.old → header_fault layout_1 (D.now disk.old).bytes ≡ None }
+    requires good { D.honest disk.old → header_fault layout_in_use (D.now disk.old).bytes ≡ None }
     requires header { D.honest disk.old → seen header ≡ header_of (D.now disk.old).bytes }
     ensures header { IfOk result (λ i. i.header ≡ header) }
     ensures cells { IfOk result (λ i. length i.memory.cells ≡ i.header.limits.cells) }
     ensures elements { IfOk result (λ i. length i.memory.windows ≡ i.header.limits.elements) }
     ensures journal { IfOk result (λ i. JournalOf (seen i.header) i.journal) }
     ensures holds { IfOk result (λ i. D.honest disk.new → Holds i.journal (D.now disk.old).bytes) }
-    ensures means { IfOk result (λ i. D.honest disk.new → Reads layout_1 (D.now disk.old).bytes (Ok (record { contents = i.memory; count = i.journal.count; room = i.journal.room }))) }
-    ensures fault { IfErr result (λ e. (e ≡ NoMemory) ⊎ (e ≡ Device) ⊎ (D.honest disk.new → Reads layout_1 (D.now disk.old).bytes (Err e))) }
+    ensures means { IfOk result (λ i. D.honest disk.new → Reads layout_in_use (D.now disk.old).bytes (Ok (record { contents = i.memory; count = i.journal.count; room = i.journal.room }))) }
+    ensures fault { IfErr result (λ e. (e ≡ NoMemory) ⊎ (e ≡ Device) ⊎ (D.honest disk.new → Reads layout_in_use (D.now disk.old).bytes (Err e))) }
     ensures reads { D.honest disk.new → ReadsOnly (D.now disk.old) (D.now disk.new) (D.past disk.old) (D.past disk.new) }
     ensures honest { D.honest disk.new → D.honest disk.old }
     ensures faults { Faults MayRefuseImage result (D.failures disk.old) (D.failures disk.new) }
@@ -144,8 +144,8 @@ pub fn read_image<D: Disk>(alloc: Global, disk: &mut D) -> Result<Image, Refusal
     ensures elements { IfOk result (λ i. length i.memory.windows ≡ i.header.limits.elements) }
     ensures journal { IfOk result (λ i. JournalOf (seen i.header) i.journal) }
     ensures holds { IfOk result (λ i. D.honest disk.new → Holds i.journal (D.now disk.old).bytes) }
-    ensures means { IfOk result (λ i. D.honest disk.new → Reads layout_1 (D.now disk.old).bytes (Ok (record { contents = i.memory; count = i.journal.count; room = i.journal.room }))) }
-    ensures fault { IfErr result (λ e. (e ≡ NoMemory) ⊎ (e ≡ Device) ⊎ (D.honest disk.new → Reads layout_1 (D.now disk.old).bytes (Err e))) }
+    ensures means { IfOk result (λ i. D.honest disk.new → Reads layout_in_use (D.now disk.old).bytes (Ok (record { contents = i.memory; count = i.journal.count; room = i.journal.room }))) }
+    ensures fault { IfErr result (λ e. (e ≡ NoMemory) ⊎ (e ≡ Device) ⊎ (D.honest disk.new → Reads layout_in_use (D.now disk.old).bytes (Err e))) }
     ensures reads { D.honest disk.new → ReadsOnly (D.now disk.old) (D.now disk.new) (D.past disk.old) (D.past disk.new) }
     ensures honest { D.honest disk.new → D.honest disk.old }
     ensures faults { Faults MayRefuseImage result (D.failures disk.old) (D.failures disk.new) }
@@ -160,8 +160,8 @@ pub fn read_image<D: Disk>(alloc: Global, disk: &mut D) -> Result<Image, Refusal
 /// refusals are those of [`read_image`].
 pub fn inspect<D: Disk>(alloc: Global, disk: &mut D) -> Result<Report, Refusal>
     ensures header { IfOk result (λ r. D.honest disk.new → seen r.header ≡ header_of (D.now disk.old).bytes) }
-    ensures means { IfOk result (λ r. D.honest disk.new → Reads layout_1 (D.now disk.old).bytes (Ok (record { contents = r.memory; count = r.header.count + r.run; room = r.room }))) }
-    ensures fault { IfErr result (λ e. (e ≡ NoMemory) ⊎ (e ≡ Device) ⊎ (D.honest disk.new → Reads layout_1 (D.now disk.old).bytes (Err e))) }
+    ensures means { IfOk result (λ r. D.honest disk.new → Reads layout_in_use (D.now disk.old).bytes (Ok (record { contents = r.memory; count = r.header.count + r.run; room = r.room }))) }
+    ensures fault { IfErr result (λ e. (e ≡ NoMemory) ⊎ (e ≡ Device) ⊎ (D.honest disk.new → Reads layout_in_use (D.now disk.old).bytes (Err e))) }
     ensures reads { D.honest disk.new → ReadsOnly (D.now disk.old) (D.now disk.new) (D.past disk.old) (D.past disk.new) }
     ensures honest { D.honest disk.new → D.honest disk.old }
     ensures faults { Faults MayRefuseImage result (D.failures disk.old) (D.failures disk.new) }

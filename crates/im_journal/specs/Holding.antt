@@ -6,13 +6,13 @@ use Rattle.im_types.specs.declared.sizes.Limits.{Limits}
 use Rattle.im_types.specs.Bytes.{open_gate}
 use Rattle.im_types.specs.Slot.{slot_body, sequence_of}
 use Rattle.im_types.specs.Journal.{Ring, slot_at, slot, Tail, tail}
-use Rattle.im_types.specs.Layout.{layout_1, ring_of}
+use Rattle.im_types.specs.Layout.{layout_in_use, ring_of}
 use Rattle.im_disk.specs.Moment.{Moment, Left}
 use Rattle.im_disk.specs.Since.{SameBut}
 
 -- the ring of an image with these limits
 abbrev pub ring_under : Limits → Ring
-ring_under limits = ring_of layout_1 (record { cells = limits.cells; elements = limits.elements; slots = limits.slots })
+ring_under limits = ring_of layout_in_use (record { cells = limits.cells; elements = limits.elements; slots = limits.slots })
 
 -- the ring of so many slots at this offset
 abbrev pub ring_at : ℕ → ℕ → Ring

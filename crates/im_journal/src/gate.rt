@@ -6,8 +6,8 @@ ghost use Rattle.im_disk.specs.Since.{SameBut, Leaves};
 ghost use Rattle.im_journal.specs.Gates.{IsClosed, Written, MayWrite, SameButGates, MayClose, HasClosed};
 ghost use Rattle.im_journal.specs.Holding.{ring_at};
 
-use crate::slot::CLOSED;
 use im_disk::{DeviceFault, Disk};
+use im_types::layout::CLOSED;
 
 /// Writes a slot with an open gate at an offset where the gate is closed: its body, a sync, its gate, a sync.
 pub(crate) fn write_slot<D: Disk>(

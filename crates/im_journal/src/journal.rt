@@ -8,10 +8,10 @@ ghost use Rattle.im_journal.specs.Holding.{ring_under, IsJournal, Holds, AllHold
 
 use crate::bytes::read_bytes;
 use crate::gate::{close_gates, write_slot};
-use crate::layout::ring_base;
 use crate::ring::tail_in;
 use crate::slot::spell;
 use im_disk::Disk;
+use im_types::layout::journal_at;
 use im_types::{Command, LAST, Limits, Refusal};
 use std::alloc::Global;
 use std::cmp::min;
@@ -63,7 +63,7 @@ impl Journal {
             → AreClosed result.ring file → Holds result file }
     {
         Journal {
-            base: ring_base(limits),
+            base: journal_at(limits),
             slots: limits.slots,
             first: 0,
             count: 0,
@@ -102,7 +102,7 @@ impl Journal {
         ensures calls { OnOk result (D.honest disk.new → length (D.past disk.new) ≡ length (D.past disk.old) + 1) }
         ensures honest { D.honest disk.new → D.honest disk.old }
     {
-        let base = ring_base(limits);
+        let base = journal_at(limits);
         let slots = limits.slots as usize;
         let ring = match read_bytes(alloc, disk, base, 64 * slots) {
             Ok(ring) => ring,

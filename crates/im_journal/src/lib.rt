@@ -5,7 +5,6 @@
 mod bytes;
 mod gate;
 mod journal;
-mod layout;
 mod ring;
 mod slot;
 

@@ -5,7 +5,8 @@ ghost use Rattle.im_types.specs.Slot.{is_open};
 ghost use Rattle.im_types.specs.Journal.{slot, continues, run_from, commands_in, closed_from, are_stale, tail};
 ghost use Rattle.im_journal.specs.Holding.{ring_alone};
 
-use crate::slot::{OPEN, read, sequence_in};
+use crate::slot::{read, sequence_in};
+use im_types::layout::OPEN;
 use im_types::{Command, LAST, Refusal};
 use std::alloc::Global;
 

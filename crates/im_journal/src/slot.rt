@@ -1,53 +1,15 @@
 // A command as the 64 bytes of a slot.
 ghost use Rattle.std.specs.Prelude.{◌≡◌, ◌<◌, ◌^◌, ◌∷◌, drop, Some, IfSome};
-ghost use Rattle.im_types.specs.Agreement.{address_of};
-ghost use Rattle.im_types.specs.Bytes.{open_gate, op_code, op_value};
-ghost use Rattle.im_types.specs.Slot.{slot_fields, slot_body, op_of, command_of, command_in, sequence_of, read_slot, FitsCommand};
+ghost use Rattle.im_types.specs.Bytes.{open_gate};
+ghost use Rattle.im_types.specs.Slot.{slot_fields, slot_body, command_of, command_in, sequence_of, read_slot, FitsCommand};
 
 use byteorder::{ByteOrder, LittleEndian};
-use im_types::{Command, Kind, Op, Request};
-
-/// The byte of an open gate.
-pub(crate) const OPEN: u8 = 0xA5;
-
-/// The byte of a gate that was closed.
-pub(crate) const CLOSED: u8 = 0;
+use im_types::codes::{address_of, op_code, op_of, op_value};
+use im_types::layout::OPEN;
+use im_types::{Command, Op, Request};
 
 /// The code of a confirmation.
 const CONFIRM: u8 = 8;
-
-fn op_code(op: Op) -> u8
-    ensures { result ≡ op_code op }
-{
-    match op {
-        Op::Alloc(Kind::I, _) => 1,
-        Op::Alloc(Kind::M, _) => 2,
-        Op::Release(_) => 3,
-        Op::Fetch(_) => 4,
-        Op::Store(_, _) => 5,
-        Op::Take(_) => 6,
-        Op::Put(_, _) => 7,
-    }
-}
-
-// The address or length.
-fn address_of(op: Op) -> u32
-    ensures { result ≡ address_of op }
-{
-    match op {
-        Op::Alloc(_, n) => n,
-        Op::Release(a) | Op::Fetch(a) | Op::Store(a, _) | Op::Take(a) | Op::Put(a, _) => a,
-    }
-}
-
-fn op_value(op: Op) -> u64
-    ensures { result ≡ op_value op }
-{
-    match op {
-        Op::Store(_, v) | Op::Put(_, v) => v,
-        Op::Alloc(_, _) | Op::Release(_) | Op::Fetch(_) | Op::Take(_) => 0,
-    }
-}
 
 fn spell_fields(
     code: u8,
@@ -91,21 +53,6 @@ pub fn spell(command: &Command, sequence: u64) -> [u8; 64]
             op_value(r.op),
         ),
         Command::Confirm { element, upto } => spell_fields(CONFIRM, element, sequence, upto, 0, 0),
-    }
-}
-
-fn op_of(code: u8, address: u32, value: u64) -> Option<Op>
-    ensures { result ≡ op_of code address value }
-{
-    match code {
-        1 => Some(Op::Alloc(Kind::I, address)),
-        2 => Some(Op::Alloc(Kind::M, address)),
-        3 => Some(Op::Release(address)),
-        4 => Some(Op::Fetch(address)),
-        5 => Some(Op::Store(address, value)),
-        6 => Some(Op::Take(address)),
-        7 => Some(Op::Put(address, value)),
-        _ => None,
     }
 }
 

@@ -14,7 +14,7 @@ use Rattle.im_checkpoint.specs.declared.checkpoint.TurnDone.{TurnDone}
 use Rattle.im_types.specs.declared.commands.Outcome.{Outcome}
 use Rattle.im_types.specs.declared.refusals.Refusal.{Refusal}
 use Rattle.im_engine.specs.State.{EngineState, MeansState, MeansEither}
-use Rattle.im_engine.specs.Run.{Answered, TurnAnswered, is_put, one, MeansAfter, MeansBeginning}
+use Rattle.im_engine.specs.Run.{Answered, TurnAnswered, is_put, put_by_command, MeansAfter, MeansBeginning}
 use Rattle.im_engine.proofs.Running.{Far, far_on, leaves_on, now_on, now_start, far_turned, leaves_turned, now_turned, means_all, all_or_in_doubt, or_less, doubt_by, Failures, failures_more, failures_turned}
 use Rattle.im_program.specs.Serving.{HasPut, OnlyPuts, Closed, Served}
 
@@ -31,7 +31,7 @@ accepted_more m (d ∷ put) c is accepted = by_test (is_accepted m d) is (λ res
     by_test false e more = absurd (cc)
 
 accepted_on : (m : Contents) (put : List Command) (c : Command) (a : Result Outcome Refusal) → accept_each m put ≡ Some (after m put)
-    → accept_each m (put ++ one (after m put) c a) ≡ Some (after m (put ++ one (after m put) c a))
+    → accept_each m (put ++ put_by_command (after m put) c a) ≡ Some (after m (put ++ put_by_command (after m put) c a))
 accepted_on m put c a is = by_test (is_accepted (after m put) c) (is_put a) refl
   where
     by_test : (b p : Bool) → is_accepted (after m put) c ≡ b → accept_each m (put ++ (if b && p then c ∷ [] else [])) ≡ Some (after m (put ++ (if b && p then c ∷ [] else [])))
@@ -64,18 +64,18 @@ module _ {D : Type 0} (now : D → Moment) (past : D → List Moment) (failures 
   put_more : (start mid new : EngineState D) (put : List Command) (c : Command) (a : Result Outcome Refusal) → HasPut now past failures start mid put → Answered mid c a new
       → (mid.failed ≡ false → Leaves (now mid.disk) (now new.disk) (past mid.disk) (past new.disk) (MeansEither mid c))
       → (mid.failed ≡ false → LeavesNow (now new.disk) (MeansEither mid c)) → (new.failed ≡ false → LeavesNow (now new.disk) (MeansState new)) → Faults (λ e. Unit {0}) a (failures mid.disk) (failures new.disk)
-      → HasPut now past failures start new (put ++ one (after start.memory put) c a)
+      → HasPut now past failures start new (put ++ put_by_command (after start.memory put) c a)
   put_more start mid new put c a so_far it leaves doubt means cause =
       let far : Far start mid put = record { memory = so_far.memory; count = so_far.count } in
-      let far_new : Far start new (put ++ one (after start.memory put) c a) = far_on start mid new put c a far it in
+      let far_new : Far start new (put ++ put_by_command (after start.memory put) c a) = far_on start mid new put c a far it in
       record {
         accepted = accepted_on start.memory put c a so_far.accepted;
         memory = far_new.memory;
         count = far_new.count;
         leaves = leaves_on start mid new put c a far it now past so_far.leaves leaves;
-        doubt = λ file left. all_or_in_doubt start (put ++ one (after start.memory put) c a) new.failed file
+        doubt = λ file left. all_or_in_doubt start (put ++ put_by_command (after start.memory put) c a) new.failed file
             (now_on start mid new put c a far it now (λ f l. or_less (mid.failed ≡ true) start put f (so_far.doubt f l)) doubt file left)
-            (λ works. means_all start new (put ++ one (after start.memory put) c a) far_new works file (means works file left));
+            (λ works. means_all start new (put ++ put_by_command (after start.memory put) c a) far_new works file (means works file left));
         rose = (failures_more failures start mid new c a it cause (counted start mid put so_far)).rose;
         stayed = (failures_more failures start mid new c a it cause (counted start mid put so_far)).stayed;
       }
@@ -147,7 +147,7 @@ module _ {D : Type 0} (now : D → Moment) (past : D → List Moment) (failures 
         → OnlyPuts now past failures honest old new
     puts_one old mid new c a so_far it was leaves doubt means cause = λ start serves h.
         let before = so_far start serves (was h) in
-        (before.0, (before.1.0 ++ one (after start.memory before.1.0) c a, put_more start mid new before.1.0 c a before.1.1 it (leaves h) (doubt h) (means h) cause))
+        (before.0, (before.1.0 ++ put_by_command (after start.memory before.1.0) c a, put_more start mid new before.1.0 c a before.1.1 it (leaves h) (doubt h) (means h) cause))
 
     -- commands were put, and then a turn is made
     pub puts_turn : (old mid new : EngineState D) (a : Result TurnDone Refusal) → OnlyPuts now past failures honest old mid → TurnAnswered mid a new → (honest new.disk → honest mid.disk)

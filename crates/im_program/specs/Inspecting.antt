@@ -2,7 +2,7 @@
 use Rattle.std.specs.Prelude.{◌≡◌, ℕ, ◌+◌, List, ◌++◌, Ok}
 use Rattle.im_types.specs.Contents.{Contents}
 use Rattle.im_types.specs.Header.{header_of}
-use Rattle.im_types.specs.Layout.{layout_1}
+use Rattle.im_types.specs.Layout.{layout_in_use}
 use Rattle.im_types.specs.Meaning.{Reads}
 use Rattle.im_program.specs.Report.{report_text}
 
@@ -11,5 +11,5 @@ pub record Tells (file was now : List ℕ) : Type 0 where
   pub memory : Contents
   pub run : ℕ
   pub room : ℕ
-  pub reads : Reads layout_1 file (Ok (record { contents = memory; count = (header_of file).count + run; room = room }))
+  pub reads : Reads layout_in_use file (Ok (record { contents = memory; count = (header_of file).count + run; room = room }))
   pub added : now ≡ was ++ report_text (header_of file) run room memory

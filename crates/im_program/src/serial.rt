@@ -9,6 +9,7 @@ use im_checkpoint::TurnDone;
 use im_disk::Disk;
 use im_engine::Engine;
 use im_script::Script;
+use im_types::layout::MOST_AREA_PAGES;
 use im_types::{Command, Entry, Op, Outcome, Refusal, Reply, Request, WINDOW};
 use std::alloc::Global;
 
@@ -20,8 +21,9 @@ struct Waited {
     entry: Entry,
 }
 
-// More turns than a checkpoint and a sweep take: an area has at most 532 pages.
-const MOST_TURNS: u32 = 1_024;
+// As many turns as two checkpoints take at the largest sizes, each with its beginning, its pages, its sync, its header and
+// a sweep. The rest of one that is under way and a whole one end with room, or with nothing left to do.
+const MOST_TURNS: usize = 2 * (MOST_AREA_PAGES + 4);
 
 /// An engine that serves a script.
 #[derive(Drop)]

@@ -5,13 +5,13 @@ use Rattle.im_types.specs.declared.commands.Command.{Command}
 use Rattle.im_types.specs.declared.refusals.Refusal.{Refusal}
 use Rattle.im_types.specs.Contents.{Contents}
 use Rattle.im_types.specs.Run.{after}
+use Rattle.im_types.specs.Meaning.{Means}
 use Rattle.im_disk.specs.Moment.{Moment, Left, LeftSince, Outside}
 use Rattle.im_disk.specs.Since.{Leaves, LeavesNow}
-use Rattle.im_checkpoint.specs.Keeping.{Means}
 use Rattle.im_engine.specs.declared.run.Event.{Event}
 use Rattle.im_engine.specs.declared.run.Answer.{Answer}
 use Rattle.im_engine.specs.State.{EngineState, MeansState, IsFirstFault}
-use Rattle.im_engine.specs.Run.{MeansAllOrInDoubt, taken, has_doubt}
+use Rattle.im_engine.specs.Run.{MeansAllOrInDoubt, put_on_disk, has_doubt}
 use Rattle.im_promise.specs.Acknowledged.{acknowledged, in_doubt}
 use Rattle.im_promise.proofs.Splitting.{IsSplit}
 
@@ -60,7 +60,7 @@ could_be_left old mid new past_mid past_new it = left_again old mid it.ranges it
 
 module _ {D E : Type 0} (s : EngineState D) (e : EngineState E) (old mid new : Moment) (past_mid past_new : List Moment) (crash : Crashes old mid new past_mid past_new) where
   module _ (events : List Event) (answers : List Answer) (one : MeansOne) (split : IsSplit s.memory events answers)
-      (said : LeavesNow old (MeansAllOrInDoubt (has_doubt answers ≡ true) s (taken s.memory events answers))) (means : LeavesNow new (MeansState e)) where
+      (said : LeavesNow old (MeansAllOrInDoubt (has_doubt answers ≡ true) s (put_on_disk s.memory events answers))) (means : LeavesNow new (MeansState e)) where
     abbrev ack : List Command
     ack = acknowledged s.memory events answers
 
@@ -74,12 +74,12 @@ module _ {D E : Type 0} (s : EngineState D) (e : EngineState E) (old mid new : M
       pub memory : e.memory ≡ after s.memory (ack ++ also)
       pub count : e.count ≡ s.count + length (ack ++ also)
 
-    found_by : (many : ℕ) → (e.memory ≡ after s.memory (take many (taken s.memory events answers))) → (e.count ≡ s.count + many)
-        → ((many ≡ length (taken s.memory events answers)) ⊎ ((has_doubt answers ≡ true) × (length (taken s.memory events answers) ≡ many + 1))) → IsFound
+    found_by : (many : ℕ) → (e.memory ≡ after s.memory (take many (put_on_disk s.memory events answers))) → (e.count ≡ s.count + many)
+        → ((many ≡ length (put_on_disk s.memory events answers)) ⊎ ((has_doubt answers ≡ true) × (length (put_on_disk s.memory events answers) ≡ many + 1))) → IsFound
     found_by many memory count (inl all) = record {
       also = doubt;
       or_not = inr refl;
-      memory = memory ∙ ap (λ (l : List Command). after s.memory l) (take_all many (taken s.memory events answers) (omega (arith, all)) ∙ split.parts);
+      memory = memory ∙ ap (λ (l : List Command). after s.memory l) (take_all many (put_on_disk s.memory events answers) (omega (arith, all)) ∙ split.parts);
       count = count ∙ ap (λ (n : ℕ). s.count + n) (all ∙ ap length split.parts);
     }
     found_by many memory count (inr (has, less)) =
@@ -94,8 +94,8 @@ module _ {D E : Type 0} (s : EngineState D) (e : EngineState E) (old mid new : M
 
     pub found : IsFound
     found =
-        let it : MeansAllOrInDoubt (has_doubt answers ≡ true) s (taken s.memory events answers) new.bytes = said new.bytes (could_be_left old mid new past_mid past_new crash) in
-        let same = one new.bytes e.memory (after s.memory (take it.0 (taken s.memory events answers))) e.count (s.count + it.0) e.room 0 (means new.bytes (left_now new)) it.2 in
+        let it : MeansAllOrInDoubt (has_doubt answers ≡ true) s (put_on_disk s.memory events answers) new.bytes = said new.bytes (could_be_left old mid new past_mid past_new crash) in
+        let same = one new.bytes e.memory (after s.memory (take it.0 (put_on_disk s.memory events answers))) e.count (s.count + it.0) e.room 0 (means new.bytes (left_now new)) it.2 in
         found_by it.0 same.0 same.1 it.1
 
 -- an image that means something isn't refused for a fault

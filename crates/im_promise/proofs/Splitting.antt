@@ -5,7 +5,7 @@ use Rattle.std.specs.Prelude.{IsTrue, IsOk}
 use Rattle.im_types.specs.declared.commands.Command.{Command}
 use Rattle.im_types.specs.declared.commands.Outcome.{Outcome}
 use Rattle.im_types.specs.declared.refusals.Refusal.{Refusal}
-use Rattle.im_types.specs.declared.refusals.Refusal.TheVariants.{Failed, Device, JournalFull}
+use Rattle.im_types.specs.declared.refusals.Refusal.TheVariants.{Gap, Forgotten, WindowFull, Mismatch, NoElement, NotAnswered, JournalFull, Device, Failed, NoMemory, TraceFull, WrongLength, NoHeader, BadHeader, BadPage, BadRecord, BadLimits, BadScript, Stalled, PaneGone}
 use Rattle.im_types.specs.Refusals.{number_of}
 use Rattle.im_types.specs.Contents.{Contents}
 use Rattle.im_types.specs.Step.{step, is_accepted}
@@ -16,11 +16,33 @@ use Rattle.im_engine.specs.declared.run.Event.TheVariants.{Command as Serve, Tur
 use Rattle.im_engine.specs.declared.run.Answer.{Answer}
 use Rattle.im_engine.specs.declared.run.Answer.TheVariants.{Served, Turned as TookTurn}
 use Rattle.im_engine.specs.State.{EngineState}
-use Rattle.im_engine.specs.Run.{Answered, AnsweredInTurn, is_put, put_by, taken, is_doubt, has_doubt}
+use Rattle.im_engine.specs.Run.{Answered, AnsweredInTurn, is_device, is_put, put_by_event, put_on_disk, is_doubt, has_doubt}
 use Rattle.im_promise.specs.Acknowledged.{acknowledged_by, acknowledged, in_doubt_by, in_doubt, is_fault, IsAnswer, AreAnswers}
 
 true_false : (b : Bool) → b ≡ true → b ≡ false → ⊥
 true_false b t f = absurd (cc)
+
+device_number : (r : Refusal) → is_device r ≡ true → number_of r ≡ 8
+device_number Gap is = absurd (true_false false is refl)
+device_number Forgotten is = absurd (true_false false is refl)
+device_number WindowFull is = absurd (true_false false is refl)
+device_number Mismatch is = absurd (true_false false is refl)
+device_number NoElement is = absurd (true_false false is refl)
+device_number NotAnswered is = absurd (true_false false is refl)
+device_number JournalFull is = absurd (true_false false is refl)
+device_number Device is = refl
+device_number Failed is = absurd (true_false false is refl)
+device_number NoMemory is = absurd (true_false false is refl)
+device_number TraceFull is = absurd (true_false false is refl)
+device_number WrongLength is = absurd (true_false false is refl)
+device_number NoHeader is = absurd (true_false false is refl)
+device_number BadHeader is = absurd (true_false false is refl)
+device_number BadPage is = absurd (true_false false is refl)
+device_number BadRecord is = absurd (true_false false is refl)
+device_number BadLimits is = absurd (true_false false is refl)
+device_number BadScript is = absurd (true_false false is refl)
+device_number Stalled is = absurd (true_false false is refl)
+device_number PaneGone is = absurd (true_false false is refl)
 
 bool_cases : (b : Bool) → (b ≡ true) ⊎ (b ≡ false)
 bool_cases true = inl refl
@@ -48,12 +70,12 @@ no_more xs ys none rest = ap (λ l. l ++ ys) none ∙ rest
 -- ---- once the engine has failed
 
 record IsOver (m : Contents) (events : List Event) (answers : List Answer) : Type 0 where
-  pub taken_none : taken m events answers ≡ []
+  pub taken_none : put_on_disk m events answers ≡ []
   pub acknowledged_none : acknowledged m events answers ≡ []
   pub doubt_none : in_doubt m events answers ≡ []
   pub answered : AreAnswers true m events answers
 
-failed_put : (m : Contents) (c : Command) (a : Result Outcome Refusal) → a ≡ Err Failed → put_by m (Serve c) (Served a) ≡ []
+failed_put : (m : Contents) (c : Command) (a : Result Outcome Refusal) → a ≡ Err Failed → put_by_event m (Serve c) (Served a) ≡ []
 failed_put m c a is = none_if c (is_accepted m c) (is_put a) (ap (λ (x : Result Outcome Refusal). is_put x) is)
 
 failed_acknowledged : (m : Contents) (c : Command) (a : Result Outcome Refusal) → a ≡ Err Failed → acknowledged_by m (Serve c) (Served a) ≡ []
@@ -70,8 +92,8 @@ over {D} old new (Serve c ∷ events) (Served a ∷ answers) m dead (mid, one, r
     let is = one.dead dead in
     let still : mid.failed ≡ true = ap (λ (s : EngineState D). s.failed) is.1 ∙ dead in
     record {
-      taken_none = no_more (put_by m (Serve c) (Served a)) (taken (after m (put_by m (Serve c) (Served a))) events answers) (failed_put m c a is.0)
-          (over mid new events answers (after m (put_by m (Serve c) (Served a))) still rest).taken_none;
+      taken_none = no_more (put_by_event m (Serve c) (Served a)) (put_on_disk (after m (put_by_event m (Serve c) (Served a))) events answers) (failed_put m c a is.0)
+          (over mid new events answers (after m (put_by_event m (Serve c) (Served a))) still rest).taken_none;
       acknowledged_none = no_more (acknowledged_by m (Serve c) (Served a)) (acknowledged (after m (acknowledged_by m (Serve c) (Served a))) events answers) (failed_acknowledged m c a is.0)
           (over mid new events answers (after m (acknowledged_by m (Serve c) (Served a))) still rest).acknowledged_none;
       doubt_none = no_more (in_doubt_by m (Serve c) (Served a)) (in_doubt (after m (acknowledged_by m (Serve c) (Served a))) events answers) (failed_doubt m c a is.0)
@@ -100,20 +122,20 @@ over_doubt {D} old new (Turn ∷ events) (TookTurn a ∷ answers) dead (mid, one
 -- ---- as long as it works
 
 pub record IsSplit (m : Contents) (events : List Event) (answers : List Answer) : Type 0 where
-  pub parts : taken m events answers ≡ acknowledged m events answers ++ in_doubt m events answers
+  pub parts : put_on_disk m events answers ≡ acknowledged m events answers ++ in_doubt m events answers
   pub few : length (in_doubt m events answers) ≤ 1
   pub some : has_doubt answers ≡ true → length (in_doubt m events answers) ≡ 1
   pub answered : AreAnswers false m events answers
 
 -- an event that leaves un command in doubt
-goes_on : (m : Contents) (e : Event) (a : Answer) (events : List Event) (answers : List Answer) → put_by m e a ≡ acknowledged_by m e a → in_doubt_by m e a ≡ [] → is_doubt a ≡ false
+goes_on : (m : Contents) (e : Event) (a : Answer) (events : List Event) (answers : List Answer) → put_by_event m e a ≡ acknowledged_by m e a → in_doubt_by m e a ≡ [] → is_doubt a ≡ false
     → IsAnswer m e a → is_fault a ≡ false → IsSplit (after m (acknowledged_by m e a)) events answers → IsSplit m (e ∷ events) (a ∷ answers)
 goes_on m e a events answers same sure none answer works rest =
     let ack : List Command = acknowledged_by m e a in
     let m1 : Contents = after m ack in
     let doubt : in_doubt m (e ∷ events) (a ∷ answers) ≡ in_doubt m1 events answers = ap (λ (l : List Command). l ++ in_doubt m1 events answers) sure in
     record {
-      parts = ap (λ (l : List Command). l ++ taken (after m l) events answers) same
+      parts = ap (λ (l : List Command). l ++ put_on_disk (after m l) events answers) same
           ∙ ap (λ (l : List Command). ack ++ l) rest.parts
           ∙ sym (append_assoc ack (acknowledged m1 events answers) (in_doubt m1 events answers))
           ∙ ap (λ (l : List Command). (ack ++ acknowledged m1 events answers) ++ l) (sym doubt);
@@ -123,11 +145,11 @@ goes_on m e a events answers same sure none answer works rest =
     }
 
 -- a command in doubt, and nothing behind it
-ends_in_doubt : (m : Contents) (c : Command) (a : Result Outcome Refusal) (events : List Event) (answers : List Answer) → put_by m (Serve c) (Served a) ≡ c ∷ [] → acknowledged_by m (Serve c) (Served a) ≡ [] → in_doubt_by m (Serve c) (Served a) ≡ c ∷ []
+ends_in_doubt : (m : Contents) (c : Command) (a : Result Outcome Refusal) (events : List Event) (answers : List Answer) → put_by_event m (Serve c) (Served a) ≡ c ∷ [] → acknowledged_by m (Serve c) (Served a) ≡ [] → in_doubt_by m (Serve c) (Served a) ≡ c ∷ []
     → IsAnswer m (Serve c) (Served a) → is_fault (Served a) ≡ true → ((k : Contents) → IsOver k events answers) → IsSplit m (Serve c ∷ events) (Served a ∷ answers)
 ends_in_doubt m c a events answers put ack doubt answer fault rest =
-    let all : taken m (Serve c ∷ events) (Served a ∷ answers) ≡ c ∷ [] =
-    ap (λ (l : List Command). l ++ taken (after m l) events answers) put ∙ ap (λ (l : List Command). c ∷ l) (rest (after m (c ∷ []))).taken_none in
+    let all : put_on_disk m (Serve c ∷ events) (Served a ∷ answers) ≡ c ∷ [] =
+    ap (λ (l : List Command). l ++ put_on_disk (after m l) events answers) put ∙ ap (λ (l : List Command). c ∷ l) (rest (after m (c ∷ []))).taken_none in
     let none : acknowledged m (Serve c ∷ events) (Served a ∷ answers) ≡ [] =
     ap (λ (l : List Command). l ++ acknowledged (after m l) events answers) ack ∙ (rest m).acknowledged_none in
     let one : in_doubt m (Serve c ∷ events) (Served a ∷ answers) ≡ c ∷ [] =
@@ -207,33 +229,33 @@ module _ (answered_ok : (m : Contents) (c : Command) → IsTrue (is_accepted m c
         (bool_cases (is_accepted m c))
 
     -- refused for another reason than the disk: nothing changed
-    after_refusal : (e : Refusal) → (number_of e == 8) ≡ false → Answered old c (Err e) mid → (mid.failed ≡ false) × (mid.memory ≡ m)
+    after_refusal : (e : Refusal) → (is_device e) ≡ false → Answered old c (Err e) mid → (mid.failed ≡ false) × (mid.memory ≡ m)
     after_refusal e other it = ⊎_elim
         (λ yes. ⊎_elim
         (λ none. let same = (it.full f (accepted_here ∙ yes) none).1 in (ap (λ (s : EngineState D). s.failed) same ∙ f, ap (λ (s : EngineState D). s.memory) same ∙ memory))
         (λ some. ⊎_elim
         (λ done. absurd (accepted_ok old.memory c e (accepted_here ∙ yes) (sym done.0)))
-        (λ fault. absurd (true_false (number_of e == 8) (ap (λ (x : Result Outcome Refusal). is_doubt (Served x)) fault.0) other))
+        (λ fault. absurd (true_false (is_device e) (ap (λ (x : Result Outcome Refusal). is_doubt (Served x)) fault.0) other))
         (it.put f (accepted_here ∙ yes) some))
         (none_or_some old.room))
         (λ un. let same = (it.unaccepted f (accepted_here ∙ un)).1 in (ap (λ (s : EngineState D). s.failed) same ∙ f, ap (λ (s : EngineState D). s.memory) same ∙ memory))
         (bool_cases (is_accepted m c))
 
     -- refused by the disk: it was accepted, and the engine has failed
-    after_fault : (e : Refusal) → (number_of e == 8) ≡ true → Answered old c (Err e) mid → (mid.failed ≡ true) × (is_accepted m c ≡ true)
+    after_fault : (e : Refusal) → (is_device e) ≡ true → Answered old c (Err e) mid → (mid.failed ≡ true) × (is_accepted m c ≡ true)
     after_fault e device it = ⊎_elim
         (λ yes. ⊎_elim
-        (λ none. absurd (true_false (number_of e == 8) device (ap (λ (x : Result Outcome Refusal). is_doubt (Served x)) (it.full f (accepted_here ∙ yes) none).0)))
+        (λ none. absurd (true_false (is_device e) device (ap (λ (x : Result Outcome Refusal). is_doubt (Served x)) (it.full f (accepted_here ∙ yes) none).0)))
         (λ some. ⊎_elim
         (λ done. absurd (accepted_ok old.memory c e (accepted_here ∙ yes) (sym done.0)))
         (λ fault. (ap (λ (s : EngineState D). s.failed) fault.1, yes))
         (it.put f (accepted_here ∙ yes) some))
         (none_or_some old.room))
-        (λ un. absurd (too_high (number_of e) device (few_refusals old.memory c e (sym (it.unaccepted f (accepted_here ∙ un)).0))))
+        (λ un. absurd (too_high e device (few_refusals old.memory c e (sym (it.unaccepted f (accepted_here ∙ un)).0))))
         (bool_cases (is_accepted m c))
       where
-        too_high : (n : ℕ) → (n == 8) ≡ true → n ≤ 6 → ⊥
-        too_high n is few = grind (arith, nat_tests)
+        too_high : (r : Refusal) → is_device r ≡ true → number_of r ≤ 6 → ⊥
+        too_high r is few = let at : number_of r ≡ 8 = device_number r is in omega (arith, at, few)
 
   pub split : {D : Type 0} (old new : EngineState D) (m : Contents) (events : List Event) (answers : List Answer) → old.failed ≡ false → old.memory ≡ m → AnsweredInTurn old events answers new → IsSplit m events answers
   split old new m [] [] f memory it = record { parts = refl; few = omega arith; some = λ has. absurd (true_false false has refl); answered = tt }
@@ -246,13 +268,13 @@ module _ (answered_ok : (m : Contents) (c : Command) → IsTrue (is_accepted m c
   split old new m (Serve c ∷ events) (Served (Err e) ∷ answers) f memory (mid, one, rest) = ⊎_elim
       (λ device.
       let dead = after_fault old mid m c f memory e device one in
-      ends_in_doubt m c (Err e) events answers (one_if c (is_accepted m c) (number_of e == 8) dead.1 device) refl (one_if c (is_accepted m c) (number_of e == 8) dead.1 device) (is_answer old mid m c f memory (Err e) one) device
+      ends_in_doubt m c (Err e) events answers (one_if c (is_accepted m c) (is_device e) dead.1 device) refl (one_if c (is_accepted m c) (is_device e) dead.1 device) (is_answer old mid m c f memory (Err e) one) device
       (λ k. over mid new events answers k dead.0 rest))
       (λ other.
       let on = after_refusal old mid m c f memory e other one in
-      goes_on m (Serve c) (Served (Err e)) events answers (none_if c (is_accepted m c) (number_of e == 8) other) (none_if c (is_accepted m c) (number_of e == 8) other) other (is_answer old mid m c f memory (Err e) one) other
+      goes_on m (Serve c) (Served (Err e)) events answers (none_if c (is_accepted m c) (is_device e) other) (none_if c (is_accepted m c) (is_device e) other) other (is_answer old mid m c f memory (Err e) one) other
       (split mid new m events answers on.0 on.1 rest))
-      (bool_cases (number_of e == 8))
+      (bool_cases (is_device e))
   split old new m (Serve c ∷ events) (TookTurn a ∷ answers) f memory (mid, one, rest) = absurd one
   split old new m (Turn ∷ events) (Served a ∷ answers) f memory (mid, one, rest) = absurd one
   split {D} old new m (Turn ∷ events) (TookTurn a ∷ answers) f memory (mid, one, rest) = ⊎_elim

@@ -1,8 +1,7 @@
 -- Which commands of a run were acknowledged, and which is in doubt. (Own.)
-use Rattle.std.specs.Prelude.{◌≡◌, ◌⊎◌, ◌==◌, Bool, true, false, List, [], ◌∷◌, ◌++◌, ◌&&◌, Ok, Err, if◌then◌else◌}
+use Rattle.std.specs.Prelude.{◌≡◌, ◌⊎◌, Bool, true, false, List, [], ◌∷◌, ◌++◌, ◌&&◌, Ok, Err, if◌then◌else◌}
 use Rattle.im_types.specs.declared.commands.Command.{Command}
 use Rattle.im_types.specs.declared.refusals.Refusal.TheVariants.{JournalFull, Device, Failed}
-use Rattle.im_types.specs.Refusals.{number_of}
 use Rattle.im_types.specs.Contents.{Contents}
 use Rattle.im_types.specs.Step.{step, is_accepted}
 use Rattle.im_types.specs.Run.{after}
@@ -10,7 +9,7 @@ use Rattle.im_engine.specs.declared.run.Event.{Event}
 use Rattle.im_engine.specs.declared.run.Event.TheVariants.{Command as Serve, Turn}
 use Rattle.im_engine.specs.declared.run.Answer.{Answer}
 use Rattle.im_engine.specs.declared.run.Answer.TheVariants.{Served, Turned as TookTurn}
-use Rattle.im_engine.specs.Run.{is_doubt}
+use Rattle.im_engine.specs.Run.{is_device, is_doubt}
 
 -- the command of this event, if it changes the memory and was answered what it comes to
 abbrev pub acknowledged_by : Contents → Event → Answer → List Command
@@ -41,9 +40,9 @@ in_doubt m (event ∷ events) (answer ∷ answers) =
 -- the answer says that a call of the disk failed
 abbrev pub is_fault : Answer → Bool
 is_fault (Served (Ok outcome)) = false
-is_fault (Served (Err refusal)) = number_of refusal == 8
+is_fault (Served (Err refusal)) = is_device refusal
 is_fault (TookTurn (Ok done)) = false
-is_fault (TookTurn (Err refusal)) = number_of refusal == 8
+is_fault (TookTurn (Err refusal)) = is_device refusal
 
 -- the answer says that a call of the disk failed before
 abbrev pub IsFailed : Event → Answer → Type 0

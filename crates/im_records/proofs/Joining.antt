@@ -5,7 +5,7 @@ use Rattle.std.proofs.lemmas.Bool.{cases_lt}
 use Rattle.std.proofs.lemmas.Option.{slice_get-get_or, slice_get_past}
 use Rattle.im_types.specs.declared.TheConstants.{NONE}
 use Rattle.im_types.specs.Contents.{new_window}
-use Rattle.im_types.specs.Layout.{Sizes, layout_1, area_bytes, area_pages, cell_pages, node_pages, session_pages, node_count, cell_part, node_part, session_part, record_at}
+use Rattle.im_types.specs.Layout.{Sizes, layout_in_use, area_bytes, area_pages, cell_pages, node_pages, session_pages, node_count, cell_part, node_part, session_part, record_at}
 use Rattle.im_types.specs.declared.records.CellRecord.TheVariants.{Free as FreeCell}
 use Rattle.im_types.specs.declared.records.NodeRecord.TheVariants.{Free as FreeNode}
 use Rattle.im_types.specs.Records.{cell_bytes, node_bytes, session_bytes, FitsCell, FitsNode, FitsWindow}
@@ -54,9 +54,9 @@ length_of_drop n rest area e = length-drop (4096 * n) area ∙ less (length area
     less : (a : ℕ) → a ≡ 4096 * (n + rest) → a - 4096 * n ≡ 4096 * rest
     less a f = omega arith
 
-module _ (s : Sizes) (r : Records) (fit : FitRecords s r) (area : List ℕ) (long : length area ≡ area_bytes layout_1 s) (pages : ArePages s r (λ i. record_at 4096 area i)) where
-  cells_row : IsRow 32 cell_bytes (FitsCell s.cells (node_count layout_1 s)) (FreeCell 0 NONE) s.cells (cell_part s area) r.cells
-  cells_row = row_by_places 32 cell_bytes (FitsCell s.cells (node_count layout_1 s)) (FreeCell 0 NONE) s.cells (128 * cell_pages s) (cell_part s area) r.cells (enough s.cells) size fit.many_cells fit.cells
+module _ (s : Sizes) (r : Records) (fit : FitRecords s r) (area : List ℕ) (long : length area ≡ area_bytes layout_in_use s) (pages : ArePages s r (λ i. record_at 4096 area i)) where
+  cells_row : IsRow 32 cell_bytes (FitsCell s.cells (node_count layout_in_use s)) (FreeCell 0 NONE) s.cells (cell_part s area) r.cells
+  cells_row = row_by_places 32 cell_bytes (FitsCell s.cells (node_count layout_in_use s)) (FreeCell 0 NONE) s.cells (128 * cell_pages s) (cell_part s area) r.cells (enough s.cells) size fit.many_cells fit.cells
       (cells_of_pages (cell_pages s) (cell_part s area) (λ j. bytes_or_zeros 32 cell_bytes (slice_get r.cells j)) (λ i k lt below. ap (λ (p : List ℕ). record_at 32 p k) (page_of_take (cell_pages s) i area lt) ∙ (pages.cells i lt).each k below))
     where
       enough : (n : ℕ) → n ≤ 128 * ((n + 128 - 1) / 128)
@@ -69,12 +69,12 @@ module _ (s : Sizes) (r : Records) (fit : FitRecords s r) (area : List ℕ) (lon
       within a b c d e = omega arith
 
       size : length (cell_part s area) ≡ 32 * (128 * cell_pages s)
-      size = by_record (length (cell_part s area)) (cell_pages s) (length_of_take (cell_pages s) area (within (cell_pages s) (node_pages layout_1 s) (session_pages layout_1 s) (length area) long))
+      size = by_record (length (cell_part s area)) (cell_pages s) (length_of_take (cell_pages s) area (within (cell_pages s) (node_pages layout_in_use s) (session_pages layout_in_use s) (length area) long))
 
-  nodes_row : IsRow 16 node_bytes (FitsNode (node_count layout_1 s)) (FreeNode NONE) (node_count layout_1 s) (node_part layout_1 s area) r.nodes
-  nodes_row = row_by_places 16 node_bytes (FitsNode (node_count layout_1 s)) (FreeNode NONE) (node_count layout_1 s) (256 * node_pages layout_1 s) (node_part layout_1 s area) r.nodes (enough (node_count layout_1 s)) size fit.many_nodes fit.nodes
-      (nodes_of_pages (node_pages layout_1 s) (node_part layout_1 s area) (λ j. bytes_or_zeros 16 node_bytes (slice_get r.nodes j))
-      (λ i k lt below. ap (λ (p : List ℕ). record_at 16 p k) (page_of_take (node_pages layout_1 s) i (drop (4096 * cell_pages s) area) lt ∙ page_of_drop (cell_pages s) i area) ∙ (pages.nodes i lt).each k below))
+  nodes_row : IsRow 16 node_bytes (FitsNode (node_count layout_in_use s)) (FreeNode NONE) (node_count layout_in_use s) (node_part layout_in_use s area) r.nodes
+  nodes_row = row_by_places 16 node_bytes (FitsNode (node_count layout_in_use s)) (FreeNode NONE) (node_count layout_in_use s) (256 * node_pages layout_in_use s) (node_part layout_in_use s area) r.nodes (enough (node_count layout_in_use s)) size fit.many_nodes fit.nodes
+      (nodes_of_pages (node_pages layout_in_use s) (node_part layout_in_use s area) (λ j. bytes_or_zeros 16 node_bytes (slice_get r.nodes j))
+      (λ i k lt below. ap (λ (p : List ℕ). record_at 16 p k) (page_of_take (node_pages layout_in_use s) i (drop (4096 * cell_pages s) area) lt ∙ page_of_drop (cell_pages s) i area) ∙ (pages.nodes i lt).each k below))
     where
       enough : (n : ℕ) → n ≤ 256 * ((n + 256 - 1) / 256)
       enough n = omega arith
@@ -88,14 +88,14 @@ module _ (s : Sizes) (r : Records) (fit : FitRecords s r) (area : List ℕ) (lon
       within : (b c d : ℕ) → d ≡ 4096 * (b + c) → 4096 * b ≤ d
       within b c d e = omega arith
 
-      size : length (node_part layout_1 s area) ≡ 16 * (256 * node_pages layout_1 s)
-      size = by_record (length (node_part layout_1 s area)) (node_pages layout_1 s) (length_of_take (node_pages layout_1 s) (drop (4096 * cell_pages s) area)
-          (within (node_pages layout_1 s) (session_pages layout_1 s) (length (drop (4096 * cell_pages s) area)) (length_of_drop (cell_pages s) (node_pages layout_1 s + session_pages layout_1 s) area (sums (cell_pages s) (node_pages layout_1 s) (session_pages layout_1 s) (length area) long))))
+      size : length (node_part layout_in_use s area) ≡ 16 * (256 * node_pages layout_in_use s)
+      size = by_record (length (node_part layout_in_use s area)) (node_pages layout_in_use s) (length_of_take (node_pages layout_in_use s) (drop (4096 * cell_pages s) area)
+          (within (node_pages layout_in_use s) (session_pages layout_in_use s) (length (drop (4096 * cell_pages s) area)) (length_of_drop (cell_pages s) (node_pages layout_in_use s + session_pages layout_in_use s) area (sums (cell_pages s) (node_pages layout_in_use s) (session_pages layout_in_use s) (length area) long))))
 
-  sessions_row : IsRow 1024 (session_bytes layout_1) (FitsWindow layout_1) new_window s.elements (session_part layout_1 s area) r.windows
-  sessions_row = row_by_places 1024 (session_bytes layout_1) (FitsWindow layout_1) new_window s.elements (4 * session_pages layout_1 s) (session_part layout_1 s area) r.windows (enough s.elements) size fit.many_windows fit.windows
-      (sessions_of_pages (session_pages layout_1 s) (session_part layout_1 s area) (λ j. bytes_or_zeros 1024 (session_bytes layout_1) (slice_get r.windows j))
-      (λ i k lt below. ap (λ (p : List ℕ). record_at 1024 p k) (page_of_drop (cell_pages s + node_pages layout_1 s) i area) ∙ (pages.sessions i lt).each k below))
+  sessions_row : IsRow 1024 (session_bytes layout_in_use) (FitsWindow layout_in_use) new_window s.elements (session_part layout_in_use s area) r.windows
+  sessions_row = row_by_places 1024 (session_bytes layout_in_use) (FitsWindow layout_in_use) new_window s.elements (4 * session_pages layout_in_use s) (session_part layout_in_use s area) r.windows (enough s.elements) size fit.many_windows fit.windows
+      (sessions_of_pages (session_pages layout_in_use s) (session_part layout_in_use s area) (λ j. bytes_or_zeros 1024 (session_bytes layout_in_use) (slice_get r.windows j))
+      (λ i k lt below. ap (λ (p : List ℕ). record_at 1024 p k) (page_of_drop (cell_pages s + node_pages layout_in_use s) i area) ∙ (pages.sessions i lt).each k below))
     where
       enough : (n : ℕ) → n ≤ 4 * ((n + 4 - 1) / 4)
       enough n = omega arith
@@ -103,10 +103,10 @@ module _ (s : Sizes) (r : Records) (fit : FitRecords s r) (area : List ℕ) (lon
       by_record : (a b : ℕ) → a ≡ 4096 * b → a ≡ 1024 * (4 * b)
       by_record a b e = omega arith
 
-      size : length (session_part layout_1 s area) ≡ 1024 * (4 * session_pages layout_1 s)
-      size = by_record (length (session_part layout_1 s area)) (session_pages layout_1 s) (length_of_drop (cell_pages s + node_pages layout_1 s) (session_pages layout_1 s) area long)
+      size : length (session_part layout_in_use s area) ≡ 1024 * (4 * session_pages layout_in_use s)
+      size = by_record (length (session_part layout_in_use s area)) (session_pages layout_in_use s) (length_of_drop (cell_pages s + node_pages layout_in_use s) (session_pages layout_in_use s) area long)
 
-  pub area_of_pages : SpellsArea layout_1 s area r
+  pub area_of_pages : SpellsArea layout_in_use s area r
   area_of_pages = record { cells = cells_row; nodes = nodes_row; sessions = sessions_row }
 
 -- pages one behind the other
@@ -137,8 +137,8 @@ joined_at (suc n) page long i lt = by (λ below. joined_at n page (λ j lt'. lon
         ap (λ (k : ℕ). record_at 4096 (joined n page ++ page n) k) (sym same) ∙ last ∙ ap page same
 
 -- each page is as long as a page
-page_long : (s : Sizes) (r : Records) (page : ℕ → List ℕ) → ArePages s r page → (i : ℕ) → i < area_pages layout_1 s → length (page i) ≡ 4096
-page_long s r page pages i lt = by (cases_lt i (cell_pages s)) (cases_lt i (cell_pages s + node_pages layout_1 s))
+page_long : (s : Sizes) (r : Records) (page : ℕ → List ℕ) → ArePages s r page → (i : ℕ) → i < area_pages layout_in_use s → length (page i) ≡ 4096
+page_long s r page pages i lt = by (cases_lt i (cell_pages s)) (cases_lt i (cell_pages s + node_pages layout_in_use s))
   where
     back : (a b : ℕ) → a ≤ b → a + (b - a) ≡ b
     back a b le = omega arith
@@ -146,27 +146,27 @@ page_long s r page pages i lt = by (cases_lt i (cell_pages s)) (cases_lt i (cell
     left : (a b c : ℕ) → c < a + b → a ≤ c → c - a < b
     left a b c below above = omega arith
 
-    by : (i < cell_pages s) ⊎ (cell_pages s ≤ i) → (i < cell_pages s + node_pages layout_1 s) ⊎ (cell_pages s + node_pages layout_1 s ≤ i) → length (page i) ≡ 4096
+    by : (i < cell_pages s) ⊎ (cell_pages s ≤ i) → (i < cell_pages s + node_pages layout_in_use s) ⊎ (cell_pages s + node_pages layout_in_use s ≤ i) → length (page i) ≡ 4096
     by (inl cell) second = (pages.cells i cell).long
     by (inr above) (inl node) =
         ap (λ (k : ℕ). length (page k)) (sym (back (cell_pages s) i above))
-        ∙ (pages.nodes (i - cell_pages s) (left (cell_pages s) (node_pages layout_1 s) i node above)).long
+        ∙ (pages.nodes (i - cell_pages s) (left (cell_pages s) (node_pages layout_in_use s) i node above)).long
     by (inr above) (inr session) =
-        ap (λ (k : ℕ). length (page k)) (sym (back (cell_pages s + node_pages layout_1 s) i session))
-        ∙ (pages.sessions (i - (cell_pages s + node_pages layout_1 s)) (left (cell_pages s + node_pages layout_1 s) (session_pages layout_1 s) i lt session)).long
+        ap (λ (k : ℕ). length (page k)) (sym (back (cell_pages s + node_pages layout_in_use s) i session))
+        ∙ (pages.sessions (i - (cell_pages s + node_pages layout_in_use s)) (left (cell_pages s + node_pages layout_in_use s) (session_pages layout_in_use s) i lt session)).long
 
-pub joined_is_area : (s : Sizes) (r : Records) (page : ℕ → List ℕ) → FitRecords s r → ArePages s r page → SpellsArea layout_1 s (joined (area_pages layout_1 s) page) r
-joined_is_area s r page fit pages = area_of_pages s r fit (joined (area_pages layout_1 s) page) (length-joined (area_pages layout_1 s) page long) (record {
-  cells = λ i lt. subst (IsCellPage r i) (sym (at i (one (cell_pages s) (node_pages layout_1 s) (session_pages layout_1 s) i lt))) (pages.cells i lt);
-  nodes = λ i lt. subst (IsNodePage r i) (sym (at (cell_pages s + i) (two (cell_pages s) (node_pages layout_1 s) (session_pages layout_1 s) i lt))) (pages.nodes i lt);
-  sessions = λ i lt. subst (IsSessionPage r i) (sym (at (cell_pages s + node_pages layout_1 s + i) (three (cell_pages s + node_pages layout_1 s) (session_pages layout_1 s) i lt))) (pages.sessions i lt);
+pub joined_is_area : (s : Sizes) (r : Records) (page : ℕ → List ℕ) → FitRecords s r → ArePages s r page → SpellsArea layout_in_use s (joined (area_pages layout_in_use s) page) r
+joined_is_area s r page fit pages = area_of_pages s r fit (joined (area_pages layout_in_use s) page) (length-joined (area_pages layout_in_use s) page long) (record {
+  cells = λ i lt. subst (IsCellPage r i) (sym (at i (one (cell_pages s) (node_pages layout_in_use s) (session_pages layout_in_use s) i lt))) (pages.cells i lt);
+  nodes = λ i lt. subst (IsNodePage r i) (sym (at (cell_pages s + i) (two (cell_pages s) (node_pages layout_in_use s) (session_pages layout_in_use s) i lt))) (pages.nodes i lt);
+  sessions = λ i lt. subst (IsSessionPage r i) (sym (at (cell_pages s + node_pages layout_in_use s + i) (three (cell_pages s + node_pages layout_in_use s) (session_pages layout_in_use s) i lt))) (pages.sessions i lt);
 })
   where
-    long : (i : ℕ) → i < area_pages layout_1 s → length (page i) ≡ 4096
+    long : (i : ℕ) → i < area_pages layout_in_use s → length (page i) ≡ 4096
     long = page_long s r page pages
 
-    at : (i : ℕ) → i < area_pages layout_1 s → record_at 4096 (joined (area_pages layout_1 s) page) i ≡ page i
-    at i lt = joined_at (area_pages layout_1 s) page long i lt
+    at : (i : ℕ) → i < area_pages layout_in_use s → record_at 4096 (joined (area_pages layout_in_use s) page) i ≡ page i
+    at i lt = joined_at (area_pages layout_in_use s) page long i lt
 
     one : (a b c i : ℕ) → i < a → i < a + b + c
     one a b c i lt = omega arith

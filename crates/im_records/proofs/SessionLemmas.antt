@@ -3,11 +3,11 @@ use Rattle.std.proofs.Common.{◌≡◌, ℕ, ◌+◌, ◌-◌, ◌*◌, ◌%◌
 use Rattle.std.proofs.lemmas.List.{append_assoc, append-nil, length-append, length-replicate, take_at, drop_at, drop-drop, drop-replicate, take_all}
 use Rattle.byteorder.specs.Endian.{little_number}
 use Rattle.byteorder.specs.Numbers.{little_number-reads_back}
-use Rattle.im_types.specs.declared.TheConstants.{LAST}
+use Rattle.im_types.specs.declared.TheConstants.{LAST, WINDOW}
 use Rattle.im_types.specs.declared.operations.Kept.{Kept}
 use Rattle.im_types.specs.Contents.{Window}
 use Rattle.im_types.specs.Bytes.{zeros}
-use Rattle.im_types.specs.Layout.{layout_1}
+use Rattle.im_types.specs.Layout.{layout_in_use, session_record_bytes}
 use Rattle.im_types.specs.Records.{place_bytes, entry_at, places_from, session_bytes}
 use Rattle.im_formats.specs.Reading.{read_place}
 use Rattle.im_formats.proofs.Places.{read_place-spelled}
@@ -15,6 +15,13 @@ use Rattle.im_formats.proofs.Sessions.{places-piece, fits_at}
 use Rattle.im_records.specs.Entries.{SpellsSession}
 use Rattle.im_records.specs.Placed.{placed}
 use Rattle.im_records.proofs.Reading.{length-place, none_some, some_inj}
+
+-- the bytes of a session record behind its head, and behind its places
+abbrev pub behind_head : ℕ
+behind_head = session_record_bytes layout_in_use - 32
+
+abbrev behind_places : ℕ
+behind_places = behind_head - 32 * WINDOW
 
 -- one place more
 places-more : (n : ℕ) (w : Window) (start i : ℕ) → places_from n w start (replicate (suc i) 0) ≡ places_from n w start (replicate i 0) ++ place_bytes (entry_at n w (start + i))
@@ -50,28 +57,28 @@ placed_behind front part bytes after at many long is put =
     ∙ ap (drop (length part)) (drop_at front (zeros many) at long)
     ∙ drop-replicate (length part) many 0)
 
-pub place_more : (w : Window) (head before after part : List ℕ) (i : ℕ) → length head ≡ 32 → i < 16 → before ≡ head ++ places_from 16 w 0 (replicate i 0) ++ zeros (992 - 32 * i) → part ≡ place_bytes (entry_at 16 w i)
-    → after ≡ placed (32 + 32 * i) part before → after ≡ head ++ places_from 16 w 0 (replicate (i + 1) 0) ++ zeros (992 - 32 * (i + 1))
+pub place_more : (w : Window) (head before after part : List ℕ) (i : ℕ) → length head ≡ 32 → i < WINDOW → before ≡ head ++ places_from WINDOW w 0 (replicate i 0) ++ zeros (behind_head - 32 * i) → part ≡ place_bytes (entry_at WINDOW w i)
+    → after ≡ placed (32 + 32 * i) part before → after ≡ head ++ places_from WINDOW w 0 (replicate (i + 1) 0) ++ zeros (behind_head - 32 * (i + 1))
 place_more w head before after part i long lt is spelled put =
-    placed_behind front part before after (32 + 32 * i) (992 - 32 * i) front_long is put
+    placed_behind front part before after (32 + 32 * i) (behind_head - 32 * i) front_long is put
     ∙ ap (λ (k : ℕ). (front ++ part) ++ zeros k) (left part_long)
-    ∙ ap (λ (l : List ℕ). (front ++ l) ++ zeros (992 - 32 * (i + 1))) spelled
-    ∙ ap (λ (l : List ℕ). l ++ zeros (992 - 32 * (i + 1))) (append_assoc head (places_from 16 w 0 (replicate i 0)) (place_bytes (entry_at 16 w i)))
-    ∙ ap (λ (l : List ℕ). (head ++ l) ++ zeros (992 - 32 * (i + 1))) (ap (λ (k : ℕ). places_from 16 w 0 (replicate i 0) ++ place_bytes (entry_at 16 w k)) (sym (none_more i)) ∙ sym (places-more 16 w 0 i) ∙ ap (λ (k : ℕ). places_from 16 w 0 (replicate k 0)) (next i))
+    ∙ ap (λ (l : List ℕ). (front ++ l) ++ zeros (behind_head - 32 * (i + 1))) spelled
+    ∙ ap (λ (l : List ℕ). l ++ zeros (behind_head - 32 * (i + 1))) (append_assoc head (places_from WINDOW w 0 (replicate i 0)) (place_bytes (entry_at WINDOW w i)))
+    ∙ ap (λ (l : List ℕ). (head ++ l) ++ zeros (behind_head - 32 * (i + 1))) (ap (λ (k : ℕ). places_from WINDOW w 0 (replicate i 0) ++ place_bytes (entry_at WINDOW w k)) (sym (none_more i)) ∙ sym (places-more WINDOW w 0 i) ∙ ap (λ (k : ℕ). places_from WINDOW w 0 (replicate k 0)) (next i))
   where
     front : List ℕ
-    front = head ++ places_from 16 w 0 (replicate i 0)
+    front = head ++ places_from WINDOW w 0 (replicate i 0)
 
     front_long : length front ≡ 32 + 32 * i
-    front_long = length-append head (places_from 16 w 0 (replicate i 0)) ∙ both long (length-places 16 w 0 i)
+    front_long = length-append head (places_from WINDOW w 0 (replicate i 0)) ∙ both long (length-places WINDOW w 0 i)
       where
         both : {a b : ℕ} → a ≡ 32 → b ≡ 32 * i → a + b ≡ 32 + 32 * i
         both e f = omega arith
 
     part_long : length part ≡ 32
-    part_long = ap length spelled ∙ length-place (entry_at 16 w i)
+    part_long = ap length spelled ∙ length-place (entry_at WINDOW w i)
 
-    left : {a : ℕ} → a ≡ 32 → 992 - 32 * i - a ≡ 992 - 32 * (i + 1)
+    left : {a : ℕ} → a ≡ 32 → behind_head - 32 * i - a ≡ behind_head - 32 * (i + 1)
     left e = omega arith
 
     none_more : (k : ℕ) → 0 + k ≡ k
@@ -81,13 +88,13 @@ place_more w head before after part i long lt is spelled put =
     next k = omega arith
 
 -- reading
-place_of_session : (w : Window) (place : ℕ) → place < 16 → take 32 (drop (32 * place) (drop 32 (session_bytes layout_1 w))) ≡ place_bytes (entry_at 16 w place)
-place_of_session w place lt = places-piece 16 w (replicate 16 0) (zeros 480) 0 place lt ∙ ap (λ (k : ℕ). place_bytes (entry_at 16 w k)) (start place)
+place_of_session : (w : Window) (place : ℕ) → place < WINDOW → take 32 (drop (32 * place) (drop 32 (session_bytes layout_in_use w))) ≡ place_bytes (entry_at WINDOW w place)
+place_of_session w place lt = places-piece WINDOW w (replicate WINDOW 0) (zeros behind_places) 0 place lt ∙ ap (λ (k : ℕ). place_bytes (entry_at WINDOW w k)) (start place)
   where
     start : (k : ℕ) → 0 + k ≡ k
     start k = omega arith
 
-turn : (base past : ℕ) → past < 16 → ((base % 16 + past) % 16 + 16 - base % 16) % 16 ≡ past
+turn : (base past : ℕ) → past < WINDOW → ((base % WINDOW + past) % WINDOW + WINDOW - base % WINDOW) % WINDOW ≡ past
 turn base past lt = omega arith
 
 piece : (bytes : List ℕ) (place : ℕ) → slice_range bytes (32 + 32 * place) (64 + 32 * place) ≡ take 32 (drop (32 * place) (drop 32 bytes))
@@ -97,20 +104,20 @@ piece bytes place = ap (λ (k : ℕ). take k (drop (32 + 32 * place) bytes)) (si
     size p = omega arith
 
 -- so many numbers past the base stands the entry
-pub entry_is_read : (bytes : List ℕ) (w : Window) (base past : ℕ) → past < 16 → SpellsSession bytes w → base ≡ w.base
-    → read_place (slice_range bytes (32 + 32 * ((base % 16 + past) % 16)) (64 + 32 * ((base % 16 + past) % 16))) ≡ Some (slice_get w.kept past)
+pub entry_is_read : (bytes : List ℕ) (w : Window) (base past : ℕ) → past < WINDOW → SpellsSession bytes w → base ≡ w.base
+    → read_place (slice_range bytes (32 + 32 * ((base % WINDOW + past) % WINDOW)) (64 + 32 * ((base % WINDOW + past) % WINDOW))) ≡ Some (slice_get w.kept past)
 entry_is_read bytes w base past lt spells is =
     ap read_place
     (piece bytes place
     ∙ ap (λ (l : List ℕ). take 32 (drop (32 * place) (drop 32 l))) spells.is
-    ∙ place_of_session w place (small (base % 16 + past))
-    ∙ ap (λ (k : ℕ). place_bytes (slice_get w.kept k)) (ap (λ (b : ℕ). (place + 16 - b % 16) % 16) (sym is) ∙ turn base past lt))
+    ∙ place_of_session w place (small (base % WINDOW + past))
+    ∙ ap (λ (k : ℕ). place_bytes (slice_get w.kept k)) (ap (λ (b : ℕ). (place + WINDOW - b % WINDOW) % WINDOW) (sym is) ∙ turn base past lt))
     ∙ read_place-spelled (slice_get w.kept past) (fits_at w spells.fits past)
   where
     place : ℕ
-    place = (base % 16 + past) % 16
+    place = (base % WINDOW + past) % WINDOW
 
-    small : (k : ℕ) → k % 16 < 16
+    small : (k : ℕ) → k % WINDOW < WINDOW
     small k = omega arith
 
 pub base_is_read : (bytes : List ℕ) (w : Window) → SpellsSession bytes w → little_number 8 (take 8 bytes) ≡ w.base
@@ -121,7 +128,7 @@ base_is_read bytes w spells =
 pub count_is_read : (bytes : List ℕ) (w : Window) → SpellsSession bytes w → slice_index bytes 8 ≡ length w.kept
 count_is_read bytes w spells = ap (λ (l : List ℕ). slice_index l 8) spells.is
 
-pub length-session : (bytes : List ℕ) (w : Window) → SpellsSession bytes w → length bytes ≡ 1024
+pub length-session : (bytes : List ℕ) (w : Window) → SpellsSession bytes w → length bytes ≡ session_record_bytes layout_in_use
 length-session bytes w spells = ap length spells.is ∙ simp (length-append, length-place, length-replicate)
 
 -- lists of entries

@@ -4,7 +4,7 @@ use Rattle.std.proofs.lemmas.List.{ext_get_or}
 use Rattle.im_types.specs.declared.records.CellRecord.{CellRecord}
 use Rattle.im_types.specs.declared.records.NodeRecord.{NodeRecord}
 use Rattle.im_types.specs.Sizes.{AreLimits}
-use Rattle.im_types.specs.Layout.{Sizes, layout_1, node_count}
+use Rattle.im_types.specs.Layout.{Sizes, layout_in_use, node_count}
 use Rattle.im_types.specs.Records.{cell_bytes, node_bytes, FitsCell, FitsNode}
 use Rattle.im_types.specs.Pages.{Records, IsRow, SpellsArea}
 use Rattle.im_formats.specs.Reading.{read_cell, read_node}
@@ -24,9 +24,9 @@ one_cell cells nodes few_cells few_nodes a b fa fb e = some_inj a b (sym (read_c
 one_node : (nodes : ℕ) → nodes ≤ 2 ^ 32 → (a b : NodeRecord) → FitsNode nodes a → FitsNode nodes b → node_bytes a ≡ node_bytes b → a ≡ b
 one_node nodes few a b fa fb e = some_inj a b (sym (read_node-spelled nodes a few fa) ∙ ap read_node e ∙ read_node-spelled nodes b few fb)
 
-pub one_area : (s : Sizes) (area : List ℕ) (r q : Records) → AreLimits s.cells s.elements s.slots → SpellsArea layout_1 s area r → SpellsArea layout_1 s area q → r ≡ q
+pub one_area : (s : Sizes) (area : List ℕ) (r q : Records) → AreLimits s.cells s.elements s.slots → SpellsArea layout_in_use s area r → SpellsArea layout_in_use s area q → r ≡ q
 one_area s area r q limits spells spells' =
-    let cells : r.cells ≡ q.cells = one_row _ _ _ _ _ _ r.cells q.cells (one_cell s.cells (node_count layout_1 s) (omega (arith, limits.few_cells)) (omega (arith, limits.few_elements))) spells.cells spells'.cells in
-    let nodes : r.nodes ≡ q.nodes = one_row _ _ _ _ _ _ r.nodes q.nodes (one_node (node_count layout_1 s) (omega (arith, limits.few_elements))) spells.nodes spells'.nodes in
+    let cells : r.cells ≡ q.cells = one_row _ _ _ _ _ _ r.cells q.cells (one_cell s.cells (node_count layout_in_use s) (omega (arith, limits.few_cells)) (omega (arith, limits.few_elements))) spells.cells spells'.cells in
+    let nodes : r.nodes ≡ q.nodes = one_row _ _ _ _ _ _ r.nodes q.nodes (one_node (node_count layout_in_use s) (omega (arith, limits.few_elements))) spells.nodes spells'.nodes in
     let windows : r.windows ≡ q.windows = one_row _ _ _ _ _ _ r.windows q.windows session_bytes-one spells.sessions spells'.sessions in
     (λ i. record { cells = cells i; nodes = nodes i; windows = windows i })

@@ -3,7 +3,7 @@ use Rattle.std.specs.Prelude.{◌≡◌, ℕ, ◌≤◌, List, Some, slice_get}
 use Rattle.im_types.specs.declared.TheConstants.{WINDOW}
 use Rattle.im_types.specs.declared.operations.Kept.{Kept}
 use Rattle.im_types.specs.Contents.{Window}
-use Rattle.im_types.specs.Layout.{layout_1}
+use Rattle.im_types.specs.Layout.{layout_in_use}
 use Rattle.im_types.specs.Records.{session_bytes, FitsPlace, FitsWindow}
 use Rattle.im_records.specs.Rows.{Spells}
 
@@ -18,4 +18,4 @@ pub record AreEntries (count : ℕ) (entries : List Kept) : Type 0 where
 
 -- bytes spell the session record of a window that is within its bounds
 abbrev pub SpellsSession : List ℕ → Window → Type 0
-SpellsSession bytes w = Spells (session_bytes layout_1) (FitsWindow layout_1) bytes w
+SpellsSession bytes w = Spells (session_bytes layout_in_use) (FitsWindow layout_in_use) bytes w

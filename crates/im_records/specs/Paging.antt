@@ -3,7 +3,7 @@ use Rattle.std.specs.Prelude.{◌≡◌, ℕ, zero, suc, ◌+◌, ◌*◌, ◌<�
 use Rattle.im_types.specs.declared.TheConstants.{NONE}
 use Rattle.im_types.specs.Contents.{new_window}
 use Rattle.im_types.specs.Bytes.{zeros}
-use Rattle.im_types.specs.Layout.{Sizes, layout_1, page_bytes, cell_pages, node_pages, session_pages, node_count, record_at}
+use Rattle.im_types.specs.Layout.{Sizes, layout_in_use, page_bytes, cell_record_bytes, node_record_bytes, session_record_bytes, on_a_page, cell_pages, node_pages, session_pages, node_count, record_at}
 use Rattle.im_types.specs.declared.records.CellRecord.TheVariants.{Free as FreeCell}
 use Rattle.im_types.specs.declared.records.NodeRecord.TheVariants.{Free as FreeNode}
 use Rattle.im_types.specs.Records.{cell_bytes, node_bytes, session_bytes, FitsCell, FitsNode, FitsWindow}
@@ -19,32 +19,32 @@ pub record IsPageOf {X : Type 0} (size per : ℕ) (spelled : X → List ℕ) (ro
   pub long : length page ≡ page_bytes
   pub each : (k : ℕ) → k < per → record_at size page k ≡ bytes_or_zeros size spelled (slice_get row (per * i + k))
 
--- page i of the cells, which has 128 of them
+-- page i of the cells, with as many of them as a page has
 abbrev pub IsCellPage : Records → ℕ → List ℕ → Type 0
-IsCellPage r i page = IsPageOf 32 128 cell_bytes r.cells i page
+IsCellPage r i page = IsPageOf cell_record_bytes (on_a_page cell_record_bytes) cell_bytes r.cells i page
 
--- page i of the waiter nodes, which has 256 of them
+-- page i of the waiter nodes
 abbrev pub IsNodePage : Records → ℕ → List ℕ → Type 0
-IsNodePage r i page = IsPageOf 16 256 node_bytes r.nodes i page
+IsNodePage r i page = IsPageOf node_record_bytes (on_a_page node_record_bytes) node_bytes r.nodes i page
 
--- page i of the sessions, which has 4 of them
+-- page i of the sessions
 abbrev pub IsSessionPage : Records → ℕ → List ℕ → Type 0
-IsSessionPage r i page = IsPageOf 1024 4 (session_bytes layout_1) r.windows i page
+IsSessionPage r i page = IsPageOf (session_record_bytes layout_in_use) (on_a_page (session_record_bytes layout_in_use)) (session_bytes layout_in_use) r.windows i page
 
 -- these are the pages of an area, by their numbers: those of cells, of waiter nodes and of sessions
 pub record ArePages (s : Sizes) (r : Records) (page : ℕ → List ℕ) : Type 0 where
   pub cells : (i : ℕ) → i < cell_pages s → IsCellPage r i (page i)
-  pub nodes : (i : ℕ) → i < node_pages layout_1 s → IsNodePage r i (page (cell_pages s + i))
-  pub sessions : (i : ℕ) → i < session_pages layout_1 s → IsSessionPage r i (page (cell_pages s + node_pages layout_1 s + i))
+  pub nodes : (i : ℕ) → i < node_pages layout_in_use s → IsNodePage r i (page (cell_pages s + i))
+  pub sessions : (i : ℕ) → i < session_pages layout_in_use s → IsSessionPage r i (page (cell_pages s + node_pages layout_in_use s + i))
 
 -- there are as many records of each kind as there should be, each within its bounds
 pub record FitRecords (s : Sizes) (r : Records) : Type 0 where
   pub many_cells : length r.cells ≡ s.cells
-  pub cells : (i : ℕ) → i < s.cells → FitsCell s.cells (node_count layout_1 s) (slice_index_or r.cells i (FreeCell 0 NONE))
-  pub many_nodes : length r.nodes ≡ node_count layout_1 s
-  pub nodes : (i : ℕ) → i < node_count layout_1 s → FitsNode (node_count layout_1 s) (slice_index_or r.nodes i (FreeNode NONE))
+  pub cells : (i : ℕ) → i < s.cells → FitsCell s.cells (node_count layout_in_use s) (slice_index_or r.cells i (FreeCell 0 NONE))
+  pub many_nodes : length r.nodes ≡ node_count layout_in_use s
+  pub nodes : (i : ℕ) → i < node_count layout_in_use s → FitsNode (node_count layout_in_use s) (slice_index_or r.nodes i (FreeNode NONE))
   pub many_windows : length r.windows ≡ s.elements
-  pub windows : (i : ℕ) → i < s.elements → FitsWindow layout_1 (slice_index_or r.windows i new_window)
+  pub windows : (i : ℕ) → i < s.elements → FitsWindow layout_in_use (slice_index_or r.windows i new_window)
 
 -- the first n pages, one behind the other
 abbrev pub joined : ℕ → (ℕ → List ℕ) → List ℕ

@@ -2,7 +2,7 @@
 use Rattle.std.specs.Prelude.{◌≡◌, ℕ, ◌<◌, List, length, slice_index_or}
 use Rattle.im_types.specs.declared.TheConstants.{NONE}
 use Rattle.im_types.specs.Contents.{Window, new_window}
-use Rattle.im_types.specs.Layout.{layout_1, record_at}
+use Rattle.im_types.specs.Layout.{layout_in_use, cell_record_bytes, node_record_bytes, session_record_bytes, record_at}
 use Rattle.im_types.specs.declared.records.CellRecord.{CellRecord}
 use Rattle.im_types.specs.declared.records.CellRecord.TheVariants.{Free as FreeCell}
 use Rattle.im_types.specs.declared.records.NodeRecord.{NodeRecord}
@@ -22,24 +22,24 @@ pub record BeginWith {X : Type 0} (size : ℕ) (spelled : X → List ℕ) (Fits 
 
 -- bytes begin with so many cells, of so many cells and nodes
 abbrev pub BeginWithCells : ℕ → ℕ → ℕ → List ℕ → List CellRecord → Type 0
-BeginWithCells count cells nodes bytes row = BeginWith 32 cell_bytes (FitsCell cells nodes) (FreeCell 0 NONE) count bytes row
+BeginWithCells count cells nodes bytes row = BeginWith cell_record_bytes cell_bytes (FitsCell cells nodes) (FreeCell 0 NONE) count bytes row
 
 -- bytes begin with so many waiter nodes, of so many nodes
 abbrev pub BeginWithNodes : ℕ → ℕ → List ℕ → List NodeRecord → Type 0
-BeginWithNodes count nodes bytes row = BeginWith 16 node_bytes (FitsNode nodes) (FreeNode NONE) count bytes row
+BeginWithNodes count nodes bytes row = BeginWith node_record_bytes node_bytes (FitsNode nodes) (FreeNode NONE) count bytes row
 
 -- bytes begin with so many sessions
 abbrev pub BeginWithSessions : ℕ → List ℕ → List Window → Type 0
-BeginWithSessions count bytes row = BeginWith 1024 (session_bytes layout_1) (FitsWindow layout_1) new_window count bytes row
+BeginWithSessions count bytes row = BeginWith (session_record_bytes layout_in_use) (session_bytes layout_in_use) (FitsWindow layout_in_use) new_window count bytes row
 
 -- bytes are the records of so many cells, of so many nodes, and zeros
 abbrev pub AreCells : ℕ → ℕ → List ℕ → List CellRecord → Type 0
-AreCells cells nodes bytes row = IsRow 32 cell_bytes (FitsCell cells nodes) (FreeCell 0 NONE) cells bytes row
+AreCells cells nodes bytes row = IsRow cell_record_bytes cell_bytes (FitsCell cells nodes) (FreeCell 0 NONE) cells bytes row
 
 -- bytes are so many waiter nodes, and zeros
 abbrev pub AreNodes : ℕ → List ℕ → List NodeRecord → Type 0
-AreNodes nodes bytes row = IsRow 16 node_bytes (FitsNode nodes) (FreeNode NONE) nodes bytes row
+AreNodes nodes bytes row = IsRow node_record_bytes node_bytes (FitsNode nodes) (FreeNode NONE) nodes bytes row
 
 -- bytes are so many sessions, and zeros
 abbrev pub AreSessions : ℕ → List ℕ → List Window → Type 0
-AreSessions elements bytes row = IsRow 1024 (session_bytes layout_1) (FitsWindow layout_1) new_window elements bytes row
+AreSessions elements bytes row = IsRow (session_record_bytes layout_in_use) (session_bytes layout_in_use) (FitsWindow layout_in_use) new_window elements bytes row

@@ -2,16 +2,16 @@
 ghost use Rattle.std.specs.Prelude.{◌≡◌, ◌⊎◌, ◌*◌, List, length, IfOk, IfErr, IsErrOf};
 ghost use Rattle.im_types.specs.Contents.{Window};
 ghost use Rattle.im_types.specs.Layout as layout;
-ghost use Rattle.im_types.specs.Layout.{layout_1, sizes_of};
+ghost use Rattle.im_types.specs.Layout.{layout_in_use, sizes_of};
 ghost use Rattle.im_types.specs.declared.records.CellRecord.{CellRecord as CellRecordSpec};
 ghost use Rattle.im_types.specs.declared.records.NodeRecord.{NodeRecord as NodeRecordSpec};
 ghost use Rattle.im_types.specs.Pages.{Records, SpellsArea};
 ghost use Rattle.im_records.specs.Rows.{AreCells, AreNodes, AreSessions};
 
-use crate::layout::{cell_bytes, node_bytes, node_count};
 use crate::rows::{read_cells, read_nodes};
 use crate::session::read_sessions;
 use crate::window::WindowRecord;
+use im_types::layout::{cell_bytes, node_bytes, node_count};
 use im_types::{CellRecord, Limits, NodeRecord, Refusal};
 use std::alloc::Global;
 use std::marker::Model;
@@ -57,24 +57,24 @@ impl AreaRecords {
 
 fn cells_of(alloc: Global, limits: Limits, part: &[u8]) -> Result<Vec<CellRecord>, Refusal>
     requires { length part.now ≡ layout.page_bytes * layout.cell_pages (sizes_of limits) }
-    ensures found { IfOk result (λ row. AreCells limits.cells (layout.node_count layout_1 (sizes_of limits)) part.now row.items) }
-    ensures bad { IsErrOf result Refusal.BadPage → (row : List CellRecordSpec) → AreCells limits.cells (layout.node_count layout_1 (sizes_of limits)) part.now row → ⊥ }
+    ensures found { IfOk result (λ row. AreCells limits.cells (layout.node_count layout_in_use (sizes_of limits)) part.now row.items) }
+    ensures bad { IsErrOf result Refusal.BadPage → (row : List CellRecordSpec) → AreCells limits.cells (layout.node_count layout_in_use (sizes_of limits)) part.now row → ⊥ }
     ensures only { IfErr result (λ e. (e ≡ Refusal.BadPage) ⊎ (e ≡ Refusal.NoMemory)) }
 {
     read_cells(alloc, limits.cells, node_count(limits) as u32, part)
 }
 
 fn nodes_of(alloc: Global, limits: Limits, part: &[u8]) -> Result<Vec<NodeRecord>, Refusal>
-    requires { length part.now ≡ layout.page_bytes * layout.node_pages layout_1 (sizes_of limits) }
-    ensures found { IfOk result (λ row. AreNodes (layout.node_count layout_1 (sizes_of limits)) part.now row.items) }
-    ensures bad { IsErrOf result Refusal.BadPage → (row : List NodeRecordSpec) → AreNodes (layout.node_count layout_1 (sizes_of limits)) part.now row → ⊥ }
+    requires { length part.now ≡ layout.page_bytes * layout.node_pages layout_in_use (sizes_of limits) }
+    ensures found { IfOk result (λ row. AreNodes (layout.node_count layout_in_use (sizes_of limits)) part.now row.items) }
+    ensures bad { IsErrOf result Refusal.BadPage → (row : List NodeRecordSpec) → AreNodes (layout.node_count layout_in_use (sizes_of limits)) part.now row → ⊥ }
     ensures only { IfErr result (λ e. (e ≡ Refusal.BadPage) ⊎ (e ≡ Refusal.NoMemory)) }
 {
     read_nodes(alloc, node_count(limits) as u32, part)
 }
 
 fn windows_of(alloc: Global, limits: Limits, part: &[u8]) -> Result<Vec<WindowRecord>, Refusal>
-    requires { length part.now ≡ layout.page_bytes * layout.session_pages layout_1 (sizes_of limits) }
+    requires { length part.now ≡ layout.page_bytes * layout.session_pages layout_in_use (sizes_of limits) }
     ensures found { IfOk result (λ row. AreSessions limits.elements part.now row.items) }
     ensures bad { IsErrOf result Refusal.BadPage → (row : List Window) → AreSessions limits.elements part.now row → ⊥ }
     ensures only { IfErr result (λ e. (e ≡ Refusal.BadPage) ⊎ (e ≡ Refusal.NoMemory)) }
@@ -89,9 +89,9 @@ fn windows_of(alloc: Global, limits: Limits, part: &[u8]) -> Result<Vec<WindowRe
 /// The time is proportional to the bytes. Of which memory the records are isn't asked here: links may lead anywhere
 /// within their range.
 pub fn read_area(alloc: Global, area: &[u8], limits: Limits) -> Result<AreaRecords, Refusal>
-    requires { length area.now ≡ layout.area_bytes layout_1 (sizes_of limits) }
-    ensures found { IfOk result (λ r. SpellsArea layout_1 (sizes_of limits) area.now r) }
-    ensures bad { IsErrOf result Refusal.BadPage → (r : Records) → SpellsArea layout_1 (sizes_of limits) area.now r → ⊥ }
+    requires { length area.now ≡ layout.area_bytes layout_in_use (sizes_of limits) }
+    ensures found { IfOk result (λ r. SpellsArea layout_in_use (sizes_of limits) area.now r) }
+    ensures bad { IsErrOf result Refusal.BadPage → (r : Records) → SpellsArea layout_in_use (sizes_of limits) area.now r → ⊥ }
     ensures only { IfErr result (λ e. (e ≡ Refusal.BadPage) ⊎ (e ≡ Refusal.NoMemory)) }
 {
     let behind_cells = &area[cell_bytes(limits)..];

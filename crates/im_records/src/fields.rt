@@ -1,60 +1,10 @@
-// The codes and the numbers of an operation, an entry and a presence tag, and back.
+// The codes and the numbers of an entry, a kind and a presence tag, and back.
 ghost use Rattle.std.specs.Prelude.{◌≡◌};
-ghost use Rattle.im_types.specs.Agreement.{address_of};
-ghost use Rattle.im_types.specs.Bytes.{op_code, op_value, entry_code, entry_number, kind_code};
-ghost use Rattle.im_types.specs.Slot.{op_of};
+ghost use Rattle.im_types.specs.Bytes.{entry_code, entry_number, kind_code};
 ghost use Rattle.im_types.specs.Records.{tag_code, tag_first, tag_last, tag_value};
 ghost use Rattle.im_formats.specs.Reading.{entry_of, tag_of, kind_of};
 
-use im_types::{Entry, Kind, NONE, Op, PresenceTag, Reply};
-
-pub(crate) fn op_code(op: Op) -> u8
-    ensures { result ≡ op_code op }
-{
-    match op {
-        Op::Alloc(Kind::I, _) => 1,
-        Op::Alloc(Kind::M, _) => 2,
-        Op::Release(_) => 3,
-        Op::Fetch(_) => 4,
-        Op::Store(_, _) => 5,
-        Op::Take(_) => 6,
-        Op::Put(_, _) => 7,
-    }
-}
-
-// The address or length.
-pub(crate) fn address_of(op: Op) -> u32
-    ensures { result ≡ address_of op }
-{
-    match op {
-        Op::Alloc(_, n) => n,
-        Op::Release(a) | Op::Fetch(a) | Op::Store(a, _) | Op::Take(a) | Op::Put(a, _) => a,
-    }
-}
-
-pub(crate) fn op_value(op: Op) -> u64
-    ensures { result ≡ op_value op }
-{
-    match op {
-        Op::Store(_, v) | Op::Put(_, v) => v,
-        Op::Alloc(_, _) | Op::Release(_) | Op::Fetch(_) | Op::Take(_) => 0,
-    }
-}
-
-pub(crate) fn op_of(code: u8, address: u32, value: u64) -> Option<Op>
-    ensures { result ≡ op_of code address value }
-{
-    match code {
-        1 => Some(Op::Alloc(Kind::I, address)),
-        2 => Some(Op::Alloc(Kind::M, address)),
-        3 => Some(Op::Release(address)),
-        4 => Some(Op::Fetch(address)),
-        5 => Some(Op::Store(address, value)),
-        6 => Some(Op::Take(address)),
-        7 => Some(Op::Put(address, value)),
-        _ => None,
-    }
-}
+use im_types::{Entry, Kind, NONE, PresenceTag, Reply};
 
 pub(crate) fn entry_code(entry: Entry) -> u8
     ensures { result ≡ entry_code entry }

@@ -5,25 +5,35 @@
 //! the layer above.
 #![tactic(auto)]
 
+// A whole area, read at once.
 mod area;
+// Whether a record is within its bounds.
 mod bounds;
+// Codes of entries, kinds and presence tags.
 mod fields;
+// What an area's bytes say, as laws.
 mod laws;
-mod layout;
+// A page, record by record.
 mod page;
+// Bytes at a place among others.
 mod put;
+// One cell, node or place, read.
 mod read;
+// The rows of cells and of nodes, read.
 mod rows;
+// A session record, spelled and read, and the row of them.
 mod session;
+// One cell, node or place, spelled.
 mod spell;
+// A window of kept entries, as a session record has it.
 mod window;
 
 pub use area::{AreaRecords, read_area};
-pub use laws::{areas_spell_one_list_of_records, joined_pages_are_an_area, pages_are_an_area};
-pub use layout::{
+pub use im_types::layout::{
     CELLS_ON_A_PAGE, NODES_ON_A_PAGE, PAGE, SESSIONS_ON_A_PAGE, area_pages, cell_pages, node_count,
     node_pages, session_pages,
 };
+pub use laws::{areas_spell_one_list_of_records, joined_pages_are_an_area, pages_are_an_area};
 pub use page::{put_cell, put_node, put_session};
 pub use read::{read_cell, read_node, read_place};
 pub use session::{read_session, spell_session};

@@ -4,9 +4,11 @@ ghost use Rattle.im_types.specs.Bytes.{same_bytes};
 ghost use Rattle.im_types.specs.Records.{node_bytes};
 ghost use Rattle.im_formats.specs.Reading.{read_cell, read_node, read_place, cell_in, node_in, place_in, cell_if, place_if, kept_of, block_cell};
 
-use crate::fields::{entry_of, kind_of, op_of, tag_of};
+use crate::fields::{entry_of, kind_of, tag_of};
 use crate::spell::{spell_cell, spell_node, spell_place};
 use byteorder::{ByteOrder, LittleEndian};
+use im_types::codes::op_of;
+use im_types::layout::{CELL_RECORD, NODE_RECORD, PLACE};
 use im_types::{Block, CellRecord, Entry, Kept, Kind, NodeRecord, Op, PresenceTag, Waiter};
 
 fn block_cell(
@@ -27,7 +29,7 @@ fn block_cell(
 
 // The record that the fields stand for, whatever the other bytes are.
 #[tactic(auto, unfolding(im_formats::specs::Reading::cell_in))]
-fn cell_in(bytes: &[u8; 32]) -> Option<CellRecord>
+fn cell_in(bytes: &[u8; CELL_RECORD]) -> Option<CellRecord>
     ensures { result ≡ cell_in bytes.now }
 {
     let base = LittleEndian::read_u32(&bytes[4..8]);
@@ -49,7 +51,7 @@ fn cell_in(bytes: &[u8; 32]) -> Option<CellRecord>
     )
 }
 
-fn cell_if(bytes: &[u8; 32], cell: CellRecord) -> Option<CellRecord>
+fn cell_if(bytes: &[u8; CELL_RECORD], cell: CellRecord) -> Option<CellRecord>
     ensures { result ≡ cell_if bytes.now cell }
 {
     if *bytes == spell_cell(&cell) {
@@ -63,14 +65,14 @@ fn cell_if(bytes: &[u8; 32], cell: CellRecord) -> Option<CellRecord>
 pub fn read_cell(bytes: &[u8]) -> Option<CellRecord>
     ensures { result ≡ read_cell bytes.now }
 {
-    let Some(bytes) = bytes.as_array::<32>() else {
+    let Some(bytes) = bytes.as_array::<CELL_RECORD>() else {
         return None;
     };
     cell_if(bytes, cell_in(bytes)?)
 }
 
 #[tactic(auto, unfolding(im_formats::specs::Reading::node_in))]
-fn node_in(bytes: &[u8; 16]) -> NodeRecord
+fn node_in(bytes: &[u8; NODE_RECORD]) -> NodeRecord
     ensures { result ≡ node_in bytes.now }
 {
     let next = LittleEndian::read_u32(&bytes[0..4]);
@@ -85,7 +87,7 @@ fn node_in(bytes: &[u8; 16]) -> NodeRecord
     }
 }
 
-fn node_if(bytes: &[u8; 16], node: NodeRecord) -> Option<NodeRecord>
+fn node_if(bytes: &[u8; NODE_RECORD], node: NodeRecord) -> Option<NodeRecord>
     ensures { result ≡ if same_bytes bytes.now (node_bytes node) then Some node else None }
 {
     if *bytes == spell_node(&node) {
@@ -99,7 +101,7 @@ fn node_if(bytes: &[u8; 16], node: NodeRecord) -> Option<NodeRecord>
 pub fn read_node(bytes: &[u8]) -> Option<NodeRecord>
     ensures { result ≡ read_node bytes.now }
 {
-    let Some(bytes) = bytes.as_array::<16>() else {
+    let Some(bytes) = bytes.as_array::<NODE_RECORD>() else {
         return None;
     };
     node_if(bytes, node_in(bytes))
@@ -114,7 +116,7 @@ fn kept_of(op: Option<Op>, entry: Option<Entry>) -> Option<Option<Kept>>
 }
 
 #[tactic(auto, unfolding(im_formats::specs::Reading::place_in))]
-fn place_in(bytes: &[u8; 32]) -> Option<Option<Kept>>
+fn place_in(bytes: &[u8; PLACE]) -> Option<Option<Kept>>
     ensures { result ≡ place_in bytes.now }
 {
     if bytes[0] == 0 {
@@ -126,7 +128,7 @@ fn place_in(bytes: &[u8; 32]) -> Option<Option<Kept>>
     kept_of(op_of(bytes[0], address, value), entry_of(bytes[2], number))
 }
 
-fn place_if(bytes: &[u8; 32], place: Option<Kept>) -> Option<Option<Kept>>
+fn place_if(bytes: &[u8; PLACE], place: Option<Kept>) -> Option<Option<Kept>>
     ensures { result ≡ place_if bytes.now place }
 {
     if *bytes == spell_place(place) {
@@ -140,7 +142,7 @@ fn place_if(bytes: &[u8; 32], place: Option<Kept>) -> Option<Option<Kept>>
 pub fn read_place(bytes: &[u8]) -> Option<Option<Kept>>
     ensures { result ≡ read_place bytes.now }
 {
-    let Some(bytes) = bytes.as_array::<32>() else {
+    let Some(bytes) = bytes.as_array::<PLACE>() else {
         return None;
     };
     place_if(bytes, place_in(bytes)?)

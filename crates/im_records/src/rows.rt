@@ -7,6 +7,7 @@ ghost use Rattle.im_records.specs.Rows.{Spells, BeginWithCells, BeginWithNodes, 
 
 use crate::bounds::{are_zero, fits_cell, fits_node};
 use crate::read::{read_cell, read_node};
+use im_types::layout::{CELL_RECORD, NODE_RECORD};
 use im_types::{CellRecord, NodeRecord, Refusal};
 use std::alloc::Global;
 
@@ -29,7 +30,7 @@ fn first_cells(
     nodes: u32,
     bytes: &[u8],
 ) -> Result<Vec<CellRecord>, Refusal>
-    requires { 32 * cells ≤ length bytes.now }
+    requires { CELL_RECORD * cells ≤ length bytes.now }
     ensures found { IfOk result (λ row. BeginWithCells cells cells nodes bytes.now row.items) }
     ensures bad { IsErrOf result Refusal.BadPage → (row : List CellRecordSpec) → BeginWithCells cells cells nodes bytes.now row → ⊥ }
     ensures only { IfErr result (λ e. (e ≡ Refusal.BadPage) ⊎ (e ≡ Refusal.NoMemory)) }
@@ -38,7 +39,11 @@ fn first_cells(
         return Err(Refusal::NoMemory);
     };
     for i in 0..cells as usize {
-        let Some(cell) = cell_within(cells, nodes, &bytes[32 * i..32 * i + 32]) else {
+        let Some(cell) = cell_within(
+            cells,
+            nodes,
+            &bytes[CELL_RECORD * i..CELL_RECORD * i + CELL_RECORD],
+        ) else {
             return Err(Refusal::BadPage);
         };
         if let Err(_) = row.push(cell) {
@@ -56,12 +61,12 @@ pub(crate) fn read_cells(
     nodes: u32,
     part: &[u8],
 ) -> Result<Vec<CellRecord>, Refusal>
-    requires { 32 * cells ≤ length part.now }
+    requires { CELL_RECORD * cells ≤ length part.now }
     ensures found { IfOk result (λ row. AreCells cells nodes part.now row.items) }
     ensures bad { IsErrOf result Refusal.BadPage → (row : List CellRecordSpec) → AreCells cells nodes part.now row → ⊥ }
     ensures only { IfErr result (λ e. (e ≡ Refusal.BadPage) ⊎ (e ≡ Refusal.NoMemory)) }
 {
-    if !are_zero(&part[32 * cells as usize..]) {
+    if !are_zero(&part[CELL_RECORD * cells as usize..]) {
         return Err(Refusal::BadPage);
     }
     first_cells(alloc, cells, nodes, part)
@@ -81,7 +86,7 @@ fn node_within(nodes: u32, bytes: &[u8]) -> Option<NodeRecord>
 }
 
 fn first_nodes(alloc: Global, nodes: u32, bytes: &[u8]) -> Result<Vec<NodeRecord>, Refusal>
-    requires { 16 * nodes ≤ length bytes.now }
+    requires { NODE_RECORD * nodes ≤ length bytes.now }
     ensures found { IfOk result (λ row. BeginWithNodes nodes nodes bytes.now row.items) }
     ensures bad { IsErrOf result Refusal.BadPage → (row : List NodeRecordSpec) → BeginWithNodes nodes nodes bytes.now row → ⊥ }
     ensures only { IfErr result (λ e. (e ≡ Refusal.BadPage) ⊎ (e ≡ Refusal.NoMemory)) }
@@ -90,7 +95,10 @@ fn first_nodes(alloc: Global, nodes: u32, bytes: &[u8]) -> Result<Vec<NodeRecord
         return Err(Refusal::NoMemory);
     };
     for i in 0..nodes as usize {
-        let Some(node) = node_within(nodes, &bytes[16 * i..16 * i + 16]) else {
+        let Some(node) = node_within(
+            nodes,
+            &bytes[NODE_RECORD * i..NODE_RECORD * i + NODE_RECORD],
+        ) else {
             return Err(Refusal::BadPage);
         };
         if let Err(_) = row.push(node) {
@@ -103,12 +111,12 @@ fn first_nodes(alloc: Global, nodes: u32, bytes: &[u8]) -> Result<Vec<NodeRecord
 /// The waiter nodes in their part of an area. `BadPage` where a node isn't spelled as it should be or its link leads
 /// nowhere, or where a byte behind the nodes isn't zero.
 pub(crate) fn read_nodes(alloc: Global, nodes: u32, part: &[u8]) -> Result<Vec<NodeRecord>, Refusal>
-    requires { 16 * nodes ≤ length part.now }
+    requires { NODE_RECORD * nodes ≤ length part.now }
     ensures found { IfOk result (λ row. AreNodes nodes part.now row.items) }
     ensures bad { IsErrOf result Refusal.BadPage → (row : List NodeRecordSpec) → AreNodes nodes part.now row → ⊥ }
     ensures only { IfErr result (λ e. (e ≡ Refusal.BadPage) ⊎ (e ≡ Refusal.NoMemory)) }
 {
-    if !are_zero(&part[16 * nodes as usize..]) {
+    if !are_zero(&part[NODE_RECORD * nodes as usize..]) {
         return Err(Refusal::BadPage);
     }
     first_nodes(alloc, nodes, part)

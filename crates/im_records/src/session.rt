@@ -3,7 +3,7 @@ ghost use Rattle.std.specs.Prelude.{◌≡◌, ◌↔◌, ◌⊎◌, ◌<◌, �
 ghost use Rattle.im_types.specs.Contents.{Window};
 ghost use Rattle.byteorder.specs.Endian.{little_bytes};
 ghost use Rattle.im_types.specs.Bytes.{zeros};
-ghost use Rattle.im_types.specs.Layout.{layout_1};
+ghost use Rattle.im_types.specs.Layout.{layout_in_use};
 ghost use Rattle.im_types.specs.Records.{session_bytes, FitsWindow};
 ghost use Rattle.im_records.specs.Rows.{Spells, BeginWithSessions, AreSessions};
 ghost use Rattle.im_records.specs.Entries.{SpellsSession};
@@ -14,14 +14,15 @@ use crate::read::read_place;
 use crate::spell::spell_place;
 use crate::window::{PLACES, WindowRecord};
 use byteorder::{ByteOrder, LittleEndian};
+use im_types::layout::{PLACE, SESSION_RECORD};
 use im_types::{Kept, LAST, Refusal, WINDOW};
 use std::alloc::Global;
 
 // What stands before the places of a session record.
-fn spell_head(window: &WindowRecord) -> [u8; 32]
+fn spell_head(window: &WindowRecord) -> [u8; PLACE]
     ensures { result ≡ little_bytes 8 window.now.base ++ length window.now.kept ∷ zeros 23 }
 {
-    let mut bytes = [0; 32];
+    let mut bytes = [0; PLACE];
     LittleEndian::write_u64(&mut bytes[0..8], window.base());
     bytes[8] = window.kept().len() as u8;
     bytes
@@ -29,15 +30,15 @@ fn spell_head(window: &WindowRecord) -> [u8; 32]
 
 /// The bytes of a session record: the base, how many entries there are, and each entry at the place that its number,
 /// divided by [`WINDOW`](im_types::WINDOW), leaves.
-pub fn spell_session(window: &WindowRecord) -> [u8; 1024]
-    ensures { result ≡ session_bytes layout_1 window.now }
+pub fn spell_session(window: &WindowRecord) -> [u8; SESSION_RECORD]
+    ensures { result ≡ session_bytes layout_in_use window.now }
 {
-    let mut bytes = [0; 1024];
+    let mut bytes = [0; SESSION_RECORD];
     put(&mut bytes, 0, &spell_head(window));
     for place in 0..PLACES {
         put(
             &mut bytes,
-            32 + 32 * place,
+            PLACE + PLACE * place,
             &spell_place(window.entry_at(place)),
         );
     }
@@ -46,12 +47,12 @@ pub fn spell_session(window: &WindowRecord) -> [u8; 1024]
 
 // The entry that stands so many numbers past the base.
 fn entry_past(bytes: &[u8], base: u64, past: usize) -> Option<Kept>
-    requires length { length bytes.now ≡ 1024 }
+    requires length { length bytes.now ≡ SESSION_RECORD }
     requires few { past < WINDOW }
     ensures { (w : Window) → SpellsSession bytes.now w → base ≡ w.base → result ≡ slice_get w.kept past }
 {
     let place = ((base % WINDOW) as usize + past) % PLACES;
-    match read_place(&bytes[32 + 32 * place..64 + 32 * place]) {
+    match read_place(&bytes[PLACE + PLACE * place..2 * PLACE + PLACE * place]) {
         Some(entry) => entry,
         None => None,
     }
@@ -59,7 +60,7 @@ fn entry_past(bytes: &[u8], base: u64, past: usize) -> Option<Kept>
 
 // The window that the fields stand for, whatever the other bytes are.
 fn window_in(bytes: &[u8]) -> Option<WindowRecord>
-    requires { length bytes.now ≡ 1024 }
+    requires { length bytes.now ≡ SESSION_RECORD }
     ensures { (w : Window) → SpellsSession bytes.now w → result ≡ Some w }
 {
     let base = LittleEndian::read_u64(&bytes[0..8]);
@@ -76,7 +77,7 @@ fn window_in(bytes: &[u8]) -> Option<WindowRecord>
 
 // Whether a window's numbers are in their ranges.
 fn fits_window(window: &WindowRecord) -> bool
-    ensures { IsTrue result ↔ FitsWindow layout_1 window.now }
+    ensures { IsTrue result ↔ FitsWindow layout_in_use window.now }
 {
     let count = window.kept().len() as u64;
     1 <= window.base() && window.base() <= LAST + 1 && window.base() + count <= LAST + 1
@@ -88,7 +89,7 @@ pub fn read_session(bytes: &[u8]) -> Option<WindowRecord>
     ensures found { IfSome result (λ w. SpellsSession bytes.now w) }
     ensures only { (w : Window) → SpellsSession bytes.now w → result ≡ Some w }
 {
-    if bytes.len() != 1024 {
+    if bytes.len() != SESSION_RECORD {
         return None;
     }
     let window = window_in(bytes)?;
@@ -100,7 +101,7 @@ pub fn read_session(bytes: &[u8]) -> Option<WindowRecord>
 }
 
 fn first_sessions(alloc: Global, elements: u16, bytes: &[u8]) -> Result<Vec<WindowRecord>, Refusal>
-    requires { 1024 * elements ≤ length bytes.now }
+    requires { SESSION_RECORD * elements ≤ length bytes.now }
     ensures found { IfOk result (λ row. BeginWithSessions elements bytes.now row.items) }
     ensures bad { IsErrOf result Refusal.BadPage → (row : List Window) → BeginWithSessions elements bytes.now row → ⊥ }
     ensures only { IfErr result (λ e. (e ≡ Refusal.BadPage) ⊎ (e ≡ Refusal.NoMemory)) }
@@ -109,7 +110,9 @@ fn first_sessions(alloc: Global, elements: u16, bytes: &[u8]) -> Result<Vec<Wind
         return Err(Refusal::NoMemory);
     };
     for i in 0..elements as usize {
-        let Some(window) = read_session(&bytes[1024 * i..1024 * i + 1024]) else {
+        let Some(window) = read_session(
+            &bytes[SESSION_RECORD * i..SESSION_RECORD * i + SESSION_RECORD],
+        ) else {
             return Err(Refusal::BadPage);
         };
         if let Err(_) = row.push(window) {
@@ -126,12 +129,12 @@ pub(crate) fn read_sessions(
     elements: u16,
     part: &[u8],
 ) -> Result<Vec<WindowRecord>, Refusal>
-    requires { 1024 * elements ≤ length part.now }
+    requires { SESSION_RECORD * elements ≤ length part.now }
     ensures found { IfOk result (λ row. AreSessions elements part.now row.items) }
     ensures bad { IsErrOf result Refusal.BadPage → (row : List Window) → AreSessions elements part.now row → ⊥ }
     ensures only { IfErr result (λ e. (e ≡ Refusal.BadPage) ⊎ (e ≡ Refusal.NoMemory)) }
 {
-    if !are_zero(&part[1024 * elements as usize..]) {
+    if !are_zero(&part[SESSION_RECORD * elements as usize..]) {
         return Err(Refusal::BadPage);
     }
     first_sessions(alloc, elements, part)

@@ -2,18 +2,17 @@
 ghost use Rattle.std.specs.Prelude.{◌≡◌};
 ghost use Rattle.im_types.specs.Records.{cell_bytes, node_bytes, place_bytes};
 
-use crate::fields::{
-    address_of, entry_code, entry_number, kind_code, op_code, op_value, tag_code, tag_ends,
-    tag_value,
-};
+use crate::fields::{entry_code, entry_number, kind_code, tag_code, tag_ends, tag_value};
 use byteorder::{ByteOrder, LittleEndian};
+use im_types::codes::{address_of, op_code, op_value};
+use im_types::layout::{CELL_RECORD, NODE_RECORD, PLACE};
 use im_types::{CellRecord, Kept, NodeRecord};
 
 /// The bytes of a cell.
-pub fn spell_cell(cell: &CellRecord) -> [u8; 32]
+pub fn spell_cell(cell: &CellRecord) -> [u8; CELL_RECORD]
     ensures { result ≡ cell_bytes cell.now }
 {
-    let mut bytes = [0; 32];
+    let mut bytes = [0; CELL_RECORD];
     match *cell {
         CellRecord::Free { hole, next } => {
             LittleEndian::write_u32(&mut bytes[4..8], hole);
@@ -35,10 +34,10 @@ pub fn spell_cell(cell: &CellRecord) -> [u8; 32]
 }
 
 /// The bytes of a waiter node.
-pub fn spell_node(node: &NodeRecord) -> [u8; 16]
+pub fn spell_node(node: &NodeRecord) -> [u8; NODE_RECORD]
     ensures { result ≡ node_bytes node.now }
 {
-    let mut bytes = [0; 16];
+    let mut bytes = [0; NODE_RECORD];
     match *node {
         NodeRecord::Free { next } => LittleEndian::write_u32(&mut bytes[0..4], next),
         NodeRecord::Listed { next, waiter } => {
@@ -52,10 +51,10 @@ pub fn spell_node(node: &NodeRecord) -> [u8; 16]
 }
 
 /// The bytes of a place of a session record: of a kept entry, or of none.
-pub fn spell_place(place: Option<Kept>) -> [u8; 32]
+pub fn spell_place(place: Option<Kept>) -> [u8; PLACE]
     ensures { result ≡ place_bytes place }
 {
-    let mut bytes = [0; 32];
+    let mut bytes = [0; PLACE];
     if let Some(kept) = place {
         bytes[0] = op_code(kept.op);
         bytes[2] = entry_code(kept.entry);

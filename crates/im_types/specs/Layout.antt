@@ -1,6 +1,6 @@
 -- Where things stand in an image. (Own.)
 use Rattle.std.specs.Prelude.{ℕ, ◌+◌, ◌*◌, ◌/◌, ◌-◌, List, take, drop, Bool, ◌&&◌, nat_le, slice_range}
-use Rattle.im_types.specs.declared.TheConstants.{WINDOW, MAX_CELLS, MAX_ELEMENTS, MIN_SLOTS, MAX_SLOTS}
+use Rattle.im_types.specs.declared.TheConstants.{MAX_ELEMENTS, MIN_SLOTS, MAX_SLOTS}
 use Rattle.im_types.specs.declared.sizes.Limits.{Limits}
 use Rattle.im_types.specs.Journal.{Ring}
 
@@ -12,7 +12,11 @@ pub record Layout : Type 0 where
 
 -- the first version of the layout
 abbrev pub layout_1 : Layout
-layout_1 = record { version = 1; window = WINDOW; most_cells = MAX_CELLS }
+layout_1 = record { version = 1; window = 16; most_cells = 65536 }
+
+-- the layout in use: that of each image that is made, read and written
+abbrev pub layout_in_use : Layout
+layout_in_use = layout_1
 
 -- how many cells, elements and journal slots an image has
 pub record Sizes : Type 0 where
@@ -48,9 +52,13 @@ session_record_bytes l = 64 * l.window
 abbrev pub node_count : Layout → Sizes → ℕ
 node_count l s = l.window * s.elements
 
--- the pages for so many records of a size; no record crosses a page
+-- the records of a size that stand on a page; no record crosses a page
+abbrev pub on_a_page : ℕ → ℕ
+on_a_page size = page_bytes / size
+
+-- the pages for so many records of a size
 abbrev pub pages_for : ℕ → ℕ → ℕ
-pages_for size count = (count + page_bytes / size - 1) / (page_bytes / size)
+pages_for size count = (count + on_a_page size - 1) / on_a_page size
 
 -- the pages of cells; an area has these first, then those of nodes, then those of sessions
 abbrev pub cell_pages : Sizes → ℕ

@@ -1,11 +1,11 @@
 -- What an image means: the memory of the area in force, after the run of commands in the journal. (Own.)
-use Rattle.std.specs.Prelude.{◌≡◌, ℕ, ◌+◌, ◌⊎◌, List, [], ◌∷◌, length, Option, None, Some, Result, Ok, Err, MatchOption, if◌then◌else◌}
+use Rattle.std.specs.Prelude.{◌≡◌, ℕ, ◌+◌, ◌≤◌, ◌⊎◌, List, [], ◌∷◌, length, Option, None, Some, Result, Ok, Err, MatchOption, if◌then◌else◌}
 use Rattle.im_types.specs.declared.commands.Command.{Command}
 use Rattle.im_types.specs.declared.refusals.Refusal.{Refusal}
 use Rattle.im_types.specs.declared.refusals.Refusal.TheVariants.{BadPage, BadRecord}
 use Rattle.im_types.specs.Contents.{Contents}
 use Rattle.im_types.specs.Step.{step, is_accepted}
-use Rattle.im_types.specs.Layout.{Layout, area_of, ring_of}
+use Rattle.im_types.specs.Layout.{Layout, layout_in_use, area_of, ring_of}
 use Rattle.im_types.specs.Header.{Header, header_of, header_fault}
 use Rattle.im_types.specs.Journal.{Tail, tail}
 use Rattle.im_types.specs.Pages.{Shows}
@@ -45,6 +45,6 @@ Reads l file outcome = MatchOption (header_fault l file)
     (((m : Contents) × IsShown l file m × (outcome ≡ read_journal l file m)) ⊎ (((m : Contents) → IsShown l file m → ⊥) × (outcome ≡ Err BadPage)))
     (λ fault. outcome ≡ Err fault)
 
--- an image means a memory and a count of commands
-abbrev pub Means : Layout → List ℕ → Contents → ℕ → Type 0
-Means l file m count = (room : ℕ) × Reads l file (Ok (record { contents = m; count = count; room = room }))
+-- an image of the layout in use means this memory after so many commands, with room for so many more at the least
+abbrev pub Means : Contents → ℕ → ℕ → List ℕ → Type 0
+Means m count room file = (there : ℕ) × (room ≤ there) × Reads layout_in_use file (Ok (record { contents = m; count = count; room = there }))

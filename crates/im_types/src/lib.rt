@@ -1,8 +1,11 @@
 //! The values that every crate of the memory speaks of, and, in `specs/`, what they mean: a memory of cells with
 //! presence tags and windows of kept replies, one command on it, a list of commands, and the bytes of an image.
+//! [`layout`] says where things stand in an image, [`codes`] how an operation is spelled there.
 #![tactic(auto)]
 
+pub mod codes;
 mod commands;
+pub mod layout;
 mod operations;
 mod records;
 mod refusals;

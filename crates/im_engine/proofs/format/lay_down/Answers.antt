@@ -1,5 +1,5 @@
 use Rattle.std.proofs.Common.{rules, ◌≡◌, ◌∷◌, List, ℕ, length, drop, sym, ◌∙◌, ap}
-use Rattle.im_types.specs.Layout.{layout_1, image_length}
+use Rattle.im_types.specs.Layout.{layout_in_use, image_length}
 use Rattle.im_disk.specs.Moment.{Moment}
 use Rattle.im_types.specs.Layout.{sizes_of}
 use Rattle.im_engine.proofs.Making.{length_new_image}
@@ -7,7 +7,7 @@ use Rattle.im_engine.proofs.format.lay_down.Goals as goal
 
 pub write_image-requires-clause-size : goal.write_image-requires-clause-size
 write_image-requires-clause-size g c = λ h.
-    let size : length c.deref.result.now ≡ image_length layout_1 (sizes_of c.args.limits) = ap (λ (l : List ℕ). length l) (c.deref.ensures.value ∙ c.in-Ok-new_image.ensures.image) ∙ length_new_image (sizes_of c.args.limits) in
+    let size : length c.deref.result.now ≡ image_length layout_in_use (sizes_of c.args.limits) = ap (λ (l : List ℕ). length l) (c.deref.ensures.value ∙ c.in-Ok-new_image.ensures.image) ∙ length_new_image (sizes_of c.args.limits) in
     let tested : c.in-Ok.length ≡ c.image_length.result = search rules in
     size ∙ sym c.image_length.ensures.length ∙ sym tested ∙ c.in-Ok.ensures.len h ∙ sym (ap (λ (m : Moment). length m.bytes) (c.len.ensures.same h).0)
 

@@ -1,5 +1,5 @@
 use Rattle.std.proofs.Common.{Ok, ◌≡◌, inl, inr, ⊎_elim}
-use Rattle.im_types.specs.Layout.{layout_1}
+use Rattle.im_types.specs.Layout.{layout_in_use}
 use Rattle.im_types.specs.Header.{header_of}
 use Rattle.im_types.specs.Meaning.{Reads}
 use Rattle.im_image.specs.Headers.{seen}
@@ -38,5 +38,5 @@ returns-in-Ok-clause-found g c = λ h.
     let synced = c.sync.new.self in
     let sure = (c.in_default.ensures.tick (c.read_image.ensures.honest h)).now in
     settled (g.D.Disk.now c.args.disk.now) (g.D.Disk.now synced) (g.D.Disk.now c.read_image.new.disk)
-    (λ file. (seen i.header ≡ header_of file) × Reads layout_1 file (Ok (record { contents = i.memory; count = i.journal.count; room = i.journal.room })))
+    (λ file. (seen i.header ≡ header_of file) × Reads layout_in_use file (Ok (record { contents = i.memory; count = i.journal.count; room = i.journal.room })))
     sure (c.read_image.ensures.reads h).now (c.in-Ok.ensures.header h, c.in-Ok.ensures.means h)

@@ -1,7 +1,7 @@
 use Rattle.std.proofs.Common.{◌≡◌, subst, arith}
 use Rattle.im_types.specs.declared.TheConstants.{NONE}
 use Rattle.im_types.specs.declared.records.NodeRecord.TheVariants.{Free as FreeNode}
-use Rattle.im_types.specs.Layout.{layout_1, node_count, sizes_of}
+use Rattle.im_types.specs.Layout.{layout_in_use, node_count, sizes_of}
 use Rattle.im_types.specs.Records.{node_bytes, FitsNode}
 use Rattle.im_image.proofs.Encoding.{Spelled, spelled-all}
 use Rattle.im_image.proofs.pages.encode_nodes.Goals as goal
@@ -9,5 +9,5 @@ use Rattle.im_image.proofs.pages.encode_nodes.Goals as goal
 pub returns : goal.returns
 returns c =
     let end : c.loop-place.place ≡ 256 = omega arith in
-    spelled-all 16 256 node_bytes (FitsNode (node_count layout_1 (sizes_of c.args.limits))) (FreeNode NONE) c.args.records.now.nodes c.args.i c.loop-place.page c.loop-place.invariant.0
-    (subst (λ n. Spelled 16 256 node_bytes (FitsNode (node_count layout_1 (sizes_of c.args.limits))) (FreeNode NONE) c.args.records.now.nodes c.args.i c.loop-place.page n) end c.loop-place.invariant.1)
+    spelled-all 16 256 node_bytes (FitsNode (node_count layout_in_use (sizes_of c.args.limits))) (FreeNode NONE) c.args.records.now.nodes c.args.i c.loop-place.page c.loop-place.invariant.0
+    (subst (λ n. Spelled 16 256 node_bytes (FitsNode (node_count layout_in_use (sizes_of c.args.limits))) (FreeNode NONE) c.args.records.now.nodes c.args.i c.loop-place.page n) end c.loop-place.invariant.1)

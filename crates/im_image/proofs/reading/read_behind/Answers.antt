@@ -1,7 +1,7 @@
 use Rattle.std.proofs.Common.{◌≡◌, inl, inr, None, Err, sym, ap, subst}
 use Rattle.im_types.specs.declared.refusals.Refusal.{Refusal}
 use Rattle.im_types.specs.Header.{header_fault}
-use Rattle.im_types.specs.Layout.{layout_1}
+use Rattle.im_types.specs.Layout.{layout_in_use}
 use Rattle.im_types.specs.Meaning.{Reached, Reads}
 use Rattle.im_disk.specs.Moment.{Moment}
 use Rattle.im_disk.proofs.SinceLemmas.{reads_then}
@@ -13,7 +13,7 @@ abbrev reached : Image → Reached
 reached i = record { contents = i.memory; count = i.journal.count; room = i.journal.room }
 
 pub read_run-requires-clause-good : goal.read_run-requires-clause-good
-read_run-requires-clause-good g c = λ h. subst (λ (m : Moment). header_fault layout_1 m.bytes ≡ None) (sym (c.read_memory.ensures.reads h).now) (c.requires.good (c.read_memory.ensures.honest h))
+read_run-requires-clause-good g c = λ h. subst (λ (m : Moment). header_fault layout_in_use m.bytes ≡ None) (sym (c.read_memory.ensures.reads h).now) (c.requires.good (c.read_memory.ensures.honest h))
 
 pub returns-in-Ok-clause-means : goal.returns-in-Ok-clause-means
 returns-in-Ok-clause-means g c =
@@ -36,7 +36,7 @@ pub returns-in-Err-clause-fault : goal.returns-in-Err-clause-fault
 returns-in-Err-clause-fault g c =
     elim c.in-Err.ensures.faults.0 [
       | inl is ↦ inr (inr (λ h.
-          subst (λ (e : Refusal). Reads layout_1 (g.D.Disk.now c.args.disk.now).bytes (Err e)) (sym is)
+          subst (λ (e : Refusal). Reads layout_in_use (g.D.Disk.now c.args.disk.now).bytes (Err e)) (sym is)
           (reads-no-page (g.D.Disk.now c.args.disk.now).bytes (c.requires.good (c.read_memory.ensures.honest h)) (c.in-Err.ensures.bad (ap (λ (e : Refusal). Err e) is) h))))
       | inr more ↦ elim more [ inl none ↦ inl none | inr device ↦ inr (inl device) ]
     ]

@@ -1,6 +1,6 @@
 use Rattle.std.proofs.Common.{◌≡◌, inl, inr, ⊎_elim, None, sym, subst}
 use Rattle.im_types.specs.Header.{header_fault}
-use Rattle.im_types.specs.Layout.{layout_1}
+use Rattle.im_types.specs.Layout.{layout_in_use}
 use Rattle.im_types.specs.Meaning.{Reached}
 use Rattle.im_disk.specs.Moment.{Moment}
 use Rattle.im_disk.proofs.SinceLemmas.{reads_then}
@@ -12,7 +12,7 @@ abbrev reached : Image → Reached
 reached i = record { contents = i.memory; count = i.journal.count; room = i.journal.room }
 
 pub read_behind-requires-clause-good : goal.read_behind-requires-clause-good
-read_behind-requires-clause-good g c = λ h. subst (λ (m : Moment). header_fault layout_1 m.bytes ≡ None) (sym (c.read_header.ensures.reads h).now) (c.in-Ok.ensures.good h)
+read_behind-requires-clause-good g c = λ h. subst (λ (m : Moment). header_fault layout_in_use m.bytes ≡ None) (sym (c.read_header.ensures.reads h).now) (c.in-Ok.ensures.good h)
 
 pub returns-in-Ok-clause-means : goal.returns-in-Ok-clause-means
 returns-in-Ok-clause-means g c =

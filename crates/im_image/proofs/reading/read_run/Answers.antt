@@ -1,7 +1,7 @@
 use Rattle.std.proofs.Common.{inl, inr, Err, refl, sym, ap, ◌∙◌, subst, List}
 use Rattle.im_types.specs.declared.refusals.Refusal.{Refusal}
 use Rattle.im_types.specs.declared.commands.Command.{Command}
-use Rattle.im_types.specs.Layout.{layout_1}
+use Rattle.im_types.specs.Layout.{layout_in_use}
 use Rattle.im_types.specs.Meaning.{Reads, accept_each}
 use Rattle.im_image.specs.Headers.{seen}
 use Rattle.im_image.proofs.Outcomes.{in-room, reads-no-tail, reads-unaccepted, reads-all, accepted-sizes}
@@ -16,7 +16,7 @@ returns-in-Err-clause-fault g c =
     elim c.in-Err.ensures.faults.0 [
       | inl is ↦ inr (inr (λ h.
           let h0 = c.read_tail.ensures.honest h in
-          subst (λ (e : Refusal). Reads layout_1 (g.D.Disk.now c.args.disk.now).bytes (Err e)) (sym is)
+          subst (λ (e : Refusal). Reads layout_in_use (g.D.Disk.now c.args.disk.now).bytes (Err e)) (sym is)
           (reads-no-tail (g.D.Disk.now c.args.disk.now).bytes (seen c.args.header) c.args.memory (c.requires.good h0) (c.requires.header h0) (c.requires.shown h0) (c.in-Err.ensures.bad (ap (λ (e : Refusal). Err e) is) h))))
       | inr more ↦ elim more [ inl none ↦ inl none | inr device ↦ inr (inl device) ]
     ]

@@ -3,7 +3,7 @@ use Rattle.im_disk.specs.Since.{LeavesNow}
 use Rattle.im_disk.specs.Recording.{Recording}
 use Rattle.im_disk.specs.Fuse.{Fused}
 use Rattle.im_engine.specs.State.{EngineState}
-use Rattle.im_engine.specs.Run.{taken, MeansAllOrInDoubt, has_doubt}
+use Rattle.im_engine.specs.Run.{put_on_disk, MeansAllOrInDoubt, has_doubt}
 use Rattle.im_promise.proofs.Splitting.{split}
 use Rattle.im_promise.proofs.Recovering.{Crashes, found, is_no_fault, meant_or_in_doubt}
 use Rattle.im_promise.proofs.recovery.recover.Goals as goal
@@ -15,8 +15,8 @@ returns-in-Ok-open-clause-recovers c = λ f.
     let answers = c.in-Ok.answers.items in
     let doubt = has_doubt answers ≡ true in
     let inner : c.into_inner.result ≡ c.run.new.self.disk.disk = c.into_inner.ensures ∙ ap (λ (x : Fused). x.disk) c.close.ensures.disk in
-    let said : LeavesNow c.into_inner.result.moment (MeansAllOrInDoubt doubt s (taken s.memory c.args.events.now answers)) =
-    subst (λ (d : Recording). LeavesNow d.moment (MeansAllOrInDoubt doubt s (taken s.memory c.args.events.now answers))) (sym inner) (c.in-Ok.ensures.now tt f) in
+    let said : LeavesNow c.into_inner.result.moment (MeansAllOrInDoubt doubt s (put_on_disk s.memory c.args.events.now answers)) =
+    subst (λ (d : Recording). LeavesNow d.moment (MeansAllOrInDoubt doubt s (put_on_disk s.memory c.args.events.now answers))) (sym inner) (c.in-Ok.ensures.now tt f) in
     let crash : Crashes c.into_inner.result.moment c.crash.result.moment e.disk.moment c.crash.result.past e.disk.past = record {
       ranges = ap (λ (d : Recording). d.moment.ranges) c.crash.ensures.after;
       left = c.crash.ensures.left;
@@ -38,7 +38,7 @@ returns-in-Err-open-clause-refused c = λ f.
     let s : EngineState Fused = c.args.engine in
     let answers = c.in-Ok.answers.items in
     let doubt = has_doubt answers ≡ true in
-    let commands = taken s.memory c.args.events.now answers in
+    let commands = put_on_disk s.memory c.args.events.now answers in
     let d = c.in-Err-open.field-0-1 in
     let inner : c.into_inner.result ≡ c.run.new.self.disk.disk = c.into_inner.ensures ∙ ap (λ (x : Fused). x.disk) c.close.ensures.disk in
     let said : LeavesNow c.into_inner.result.moment (MeansAllOrInDoubt doubt s commands) =

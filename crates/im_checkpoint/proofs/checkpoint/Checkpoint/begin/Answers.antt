@@ -1,6 +1,6 @@
 use Rattle.std.proofs.Common.{◌≡◌, ◌+◌, ◌<◌, ◌++◌, ℕ, List, length, take, drop, sym, ◌∙◌, ap, subst, arith}
 use Rattle.im_types.specs.declared.TheConstants.{LAST}
-use Rattle.im_types.specs.Layout.{layout_1, area_pages}
+use Rattle.im_types.specs.Layout.{layout_in_use, area_pages}
 use Rattle.im_types.specs.Header.{Header}
 use Rattle.im_types.specs.Pages.{Shows}
 use Rattle.im_image.specs.Headers.{seen}
@@ -19,7 +19,7 @@ invariant_of-self c =
     record {
       number = c.self.invariant.number;
       all = c.self.invariant.all;
-      some = λ is. omega (arith, ap length c.self.invariant.all, pages_length (area_pages layout_1 (seen e.header).sizes) 0, limits.some_cell);
+      some = λ is. omega (arith, ap length c.self.invariant.all, pages_length (area_pages layout_in_use (seen e.header).sizes) 0, limits.some_cell);
       size = ap length whole ∙ size ∙ c.self.invariant.size;
       later = subst (λ (s : CheckpointState). s.header.generation < LAST) (sym c.self.view_is) c.requires.later;
     }
@@ -34,7 +34,7 @@ returns-clause-kept c = λ now kept.
     let later : e.header.generation < LAST = subst (λ (s : CheckpointState). s.header.generation < LAST) (sym c.self.view_is) c.requires.later in
     subst (λ (n : ℕ). IsKept (record { header = seen e.header; step = PagesLeft (record { count = n; area = take e.area.len (c.encode.new.area ++ drop (length c.encode.new.area) e.area.items) }) e.pages.items }) c.args.memory.now c.args.journal.now now) (sym c.count-self-inside.ensures.count)
     (begun_kept (seen e.header) c.args.memory.now c.args.journal.now now (take e.area.len (c.encode.new.area ++ drop (length c.encode.new.area) e.area.items)) e.pages.items before c.count-self-inside.ensures.known.to_last later
-    (ap length whole ∙ size ∙ c.self.invariant.size) (subst (λ (l : List ℕ). Shows layout_1 (seen e.header).sizes l c.args.memory.now) (sym whole) c.encode.ensures) c.self.invariant.all)
+    (ap length whole ∙ size ∙ c.self.invariant.size) (subst (λ (l : List ℕ). Shows layout_in_use (seen e.header).sizes l c.args.memory.now) (sym whole) c.encode.ensures) c.self.invariant.all)
 
 pub returns-clause-began : goal.returns-clause-began
 returns-clause-began c =
@@ -47,7 +47,7 @@ returns-clause-began c =
     let all : e.pages.items ≡ all_pages c.args.self.now.header.sizes = c.self.invariant.all ∙ ap (λ (h : Header). all_pages h.sizes) header in
     record {
       area = area;
-      shows = subst (λ (h : Header). Shows layout_1 h.sizes area c.args.memory.now) header (subst (λ (l : List ℕ). Shows layout_1 (seen e.header).sizes l c.args.memory.now) (sym whole) c.encode.ensures);
+      shows = subst (λ (h : Header). Shows layout_in_use h.sizes area c.args.memory.now) header (subst (λ (l : List ℕ). Shows layout_in_use (seen e.header).sizes l c.args.memory.now) (sym whole) c.encode.ensures);
       state = (λ i. record { header = header i; step = PagesLeft (record { count = count i; area = area }) (all i) });
-      turns = ap (λ (n : ℕ). n + 2) (ap length all ∙ pages_length (area_pages layout_1 c.args.self.now.header.sizes) 0);
+      turns = ap (λ (n : ℕ). n + 2) (ap length all ∙ pages_length (area_pages layout_in_use c.args.self.now.header.sizes) 0);
     }

@@ -4,7 +4,7 @@ use Rattle.im_disk.specs.Since.{LeavesNow}
 use Rattle.im_disk.proofs.SinceLemmas.{leaves_start}
 use Rattle.im_engine.specs.declared.run.Event.{Event}
 use Rattle.im_engine.specs.declared.run.Answer.{Answer}
-use Rattle.im_engine.specs.Run.{AnsweredInTurn, taken, MeansBeginning, MeansAllOrInDoubt, has_doubt}
+use Rattle.im_engine.specs.Run.{AnsweredInTurn, put_on_disk, MeansBeginning, MeansAllOrInDoubt, has_doubt}
 use Rattle.im_engine.proofs.Running.{far_start, now_start, answers_step, far_step, leaves_step_on, now_step_on, told_start, told_step, Counted, counted_start, counted_step, all_or_in_doubt}
 use Rattle.im_engine.proofs.engine.Engine.run.Goals as goal
 
@@ -49,8 +49,8 @@ loop-event-preserved g c =
 pub returns-clause-now : goal.returns-clause-now
 returns-clause-now g c = λ h f.
     let all : take c.loop-event.event-index c.args.events.now ≡ c.args.events.now = take_all c.loop-event.event-index c.args.events.now (omega (arith, c.loop-event-test.false)) in
-    let put = λ (l : List Event). taken c.args.self.now.memory l c.loop-event.answers.items in
-    subst (λ (l : List Event). LeavesNow (g.D.Disk.now c.loop-event.self.disk) (MeansAllOrInDoubt (has_doubt c.loop-event.answers.items ≡ true) c.args.self.now (taken c.args.self.now.memory l c.loop-event.answers.items))) all
+    let put = λ (l : List Event). put_on_disk c.args.self.now.memory l c.loop-event.answers.items in
+    subst (λ (l : List Event). LeavesNow (g.D.Disk.now c.loop-event.self.disk) (MeansAllOrInDoubt (has_doubt c.loop-event.answers.items ≡ true) c.args.self.now (put_on_disk c.args.self.now.memory l c.loop-event.answers.items))) all
     (λ file left. all_or_in_doubt c.args.self.now (put (take c.loop-event.event-index c.args.events.now)) (has_doubt c.loop-event.answers.items) file (c.loop-event.invariant.now h f file left) (λ sure. c.loop-event.invariant.told h f sure file left))
 
 pub returns-clause-faults : goal.returns-clause-faults

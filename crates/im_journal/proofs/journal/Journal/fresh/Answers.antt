@@ -5,7 +5,7 @@ use Rattle.im_journal.proofs.journal.Journal.fresh.Goals as goal
 
 pub returns-clause-holds : goal.returns-clause-holds
 returns-clause-holds c = λ file size closed.
-    let ring : Ring = record { base = c.ring_base.result; slots = c.args.limits.slots } in
+    let ring : Ring = record { base = c.journal_at.result; slots = c.args.limits.slots } in
     let some : 0 < c.args.limits.slots = omega (arith, c.args.limits.in_range.enough_slots) in
     record {
       size = size;

@@ -10,26 +10,26 @@ pub returns-in-Err-tail_in-clause-bad : goal.returns-in-Err-tail_in-clause-bad
 returns-in-Err-tail_in-clause-bad g c = λ e h.
     let is : c.in-Err-tail_in.refusal ≡ BadRecord = cc in
     let some : 0 < c.args.limits.slots = omega (arith, c.args.limits.in_range.enough_slots) in
-    let bytes : c.deref.result.now ≡ take (64 * c.args.limits.slots) (drop c.ring_base-base.result (g.D.Disk.now c.args.disk.now).bytes) = c.deref.ensures.value ∙ c.in-Ok.ensures.bytes h in
-    let there = bytes ∙ ap (λ (n : ℕ). take (64 * c.args.limits.slots) (drop n (g.D.Disk.now c.args.disk.now).bytes)) c.ring_base-base.ensures.base in
+    let bytes : c.deref.result.now ≡ take (64 * c.args.limits.slots) (drop c.journal_at-base.result (g.D.Disk.now c.args.disk.now).bytes) = c.deref.ensures.value ∙ c.in-Ok.ensures.bytes h in
+    let there = bytes ∙ ap (λ (n : ℕ). take (64 * c.args.limits.slots) (drop n (g.D.Disk.now c.args.disk.now).bytes)) c.journal_at-base.ensures.at in
     sym (tail_alone (ring_under c.args.limits) c.args.«from» (g.D.Disk.now c.args.disk.now).bytes c.deref.result.now some there) ∙ c.in-Err-tail_in.ensures.bad (ap (λ r. Err r) is)
 
 pub returns-clause-tail : goal.returns-clause-tail
 returns-clause-tail g c = λ h.
     let some : 0 < c.args.limits.slots = omega (arith, c.args.limits.in_range.enough_slots) in
-    let bytes : c.deref.result.now ≡ take (64 * c.args.limits.slots) (drop c.ring_base-base.result (g.D.Disk.now c.args.disk.now).bytes) = c.deref.ensures.value ∙ c.in-Ok.ensures.bytes h in
-    let there = bytes ∙ ap (λ (n : ℕ). take (64 * c.args.limits.slots) (drop n (g.D.Disk.now c.args.disk.now).bytes)) c.ring_base-base.ensures.base in
+    let bytes : c.deref.result.now ≡ take (64 * c.args.limits.slots) (drop c.journal_at-base.result (g.D.Disk.now c.args.disk.now).bytes) = c.deref.ensures.value ∙ c.in-Ok.ensures.bytes h in
+    let there = bytes ∙ ap (λ (n : ℕ). take (64 * c.args.limits.slots) (drop n (g.D.Disk.now c.args.disk.now).bytes)) c.journal_at-base.ensures.at in
     sym (tail_alone (ring_under c.args.limits) c.args.«from» (g.D.Disk.now c.args.disk.now).bytes c.deref.result.now some there) ∙ c.in-Ok-tail_in.ensures.tail
 
 pub returns-clause-holds : goal.returns-clause-holds
 returns-clause-holds g c = λ h.
     let some : 0 < c.args.limits.slots = omega (arith, c.args.limits.in_range.enough_slots) in
-    let bytes : c.deref.result.now ≡ take (64 * c.args.limits.slots) (drop c.ring_base-base.result (g.D.Disk.now c.args.disk.now).bytes) = c.deref.ensures.value ∙ c.in-Ok.ensures.bytes h in
-    let ring : Ring = record { base = c.ring_base-base.result; slots = c.args.limits.slots } in
+    let bytes : c.deref.result.now ≡ take (64 * c.args.limits.slots) (drop c.journal_at-base.result (g.D.Disk.now c.args.disk.now).bytes) = c.deref.ensures.value ∙ c.in-Ok.ensures.bytes h in
+    let ring : Ring = record { base = c.journal_at-base.result; slots = c.args.limits.slots } in
     let count : c.len.result ≡ length c.in-Ok-tail_in.read.0.items = search rules in
     let reads = sym (tail_alone ring c.args.«from» (g.D.Disk.now c.args.disk.now).bytes c.deref.result.now some bytes) ∙ c.in-Ok-tail_in.ensures.tail in
     record {
-      size = subst (λ (n : ℕ). n + 64 * c.args.limits.slots ≤ length (g.D.Disk.now c.args.disk.now).bytes) (sym c.ring_base-base.ensures.base) (c.requires.inside (c.read_bytes.ensures.honest h));
+      size = subst (λ (n : ℕ). n + 64 * c.args.limits.slots ≤ length (g.D.Disk.now c.args.disk.now).bytes) (sym c.journal_at-base.ensures.at) (c.requires.inside (c.read_bytes.ensures.honest h));
       commands = c.in-Ok-tail_in.read.0.items;
       there = c.in-Ok-tail_in.read.1;
       reads = reads;

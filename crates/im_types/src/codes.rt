@@ -1,0 +1,58 @@
+//! The code of an operation and its numbers, as the journal's slots and the session records spell them, and back.
+ghost use Rattle.std.specs.Prelude.{◌≡◌};
+ghost use Rattle.im_types.specs.Agreement.{address_of};
+ghost use Rattle.im_types.specs.Bytes.{op_code, op_value};
+ghost use Rattle.im_types.specs.Slot.{op_of};
+
+use crate::{Kind, Op};
+
+/// The code of an operation, 1 to 7.
+pub fn op_code(op: Op) -> u8
+    ensures { result ≡ op_code op }
+{
+    match op {
+        Op::Alloc(Kind::I, _) => 1,
+        Op::Alloc(Kind::M, _) => 2,
+        Op::Release(_) => 3,
+        Op::Fetch(_) => 4,
+        Op::Store(_, _) => 5,
+        Op::Take(_) => 6,
+        Op::Put(_, _) => 7,
+    }
+}
+
+/// The address of an operation, or the length of an allocation.
+pub fn address_of(op: Op) -> u32
+    ensures { result ≡ address_of op }
+{
+    match op {
+        Op::Alloc(_, n) => n,
+        Op::Release(a) | Op::Fetch(a) | Op::Store(a, _) | Op::Take(a) | Op::Put(a, _) => a,
+    }
+}
+
+/// The value that an operation writes; 0 where it writes none.
+pub fn op_value(op: Op) -> u64
+    ensures { result ≡ op_value op }
+{
+    match op {
+        Op::Store(_, v) | Op::Put(_, v) => v,
+        Op::Alloc(_, _) | Op::Release(_) | Op::Fetch(_) | Op::Take(_) => 0,
+    }
+}
+
+/// The operation that a code, an address and a value stand for; `None` where the code is none of an operation.
+pub fn op_of(code: u8, address: u32, value: u64) -> Option<Op>
+    ensures { result ≡ op_of code address value }
+{
+    match code {
+        1 => Some(Op::Alloc(Kind::I, address)),
+        2 => Some(Op::Alloc(Kind::M, address)),
+        3 => Some(Op::Release(address)),
+        4 => Some(Op::Fetch(address)),
+        5 => Some(Op::Store(address, value)),
+        6 => Some(Op::Take(address)),
+        7 => Some(Op::Put(address, value)),
+        _ => None,
+    }
+}

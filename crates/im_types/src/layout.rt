@@ -1,0 +1,128 @@
+//! Where things stand in an image, in bytes from the file's start: two header places, two areas of pages, the journal.
+//!
+//! This is the layout in use, `layout_in_use` of `specs/Layout.antt`, and no other file computes with its sizes. A page
+//! of an area has records of one kind: cells come first, then waiter nodes, then sessions, and no record crosses a page.
+ghost use Rattle.std.specs.Prelude.{◌≡◌, ◌*◌, ◌≤◌};
+ghost use Rattle.im_types.specs.Layout as layout;
+ghost use Rattle.im_types.specs.Layout.{layout_in_use, sizes_of};
+
+use crate::{Limits, MAX_CELLS, MAX_ELEMENTS, MAX_SLOTS, WINDOW};
+
+/// The bytes of a page, and of a header place.
+pub const PAGE: usize = 4_096;
+
+/// The bytes of a slot of the journal.
+pub const SLOT: usize = 64;
+
+/// The byte of an open gate; a gate with any other byte is closed.
+pub const OPEN: u8 = 0xA5;
+
+/// The byte of a gate that was closed.
+pub const CLOSED: u8 = 0;
+
+/// The bytes of a cell's record.
+pub const CELL_RECORD: usize = 32;
+
+/// The bytes of a waiter node.
+pub const NODE_RECORD: usize = 16;
+
+/// The bytes of a session record's head, and of each of its places.
+pub const PLACE: usize = 32;
+
+/// The bytes of a session record: its head, a place for each entry of a window, and zeros up to twice as many bytes.
+pub const SESSION_RECORD: usize = 2 * PLACE * WINDOW as usize;
+
+/// The cells whose records stand on a page.
+pub const CELLS_ON_A_PAGE: usize = PAGE / CELL_RECORD;
+
+/// The waiter nodes whose records stand on a page.
+pub const NODES_ON_A_PAGE: usize = PAGE / NODE_RECORD;
+
+/// The elements whose session records stand on a page.
+pub const SESSIONS_ON_A_PAGE: usize = PAGE / SESSION_RECORD;
+
+/// The pages of an area at the largest sizes.
+pub const MOST_AREA_PAGES: usize = MAX_CELLS as usize / CELLS_ON_A_PAGE
+    + WINDOW as usize * MAX_ELEMENTS as usize / NODES_ON_A_PAGE
+    + MAX_ELEMENTS as usize / SESSIONS_ON_A_PAGE;
+
+/// Where the journal begins at the largest sizes.
+pub const FARTHEST_JOURNAL: usize = 2 * PAGE + 2 * PAGE * MOST_AREA_PAGES;
+
+/// The length of an image at the largest sizes.
+pub const LONGEST_IMAGE: usize = FARTHEST_JOURNAL + SLOT * MAX_SLOTS as usize;
+
+/// How many waiter nodes there are: as many as windows have entries.
+pub fn node_count(limits: Limits) -> usize
+    ensures { result ≡ layout.node_count layout_in_use (sizes_of limits) }
+{
+    WINDOW as usize * limits.elements as usize
+}
+
+/// The pages of cells of an area.
+pub fn cell_pages(limits: Limits) -> usize
+    ensures { result ≡ layout.cell_pages (sizes_of limits) }
+{
+    (limits.cells as usize + CELLS_ON_A_PAGE - 1) / CELLS_ON_A_PAGE
+}
+
+/// The pages of waiter nodes of an area.
+pub fn node_pages(limits: Limits) -> usize
+    ensures { result ≡ layout.node_pages layout_in_use (sizes_of limits) }
+{
+    (node_count(limits) + NODES_ON_A_PAGE - 1) / NODES_ON_A_PAGE
+}
+
+/// The pages of sessions of an area.
+pub fn session_pages(limits: Limits) -> usize
+    ensures { result ≡ layout.session_pages layout_in_use (sizes_of limits) }
+{
+    (limits.elements as usize + SESSIONS_ON_A_PAGE - 1) / SESSIONS_ON_A_PAGE
+}
+
+/// The pages of an area.
+pub fn area_pages(limits: Limits) -> usize
+    ensures pages { result ≡ layout.area_pages layout_in_use (sizes_of limits) }
+    ensures few { result ≤ MOST_AREA_PAGES }
+{
+    cell_pages(limits) + node_pages(limits) + session_pages(limits)
+}
+
+/// The bytes of the pages of cells.
+pub fn cell_bytes(limits: Limits) -> usize
+    ensures { result ≡ layout.page_bytes * layout.cell_pages (sizes_of limits) }
+{
+    PAGE * cell_pages(limits)
+}
+
+/// The bytes of the pages of waiter nodes.
+pub fn node_bytes(limits: Limits) -> usize
+    ensures { result ≡ layout.page_bytes * layout.node_pages layout_in_use (sizes_of limits) }
+{
+    PAGE * node_pages(limits)
+}
+
+/// Where an area begins.
+pub fn area_at(limits: Limits, area: usize) -> usize
+    requires { area ≤ 2 }
+    ensures at { result ≡ layout.area_at layout_in_use (sizes_of limits) area }
+    ensures near { result ≤ FARTHEST_JOURNAL }
+{
+    2 * PAGE + PAGE * area_pages(limits) * area
+}
+
+/// Where the journal begins.
+pub fn journal_at(limits: Limits) -> usize
+    ensures at { result ≡ layout.journal_at layout_in_use (sizes_of limits) }
+    ensures near { result ≤ FARTHEST_JOURNAL }
+{
+    area_at(limits, 2)
+}
+
+/// The length of an image.
+pub fn image_length(limits: Limits) -> usize
+    ensures length { result ≡ layout.image_length layout_in_use (sizes_of limits) }
+    ensures near { result ≤ LONGEST_IMAGE }
+{
+    journal_at(limits) + SLOT * limits.slots as usize
+}
