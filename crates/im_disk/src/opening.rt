@@ -4,7 +4,6 @@ ghost use Rattle.std.specs.Prelude.{◌≡◌};
 use im_types::Refusal;
 use std::fs::{self, File, OpenOptions, TryLockError};
 use std::io;
-use std::os::fd::AsRawFd;
 use std::path::Path;
 use std::rt::Files;
 
@@ -100,18 +99,13 @@ pub(crate) fn made<R: Files<File = File>>(
     Ok(file)
 }
 
-/// Opens a file to read and write it, locked; and its length. It is synced, and the system's copies of its pages are
-/// dropped: a sync that failed in an earlier process may have left them other than the disk has them.
+/// Opens a file to read and write it, locked and synced; and its length.
 pub(crate) fn settled<R: Files<File = File>>(rt: &R, path: &str) -> Result<(File, u64), OpenFault> {
     check_path(rt, path)?;
     let file = OpenOptions::new().read(true).write(true).open(rt, path)?;
     check_file(&file)?;
     file.try_lock()?;
     file.sync_all()?;
-    let advised = libc::posix_fadvise(file.as_raw_fd(), 0, 0, libc::POSIX_FADV_DONTNEED);
-    if advised != 0 {
-        return Err(OpenFault::Device);
-    }
     let len = check_file(&file)?;
     Ok((file, len))
 }
