@@ -1,5 +1,5 @@
 -- What a run of calls may leave from its start on, in one clause. The laws are in proofs/SinceLemmas.antt.
-use Rattle.std.specs.Prelude.{◌≡◌, ◌⊎◌, ℕ, ◌+◌, ◌<◌, ◌≤◌, List, ◌∷◌, length, slice_index}
+use Rattle.std.specs.Prelude.{◌≡◌, ◌⊎◌, ℕ, ◌+◌, ◌<◌, ◌≤◌, List, ◌∷◌, length, slice_index, Result, MatchResult}
 use Rattle.im_disk.specs.Moment.{Moment, Left, LeftSince}
 
 -- The run leaves only P: since any time up to its start, a crash leaves what has P, or what it might have left before
@@ -12,6 +12,15 @@ pub record Leaves (old new : Moment) (past_old past_new : List Moment) (P : List
 abbrev pub LeavesNow : Moment → (List ℕ → Type 0) → Type 0
 LeavesNow m P = (c : List ℕ) → Left m c → P c
 
+-- The same of a disk, by its moments and its past: what a run of calls leaves within it.
+abbrev pub LeavesWithin : {D : Type 0} → (D → Moment) → (D → List Moment) → D → D → (List ℕ → Type 0) → Type 0
+LeavesWithin now past old new P = Leaves (now old) (now new) (past old) (past new) P
+
+-- Of a disk: the run leaves only P, within it and at its end.
+pub record LeavesOnly {D : Type 0} (now : D → Moment) (past : D → List Moment) (old new : D) (P : List ℕ → Type 0) : Type 0 where
+  pub within : LeavesWithin now past old new P
+  pub after : LeavesNow (now new) P
+
 -- the files agree but for n bytes at this offset
 pub record SameBut (at n : ℕ) (c d : List ℕ) : Type 0 where
   pub size : length d ≡ length c
@@ -21,3 +30,19 @@ pub record SameBut (at n : ℕ) (c d : List ℕ) : Type 0 where
 pub record ReadsOnly (old new : Moment) (past_old past_new : List Moment) : Type 0 where
   pub now : new ≡ old
   pub leaves : Leaves old new past_old past_new (Left old)
+
+-- the same of a disk, by its moments and its past
+abbrev pub OnlyReads : {D : Type 0} → (D → Moment) → (D → List Moment) → D → D → Type 0
+OnlyReads now past old new = ReadsOnly (now old) (now new) (past old) (past new)
+
+-- the run makes just so many calls
+abbrev pub Calls : {D : Type 0} → (D → List Moment) → D → D → ℕ → Type 0
+Calls past old new n = length (past new) ≡ length (past old) + n
+
+-- the run makes so many calls at most
+abbrev pub CallsAtMost : {D : Type 0} → (D → List Moment) → D → D → ℕ → Type 0
+CallsAtMost past old new n = length (past new) ≤ length (past old) + n
+
+-- just so many calls at `Ok`, and no more at a refusal
+abbrev pub CallsBy : {D T E : Type 0} → (D → List Moment) → D → D → ℕ → Result T E → Type 0
+CallsBy past old new n result = MatchResult result (λ _. Calls past old new n) (λ _. CallsAtMost past old new n)
