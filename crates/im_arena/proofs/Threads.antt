@@ -6,11 +6,12 @@ use Rattle.std.proofs.lemmas.List.{get_or-take, get_or-map, length-take-le, leng
 use Rattle.im_types.specs.declared.TheConstants.{NONE}
 use Rattle.im_types.specs.declared.operations.Waiter.{Waiter}
 use Rattle.im_arena.specs.declared.table.Node.{Node}
-use Rattle.im_arena.specs.declared.table.NodeRecord.{NodeRecord}
+use Rattle.im_types.specs.declared.records.NodeRecord.{NodeRecord}
+use Rattle.im_types.specs.declared.records.NodeRecord.TheVariants.{Listed as ListNode}
 use Rattle.im_arena.specs.declared.table.Row.{Row}
 use Rattle.im_arena.specs.declared.table.Ends.{Ends}
 use Rattle.im_arena.specs.Chain.{place_from, along}
-use Rattle.im_arena.specs.Lists.{Links, list_at, Threads, free_record, first_in, last_in, ends_at, next_in, node_at, IsThreaded}
+use Rattle.im_arena.specs.Lists.{Links, list_at, Threads, free_record, link_of, first_in, last_in, ends_at, next_in, node_at, IsThreaded}
 use Rattle.im_arena.specs.Table.{Span, blank_node, blank_row, blank_span, record_if, record_of, ends_of, next_of, used_of, waiter_of, first_of, last_of, count_of, span_of, spans_of, row_at, shown, IsArena}
 use Rattle.im_arena.proofs.Moves.{place_from-same}
 use Rattle.im_arena.proofs.Tables.{eqb-no, span_at, first_within, end_of}
@@ -36,7 +37,7 @@ last_in-ends_of r none = elim (cases_eq r.first NONE) [
 
 -- the links lead along a chain
 Threads-along : (records : List NodeRecord) (item : ℕ → Waiter) (next : ℕ → ℕ) (before at last n : ℕ)
-    → ((i : ℕ) → i < n → slice_get records (place_from next at i) ≡ Some (record { next = next (place_from next at i); waiter = Some (item (place_from next at i)) }))
+    → ((i : ℕ) → i < n → slice_get records (place_from next at i) ≡ Some (ListNode (next (place_from next at i)) (item (place_from next at i))))
     → place_from next at n ≡ NONE
     → (n ≡ 0 → before ≡ last)
     → ((k : ℕ) → n ≡ k + 1 → place_from next at k ≡ last)
@@ -63,12 +64,12 @@ module _ (nodes : List Node) (rows : List Row) (lists free_nodes : ℕ) (arena :
       slice_get-get_or (map record_of nodes) n free_record (omega (arith, length-map nodes record_of))
       ∙ ap Some (get_or-map record_of nodes n blank_node free_record lt)
 
-  used_record : (n : ℕ) → n < length nodes → used_of nodes n ≡ true → slice_get (map record_of nodes) n ≡ Some (record { next = next_of nodes n; waiter = Some (waiter_of nodes n) })
+  used_record : (n : ℕ) → n < length nodes → used_of nodes n ≡ true → slice_get (map record_of nodes) n ≡ Some (ListNode (next_of nodes n) (waiter_of nodes n))
   used_record n lt used = record_at n lt ∙ ap (λ u. Some (record_if u (get_or nodes n blank_node))) used
 
   used_next : (n : ℕ) → n < length nodes → used_of nodes n ≡ true → next_in links n ≡ next_of nodes n
   used_next n lt used =
-      ap (λ (r : NodeRecord). r.next) (get_or-map record_of nodes n blank_node free_record lt ∙ ap (λ u. record_if u (get_or nodes n blank_node)) used)
+      ap link_of (get_or-map record_of nodes n blank_node free_record lt ∙ ap (λ u. record_if u (get_or nodes n blank_node)) used)
 
   row_span : (a : ℕ) → a < lists → get_or spans a blank_span ≡ span_of nodes (get_or rows a blank_row)
   row_span a lt = span_at nodes rows a (omega (arith, arena.size))

@@ -4,7 +4,8 @@ use Rattle.std.specs.Prelude.{◌≡◌, ◌≢◌, ◌↔◌, ℕ, ◌-◌, ◌
 use Rattle.std.specs.List.{sum_by}
 use Rattle.im_types.specs.declared.TheConstants.{NONE}
 use Rattle.im_types.specs.declared.operations.Waiter.{Waiter}
-use Rattle.im_arena.specs.declared.table.NodeRecord.{NodeRecord}
+use Rattle.im_types.specs.declared.records.NodeRecord.{NodeRecord}
+use Rattle.im_types.specs.declared.records.NodeRecord.TheVariants.{Free as FreeNode, Listed as ListNode}
 use Rattle.im_arena.specs.declared.table.Ends.{Ends}
 use Rattle.im_arena.specs.Chain.{place_from}
 
@@ -37,13 +38,13 @@ free held = held.nodes - sum_by length held.lists
 
 -- how a free node reads
 abbrev pub free_record : NodeRecord
-free_record = record { next = NONE; waiter = None }
+free_record = FreeNode NONE
 
 -- from the node `at` on, the links lead through nodes with these waiters, in their order, and then to NONE; the
 -- last of these nodes is `last`. The node `before` is the one that led here.
 abbrev pub Threads : List NodeRecord → ℕ → ℕ → ℕ → List Waiter → Type 0
 Threads records before at last [] = (at ≡ NONE) × (before ≡ last)
-Threads records before at last (w ∷ ws) = (next : ℕ) × (slice_get records at ≡ Some (record { next = next; waiter = Some w })) × Threads records at next last ws
+Threads records before at last (w ∷ ws) = (next : ℕ) × (slice_get records at ≡ Some (ListNode next w)) × Threads records at next last ws
 
 -- the first node of a list
 abbrev pub first_in : Option Ends → ℕ
@@ -59,9 +60,14 @@ last_in (Some e) = e.last
 abbrev pub ends_at : Links → ℕ → Option Ends
 ends_at links list = slice_index_or links.ends list None
 
+-- the link of a record
+abbrev pub link_of : NodeRecord → ℕ
+link_of (FreeNode next) = next
+link_of (ListNode next waiter) = next
+
 -- the link of a node
 abbrev pub next_in : Links → ℕ → ℕ
-next_in links n = (slice_index_or links.records n free_record).next
+next_in links n = link_of (slice_index_or links.records n free_record)
 
 -- the node at a place of a list
 abbrev pub node_at : Links → ℕ → ℕ → ℕ

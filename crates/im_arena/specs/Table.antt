@@ -4,7 +4,8 @@ use Rattle.std.specs.List.{sum_by}
 use Rattle.im_types.specs.declared.TheConstants.{NONE}
 use Rattle.im_types.specs.declared.operations.Waiter.{Waiter}
 use Rattle.im_arena.specs.declared.table.Node.{Node}
-use Rattle.im_arena.specs.declared.table.NodeRecord.{NodeRecord}
+use Rattle.im_types.specs.declared.records.NodeRecord.{NodeRecord}
+use Rattle.im_types.specs.declared.records.NodeRecord.TheVariants.{Listed as ListNode}
 use Rattle.im_arena.specs.declared.table.Row.{Row}
 use Rattle.im_arena.specs.declared.table.Ends.{Ends}
 use Rattle.im_arena.specs.Chain.{along, place_from, Chains}
@@ -42,7 +43,7 @@ waiter_in node = record { element = node.element; number = node.number }
 
 -- the record of a node, where it is used or where it is free
 abbrev pub record_if : Bool → Node → NodeRecord
-record_if true node = record { next = node.next; waiter = Some (waiter_in node) }
+record_if true node = ListNode node.next (waiter_in node)
 record_if false node = free_record
 
 -- what is shown of a node

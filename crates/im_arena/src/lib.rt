@@ -11,11 +11,11 @@ mod pairs;
 mod table;
 mod walk;
 
-use im_types::{NONE, Refusal, Waiter};
+use im_types::{NONE, NodeRecord, Refusal, Waiter};
 pub use pairs::hand_over;
 use std::alloc::{AllocError, Global};
 use std::marker::Model;
-pub use table::{Ends, NodeRecord};
+pub use table::Ends;
 use table::{Node, Row, transfer};
 pub use walk::Waiters;
 
@@ -208,7 +208,7 @@ impl Arena {
         self.rows[list as usize].ends()
     }
 
-    /// What is shown of a node, by its index.
+    /// What is shown of a node, by its index. A free node reads as one that links to [`NONE`].
     pub fn node(&self, index: u32) -> NodeRecord
         requires { index < self.now.held.nodes }
         ensures record_at { Some result ≡ slice_get self.now.links.records index }

@@ -2,17 +2,7 @@
 ghost use Rattle.std.specs.Prelude.{◌≡◌, ◌≢◌, ◌+◌, ◌<◌, length, nat_lt};
 ghost use Rattle.im_arena.specs.Table.{Sound, Attached, Detached, Transferred, count_of, spans_of, used_node, free_node, waiter_in, record_of, ends_of, empty_row, full_row};
 
-use im_types::{NONE, Waiter};
-
-/// What is shown of a node: the node after it on its list, [`NONE`] at the last one, and the waiter that it holds.
-/// A free node holds none, and reads as one that links to [`NONE`].
-#[derive(Clone, Copy, Debug, PartialEq, Eq)]
-pub struct NodeRecord {
-    /// The next node's index, or [`NONE`].
-    pub next: u32,
-    /// The waiter; `None` in a free node.
-    pub waiter: Option<Waiter>,
-}
+use im_types::{NONE, NodeRecord, Waiter};
 
 /// The ends of a list that isn't empty.
 #[derive(Clone, Copy, Debug, PartialEq, Eq)]
@@ -80,15 +70,12 @@ impl Node {
         ensures { result ≡ record_of self.now }
     {
         if self.used {
-            NodeRecord {
+            NodeRecord::Listed {
                 next: self.next,
-                waiter: Some(self.waiter()),
+                waiter: self.waiter(),
             }
         } else {
-            NodeRecord {
-                next: NONE,
-                waiter: None,
-            }
+            NodeRecord::Free { next: NONE }
         }
     }
 }

@@ -8,7 +8,7 @@ use Rattle.im_types.specs.declared.operations.Kind.{Kind}
 use Rattle.im_types.specs.Place.{place, fill}
 use Rattle.im_laws.proofs.PlaceLemmas.{get_or-fill, place-free}
 use Rattle.im_laws.proofs.BlockLemmas.{get_or-fill_in, place-fits}
-use Rattle.im_cell.specs.declared.slots.Cell.{Cell}
+use Rattle.im_types.specs.declared.cells.Cell.{Cell}
 use Rattle.im_cell.specs.declared.slots.Slot.{Slot}
 use Rattle.im_cell.specs.Slots.{slot_at, block_in, block_at, new_slot, empty_slot, HasBlocks}
 use Rattle.im_cell.specs.Holes.{free_at}

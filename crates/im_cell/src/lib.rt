@@ -11,5 +11,5 @@ mod restoring;
 mod slots;
 mod table;
 
-pub use slots::{Cell, Slot};
+pub use slots::Slot;
 pub use table::CellTable;

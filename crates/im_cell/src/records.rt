@@ -3,8 +3,8 @@ ghost use Rattle.std.specs.Prelude.{◌≡◌, Some};
 ghost use Rattle.im_cell.specs.Slots.{is_waiting};
 ghost use Rattle.im_cell.specs.Records.{slot_of, hole_of};
 
-use crate::slots::{Cell, Slot};
-use im_types::{Block, NONE};
+use crate::slots::Slot;
+use im_types::{Block, Cell, NONE};
 
 /// A run of free cells, as its first cell knows it.
 #[derive(Clone, Copy, Debug, PartialEq, Eq)]

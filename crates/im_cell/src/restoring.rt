@@ -7,8 +7,7 @@ ghost use Rattle.im_cell.specs.Restored.{IsRestored};
 
 use crate::holes::join_next;
 use crate::records::Record;
-use crate::slots::Cell;
-use im_types::{CellRecord, NONE, PresenceTag};
+use im_types::{Cell, CellRecord, NONE, PresenceTag};
 
 // The cell that a presence tag shows.
 fn shown_cell(tag: PresenceTag) -> Cell

@@ -7,8 +7,8 @@ ghost use Rattle.im_cell.specs.Slots.{slot_at, block_at, cell_at, with_cell, emp
 use crate::holes::{any_waiting, find_room, give_back, take_cells};
 use crate::records::{Hole, Record};
 use crate::restoring::restore_cells;
-use crate::slots::{Cell, Slot};
-use im_types::{Block, CellRecord, Kind, NONE, Refusal};
+use crate::slots::Slot;
+use im_types::{Block, Cell, CellRecord, Kind, NONE, Refusal};
 use std::alloc::Global;
 use std::marker::Model;
 

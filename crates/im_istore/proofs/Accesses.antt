@@ -4,7 +4,7 @@ use Rattle.std.specs.Prelude.{if◌then◌else◌}
 use Rattle.im_types.specs.declared.operations.Kind.{Kind}
 use Rattle.im_types.specs.declared.operations.Reply.TheVariants.{WrongKind}
 use Rattle.im_types.specs.Act.{same_kind}
-use Rattle.im_cell.specs.declared.slots.Cell.{Cell}
+use Rattle.im_types.specs.declared.cells.Cell.{Cell}
 use Rattle.im_cell.specs.declared.slots.Slot.{Slot}
 use Rattle.im_istore.specs.Access.{access_in}
 

@@ -5,7 +5,7 @@ use Rattle.std.proofs.lemmas.List.{get_or-set_same, get_or-set_other, set-get_or
 use Rattle.im_types.specs.declared.operations.Waiter.{Waiter}
 use Rattle.im_types.specs.Contents.{CellState, Held, held_at}
 use Rattle.im_cell.specs.declared.slots.Slot.{Slot}
-use Rattle.im_cell.specs.declared.slots.Cell.TheVariants.{Full}
+use Rattle.im_types.specs.declared.cells.Cell.TheVariants.{Full}
 use Rattle.im_cell.specs.Slots.{slot_at, cell_at, cell_in, is_waiting, is_waiting_cell}
 use Rattle.im_arena.specs.Lists.{Lists, Shown, list_at, with_list}
 use Rattle.im_istore.specs.Joined.{state_of, held_of, joined, cells_of}

@@ -5,7 +5,7 @@ use Rattle.im_types.specs.declared.operations.Reply.{Reply}
 use Rattle.im_types.specs.declared.operations.Reply.TheVariants.{Value, NoCell, WrongKind}
 use Rattle.im_types.specs.declared.operations.Waiter.{Waiter}
 use Rattle.im_types.specs.Act.{same_kind}
-use Rattle.im_cell.specs.declared.slots.Cell.{Cell}
+use Rattle.im_types.specs.declared.cells.Cell.{Cell}
 use Rattle.im_cell.specs.declared.slots.Slot.{Slot}
 
 -- each of these gets the value

@@ -1,7 +1,7 @@
 -- When a table of cells and an arena of waiters belong together. (Own.)
 use Rattle.std.specs.Prelude.{◌≡◌, ◌≢◌, ℕ, List, [], ◌∷◌, length, Bool, true, false, Option, Some}
 use Rattle.im_types.specs.declared.operations.Waiter.{Waiter}
-use Rattle.im_cell.specs.declared.slots.Cell.TheVariants.{Full}
+use Rattle.im_types.specs.declared.cells.Cell.TheVariants.{Full}
 use Rattle.im_cell.specs.declared.slots.Slot.{Slot}
 use Rattle.im_cell.specs.Slots.{slot_at, cell_at, is_waiting}
 use Rattle.im_arena.specs.Lists.{Shown, list_at}

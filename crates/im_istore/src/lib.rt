@@ -18,8 +18,8 @@ ghost use Rattle.im_istore.specs.Agreement.{Agree, AgreeBut};
 ghost use Rattle.im_istore.specs.Access.{access_in, askers_of, replies_to};
 
 use im_arena::Arena;
-use im_cell::{Cell, CellTable};
-use im_types::{Entry, Kind, Reply, Waiter};
+use im_cell::CellTable;
+use im_types::{Cell, Entry, Kind, Reply, Waiter};
 
 /// The cell at an address in a block of this kind. `NoCell` where the address lies in no block, which includes each
 /// address past the last cell; else `WrongKind` where the block is of the other kind.

@@ -6,8 +6,8 @@ use Rattle.im_types.specs.declared.operations.Waiter.{Waiter}
 use Rattle.im_types.specs.Contents.{Held, held_at, block_at}
 use Rattle.im_types.specs.Act.{has_waiter, is_waiting_cell, block_with_base}
 use Rattle.im_types.specs.Place.{begins_free, place, fill}
-use Rattle.im_cell.specs.declared.slots.Cell.{Cell}
-use Rattle.im_cell.specs.declared.slots.Cell.TheVariants.{Empty, Waiting, Full, Clashed}
+use Rattle.im_types.specs.declared.cells.Cell.{Cell}
+use Rattle.im_types.specs.declared.cells.Cell.TheVariants.{Empty, Waiting, Full, Clashed}
 use Rattle.im_cell.specs.declared.slots.Slot.{Slot}
 use Rattle.im_cell.specs.Slots.{slot_at, block_in, is_waiting}
 use Rattle.im_cell.specs.Slots.{block_at as block_at_slots, block_with_base as slot_with_base, is_waiting_cell as is_waiting_state}

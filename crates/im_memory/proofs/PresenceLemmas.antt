@@ -1,33 +1,30 @@
 -- What is shown of a cell.
-use Rattle.std.proofs.Common.{◌≡◌, ℕ, List, Some, None, refl, sym, ap, ◌∙◌}
+use Rattle.std.proofs.Common.{◌≡◌, ℕ, List, [], ◌∷◌, Some, None, refl, sym, ap, ◌∙◌}
 use Rattle.std.specs.Prelude.{Option}
+use Rattle.im_types.specs.declared.cells.Cell.{Cell}
+use Rattle.im_types.specs.declared.cells.Cell.TheVariants.{Empty, Waiting, Full, Clashed}
 use Rattle.im_types.specs.declared.operations.Waiter.{Waiter}
 use Rattle.im_types.specs.Contents.{held_at}
-use Rattle.im_cell.specs.declared.slots.Cell.{Cell}
+use Rattle.im_types.specs.Presences.{presence_of, presence_in}
 use Rattle.im_cell.specs.declared.slots.Slot.{Slot}
 use Rattle.im_cell.specs.Slots.{slot_at, cell_in, cell_at, is_waiting, is_waiting_cell}
 use Rattle.im_arena.specs.Lists.{Shown, list_at}
 use Rattle.im_istore.specs.Joined.{state_of, held_of, cells_of}
 use Rattle.im_istore.specs.Agreement.{has_some, Agree}
 use Rattle.im_istore.proofs.Cells.{held_at-cells}
-use Rattle.im_memory.specs.declared.cells.Presence.{Presence}
-use Rattle.im_memory.specs.Presences.{presence_of, presence_in}
 
-none_in : (slot : Option Slot) (waiters : List Waiter) → None ≡ cell_in slot → None ≡ presence_in (held_of slot waiters)
-none_in None waiters e = refl
-none_in (Some slot) waiters e = absurd (cc)
+-- a cell that waits exactly where somebody is on its list is the tag of its state
+cell-shown : (cell : Cell) (waiters : List Waiter) → is_waiting_cell cell ≡ has_some waiters → cell ≡ presence_of (state_of cell waiters)
+cell-shown Empty [] agree = refl
+cell-shown Empty (waiter ∷ waiters) agree = absurd (cc)
+cell-shown Waiting [] agree = absurd (cc)
+cell-shown Waiting (waiter ∷ waiters) agree = refl
+cell-shown (Full v) waiters agree = refl
+cell-shown (Clashed v) waiters agree = refl
 
-some_in : (slot : Option Slot) (waiters : List Waiter) (cell : Cell) → Some cell ≡ cell_in slot → is_waiting slot ≡ has_some waiters → (shown : Presence)
-    → (is_waiting_cell cell ≡ has_some waiters → shown ≡ presence_of (state_of cell waiters)) → Some shown ≡ presence_in (held_of slot waiters)
-some_in None waiters cell e agree shown is = absurd (cc)
-some_in (Some slot) waiters cell e agree shown is =
-    let same : cell ≡ slot.cell = cc in
-    ap Some (is (ap is_waiting_cell same ∙ agree) ∙ ap (λ cell. presence_of (state_of cell waiters)) same)
+slot-shown : (slot : Option Slot) (waiters : List Waiter) → is_waiting slot ≡ has_some waiters → cell_in slot ≡ presence_in (held_of slot waiters)
+slot-shown None waiters agree = refl
+slot-shown (Some slot) waiters agree = ap Some (cell-shown slot.cell waiters agree)
 
-module _ (slots : List (Option Slot)) (arena : Shown) where
-  pub presence-none : (a : ℕ) → None ≡ cell_at slots a → None ≡ presence_in (held_at (cells_of slots arena) a)
-  presence-none a e = none_in (slot_at slots a) (list_at arena.held a) e ∙ sym (ap presence_in (held_at-cells slots arena a))
-
-  pub presence-some : Agree slots arena → (a : ℕ) (cell : Cell) → Some cell ≡ cell_at slots a → (shown : Presence)
-      → ((waiters : List Waiter) → is_waiting_cell cell ≡ has_some waiters → shown ≡ presence_of (state_of cell waiters)) → Some shown ≡ presence_in (held_at (cells_of slots arena) a)
-  presence-some agree a cell e shown is = some_in (slot_at slots a) (list_at arena.held a) cell e (agree.each a) shown (is (list_at arena.held a)) ∙ sym (ap presence_in (held_at-cells slots arena a))
+pub presence-at : (slots : List (Option Slot)) (arena : Shown) → Agree slots arena → (a : ℕ) → cell_at slots a ≡ presence_in (held_at (cells_of slots arena) a)
+presence-at slots arena agree a = slot-shown (slot_at slots a) (list_at arena.held a) (agree.each a) ∙ sym (ap presence_in (held_at-cells slots arena a))

@@ -11,12 +11,12 @@ use Rattle.im_types.specs.Layout.{layout_1}
 use Rattle.im_types.specs.Memory.{IsWindow}
 use Rattle.im_types.specs.Records.{IsLink, FitsPlace, FitsWindow}
 use Rattle.im_laws.proofs.Tests.{below_or_from, some_same}
-use Rattle.im_cell.specs.declared.slots.Cell.{Cell}
+use Rattle.im_types.specs.declared.cells.Cell.{Cell}
 use Rattle.im_cell.specs.declared.slots.Slot.{Slot}
 use Rattle.im_cell.specs.Slots.{slot_at, block_in, cell_in}
 use Rattle.im_arena.specs.declared.table.Ends.{Ends}
-use Rattle.im_arena.specs.declared.table.NodeRecord.{NodeRecord as Node}
-use Rattle.im_arena.specs.Lists.{Shown, Threads, IsThreaded, list_at, ends_at, first_in, last_in, free_record}
+use Rattle.im_types.specs.declared.records.NodeRecord.{NodeRecord}
+use Rattle.im_arena.specs.Lists.{Shown, Threads, IsThreaded, list_at, ends_at, first_in, last_in, free_record, link_of}
 use Rattle.im_memory.specs.Shown.{tag_of, cell_record, cell_records, AreWithin}
 use Rattle.im_memory.proofs.ThreadLemmas.{first-within, last-within, read-within}
 use Rattle.im_memory.proofs.ShownLemmas.{IsNode, On, Off, Past, each-node}
@@ -60,7 +60,7 @@ module _ (slots : List (Option Slot)) (arena : Shown) (a : ℕ) where
   cell-some block cell b c = held-cell (slot_at slots a) (ends_at arena.links a) block cell b c ∙ sym (cell-at slots arena.links.ends a)
 
 -- the ends of a list are nodes
-ends-list : (records : List Node) (ends : Option Ends) (waiters : List Waiter) → (waiters ≡ [] → ends ≡ None) → Threads records NONE (first_in ends) (last_in ends) waiters → AreWithin (length records) ends
+ends-list : (records : List NodeRecord) (ends : Option Ends) (waiters : List Waiter) → (waiters ≡ [] → ends ≡ None) → Threads records NONE (first_in ends) (last_in ends) waiters → AreWithin (length records) ends
 ends-list records None waiters has t = tt
 ends-list records (Some ends) [] has t = let none = has refl in absurd (cc)
 ends-list records (Some ends) (w ∷ ws) has t = (first-within records w ws NONE ends.first ends.last t, last-within records w ws NONE ends.first ends.last t)
@@ -80,12 +80,12 @@ pub ends-past : (arena : Shown) → IsThreaded arena → (a : ℕ) → length ar
 ends-past arena threaded a past = sym (none_past arena.links.ends a (omega (arith, past, threaded.list_count)))
 
 -- the link of a node
-link-read : (arena : Shown) (threaded : IsThreaded arena) (n : ℕ) (node : Node) → slice_get arena.links.records n ≡ Some node → IsNode arena threaded n → IsLink (length arena.links.records) node.next
-link-read arena threaded n node e (On listed one) = subst (λ (node : Node). IsLink (length arena.links.records) node.next) (some_same _ node (sym listed.there ∙ e)) listed.link
-link-read arena threaded n node e (Off free none) = inl (ap (λ (node : Node). node.next) (some_same node free_record (sym e ∙ free)))
+link-read : (arena : Shown) (threaded : IsThreaded arena) (n : ℕ) (node : NodeRecord) → slice_get arena.links.records n ≡ Some node → IsNode arena threaded n → IsLink (length arena.links.records) (link_of node)
+link-read arena threaded n node e (On listed one) = subst (λ (node : NodeRecord). IsLink (length arena.links.records) (link_of node)) (some_same _ node (sym listed.there ∙ e)) listed.link
+link-read arena threaded n node e (Off free none) = inl (ap link_of (some_same node free_record (sym e ∙ free)))
 link-read arena threaded n node e (Past past none) = absurd (omega (arith, past, read-within arena.links.records n node e))
 
-pub link-within : (arena : Shown) → IsThreaded arena → (n : ℕ) (node : Node) → Some node ≡ slice_get arena.links.records n → IsLink (length arena.links.records) node.next
+pub link-within : (arena : Shown) → IsThreaded arena → (n : ℕ) (node : NodeRecord) → Some node ≡ slice_get arena.links.records n → IsLink (length arena.links.records) (link_of node)
 link-within arena threaded n node e = link-read arena threaded n node (sym e) (each-node arena threaded n)
 
 pub ends-read : (arena : Shown) (a : ℕ) (ends : Option Ends) → Some ends ≡ slice_get arena.links.ends a → ends ≡ ends_at arena.links a

@@ -1,5 +1,5 @@
 -- The records of a table and an arena show their memory.
-use Rattle.std.proofs.Common.{◌≡◌, ⊎_elim, ℕ, zero, suc, ◌<◌, ◌≤◌, List, [], ◌∷◌, map, length, get_or, Some, None, refl, sym, ap, ◌∙◌, subst, arith}
+use Rattle.std.proofs.Common.{◌≡◌, ⊎_elim, ℕ, zero, suc, ◌<◌, ◌≤◌, List, [], ◌∷◌, length, get_or, Some, None, refl, sym, ap, ◌∙◌, subst, arith}
 use Rattle.std.specs.Prelude.{Option, ◌↔◌, slice_get, slice_index_or}
 use Rattle.im_types.specs.declared.TheConstants.{NONE}
 use Rattle.im_types.specs.declared.operations.Waiter.{Waiter}
@@ -11,18 +11,17 @@ use Rattle.im_types.specs.Layout.{Sizes}
 use Rattle.im_types.specs.Memory.{IsMemory}
 use Rattle.im_types.specs.Pages.{state_shown, cell_shown, cells_shown, ShowsRecords}
 use Rattle.im_laws.proofs.Tests.{zero_or_more, below_or_from}
-use Rattle.im_cell.specs.declared.slots.Cell.{Cell}
-use Rattle.im_cell.specs.declared.slots.Cell.TheVariants.{Empty, Waiting, Full, Clashed}
+use Rattle.im_types.specs.declared.cells.Cell.{Cell}
+use Rattle.im_types.specs.declared.cells.Cell.TheVariants.{Empty, Waiting, Full, Clashed}
 use Rattle.im_cell.specs.declared.slots.Slot.{Slot}
 use Rattle.im_cell.specs.Slots.{slot_at, is_waiting, is_waiting_cell}
 use Rattle.im_arena.specs.declared.table.Ends.{Ends}
-use Rattle.im_arena.specs.declared.table.NodeRecord.{NodeRecord as Node}
-use Rattle.im_arena.specs.Lists.{Shown, Threads, IsThreaded, list_at, ends_at, next_in, node_at, first_in, last_in, free_record}
+use Rattle.im_arena.specs.Lists.{Shown, Threads, IsThreaded, list_at, ends_at, next_in, node_at, first_in, last_in, free_record, link_of}
 use Rattle.im_istore.specs.Joined.{state_of, held_of, joined, cells_of}
 use Rattle.im_istore.specs.Agreement.{has_some}
 use Rattle.im_istore.proofs.Cells.{list_of}
 use Rattle.im_memory.specs.MakesMemory.{contents_of, MakesMemory}
-use Rattle.im_memory.specs.Shown.{tag_of, cell_record, cell_records, node_record, records_of}
+use Rattle.im_memory.specs.Shown.{tag_of, cell_record, cell_records, records_of}
 use Rattle.im_memory.proofs.CellsLemmas.{length-cells, no_list}
 use Rattle.im_memory.proofs.ThreadLemmas.{chain_from, length-chain, place-chain, record-read, record_past, holds-chain, last-chain, Listed, listed-at}
 use Rattle.im_memory.proofs.UseLemmas.{IsAt, all_uses-from, all_uses-at, IsOnce, all_uses-once}
@@ -43,18 +42,15 @@ cell-shown : (slot : Option Slot) (ends : Option Ends) (waiters : List Waiter) �
 cell-shown None ends waiters agree has = refl
 cell-shown (Some slot) ends waiters agree has = ap (λ (state : CellState). Some (record { block = slot.block; state = state })) (state-shown slot.cell ends waiters agree has)
 
-module _ (records : List Node) where
+module _ (records : List NodeRecord) where
   abbrev next : ℕ → ℕ
-  next n = (slice_index_or records n free_record).next
-
-  abbrev nodes : List NodeRecord
-  nodes = map node_record records
+  next n = link_of (slice_index_or records n free_record)
 
   abbrev chain_of : Option Ends → List Waiter → List ℕ
   chain_of ends waiters = chain_from next (first_in ends) waiters
 
   state-chain : (cell : Cell) (ends : Option Ends) (waiters : List Waiter) (slot : Slot) → is_waiting_cell cell ≡ has_some waiters → HasEnds ends waiters
-      → Threads records NONE (first_in ends) (last_in ends) waiters → HasChain nodes (cell_record (Some (record { block = slot.block; cell = cell })) ends) (chain_of ends waiters) waiters
+      → Threads records NONE (first_in ends) (last_in ends) waiters → HasChain records (cell_record (Some (record { block = slot.block; cell = cell })) ends) (chain_of ends waiters) waiters
   state-chain Empty ends waiters slot agree has t = let none = no_list waiters (sym agree) in (ap (chain_of ends) none, none)
   state-chain Waiting None waiters slot agree has t = let none = has.0 refl in (ap (chain_of None) none, none)
   state-chain Waiting (Some ends) [] slot agree has t = absurd (cc)
@@ -68,7 +64,7 @@ module _ (records : List Node) where
   state-chain (Clashed v) ends waiters slot agree has t = let none = no_list waiters (sym agree) in (ap (chain_of ends) none, none)
 
   cell-chain : (slot : Option Slot) (ends : Option Ends) (waiters : List Waiter) → is_waiting slot ≡ has_some waiters → HasEnds ends waiters
-      → Threads records NONE (first_in ends) (last_in ends) waiters → HasChain nodes (cell_record slot ends) (chain_of ends waiters) waiters
+      → Threads records NONE (first_in ends) (last_in ends) waiters → HasChain records (cell_record slot ends) (chain_of ends waiters) waiters
   cell-chain None ends waiters agree has t = let none = no_list waiters (sym agree) in (ap (chain_of ends) none, none)
   cell-chain (Some slot) ends waiters agree has t = state-chain slot.cell ends waiters slot agree has t
 
@@ -103,7 +99,7 @@ module _ (records : List Node) where
       ap (λ held. held ∷ joined slots lists) (sym (cell-shown slot e waiters (each.agree 0) (each.has 0 (omega arith))))
       ∙ ap (λ cells. cell_shown (cell_record slot e) waiters ∷ cells) (cells-shown slots ends lists (rest slot slots e ends waiters lists each))
 
-  have-chains : (slots : List (Option Slot)) (ends : List (Option Ends)) (lists : List (List Waiter)) → AreEach slots ends lists → HaveChains nodes (cell_records slots ends) (chains_of ends lists) lists
+  have-chains : (slots : List (Option Slot)) (ends : List (Option Ends)) (lists : List (List Waiter)) → AreEach slots ends lists → HaveChains records (cell_records slots ends) (chains_of ends lists) lists
   unfolding chains_of
   have-chains [] [] [] each = tt
   have-chains [] [] (waiters ∷ lists) each = absurd (omega (arith, each.lists_count))
@@ -130,7 +126,7 @@ module _ (records : List Node) where
 
 -- the chains of an arena
 module _ (arena : Shown) (threaded : IsThreaded arena) where
-  abbrev records_in : List Node
+  abbrev records_in : List NodeRecord
   records_in = arena.links.records
 
   abbrev pub all_chains : List (List ℕ)
@@ -189,10 +185,10 @@ module _ (arena : Shown) (threaded : IsThreaded arena) where
       On (subst (Listed records_in) on.is listed) (omega (arith, some, all_uses-once n all_chains (once n))))
       (zero_or_more (all_uses n all_chains))
 
-  uses-listed : (n : ℕ) → all_uses n all_chains ≡ bit (is_listed (slice_index_or (map node_record records_in) n (FreeNode NONE)))
+  uses-listed : (n : ℕ) → all_uses n all_chains ≡ bit (is_listed (slice_index_or records_in n (FreeNode NONE)))
   uses-listed n = by_node (each-node n)
     where
-      by_node : IsNode n → all_uses n all_chains ≡ bit (is_listed (slice_index_or (map node_record records_in) n (FreeNode NONE)))
+      by_node : IsNode n → all_uses n all_chains ≡ bit (is_listed (slice_index_or records_in n (FreeNode NONE)))
       by_node (On listed one) = one ∙ sym (ap (λ r. bit (is_listed r)) (record-read records_in n _ listed.there))
       by_node (Off free none) = none ∙ sym (ap (λ r. bit (is_listed r)) (record-read records_in n free_record free))
       by_node (Past past none) = none ∙ sym (ap (λ r. bit (is_listed r)) (record_past records_in n past))

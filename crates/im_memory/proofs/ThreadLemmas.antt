@@ -1,5 +1,5 @@
 -- The nodes of a list, as a chain of records.
-use Rattle.std.proofs.Common.{◌≡◌, inl, inr, ℕ, zero, suc, ◌<◌, ◌≤◌, List, [], ◌∷◌, map, length, get_or, Some, refl, sym, ap, ◌∙◌, subst, arith}
+use Rattle.std.proofs.Common.{◌≡◌, inl, inr, ℕ, zero, suc, ◌<◌, ◌≤◌, List, [], ◌∷◌, length, get_or, Some, refl, sym, ap, ◌∙◌, subst, arith}
 use Rattle.std.specs.Prelude.{slice_get, slice_index_or}
 use Rattle.im_types.specs.declared.TheConstants.{NONE}
 use Rattle.im_types.specs.declared.operations.Waiter.{Waiter}
@@ -7,10 +7,9 @@ use Rattle.im_types.specs.declared.records.NodeRecord.{NodeRecord}
 use Rattle.im_types.specs.declared.records.NodeRecord.TheVariants.{Free as FreeNode, Listed as ListNode}
 use Rattle.im_types.specs.Chains.{first_of, last_of, Holds}
 use Rattle.im_types.specs.Records.{IsLink}
-use Rattle.im_arena.specs.declared.table.NodeRecord.{NodeRecord as Node}
+use Rattle.im_laws.proofs.Tests.{some_same}
 use Rattle.im_arena.specs.Chain.{place_from}
-use Rattle.im_arena.specs.Lists.{Threads, free_record}
-use Rattle.im_memory.specs.Shown.{node_record}
+use Rattle.im_arena.specs.Lists.{Threads, free_record, link_of}
 
 -- the nodes from this one on, as many as there are waiters
 abbrev pub chain_from : (ℕ → ℕ) → ℕ → List Waiter → List ℕ
@@ -27,43 +26,40 @@ place-chain next at (w ∷ ws) zero lt = refl
 place-chain next at (w ∷ ws) (suc i) lt = place-chain next (next at) ws i (omega arith)
 
 -- what is read of a node that is there
-pub record-read : (records : List Node) (n : ℕ) (node : Node) → slice_get records n ≡ Some node → slice_index_or (map node_record records) n (FreeNode NONE) ≡ node_record node
+pub record-read : (records : List NodeRecord) (n : ℕ) (node : NodeRecord) → slice_get records n ≡ Some node → slice_index_or records n (FreeNode NONE) ≡ node
 record-read [] n node e = absurd (cc)
-record-read (x ∷ records) zero node e = let same : x ≡ node = cc in ap node_record same
+record-read (x ∷ records) zero node e = some_same x node e
 record-read (x ∷ records) (suc n) node e = record-read records n node e
 
-pub record_past : (records : List Node) (n : ℕ) → length records ≤ n → slice_index_or (map node_record records) n (FreeNode NONE) ≡ FreeNode NONE
+pub record_past : (records : List NodeRecord) (n : ℕ) → length records ≤ n → slice_index_or records n (FreeNode NONE) ≡ FreeNode NONE
 record_past [] n past = refl
 record_past (x ∷ records) zero past = absurd (omega arith)
 record_past (x ∷ records) (suc n) past = record_past records n (omega arith)
 
-next-read : (records : List Node) (n : ℕ) (node : Node) → slice_get records n ≡ Some node → (slice_index_or records n free_record).next ≡ node.next
+next-read : (records : List NodeRecord) (n : ℕ) (node : NodeRecord) → slice_get records n ≡ Some node → link_of (slice_index_or records n free_record) ≡ link_of node
 next-read [] n node e = absurd (cc)
-next-read (x ∷ records) zero node e = let same : x ≡ node = cc in ap (λ (node : Node). node.next) same
+next-read (x ∷ records) zero node e = ap link_of (some_same x node e)
 next-read (x ∷ records) (suc n) node e = next-read records n node e
 
-pub read-within : (records : List Node) (n : ℕ) (node : Node) → slice_get records n ≡ Some node → n < length records
+pub read-within : (records : List NodeRecord) (n : ℕ) (node : NodeRecord) → slice_get records n ≡ Some node → n < length records
 read-within [] n node e = absurd (cc)
 read-within (x ∷ records) zero node e = omega arith
 read-within (x ∷ records) (suc n) node e = let h = read-within records n node e in omega arith
 
-module _ (records : List Node) where
+module _ (records : List NodeRecord) where
   abbrev next : ℕ → ℕ
-  next n = (slice_index_or records n free_record).next
-
-  abbrev nodes : List NodeRecord
-  nodes = map node_record records
+  next n = link_of (slice_index_or records n free_record)
 
   -- the first node of a thread, and the rest of it
   record Step (at last : ℕ) (w : Waiter) (ws : List Waiter) : Type 0 where
-    pub there : slice_get records at ≡ Some (record { next = next at; waiter = Some w })
+    pub there : slice_get records at ≡ Some (ListNode (next at) w)
     pub rest : Threads records at (next at) last ws
 
   step : (w : Waiter) (ws : List Waiter) (before at last : ℕ) → Threads records before at last (w ∷ ws) → Step at last w ws
   step w ws before at last t =
-      let same : next at ≡ t.0 = next-read records at (record { next = t.0; waiter = Some w }) t.1 in
+      let same : next at ≡ t.0 = next-read records at (ListNode t.0 w) t.1 in
       record {
-        there = t.1 ∙ ap (λ n. let node : Node = record { next = n; waiter = Some w } in Some node) (sym same);
+        there = t.1 ∙ ap (λ n. Some (ListNode n w)) (sym same);
         rest = subst (λ n. Threads records at n last ws) (sym same) t.2;
       }
 
@@ -71,11 +67,11 @@ module _ (records : List Node) where
   first-chain [] before at last t = t.0
   first-chain (w ∷ ws) before at last t = refl
 
-  pub holds-chain : (ws : List Waiter) (before at last : ℕ) → Threads records before at last ws → Holds nodes (chain_from next at ws) ws
+  pub holds-chain : (ws : List Waiter) (before at last : ℕ) → Threads records before at last ws → Holds records (chain_from next at ws) ws
   holds-chain [] before at last t = tt
   holds-chain (w ∷ ws) before at last t =
       let s = step w ws before at last t in
-      (record-read records at (record { next = next at; waiter = Some w }) s.there ∙ ap (λ n. ListNode n w) (first-chain ws at (next at) last s.rest), holds-chain ws at (next at) last s.rest)
+      (record-read records at (ListNode (next at) w) s.there ∙ ap (λ n. ListNode n w) (first-chain ws at (next at) last s.rest), holds-chain ws at (next at) last s.rest)
 
   pub last-chain : (w : Waiter) (ws : List Waiter) (before at last : ℕ) → Threads records before at last (w ∷ ws) → last_of (chain_from next at (w ∷ ws)) ≡ last
   last-chain w [] before at last t = (step w [] before at last t).rest.1
@@ -91,7 +87,7 @@ module _ (records : List Node) where
   -- the node at a place
   pub record Listed (n : ℕ) : Type 0 where
     pub who : Waiter
-    pub there : slice_get records n ≡ Some (record { next = next n; waiter = Some who })
+    pub there : slice_get records n ≡ Some (ListNode (next n) who)
     pub link : IsLink (length records) (next n)
 
   link-first : (ws : List Waiter) (before at last : ℕ) → Threads records before at last ws → IsLink (length records) at

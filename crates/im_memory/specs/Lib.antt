@@ -1,4 +1,3 @@
-pub mod Presences
 pub mod Resuming
 pub mod MakesMemory
 pub mod Confirming

@@ -6,15 +6,12 @@ use Rattle.im_types.specs.declared.records.PresenceTag.{PresenceTag}
 use Rattle.im_types.specs.declared.records.PresenceTag.TheVariants.{Empty as TagEmpty, Waiting as TagWaiting, Full as TagFull, Clashed as TagClashed}
 use Rattle.im_types.specs.declared.records.CellRecord.{CellRecord}
 use Rattle.im_types.specs.declared.records.CellRecord.TheVariants.{Free as FreeCell, Held as BlockCell}
-use Rattle.im_types.specs.declared.records.NodeRecord.{NodeRecord}
-use Rattle.im_types.specs.declared.records.NodeRecord.TheVariants.{Free as FreeNode, Listed as ListNode}
 use Rattle.im_types.specs.Contents.{Window}
 use Rattle.im_types.specs.Pages.{Records}
-use Rattle.im_cell.specs.declared.slots.Cell.{Cell}
-use Rattle.im_cell.specs.declared.slots.Cell.TheVariants.{Empty, Waiting, Full, Clashed}
+use Rattle.im_types.specs.declared.cells.Cell.{Cell}
+use Rattle.im_types.specs.declared.cells.Cell.TheVariants.{Empty, Waiting, Full, Clashed}
 use Rattle.im_cell.specs.declared.slots.Slot.{Slot}
 use Rattle.im_arena.specs.declared.table.Ends.{Ends}
-use Rattle.im_arena.specs.declared.table.NodeRecord.{NodeRecord as Node}
 use Rattle.im_arena.specs.Lists.{Shown, IsThreaded}
 use Rattle.im_memory.specs.MakesMemory.{MakesMemory}
 
@@ -42,18 +39,9 @@ cell_records [] ends = []
 cell_records (slot ∷ slots) [] = cell_record slot None ∷ cell_records slots []
 cell_records (slot ∷ slots) (e ∷ ends) = cell_record slot e ∷ cell_records slots ends
 
--- the record of a node with this link, which holds a waiter or is free
-abbrev pub node_of : ℕ → Option Waiter → NodeRecord
-node_of next None = FreeNode next
-node_of next (Some who) = ListNode next who
-
--- the record of a node of the arena
-abbrev pub node_record : Node → NodeRecord
-node_record node = node_of node.next node.waiter
-
 -- all records of a table, an arena and windows
 abbrev pub records_of : List (Option Slot) → Shown → List Window → Records
-records_of slots arena windows = record { cells = cell_records slots arena.links.ends; nodes = map node_record arena.links.records; windows = windows }
+records_of slots arena windows = record { cells = cell_records slots arena.links.ends; nodes = arena.links.records; windows = windows }
 
 -- a memory whose links lead through its lists
 pub record IsShown (slots : List (Option Slot)) (arena : Shown) (windows : List Window) : Type 0 where

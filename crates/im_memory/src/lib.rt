@@ -7,13 +7,11 @@
 #![tactic(auto)]
 
 mod acts;
-mod cells;
 mod memory;
 mod records;
 mod restore;
 mod windows;
 
-pub use cells::Presence;
 pub use im_arena::Waiters;
 pub use memory::Memory;
 pub use records::MemoryRecords;

@@ -12,19 +12,17 @@ ghost use Rattle.im_types.specs.Memory.{IsMemory};
 ghost use Rattle.im_types.specs.History.{ValueLaw, MatchingLaw};
 ghost use Rattle.im_types.specs.Layout.{Sizes};
 ghost use Rattle.im_types.specs.Pages.{ShowsRecords};
-ghost use Rattle.im_memory.specs.Presences.{presence_in};
+ghost use Rattle.im_types.specs.Presences.{presence_in};
 ghost use Rattle.im_memory.specs.MakesMemory.{contents_of, MakesMemory};
 
 use crate::acts::{act, resume};
-use crate::cells::{Presence, presence_of};
 use crate::records::MemoryRecords;
 use crate::windows::judge_confirm;
 use im_arena::{Arena, Waiters};
 use im_cell::CellTable;
 use im_sessions::Sessions;
 use im_types::{
-    Block, Command, Entry, Judged, Kept, Limits, MAX_CELLS, MAX_ELEMENTS, Outcome, Refusal,
-    Request, WINDOW, Waiter,
+    Block, Cell, Command, Entry, Judged, Kept, Limits, MAX_CELLS, MAX_ELEMENTS, Outcome, Refusal, Request, Waiter, WINDOW,
 };
 use std::alloc::Global;
 use std::marker::Model;
@@ -209,13 +207,10 @@ impl Memory {
     }
 
     /// What the cell at an address is, or `None` where the address lies in no block.
-    pub fn cell(&self, a: u32) -> Option<Presence>
+    pub fn cell(&self, a: u32) -> Option<Cell>
         ensures { result ≡ presence_in (held_at self.now.cells a) }
     {
-        match self.table.get(a) {
-            Some(cell) => Some(presence_of(cell)),
-            None => None,
-        }
+        self.table.get(a)
     }
 
     /// The block that an address lies in.

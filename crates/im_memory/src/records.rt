@@ -7,15 +7,15 @@ ghost use Rattle.im_types.specs.Layout.{Sizes};
 ghost use Rattle.im_types.specs.Memory.{IsWindow};
 ghost use Rattle.im_types.specs.Window.{bounds};
 ghost use Rattle.im_types.specs.Pages.{ShowsRecords};
-ghost use Rattle.im_types.specs.Records.{IsLink, FitsTag, FitsCell, FitsNode};
+ghost use Rattle.im_types.specs.Records.{FitsTag, FitsCell, FitsNode};
 ghost use Rattle.im_arena.specs.Lists.{IsThreaded, ends_at};
 ghost use Rattle.im_memory.specs.MakesMemory.{contents_of, MakesMemory};
-ghost use Rattle.im_memory.specs.Shown.{tag_of, node_of, records_of, AreWithin};
+ghost use Rattle.im_memory.specs.Shown.{tag_of, records_of, AreWithin};
 
 use im_arena::{Arena, Ends};
-use im_cell::{Cell, CellTable};
+use im_cell::CellTable;
 use im_sessions::Sessions;
-use im_types::{CellRecord, Kept, NONE, NodeRecord, PresenceTag, Refusal, Waiter};
+use im_types::{Cell, CellRecord, Kept, NONE, NodeRecord, PresenceTag, Refusal};
 use std::marker::Model;
 
 /// The records of a memory: of each cell, and of each node for a request that waits. With the windows they show the
@@ -97,8 +97,7 @@ impl<'a> MemoryRecords<'a> {
         if n >= self.arena.node_count() {
             return NodeRecord::Free { next: NONE };
         }
-        let node = self.arena.node(n);
-        node_of(node.next, node.waiter)
+        self.arena.node(n)
     }
 
     /// The base of an element's window, and the number of its next new request: refused with `NoElement`.
@@ -152,16 +151,5 @@ fn waiting_tag(ends: Option<Ends>) -> PresenceTag
             last: ends.last,
         },
         None => PresenceTag::Empty,
-    }
-}
-
-// The record of a node with this link.
-fn node_of(next: u32, waiter: Option<Waiter>) -> NodeRecord
-    ensures node { result ≡ node_of next waiter }
-    ensures fits { (nodes : ℕ) → IsLink nodes next → FitsNode nodes result }
-{
-    match waiter {
-        Some(waiter) => NodeRecord::Listed { next, waiter },
-        None => NodeRecord::Free { next },
     }
 }

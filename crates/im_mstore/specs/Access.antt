@@ -1,8 +1,8 @@
 -- What a cell of takers shows. (Own.)
 use Rattle.std.specs.Prelude.{List, [], ◌∷◌}
 use Rattle.im_types.specs.declared.operations.Waiter.{Waiter}
-use Rattle.im_cell.specs.declared.slots.Cell.{Cell}
-use Rattle.im_cell.specs.declared.slots.Cell.TheVariants.{Empty, Waiting}
+use Rattle.im_types.specs.declared.cells.Cell.{Cell}
+use Rattle.im_types.specs.declared.cells.Cell.TheVariants.{Empty, Waiting}
 
 -- the cell without a value that these wait for
 abbrev pub open_cell : List Waiter → Cell

@@ -16,9 +16,9 @@ ghost use Rattle.im_istore.specs.Access.{replies_to};
 ghost use Rattle.im_mstore.specs.Access.{open_cell};
 
 use im_arena::Arena;
-use im_cell::{Cell, CellTable};
+use im_cell::CellTable;
 use im_istore::look;
-use im_types::{Entry, Kind, Reply, Waiter};
+use im_types::{Cell, Entry, Kind, Reply, Waiter};
 
 // The cell without a value that those on this list wait for.
 fn open_cell(arena: &Arena, list: u32) -> Cell

@@ -3,4 +3,3 @@ pub mod Joined
 pub mod Served
 pub mod Confirming
 pub mod MakesMemory
-pub mod Presences

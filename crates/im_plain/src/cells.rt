@@ -2,23 +2,10 @@
 ghost use Rattle.std.specs.Prelude.{◌≡◌, ℕ, ◌+◌, ◌<◌, ◌≤◌, length, List, Some, None, IfSome, slice_index_or};
 ghost use Rattle.im_types.specs.declared.operations.Waiter.{Waiter};
 ghost use Rattle.im_plain.specs.Joined.{state_of};
-ghost use Rattle.im_plain.specs.Presences.{presence_of};
+ghost use Rattle.im_types.specs.Presences.{presence_of};
 ghost use Rattle.im_types.specs.Place.{begins_free, place, fill};
 
-use im_types::{Block, MAX_CELLS};
-
-/// What a cell is, as its tag shows it.
-#[derive(Clone, Copy, Debug, PartialEq, Eq)]
-pub enum Presence {
-    /// Nothing was written, and nobody waits.
-    Empty,
-    /// Nothing is there, and somebody waits for it.
-    Waiting,
-    /// This value is there.
-    Full(u64),
-    /// This value was there when the cell was written again.
-    Clashed(u64),
-}
+use im_types::{Block, Cell, MAX_CELLS};
 
 /// What is in a cell, whoever waits for it.
 #[derive(Clone, Copy)]
@@ -36,14 +23,14 @@ pub struct Slot {
 }
 
 /// What a cell is at which so many wait.
-pub fn presence_of(state: State, waiting: usize) -> Presence
+pub fn presence_of(state: State, waiting: usize) -> Cell
     ensures { (waiters : List Waiter) → length waiters ≡ waiting → result ≡ presence_of (state_of state waiters) }
 {
     match state {
-        State::Empty if waiting == 0 => Presence::Empty,
-        State::Empty => Presence::Waiting,
-        State::Full(value) => Presence::Full(value),
-        State::Clashed(value) => Presence::Clashed(value),
+        State::Empty if waiting == 0 => Cell::Empty,
+        State::Empty => Cell::Waiting,
+        State::Full(value) => Cell::Full(value),
+        State::Clashed(value) => Cell::Clashed(value),
     }
 }
 

@@ -7,5 +7,4 @@ mod memory;
 mod queue;
 mod windows;
 
-pub use cells::Presence;
 pub use memory::PlainMemory;

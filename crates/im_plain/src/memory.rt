@@ -7,18 +7,17 @@ ghost use Rattle.im_types.specs.Step.{step, serve, asker, acceptance};
 ghost use Rattle.im_types.specs.Act.{act};
 ghost use Rattle.im_types.specs.Agreement.{WaitingAgrees, KeepsEntries};
 ghost use Rattle.im_types.specs.Memory.{IsMemory};
-ghost use Rattle.im_plain.specs.Presences.{presence_in};
+ghost use Rattle.im_types.specs.Presences.{presence_in};
 ghost use Rattle.im_plain.specs.MakesMemory.{contents_of, MakesMemory};
 
 use crate::acts::act;
-use crate::cells::{Presence, Slot, presence_of, slot_at};
+use crate::cells::{Slot, presence_of, slot_at};
 use crate::queue::{Deferred, count_at, nth_at};
 use crate::windows::{
     KeptWindow, ask, bounds, confirm, judge, judge_confirm, kept_for, note, resume,
 };
 use im_types::{
-    Block, Command, Entry, Judged, Kept, Limits, MAX_CELLS, MAX_ELEMENTS, Outcome, Refusal,
-    Request, WINDOW, Waiter,
+    Block, Cell, Command, Entry, Judged, Kept, Limits, MAX_CELLS, MAX_ELEMENTS, Outcome, Refusal, Request, Waiter, WINDOW,
 };
 use std::alloc::{AllocError, Global};
 use std::marker::Model;
@@ -200,7 +199,7 @@ impl PlainMemory {
     }
 
     /// What the cell at an address is, or `None` where the address lies in no block.
-    pub fn cell(&self, a: u32) -> Option<Presence>
+    pub fn cell(&self, a: u32) -> Option<Cell>
         ensures { result ≡ presence_in (held_at self.now.cells a) }
     {
         match slot_at(self.slots.as_slice(), a) {

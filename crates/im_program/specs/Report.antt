@@ -13,9 +13,9 @@ use Rattle.im_types.specs.declared.operations.Block.{Block}
 use Rattle.im_types.specs.declared.operations.Kept.{Kept}
 use Rattle.im_types.specs.Contents.{Contents, Window, block_at, held_at, waiters_at}
 use Rattle.im_types.specs.Header.{Header}
-use Rattle.im_memory.specs.declared.cells.Presence.{Presence}
-use Rattle.im_memory.specs.declared.cells.Presence.TheVariants.{Empty as IsEmpty, Waiting as IsWaiting, Full as IsFull, Clashed as IsClashed}
-use Rattle.im_memory.specs.Presences.{presence_in}
+use Rattle.im_types.specs.declared.cells.Cell.{Cell}
+use Rattle.im_types.specs.declared.cells.Cell.TheVariants.{Empty as IsEmpty, Waiting as IsWaiting, Full as IsFull, Clashed as IsClashed}
+use Rattle.im_types.specs.Presences.{presence_in}
 
 -- ---- parts of lines
 
@@ -94,7 +94,7 @@ waiters_text [] = []
 waiters_text (who ∷ others) = waiter_text who ++ waiters_text others
 
 -- a cell that isn't empty, with those that wait at it
-abbrev pub cell_line : ℕ → Option Presence → List Waiter → List ℕ
+abbrev pub cell_line : ℕ → Option Cell → List Waiter → List ℕ
 cell_line a None waiters = []
 cell_line a (Some IsEmpty) waiters = []
 cell_line a (Some IsWaiting) waiters = codes "cell " ++ decimal a ++ codes " waiting" ++ waiters_text waiters ++ line_feed

@@ -3,13 +3,13 @@ ghost use Rattle.std.specs.Prelude.{◌≡◌, ◌++◌, ◌==◌, ◌&&◌, OnO
 ghost use Rattle.im_types.specs.Contents.{Window, held_at, kept_for, waiters_at};
 ghost use Rattle.im_types.specs.Window.{next_number};
 ghost use Rattle.im_image.specs.Headers.{seen};
-ghost use Rattle.im_memory.specs.Presences.{presence_in};
+ghost use Rattle.im_types.specs.Presences.{presence_in};
 ghost use Rattle.im_program.specs.Report.{block_line, blocks_text, cell_line, cells_text, element_line, elements_text, entries_text, entry_line, header_line, journal_line, limits_line, report_text, version_line, waiter_text, waiters_text, window_text};
 
 use crate::replies::{add_entry, add_op, kind_text};
 use im_image::{Header, Report};
-use im_memory::{Memory, Presence};
-use im_types::{Block, Kept, Limits, Waiter};
+use im_memory::Memory;
+use im_types::{Block, Cell, Kept, Limits, Waiter};
 use std::alloc::AllocError;
 
 /// Adds the line of the layout's version.
@@ -99,7 +99,7 @@ fn add_waiters(out: &mut String, memory: &Memory, a: u32) -> Result<(), AllocErr
 
 /// Adds the line of a cell that is waited for.
 fn add_waiting(out: &mut String, memory: &Memory, a: u32) -> Result<(), AllocError>
-    ensures { OnOk result (string_bytes out.new ≡ string_bytes out.old ++ cell_line a (Some Presence.Waiting) (waiters_at memory.now.cells a)) }
+    ensures { OnOk result (string_bytes out.new ≡ string_bytes out.old ++ cell_line a (Some Cell.Waiting) (waiters_at memory.now.cells a)) }
 {
     write!(out, "cell {a} waiting")?;
     add_waiters(out, memory, a)?;
@@ -111,10 +111,10 @@ fn add_cell(out: &mut String, memory: &Memory, a: u32) -> Result<(), AllocError>
     ensures { OnOk result (string_bytes out.new ≡ string_bytes out.old ++ cell_line a (presence_in (held_at memory.now.cells a)) (waiters_at memory.now.cells a)) }
 {
     match memory.cell(a) {
-        None | Some(Presence::Empty) => Ok(()),
-        Some(Presence::Waiting) => add_waiting(out, memory, a),
-        Some(Presence::Full(value)) => writeln!(out, "cell {a} full {value}"),
-        Some(Presence::Clashed(value)) => writeln!(out, "cell {a} clashed {value}"),
+        None | Some(Cell::Empty) => Ok(()),
+        Some(Cell::Waiting) => add_waiting(out, memory, a),
+        Some(Cell::Full(value)) => writeln!(out, "cell {a} full {value}"),
+        Some(Cell::Clashed(value)) => writeln!(out, "cell {a} clashed {value}"),
     }
 }
 

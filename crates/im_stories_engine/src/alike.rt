@@ -5,19 +5,6 @@ use im_memory::Memory;
 use im_plain::PlainMemory;
 use im_types::Limits;
 
-fn is_same_presence(one: Option<im_memory::Presence>, other: Option<im_plain::Presence>) -> bool {
-    use im_memory::Presence as Fast;
-    use im_plain::Presence as Plain;
-    match (one, other) {
-        (None, None) => true,
-        (Some(Fast::Empty), Some(Plain::Empty)) => true,
-        (Some(Fast::Waiting), Some(Plain::Waiting)) => true,
-        (Some(Fast::Full(v)), Some(Plain::Full(w))) => v == w,
-        (Some(Fast::Clashed(v)), Some(Plain::Clashed(w))) => v == w,
-        _ => false,
-    }
-}
-
 // The same requests wait at a cell, in the same order.
 fn has_same_waiters(fast: &Memory, plain: &PlainMemory, limits: Limits, a: u32) -> Result<()> {
     for place in 0..(limits.elements as usize * 16 + 1) {
@@ -35,7 +22,7 @@ fn has_same_waiters(fast: &Memory, plain: &PlainMemory, limits: Limits, a: u32) 
 // Every cell with its block and its waiters is the same in both.
 fn has_same_cells(fast: &Memory, plain: &PlainMemory, limits: Limits) -> Result<()> {
     for a in 0..limits.cells.saturating_add(1) {
-        if !is_same_presence(fast.cell(a), plain.cell(a)) {
+        if fast.cell(a) != plain.cell(a) {
             return Err(anyhow!("cell {a} is another"));
         }
         if fast.block(a) != plain.block(a) {

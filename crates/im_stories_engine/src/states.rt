@@ -1,7 +1,7 @@
 //! What an engine tells of itself and of its memory, and what stands in its file.
 
 use crate::engines::Engines;
-use crate::texts::{add_block, add_bytes, add_presence};
+use crate::texts::{add_block, add_bytes, add_cell};
 use anyhow::{Result, anyhow};
 use im_disk::FuseDisk;
 use im_engine::Engine;
@@ -12,7 +12,7 @@ use im_story::{add_answer, add_window, address, element, name, place};
 fn tell_cell(engine: &Engine<FuseDisk>, a: u32, said: &mut String) -> Result<()> {
     let memory = engine.memory();
     if let (Some(presence), Some(block)) = (memory.cell(a), memory.block(a)) {
-        add_presence(said, presence)?;
+        add_cell(said, presence)?;
         add_block(said, block)?;
     } else {
         said.push_str("in no block")?;

@@ -3,18 +3,17 @@
 use anyhow::Result;
 use im_checkpoint::TurnDone;
 use im_engine::Answer;
-use im_memory::Presence;
 use im_story::{add_outcome, add_refusal};
-use im_types::{Block, Kind, Refusal};
+use im_types::{Block, Cell, Kind, Refusal};
 use std::alloc::AllocError;
 
 /// Adds what a cell is.
-pub fn add_presence(said: &mut String, presence: Presence) -> Result<(), AllocError> {
-    match presence {
-        Presence::Empty => said.push_str("empty"),
-        Presence::Waiting => said.push_str("waiting"),
-        Presence::Full(value) => write!(said, "full {value}"),
-        Presence::Clashed(value) => write!(said, "clashed {value}"),
+pub fn add_cell(said: &mut String, cell: Cell) -> Result<(), AllocError> {
+    match cell {
+        Cell::Empty => said.push_str("empty"),
+        Cell::Waiting => said.push_str("waiting"),
+        Cell::Full(value) => write!(said, "full {value}"),
+        Cell::Clashed(value) => write!(said, "clashed {value}"),
     }
 }
 

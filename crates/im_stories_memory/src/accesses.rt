@@ -7,11 +7,11 @@ use crate::random_walks::walk;
 use crate::texts::{add_cell, add_count, add_number, add_place, add_steps, kind, waiter};
 use anyhow::{Result, anyhow};
 use im_arena::Arena;
-use im_cell::{Cell, CellTable};
+use im_cell::CellTable;
 use im_istore::{fetch, look, next_reader, store, store_and_drain};
 use im_mstore::{put, take};
 use im_story::{add_entry, add_reply, address, number};
-use im_types::{Entry, Kind, Refusal, Reply, Waiter};
+use im_types::{Cell, Entry, Kind, Refusal, Reply, Waiter};
 use std::alloc::Global;
 use std::marker::Model;
 

@@ -5,9 +5,9 @@ ghost use Rattle.im_cell.specs.Slots.{slot_at, shown_cell, shown_slot, HasBlocks
 use crate::plain_slots::walk;
 use crate::texts::{add_count, add_number, add_place, add_steps, add_truth, cell, kind};
 use anyhow::{Result, anyhow};
-use im_cell::{Cell, CellTable};
+use im_cell::CellTable;
 use im_story::{address, number};
-use im_types::{CellRecord, Kind, PresenceTag};
+use im_types::{Cell, CellRecord, Kind, PresenceTag};
 use std::alloc::{AllocError, Global};
 
 // The tag of a cell; who waits is not the table's to know.

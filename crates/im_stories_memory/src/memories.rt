@@ -4,11 +4,10 @@ use crate::memory_walks::walk;
 use crate::nodes::{add_cell_record, add_node_record, add_nodes, listed};
 use crate::texts::{add_count, add_kept, add_place, add_steps, add_waiter, waiter};
 use anyhow::{Result, anyhow};
-use im_cell::Cell;
 use im_memory::Memory;
 use im_plain::PlainMemory;
 use im_story::{add_answer, add_outcome, add_window, address, command, element, number, place};
-use im_types::{Block, Command, Entry, Kept, Limits, Op, Outcome, Refusal, Request, Waiter};
+use im_types::{Block, Cell, Command, Entry, Kept, Limits, Op, Outcome, Refusal, Request, Waiter};
 use std::alloc::Global;
 
 /// The two memories, and how many commands they accepted.
@@ -17,24 +16,6 @@ pub struct Memories {
     fast: Memory,
     plain: PlainMemory,
     accepted: u32,
-}
-
-fn shown_by_fast(presence: Option<im_memory::Presence>) -> Option<Cell> {
-    match presence? {
-        im_memory::Presence::Empty => Some(Cell::Empty),
-        im_memory::Presence::Waiting => Some(Cell::Waiting),
-        im_memory::Presence::Full(value) => Some(Cell::Full(value)),
-        im_memory::Presence::Clashed(value) => Some(Cell::Clashed(value)),
-    }
-}
-
-fn shown_by_plain(presence: Option<im_plain::Presence>) -> Option<Cell> {
-    match presence? {
-        im_plain::Presence::Empty => Some(Cell::Empty),
-        im_plain::Presence::Waiting => Some(Cell::Waiting),
-        im_plain::Presence::Full(value) => Some(Cell::Full(value)),
-        im_plain::Presence::Clashed(value) => Some(Cell::Clashed(value)),
-    }
 }
 
 // What both say; an error where they differ.
@@ -94,10 +75,7 @@ impl Memories {
 
     /// What a cell holds.
     pub fn cell(&self, a: u32) -> Result<Option<Cell>> {
-        both(
-            shown_by_fast(self.fast.cell(a)),
-            shown_by_plain(self.plain.cell(a)),
-        )
+        both(self.fast.cell(a), self.plain.cell(a))
     }
 
     /// The block that an address lies in.

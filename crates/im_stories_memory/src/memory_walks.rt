@@ -3,8 +3,7 @@
 use crate::dice::Dice;
 use crate::memories::Memories;
 use anyhow::Result;
-use im_cell::Cell;
-use im_types::{Block, Command, Entry, Kept, Kind, Op, Refusal, Request, Waiter};
+use im_types::{Block, Cell, Command, Entry, Kept, Kind, Op, Refusal, Request, Waiter};
 
 // An operation on one of eight cells, or just past them.
 fn any_op(dice: &mut Dice) -> Op {

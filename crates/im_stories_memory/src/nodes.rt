@@ -2,9 +2,8 @@
 
 use crate::texts::{add_place, add_waiter};
 use anyhow::{Result, anyhow};
-use im_cell::Cell;
 use im_memory::Memory;
-use im_types::{CellRecord, NONE, NodeRecord, PresenceTag};
+use im_types::{Cell, CellRecord, NONE, NodeRecord, PresenceTag};
 
 fn cell_of(tag: PresenceTag) -> Cell {
     match tag {

@@ -1,7 +1,6 @@
 //! A cell by the rules, one by one.
 
-use im_cell::Cell;
-use im_types::{Entry, Kind, Reply, Waiter};
+use im_types::{Cell, Entry, Kind, Reply, Waiter};
 use std::alloc::{AllocError, Global};
 use std::collections::VecDeque;
 

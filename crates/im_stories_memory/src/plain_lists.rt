@@ -4,7 +4,7 @@ ghost use Rattle.std.specs.Prelude.{◌<◌, length};
 use crate::dice::Dice;
 use anyhow::Result;
 use im_arena::Arena;
-use im_types::{NONE, Waiter};
+use im_types::{NONE, NodeRecord, Waiter};
 use std::alloc::Global;
 use std::collections::VecDeque;
 
@@ -27,6 +27,21 @@ fn call(
         queue.push_back(who)?;
     }
     Ok(pushed == has_room)
+}
+
+// The waiter that a node holds.
+fn waiter_in(node: NodeRecord) -> Option<Waiter> {
+    match node {
+        NodeRecord::Listed { waiter, .. } => Some(waiter),
+        NodeRecord::Free { .. } => None,
+    }
+}
+
+// The link of a node.
+fn link_of(node: NodeRecord) -> u32 {
+    match node {
+        NodeRecord::Listed { next, .. } | NodeRecord::Free { next } => next,
+    }
 }
 
 // The first and the last node of a list.
@@ -52,11 +67,11 @@ fn is_list(arena: &Arena, list: u32, queue: &VecDeque<Waiter>) -> bool
             return false;
         }
         let record = arena.node(link);
-        if arena.at(list, place) != wanted || walk.next() != wanted || record.waiter != wanted {
+        if arena.at(list, place) != wanted || walk.next() != wanted || waiter_in(record) != wanted {
             return false;
         }
         last = link;
-        link = record.next;
+        link = link_of(record);
     }
     walk.next() == None
         && link == NONE
@@ -70,7 +85,7 @@ fn is_list(arena: &Arena, list: u32, queue: &VecDeque<Waiter>) -> bool
 fn used(arena: &Arena) -> u32 {
     let mut used = 0u32;
     for index in 0..arena.node_count() {
-        if arena.node(index).waiter.is_some() {
+        if waiter_in(arena.node(index)).is_some() {
             used = used.saturating_add(1);
         }
     }

@@ -3,8 +3,8 @@
 use crate::cells::restored;
 use crate::dice::Dice;
 use anyhow::Result;
-use im_cell::{Cell, CellTable, Slot};
-use im_types::{Block, Kind};
+use im_cell::{CellTable, Slot};
+use im_types::{Block, Cell, Kind};
 use std::alloc::Global;
 
 fn slot_at(slots: &[Option<Slot>], a: u32) -> Option<Slot> {

@@ -1,9 +1,8 @@
 //! The texts of answers, and the words for what is put in.
 
 use anyhow::{Result, anyhow};
-use im_cell::Cell;
 use im_story::{add_entry, address, name, number};
-use im_types::{Block, Entry, Kept, Kind, Op, Reply, Waiter};
+use im_types::{Block, Cell, Entry, Kept, Kind, Op, Reply, Waiter};
 
 /// A waiter: `ELEMENT.NUMBER`.
 pub fn waiter(word: &str) -> Result<Waiter> {

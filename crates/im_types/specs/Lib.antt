@@ -1,6 +1,7 @@
 pub mod Refusals
 pub mod Sizes
 pub mod Contents
+pub mod Presences
 pub mod Place
 pub mod Act
 pub mod Window

@@ -3,6 +3,7 @@
 //! [`layout`] says where things stand in an image, [`codes`] how an operation is spelled there.
 #![tactic(auto)]
 
+mod cells;
 pub mod codes;
 mod commands;
 pub mod layout;
@@ -11,6 +12,7 @@ mod records;
 mod refusals;
 mod sizes;
 
+pub use cells::Cell;
 pub use commands::{Call, Command, Judged, Line, Outcome, Request};
 pub use operations::{Block, Entry, Kept, Kind, Op, Reply, Waiter};
 pub use records::{CellRecord, NodeRecord, PresenceTag};

@@ -1,6 +1,6 @@
 use Rattle.std.proofs.Common.{refl, sym}
 use Rattle.im_types.specs.declared.operations.Kind.TheVariants.{I}
-use Rattle.im_cell.specs.declared.slots.Cell.TheVariants.{Full}
+use Rattle.im_types.specs.declared.cells.Cell.TheVariants.{Full}
 use Rattle.im_cell.specs.Slots.{slot_at}
 use Rattle.im_istore.proofs.Accesses.{found}
 use Rattle.im_istore.proofs.Cells.{slot_at-within, AgreeBut-filled}

@@ -1,6 +1,6 @@
 use Rattle.std.proofs.Common.{◌≡◌, ◌++◌, string_bytes}
 use Rattle.im_types.specs.Contents.{held_at, waiters_at}
-use Rattle.im_memory.specs.Presences.{presence_in}
+use Rattle.im_types.specs.Presences.{presence_in}
 use Rattle.im_program.specs.Report.{cell_line, texts_below}
 use Rattle.im_program.proofs.report.add_cells.Given as goal
 

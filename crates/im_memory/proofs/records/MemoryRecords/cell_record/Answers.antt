@@ -1,12 +1,11 @@
 use Rattle.std.proofs.Common.{sym, ap, ◌∙◌, subst, length, arith}
 use Rattle.std.specs.Prelude.{slice_index_or}
-use Rattle.std.proofs.lemmas.List.{length-map}
 use Rattle.im_types.specs.declared.TheConstants.{NONE}
 use Rattle.im_types.specs.declared.records.PresenceTag.{PresenceTag}
 use Rattle.im_types.specs.declared.records.CellRecord.TheVariants.{Free as FreeCell, Held as BlockCell}
 use Rattle.im_types.specs.Pages.{Records}
 use Rattle.im_types.specs.Records.{FitsTag}
-use Rattle.im_memory.specs.Shown.{tag_of, node_record}
+use Rattle.im_memory.specs.Shown.{tag_of}
 use Rattle.im_memory.proofs.RecordLemmas.{length-cells, block-none, cell-some}
 use Rattle.im_memory.proofs.records.MemoryRecords.cell_record.Goals as goal
 
@@ -26,6 +25,6 @@ pub returns-clause-fits : goal.returns-clause-fits
 returns-clause-fits c =
     let m = c.self.inside in
     let cells = sym (length-cells m.table.now m.arena.now.links.ends) ∙ ap (λ (r : Records). length r.cells) c.self.view_is in
-    let many = sym (length-map m.arena.now.links.records node_record) ∙ ap (λ (r : Records). length r.nodes) c.self.view_is in
+    let many = ap (λ (r : Records). length r.nodes) c.self.view_is in
     let within = (c.in-Some.ensures.whole.within c.args.a c.in-Some.block (sym c.in-Some.ensures.block)).2 in
     (omega (arith, cells, within), subst (λ n. FitsTag n c.tag_of.result) many (c.tag_of.ensures.fits (length m.arena.now.links.records) c.ends_at.ensures.within))

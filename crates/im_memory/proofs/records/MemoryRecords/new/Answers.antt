@@ -1,11 +1,8 @@
-use Rattle.std.proofs.Common.{◌∙◌}
-use Rattle.std.proofs.lemmas.List.{length-map}
-use Rattle.im_memory.specs.Shown.{node_record}
 use Rattle.im_memory.proofs.ShownLemmas.{shows-records}
 use Rattle.im_memory.proofs.records.MemoryRecords.new.Goals as goal
 
 pub returns-clause-nodes : goal.returns-clause-nodes
-returns-clause-nodes c = length-map c.args.arena.now.links.records node_record ∙ c.are_threaded.ensures.node_count
+returns-clause-nodes c = c.are_threaded.ensures.node_count
 
 pub returns-clause-shows : goal.returns-clause-shows
 returns-clause-shows c = shows-records c.args.table.now c.args.arena.now c.args.sessions.now c.requires c.are_threaded.ensures

@@ -1,7 +1,7 @@
 use Rattle.std.proofs.Common.{length, get_or, Some, None, sym, ap, ◌∙◌}
 use Rattle.im_types.specs.Contents.{Contents, held_at}
 use Rattle.im_plain.specs.Waiting.{waiting_at}
-use Rattle.im_plain.specs.Presences.{presence_in}
+use Rattle.im_types.specs.Presences.{presence_in}
 use Rattle.im_plain.proofs.JoinedLemmas.{held_at-None, held_at-Some}
 use Rattle.im_plain.proofs.memory.PlainMemory.cell.Goals as goal
 

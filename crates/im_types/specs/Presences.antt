@@ -2,16 +2,16 @@
 -- (Presence tags: Arvind, Nikhil, Pingali, TOPLAS 11(4), 1989. Clashed: own.)
 use Rattle.std.specs.Prelude.{[], ◌∷◌, Option, option_map}
 use Rattle.im_types.specs.Contents.{CellState, Empty, Full, Clashed, Held}
-use Rattle.im_memory.specs.declared.cells.Presence.{Presence}
-use Rattle.im_memory.specs.declared.cells.Presence.TheVariants.{Empty as IsEmpty, Waiting as IsWaiting, Full as IsFull, Clashed as IsClashed}
+use Rattle.im_types.specs.declared.cells.Cell.{Cell}
+use Rattle.im_types.specs.declared.cells.Cell.TheVariants.{Empty as IsEmpty, Waiting as IsWaiting, Full as IsFull, Clashed as IsClashed}
 
 -- the presence tag of a state
-abbrev pub presence_of : CellState → Presence
+abbrev pub presence_of : CellState → Cell
 presence_of (Empty []) = IsEmpty
 presence_of (Empty (waiter ∷ waiters)) = IsWaiting
 presence_of (Full v) = IsFull v
 presence_of (Clashed v) = IsClashed v
 
 -- the presence tag of a cell of a block
-abbrev pub presence_in : Option Held → Option Presence
+abbrev pub presence_in : Option Held → Option Cell
 presence_in held = option_map (λ (held : Held). presence_of held.state) held
