@@ -17,9 +17,6 @@ module _ (nodes : List Node) (at : ℕ) (walk : IsWalk nodes at) where
   abbrev steps : ℕ
   steps = steps_from next at (length nodes)
 
-  pub none-left : at ≡ NONE → waiters_from nodes at ≡ []
-  none-left none = ap (along (waiter_of nodes) next at) (steps-are next at 0 (length nodes) (λ i lt. omega arith) none (omega arith))
-
   module _ (some : at ≢ NONE) where
     -- how many are left behind the next one
     pub more : (n : ℕ) → steps ≡ n → (k : ℕ) × (steps ≡ suc k)

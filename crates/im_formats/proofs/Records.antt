@@ -61,9 +61,6 @@ fields-read_back make base length first last value fits =
     ∙ ap (λ (n : ℕ). make base length first n (little_number 8 (little_bytes 8 value ++ []))) (reads4 last fits.last_fits)
     ∙ ap (λ (n : ℕ). make base length first last n) (little_number-reads_back 8 value [] fits.value_fits)
 
-block_is : (block : Block) → record { base = block.base; length = block.length; kind = block.kind } ≡ block
-block_is block = refl
-
 pub cell_in-spelled : (cells nodes : ℕ) (cell : CellRecord) → cells < 2 ^ 32 → nodes ≤ 2 ^ 32 → FitsCell cells nodes cell → cell_in (cell_bytes cell) ≡ Some cell
 unfolding cell_in
 cell_in-spelled cells nodes (FreeCell hole next) few_cells few_nodes fits =

@@ -76,12 +76,6 @@ judge-forgotten windows r f =
 pub step-forgotten : (m : Contents) (r : Request) → IsForgotten m.windows (asker r) → IsRefused m r Forgotten
 step-forgotten m r f = ap (step_request m r) (judge-forgotten m.windows r f)
 
-pub accepted-forgotten : (m : Contents) (r : Request) → IsForgotten m.windows (asker r) → is_accepted m (Asks r) ≡ false
-accepted-forgotten m r f = ap is_fresh (judge-forgotten m.windows r f)
-
-pub kept_for-forgotten : (windows : List Window) (who : Waiter) → IsForgotten windows who → kept_for windows who ≡ None
-kept_for-forgotten windows who f = kept_for-here windows who.element f.window who f.there refl ∙ kept_under-below f.window who.number f.below
-
 -- who asks is told so
 pub ask-forgotten : (windows : List Window) (who : Waiter) → IsForgotten windows who → ask windows who ≡ Err Forgotten
 ask-forgotten windows who f =

@@ -88,9 +88,6 @@ bounds-window windows element base next e = by_window (slice_get windows element
     by_window None at b = absurd (cc)
     by_window (Some w) at b = let are = same_bounds w.base (w.base + length w.kept) base next b in record { window = w; there = at; base_is = are.0; next_is = are.1 }
 
-AreWindows : List Window → Type 0
-AreWindows windows = (element : ℕ) (w : Window) → slice_get windows element ≡ Some w → IsWindow w
-
 -- a window is one by its bounds alone
 bounds-IsWindow : (v w : Window) → v.base ≡ w.base → v.base + length v.kept ≡ w.base + length w.kept → IsWindow v → IsWindow w
 bounds-IsWindow v w base next is =

@@ -27,9 +27,6 @@ pub record IsNext (windows : List Window) (r : Request) : Type 0 where
   pub room : length window.kept < WINDOW
   pub to_last : r.number ≤ LAST
 
-refused : (e : Refusal) → Err e ≡ Ok Fresh → ⊥
-refused e h = let k : ◌≡◌ {A = Result Judged Refusal} (Err e) (Ok Fresh) = h in cc
-
 slice_get-past : (kept : List Kept) (place : ℕ) → slice_get kept place ≡ None → length kept ≤ place
 slice_get-past [] place e = omega arith
 slice_get-past (k ∷ kept) zero e = absurd (cc)

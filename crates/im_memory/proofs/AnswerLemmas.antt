@@ -43,9 +43,6 @@ module _ (arena new : Shown) (a : ℕ) (reader : Waiter) (off : IsOff arena new 
     pub others-awaited : AreAwaited (answer windows reader (Value value)) (replies_to (list_at new.held a) value)
     others-awaited = both.1
 
-  pub answer_each-first : answer_each (answer windows reader (Value value)) (replies_to (list_at new.held a) value) ≡ answer_each windows (replies_to (list_at arena.held a) value)
-  answer_each-first = sym (ap (λ readers. answer_each windows (replies_to readers value)) off.front)
-
 -- the entry of each of these waits
 abbrev AllWait : List Window → List Waiter → Type 0
 AllWait windows waiters = (who : Waiter) → 1 ≤ times who waiters → (k : Kept) × (kept_for windows who ≡ Some k) × (is_waiting k ≡ true)

@@ -118,12 +118,3 @@ module _ (slots : List (Option Slot)) (arena : Shown) where
   -- nobody is on the list of a free cell
   pub free-list : Agree slots arena → (a : ℕ) → slot_at slots a ≡ None → list_at arena.held a ≡ []
   free-list agree a free = no_list (list_at arena.held a) (sym (agree.each a) ∙ ap is_waiting free)
-
-  -- nor on one past the last cell
-  pub past-list : Agree slots arena → (a : ℕ) → length slots ≤ a → list_at arena.held a ≡ []
-  past-list agree a past = free-list agree a (none_past slots a past)
-    where
-      none_past : (slots : List (Option Slot)) (a : ℕ) → length slots ≤ a → slot_at slots a ≡ None
-      none_past [] a past = refl
-      none_past (s ∷ slots) zero past = absurd (omega arith)
-      none_past (s ∷ slots) (suc a) past = none_past slots a (omega arith)

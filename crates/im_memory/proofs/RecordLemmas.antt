@@ -52,9 +52,6 @@ module _ (slots : List (Option Slot)) (arena : Shown) (a : ℕ) where
   pub block-none : None ≡ block_in (slot_at slots a) → FreeCell 0 NONE ≡ slice_index_or (cell_records slots arena.links.ends) a (FreeCell 0 NONE)
   block-none e = free-block (slot_at slots a) (ends_at arena.links a) e ∙ sym (cell-at slots arena.links.ends a)
 
-  pub cell-none : None ≡ cell_in (slot_at slots a) → FreeCell 0 NONE ≡ slice_index_or (cell_records slots arena.links.ends) a (FreeCell 0 NONE)
-  cell-none e = free-cell (slot_at slots a) (ends_at arena.links a) e ∙ sym (cell-at slots arena.links.ends a)
-
   pub cell-some : (block : Block) (cell : Cell) → Some block ≡ block_in (slot_at slots a) → Some cell ≡ cell_in (slot_at slots a)
       → BlockCell block (tag_of cell (ends_at arena.links a)) ≡ slice_index_or (cell_records slots arena.links.ends) a (FreeCell 0 NONE)
   cell-some block cell b c = held-cell (slot_at slots a) (ends_at arena.links a) block cell b c ∙ sym (cell-at slots arena.links.ends a)
@@ -95,13 +92,3 @@ ends-read arena a ends e = by_list arena.links.ends a e
     by_list [] a e = absurd (cc)
     by_list (x ∷ all) zero e = some_same ends x e
     by_list (x ∷ all) (suc a) e = by_list all a e
-
--- a window of a memory fits where each of its entries does
-pub window-fits : (w : Window) → IsWindow w → ((i : ℕ) (k : Kept) → slice_get w.kept i ≡ Some k → FitsPlace (Some k)) → FitsWindow layout_1 w
-window-fits w is fields = record {
-  base_from = is.from_one;
-  base_to = omega (arith, is.to_last);
-  few = is.few;
-  numbers = is.to_last;
-  fields = fields;
-}

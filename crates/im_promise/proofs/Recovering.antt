@@ -108,9 +108,6 @@ is_no_fault old mid new past_mid past_new crash none P meant said fault told =
 pub meant_or_in_doubt : {D : Type 0} (doubt : Type 0) (s : EngineState D) (commands : List Command) (file : List ℕ) → MeansAllOrInDoubt doubt s commands file → (m : Contents) × (count : ℕ) × (room : ℕ) × Means m count room file
 meant_or_in_doubt why s commands file it = (after s.memory (take it.0 commands), s.count + it.0, 0, it.2)
 
-pub meant_state : {D : Type 0} (s : EngineState D) (file : List ℕ) → MeansState s file → (m : Contents) × (count : ℕ) × (room : ℕ) × Means m count room file
-meant_state s file it = (s.memory, s.count, s.room, it)
-
 -- with nothing served the meaning stays
 pub still_means : {D E : Type 0} (s : EngineState D) (e : EngineState E) (file : List ℕ) → MeansOne → MeansState s file → MeansState e file → (e.memory ≡ s.memory) × (e.count ≡ s.count)
 still_means s e file one said means = one file e.memory s.memory e.count s.count e.room s.room means said

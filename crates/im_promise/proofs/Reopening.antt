@@ -39,10 +39,6 @@ pub over : {X : Type 0} (P : Type 0) (Q : X → Type 0) (r : Result X Refusal) �
 over P Q (Ok x) p it = it p
 over P Q (Err e) p it = tt
 
-pub over_err : {X : Type 0} (P : Type 0) (Q : Refusal → Type 0) (r : Result X Refusal) → P → IfErr r (λ x. P → Q x) → IfErr r Q
-over_err P Q (Ok x) p it = tt
-over_err P Q (Err e) p it = it p
-
 pub under_err : {X : Type 0} (P : Type 0) (Q : Refusal → Type 0) (r : Result X Refusal) → (P → IfErr r Q) → IfErr r (λ e. P → Q e)
 under_err P Q (Ok x) it = tt
 under_err P Q (Err e) it = it
