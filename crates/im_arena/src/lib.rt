@@ -1,9 +1,10 @@
 //! Lists of waiters, all in one table of nodes.
 #![tactic(auto)]
 
-ghost use Rattle.std.specs.Prelude.{◌≡◌, ◌+◌, ◌∷◌, ◌++◌, ◌<◌, ◌↔◌, [], length, drop, slice_get, IsTrue, IfOk, IfNone, IsOkUnless, replicate, false};
+ghost use Rattle.std.specs.Prelude.{◌≡◌, ◌+◌, ◌∷◌, ◌++◌, ◌<◌, ◌↔◌, [], ℕ, length, drop, slice_get, IsTrue, IfOk, IfNone, IsOkUnless, replicate, false};
 ghost use Rattle.std.specs.List.{sum_by};
-ghost use Rattle.im_arena.specs.Lists.{list_at, with_list, free, IsThreaded};
+ghost use Rattle.im_types.specs.Records.{IsLink, FitsNode};
+ghost use Rattle.im_arena.specs.Lists.{list_at, with_list, link_of, free, IsThreaded};
 ghost use Rattle.im_arena.specs.Table.{AreFree, start_rows};
 ghost use Rattle.im_types.specs.declared.refusals.Refusal.TheVariants.{NoMemory};
 
@@ -212,6 +213,7 @@ impl Arena {
     pub fn node(&self, index: u32) -> NodeRecord
         requires { index < self.now.held.nodes }
         ensures record_at { Some result ≡ slice_get self.now.links.records index }
+        ensures fits { (nodes : ℕ) → IsLink nodes (link_of result) → FitsNode nodes result }
         ensures threaded { IsThreaded self.now }
     {
         self.nodes[index as usize].record()

@@ -1,5 +1,7 @@
 // The table of nodes, and the rows of nodes in it.
-ghost use Rattle.std.specs.Prelude.{◌≡◌, ◌≢◌, ◌+◌, ◌<◌, length, nat_lt};
+ghost use Rattle.std.specs.Prelude.{◌≡◌, ◌≢◌, ℕ, ◌+◌, ◌<◌, length, nat_lt};
+ghost use Rattle.im_types.specs.Records.{IsLink, FitsNode};
+ghost use Rattle.im_arena.specs.Lists.{link_of};
 ghost use Rattle.im_arena.specs.Table.{Sound, Attached, Detached, Transferred, count_of, spans_of, used_node, free_node, waiter_in, record_of, ends_of, empty_row, full_row};
 
 use im_types::{NONE, NodeRecord, Waiter};
@@ -67,7 +69,8 @@ impl Node {
     }
 
     pub(crate) fn record(&self) -> NodeRecord
-        ensures { result ≡ record_of self.now }
+        ensures record { result ≡ record_of self.now }
+        ensures fits { (nodes : ℕ) → IsLink nodes (link_of result) → FitsNode nodes result }
     {
         if self.used {
             NodeRecord::Listed {
