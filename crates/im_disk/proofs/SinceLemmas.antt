@@ -4,7 +4,7 @@ use Rattle.std.proofs.Common.{inl, inr, ⊎_elim, sym, ◌∙◌, ap, subst, ari
 use Rattle.std.proofs.lemmas.Bool.{cases_lt}
 use Rattle.std.proofs.lemmas.List.{ext_get_or}
 use Rattle.im_disk.specs.Moment.{Moment, Outside, Left, LeftSince, Torn, Shaken, MayTick, overlaid, synced}
-use Rattle.im_disk.specs.Since.{Leaves, LeavesNow, SameBut, ReadsOnly}
+use Rattle.im_disk.specs.Since.{Leaves, LeavesNow, LeavesOnly, SameBut, ReadsOnly}
 use Rattle.im_disk.proofs.OverlayLemmas.{length-overlaid, overlaid_outside, overlaid_inside}
 
 none_before : (past : List Moment) (t : ℕ) (c : List ℕ) → length past ≤ t → LeftSince past t c → ⊥
@@ -118,6 +118,13 @@ reads_then old mid new past past_mid past_new first second = record {
 
 pub leaves_weaker : (old new : Moment) (past past_new : List Moment) (P Q : List ℕ → Type 0) → Leaves old new past past_new P → ((c : List ℕ) → P c → Q c) → Leaves old new past past_new Q
 leaves_weaker old new past past_new P Q leaves weaker = record { later = leaves.later; each = λ t c le left. ⊎_elim (λ earlier. inl earlier) (λ here. inr (weaker c here)) (leaves.each t c le left) }
+
+-- the same of a disk, within the run and at its end
+pub only_weaker : {D : Type 0} (now : D → Moment) (past : D → List Moment) (old new : D) (P Q : List ℕ → Type 0) → LeavesOnly now past old new P → ((c : List ℕ) → P c → Q c) → LeavesOnly now past old new Q
+only_weaker now past old new P Q only weaker = record {
+  within = leaves_weaker (now old) (now new) (past old) (past new) P Q only.within weaker;
+  after = λ c left. weaker c (only.after c left);
+}
 
 -- two runs of calls, one after the other
 pub leaves_then : (old mid new : Moment) (past past_mid past_new : List Moment) (P Q R : List ℕ → Type 0) → Leaves old mid past past_mid P → Leaves mid new past_mid past_new Q → ((c : List ℕ) → P c → R c) → ((c : List ℕ) → Q c → R c) → Leaves old new past past_new R
