@@ -58,10 +58,6 @@ module _ {D : Type 0} (now : D → Moment) (past : D → List Moment) (at : ℕ)
           after = after3;
         }
 
--- by what the three calls made of the moment
-pub opened_by : (at : ℕ) (m0 m1 m2 m3 : Moment) → m1 ≡ synced m0 → m2 ≡ written at (open_gate ∷ []) m1 → m3 ≡ synced m2 → m3 ≡ synced (written at (open_gate ∷ []) m0)
-opened_by at m0 m1 m2 m3 first second third = third ∙ ap synced second ∙ ap (λ (m : Moment). synced (written at (open_gate ∷ []) m)) first
-
 -- a body and then the gate in front of it
 module _ (b body : List ℕ) (at o : ℕ) (fits : at + 1 + length body ≤ length b) where
   abbrev with_body : List ℕ

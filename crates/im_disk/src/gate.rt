@@ -10,8 +10,8 @@ use im_types::layout::OPEN;
 
 /// Syncs, opens the gate at `at` by writing its byte, and syncs. What stands behind the gate was written before.
 ///
-/// A crash at any moment of it leaves a file that could be left before, or the one that a read gives, but for the byte of
-/// the gate. Once it has answered `Ok`, the gate is open for good, over all that was written.
+/// A crash at any moment of it leaves a file that could be left before, or the one that a read gives, but for the byte
+/// of the gate. Once it has answered `Ok`, the gate is open for good, over all that was written.
 pub fn open_gate<D: Disk>(disk: &mut D, at: usize) -> Result<(), DeviceFault>
     requires inside { D.honest disk.old → at + 1 ≤ length (D.now disk.old).bytes }
     ensures leaves { D.honest disk.new → LeavesOnly D.now D.past disk.old disk.new (MayOpen at (D.now disk.old)) }
@@ -26,9 +26,9 @@ pub fn open_gate<D: Disk>(disk: &mut D, at: usize) -> Result<(), DeviceFault>
     disk.sync() // The same. Once this is done the gate is open for good.
 }
 
-/// Writes bytes whose first one is an open gate to where the gate is closed: all but the gate, a sync, the gate, a sync.
+/// Writes bytes, the first of them an open gate, where the gate is closed: those behind it, a sync, the gate, a sync.
 ///
-/// A crash at any moment of it leaves a file whose gate is open only over all of the bytes, or closed; elsewhere it is one
+/// A crash at any moment of it leaves a file whose gate is closed, or open over all of the bytes; elsewhere it is one
 /// that could be left before. Once it has answered `Ok`, the bytes are on the disk.
 pub fn write_behind_gate<D: Disk>(disk: &mut D, at: usize, bytes: &[u8]) -> Result<(), DeviceFault>
     requires below { at < usize.MAX }
@@ -36,7 +36,8 @@ pub fn write_behind_gate<D: Disk>(disk: &mut D, at: usize, bytes: &[u8]) -> Resu
     requires closed { D.honest disk.old → IsClosed at (length bytes.now) (D.now disk.old) }
     ensures leaves { D.honest disk.new
         → LeavesOnly D.now D.past disk.old disk.new (MayWrite at bytes.now (D.now disk.old)) }
-    ensures written { OnOk result (D.honest disk.new → D.now disk.new ≡ synced (written at bytes.now (D.now disk.old))) }
+    ensures written { OnOk result (D.honest disk.new
+        → D.now disk.new ≡ synced (written at bytes.now (D.now disk.old))) }
     ensures calls { D.honest disk.new → CallsBy D.past disk.old disk.new 4 result }
     ensures honest { D.honest disk.new → D.honest disk.old }
     ensures failures { Counts result (D.failures disk.old) (D.failures disk.new) }
