@@ -33,7 +33,7 @@ returns-in-Err-clause-leaves g c = λ h.
     let alive : e.failed ≡ false = ap (λ (s : EngineState g.row.D.Denot). s.failed) c.self.view_is ∙ c.requires.alive in
     let accepted : is_accepted e.memory c.args.command.now ≡ true = ap (λ (s : EngineState g.row.D.Denot). is_accepted s.memory c.args.command.now) c.self.view_is ∙ c.requires.accepted in
     subst (λ (s : EngineState g.row.D.Denot). Leaves (g.D.Disk.now s.disk) (g.D.Disk.now c.append.new.disk) (g.D.Disk.past s.disk) (g.D.Disk.past c.append.new.disk) (MeansEither s c.args.command.now)) c.self.view_is
-    (leaves_weaker (g.D.Disk.now e.disk) (g.D.Disk.now c.append.new.disk) (g.D.Disk.past e.disk) (g.D.Disk.past c.append.new.disk) (MayAppend e.journal c.args.command.now (g.D.Disk.now e.disk)) _ (c.append.ensures.leaves h)
+    (leaves_weaker (g.D.Disk.now e.disk) (g.D.Disk.now c.append.new.disk) (g.D.Disk.past e.disk) (g.D.Disk.past c.append.new.disk) (MayAppend e.journal c.args.command.now (g.D.Disk.now e.disk)) _ (c.append.ensures.leaves h).within
     (may_append_means e.checkpoint e.memory e.journal (g.D.Disk.now e.disk) (c.self.invariant.1 (c.append.ensures.honest h) alive) c.args.command.now accepted))
 
 pub returns-in-Err-clause-doubt : goal.returns-in-Err-clause-doubt
@@ -42,16 +42,16 @@ returns-in-Err-clause-doubt g c = λ h file left.
     let alive : e.failed ≡ false = ap (λ (s : EngineState g.row.D.Denot). s.failed) c.self.view_is ∙ c.requires.alive in
     let accepted : is_accepted e.memory c.args.command.now ≡ true = ap (λ (s : EngineState g.row.D.Denot). is_accepted s.memory c.args.command.now) c.self.view_is ∙ c.requires.accepted in
     subst (λ (s : EngineState g.row.D.Denot). MeansEither s c.args.command.now file) c.self.view_is
-    (may_append_means e.checkpoint e.memory e.journal (g.D.Disk.now e.disk) (c.self.invariant.1 (c.append.ensures.honest h) alive) c.args.command.now accepted file (c.append.ensures.now h file left))
+    (may_append_means e.checkpoint e.memory e.journal (g.D.Disk.now e.disk) (c.self.invariant.1 (c.append.ensures.honest h) alive) c.args.command.now accepted file ((c.append.ensures.leaves h).after file left))
 
 pub invariant_of-self-2 : goal.invariant_of-self-2
 invariant_of-self-2 g c =
     let e = c.self.inside in
     let accepted : is_accepted e.memory c.args.command.now ≡ true = ap (λ (s : EngineState g.row.D.Denot). is_accepted s.memory c.args.command.now) c.self.view_is ∙ c.requires.accepted in
     let done = c.in_default.ensures in (
-      fits_longer e.checkpoint e.memory c.step.new.self e.journal c.append.new.self c.args.command.now c.self.invariant.0 c.step.ensures.contents done.longer,
+      fits_longer e.checkpoint e.memory c.step.new.self e.journal c.append.new.self c.args.command.now c.self.invariant.0 c.step.ensures.contents done.state,
       λ h f. kept_with_it e.checkpoint e.memory e.journal (g.D.Disk.now e.disk) (c.self.invariant.1 (c.append.ensures.honest h) f) c.args.command.now accepted
-          c.step.new.self c.step.ensures.contents c.append.new.self done.longer (g.D.Disk.now c.append.new.disk) (done.kept h) (done.calm h) (done.added h) (done.holds h),
+          c.step.new.self c.step.ensures.contents c.append.new.self done.state (g.D.Disk.now c.append.new.disk) (done.added h).kept (done.added h).calm (done.added h).added (done.added h).holds,
     )
 
 pub returns-clause-leaves : goal.returns-clause-leaves
@@ -60,7 +60,7 @@ returns-clause-leaves g c = λ h.
     let alive : e.failed ≡ false = ap (λ (s : EngineState g.row.D.Denot). s.failed) c.self.view_is ∙ c.requires.alive in
     let accepted : is_accepted e.memory c.args.command.now ≡ true = ap (λ (s : EngineState g.row.D.Denot). is_accepted s.memory c.args.command.now) c.self.view_is ∙ c.requires.accepted in
     subst (λ (s : EngineState g.row.D.Denot). Leaves (g.D.Disk.now s.disk) (g.D.Disk.now c.append.new.disk) (g.D.Disk.past s.disk) (g.D.Disk.past c.append.new.disk) (MeansEither s c.args.command.now)) c.self.view_is
-    (leaves_weaker (g.D.Disk.now e.disk) (g.D.Disk.now c.append.new.disk) (g.D.Disk.past e.disk) (g.D.Disk.past c.append.new.disk) (MayAppend e.journal c.args.command.now (g.D.Disk.now e.disk)) _ (c.append.ensures.leaves h)
+    (leaves_weaker (g.D.Disk.now e.disk) (g.D.Disk.now c.append.new.disk) (g.D.Disk.past e.disk) (g.D.Disk.past c.append.new.disk) (MayAppend e.journal c.args.command.now (g.D.Disk.now e.disk)) _ (c.append.ensures.leaves h).within
     (may_append_means e.checkpoint e.memory e.journal (g.D.Disk.now e.disk) (c.self.invariant.1 (c.append.ensures.honest h) alive) c.args.command.now accepted))
 
 pub returns-clause-doubt : goal.returns-clause-doubt
@@ -69,7 +69,7 @@ returns-clause-doubt g c = λ h file left.
     let alive : e.failed ≡ false = ap (λ (s : EngineState g.row.D.Denot). s.failed) c.self.view_is ∙ c.requires.alive in
     let accepted : is_accepted e.memory c.args.command.now ≡ true = ap (λ (s : EngineState g.row.D.Denot). is_accepted s.memory c.args.command.now) c.self.view_is ∙ c.requires.accepted in
     subst (λ (s : EngineState g.row.D.Denot). MeansEither s c.args.command.now file) c.self.view_is
-    (may_append_means e.checkpoint e.memory e.journal (g.D.Disk.now e.disk) (c.self.invariant.1 (c.append.ensures.honest h) alive) c.args.command.now accepted file (c.append.ensures.now h file left))
+    (may_append_means e.checkpoint e.memory e.journal (g.D.Disk.now e.disk) (c.self.invariant.1 (c.append.ensures.honest h) alive) c.args.command.now accepted file ((c.append.ensures.leaves h).after file left))
 
 pub returns-clause-means : goal.returns-clause-means
 returns-clause-means g c = λ h f.
@@ -78,4 +78,4 @@ returns-clause-means g c = λ h f.
     let done = c.in_default.ensures in
     all_mean e.checkpoint c.step.new.self c.append.new.self (g.D.Disk.now c.append.new.disk)
     (kept_with_it e.checkpoint e.memory e.journal (g.D.Disk.now e.disk) (c.self.invariant.1 (c.append.ensures.honest h) f) c.args.command.now accepted
-    c.step.new.self c.step.ensures.contents c.append.new.self done.longer (g.D.Disk.now c.append.new.disk) (done.kept h) (done.calm h) (done.added h) (done.holds h))
+    c.step.new.self c.step.ensures.contents c.append.new.self done.state (g.D.Disk.now c.append.new.disk) (done.added h).kept (done.added h).calm (done.added h).added (done.added h).holds)
