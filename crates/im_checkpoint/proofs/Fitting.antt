@@ -1,24 +1,44 @@
--- After a turn the memory and the journal are still those of the checkpoint's image.
-use Rattle.std.proofs.Common.{◌≡◌, ℕ, List, [], ◌∷◌, Result, Ok, Err, IfOk, OnOk, refl, sym, subst}
+-- After a turn the memory and the journal are still those of the checkpoint's image, and a checkpoint has a turn less to go.
+use Rattle.std.proofs.Common.{◌≡◌, ◌⊎◌, inl, inr, ⊎_elim, ℕ, zero, suc, ◌+◌, ◌<◌, ◌≤◌, Bool, true, false, ◌&&◌, nat_lt, List, [], ◌∷◌, length, Result, Ok, Err, IfOk, refl, sym, ◌∙◌, ap, subst, arith}
+use Rattle.std.proofs.lemmas.Bool.Decides.{nat_tests}
+use Rattle.im_laws.proofs.Tests.{true_or_false}
 use Rattle.im_types.specs.Contents.{Contents}
 use Rattle.im_types.specs.Header.{Header}
-use Rattle.im_journal.specs.Holding.{JournalState}
+use Rattle.im_journal.specs.Holding.{JournalState, to_sweep, with_room}
 use Rattle.im_checkpoint.specs.declared.checkpoint.TurnDone.{TurnDone}
-use Rattle.im_checkpoint.specs.Step.{Taken, Step, NoCheckpoint, PagesLeft, PagesDone, Synced, CheckpointState, with_left}
-use Rattle.im_checkpoint.specs.Turns.{Turned, next_header}
-use Rattle.im_checkpoint.specs.Keeping.{IsBetween, StepFits, Fits}
+use Rattle.im_checkpoint.specs.Step.{Taken, Step, NoCheckpoint, PagesLeft, PagesDone, Synced, CheckpointState, IsUnderWay, with_left, all_pages, turns_left}
+use Rattle.im_checkpoint.specs.Turns.{Turned, is_due, next_header}
+use Rattle.im_checkpoint.specs.Keeping.{IsBetween, StepFits, Fits, ComesTo}
 
 -- where a call is done, what follows from it
-pub once_done : {T E : Type 0} {P : T → Type 0} {Q : Type 0} (r : Result T E) → IfOk r P → ((x : T) → P x → Q) → OnOk r Q
-once_done (Ok x) p then = then x p
-once_done (Err e) p then = tt
+pub once_more : {T E : Type 0} {P Q : T → Type 0} (r : Result T E) → IfOk r P → ((x : T) → P x → Q x) → IfOk r Q
+once_more (Ok x) p then = then x p
+once_more (Err e) p then = tt
 
 by_left : (h : Header) (j : JournalState) (taken : Taken) (left : List ℕ) → IsBetween h j taken → StepFits h j (with_left taken left)
 by_left h j taken [] between = between
 by_left h j taken (page ∷ left) between = between
 
-module _ (old : CheckpointState) (j : JournalState) (m : Contents) (answer : TurnDone) (new : CheckpointState) (k : JournalState) (turned : Turned old j m answer new k) (fits : Fits old m j) (taken : Taken) where
-  -- of the same header and journal
+turns_with : (taken : Taken) (left : List ℕ) → turns_left (with_left taken left) ≡ length left + 2
+turns_with taken [] = omega arith
+turns_with taken (page ∷ left) = refl
+
+one_less : (n turns : ℕ) → turns ≡ n + 2 → suc n + 2 ≡ turns + 1
+one_less n turns is = omega (arith, is)
+
+due_before : (a b : ℕ) (c : Bool) → (nat_lt a b && c) ≡ true → a ≤ b
+due_before a b c is = by_test (nat_lt a b) c is (λ yes. grind (arith, nat_tests, yes))
+  where
+    by_test : (x c : Bool) → (x && c) ≡ true → (x ≡ true → a ≤ b) → a ≤ b
+    by_test true c is then = then refl
+    by_test false c is then = absurd (cc)
+
+pub none_or_some : (n : ℕ) → (n ≡ 0) ⊎ (0 < n)
+none_or_some zero = inl refl
+none_or_some (suc n) = inr (omega arith)
+
+module _ (old : CheckpointState) (j : JournalState) (m : Contents) (answer : TurnDone) (new : CheckpointState) (k : JournalState) (turned : Turned old j m answer new k) (fits : Fits old m j) where
+  -- of the same header
   with_step : (s : Step) → StepFits old.header j s → new ≡ record { header = old.header; step = s } → k ≡ j → Fits new m k
   with_step s step_is is same = subst (λ (x : CheckpointState). Fits x m k) (sym is) (subst (λ (x : JournalState). Fits (record { header = old.header; step = s }) m x) (sym same) (record {
     cells = fits.cells;
@@ -28,20 +48,71 @@ module _ (old : CheckpointState) (j : JournalState) (m : Contents) (answer : Tur
     step = step_is;
   }))
 
-  pub fits_page : (i : ℕ) (left : List ℕ) → old.step ≡ PagesLeft taken (i ∷ left) → Fits new m k
-  fits_page i left is = let row = turned.page taken i left is in
-      with_step (with_left taken left) (by_left old.header j taken left (subst (λ (s : Step). StepFits old.header j s) is fits.step)) row.1 row.2
+  -- no checkpoint is under way
+  module _ (is : old.step ≡ NoCheckpoint) where
+    comes : k.count ≡ j.count → Fits new m k → ComesTo old j m answer new k
+    comes same it = record {
+      turned = turned;
+      nearer = λ under. absurd (subst IsUnderWay is under);
+      count = same;
+      fits = it;
+    }
 
-  pub fits_synced : old.step ≡ PagesDone taken → Fits new m k
-  fits_synced is = let row = turned.synced taken is in
-      with_step (Synced taken) (subst (λ (s : Step). StepFits old.header j s) is fits.step) row.1 row.2
+    swept_fits : (n : ℕ) → Fits old m (with_room j n)
+    swept_fits n = record {
+      cells = fits.cells;
+      elements = fits.elements;
+      ring = fits.ring;
+      first = fits.first;
+      step = subst (λ (s : Step). StepFits old.header (with_room j n) s) (sym is) tt;
+    }
 
-  pub fits_in_force : old.step ≡ Synced taken → Fits new m k
-  fits_in_force is = let row = turned.in_force taken is in
-      subst (λ (x : CheckpointState). Fits x m k) (sym row.1) (subst (λ (x : JournalState). Fits (record { header = next_header old.header taken.count; step = NoCheckpoint }) m x) (sym row.2) (record {
+    comes_swept : 0 < to_sweep j → ComesTo old j m answer new k
+    comes_swept some = let row = turned.swept is some in
+        comes (ap (λ (x : JournalState). x.count) row.2) (subst (λ (x : CheckpointState). Fits x m k) (sym row.1) (subst (λ (x : JournalState). Fits old m x) (sym row.2) (swept_fits _)))
+
+    comes_began : to_sweep j ≡ 0 → is_due old.header j ≡ true → ComesTo old j m answer new k
+    comes_began none due =
+        let row = turned.began is none due in
+        let began = row.1 in
+        let taken : Taken = record { count = j.count; area = began.area } in
+        comes (ap (λ (x : JournalState). x.count) row.2)
+        (with_step (PagesLeft taken (all_pages old.header.sizes)) (record { from = due_before old.header.count j.count _ due; to = omega arith }) began.state row.2)
+
+    comes_idle : to_sweep j ≡ 0 → is_due old.header j ≡ false → ComesTo old j m answer new k
+    comes_idle none not = let row = turned.idle is none not in
+        comes (ap (λ (x : JournalState). x.count) row.2) (subst (λ (x : CheckpointState). Fits x m k) (sym row.1) (subst (λ (x : JournalState). Fits old m x) (sym row.2) fits))
+
+    pub comes_rest : ComesTo old j m answer new k
+    comes_rest = ⊎_elim (λ none. ⊎_elim (comes_began none) (comes_idle none) (true_or_false (is_due old.header j))) comes_swept (none_or_some (to_sweep j))
+
+  module _ (taken : Taken) where
+    pub comes_page : (i : ℕ) (left : List ℕ) → old.step ≡ PagesLeft taken (i ∷ left) → ComesTo old j m answer new k
+    comes_page i left is = let row = turned.page taken i left is in record {
+      turned = turned;
+      nearer = λ under. ap turns_left is ∙ one_less (length left) (turns_left (with_left taken left)) (turns_with taken left) ∙ sym (ap (λ (x : CheckpointState). turns_left x.step + 1) row.1);
+      count = ap (λ (x : JournalState). x.count) row.2;
+      fits = with_step (with_left taken left) (by_left old.header j taken left (subst (λ (s : Step). StepFits old.header j s) is fits.step)) row.1 row.2;
+    }
+
+    pub comes_synced : old.step ≡ PagesDone taken → ComesTo old j m answer new k
+    comes_synced is = let row = turned.synced taken is in record {
+      turned = turned;
+      nearer = λ under. ap turns_left is ∙ sym (ap (λ (x : CheckpointState). turns_left x.step + 1) row.1);
+      count = ap (λ (x : JournalState). x.count) row.2;
+      fits = with_step (Synced taken) (subst (λ (s : Step). StepFits old.header j s) is fits.step) row.1 row.2;
+    }
+
+    pub comes_in_force : old.step ≡ Synced taken → ComesTo old j m answer new k
+    comes_in_force is = let row = turned.in_force taken is in record {
+      turned = turned;
+      nearer = λ under. ap turns_left is ∙ sym (ap (λ (x : CheckpointState). turns_left x.step + 1) row.1);
+      count = ap (λ (x : JournalState). x.count) row.2;
+      fits = subst (λ (x : CheckpointState). Fits x m k) (sym row.1) (subst (λ (x : JournalState). Fits (record { header = next_header old.header taken.count; step = NoCheckpoint }) m x) (sym row.2) (record {
         cells = fits.cells;
         elements = fits.elements;
         ring = fits.ring;
         first = refl;
         step = tt;
-      }))
+      }));
+    }

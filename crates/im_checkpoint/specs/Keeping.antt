@@ -1,5 +1,5 @@
 -- What a checkpoint, a memory and a journal have to do with the file that they are kept in. (Own.)
-use Rattle.std.specs.Prelude.{◌≡◌, ◌⊎◌, ℕ, ◌+◌, ◌<◌, ◌≤◌, List, [], length, take, Some, false}
+use Rattle.std.specs.Prelude.{◌≡◌, ◌⊎◌, ℕ, ◌+◌, ◌<◌, ◌≤◌, List, [], length, take, Some, false, Result, OnOk}
 use Rattle.std.specs.List.{Contains}
 use Rattle.im_types.specs.declared.TheConstants.{LAST}
 use Rattle.im_types.specs.declared.commands.Command.{Command}
@@ -9,10 +9,12 @@ use Rattle.im_types.specs.Header.{Header, header_place, is_open_header}
 use Rattle.im_types.specs.Pages.{Shows}
 use Rattle.im_types.specs.Meaning.{Means, accept_each}
 use Rattle.im_disk.specs.Moment.{Moment, Left}
-use Rattle.im_disk.specs.Since.{SameBut}
+use Rattle.im_disk.specs.Since.{SameBut, LeavesOnly}
 use Rattle.im_journal.specs.Holding.{JournalState, Holds}
 use Rattle.im_meaning.specs.Images.{other, IsImage}
-use Rattle.im_checkpoint.specs.Step.{Taken, Step, NoCheckpoint, PagesLeft, PagesDone, Synced, CheckpointState}
+use Rattle.im_checkpoint.specs.declared.checkpoint.TurnDone.{TurnDone}
+use Rattle.im_checkpoint.specs.Step.{Taken, Step, NoCheckpoint, PagesLeft, PagesDone, Synced, CheckpointState, IsUnderWay, IsSynced, turns_left}
+use Rattle.im_checkpoint.specs.Turns.{Turned}
 
 -- the file means this memory after as many commands as the journal has, with its room at the least
 abbrev pub MeansWith : Contents → JournalState → List ℕ → Type 0
@@ -37,6 +39,28 @@ pub record Fits (c : CheckpointState) (m : Contents) (j : JournalState) : Type 0
   pub ring : j.ring ≡ ring_of layout_in_use c.header.sizes
   pub first : j.first ≡ c.header.count
   pub step : StepFits c.header j c.step
+
+-- no checkpoint is under way, and the memory and the journal are those of the header
+pub record IsAtRest (c : CheckpointState) (m : Contents) (j : JournalState) : Type 0 where
+  pub step : c.step ≡ NoCheckpoint
+  pub fits : Fits c m j
+
+-- all pages are on the disk, the journal's run begins at the header's count, and what was taken is of a count between that and the journal's
+pub record IsReady (c : CheckpointState) (j : JournalState) : Type 0 where
+  pub step : IsSynced c.step
+  pub first : j.first ≡ c.header.count
+  pub counted : StepFits c.header j c.step
+
+-- What a turn that is done comes to.
+pub record ComesTo (old : CheckpointState) (j : JournalState) (m : Contents) (answer : TurnDone) (new : CheckpointState) (k : JournalState) : Type 0 where
+  -- its answer and what it changes are as the table of turns says
+  pub turned : Turned old j m answer new k
+  -- a checkpoint under way has a turn less to go: one for each page and two more, whatever is served between
+  pub nearer : IsUnderWay old.step → turns_left old.step ≡ turns_left new.step + 1
+  -- the count of all commands stays
+  pub count : k.count ≡ j.count
+  -- the memory and the journal are those of the header still
+  pub fits : Fits new m k
 
 -- what was taken is the memory after some of the commands since the header's count, all pages of it, and there may be a later generation
 pub record IsTaken (h : Header) (shown : Contents) (commands : List Command) (taken : Taken) : Type 0 where
@@ -97,3 +121,10 @@ pub record IsKept (c : CheckpointState) (m : Contents) (j : JournalState) (now :
   pub read : Keeps c m j now.bytes
   pub elsewhere : (file : List ℕ) → Left now file → SameBut (area_at layout_in_use c.header.sizes (other c.header)) (area_bytes layout_in_use c.header.sizes) now.bytes file
   pub calm : IsCalm c.step now
+
+-- What a turn's calls do to the disk: nothing that a crash may leave loses the meaning.
+pub record KeepsMeaning {D T E : Type 0} (now : D → Moment) (past : D → List Moment) (old new : D) (m : Contents) (j : JournalState) (result : Result T E) (c : CheckpointState) (k : JournalState) : Type 0 where
+  -- each file that a crash may leave, within the turn and at its end, means the memory after all the journal's commands
+  pub leaves : LeavesOnly now past old new (MeansWith m j)
+  -- and once it is done, the disk is as the new checkpoint and the new journal say
+  pub kept : OnOk result (IsKept c m k (now new))

@@ -1,6 +1,7 @@
 -- What a turn of a checkpoint does, by the state that it finds. (Own.)
-use Rattle.std.specs.Prelude.{◌≡◌, ℕ, ◌+◌, ◌-◌, ◌<◌, Bool, true, false, ◌&&◌, nat_lt, min, List, ◌∷◌}
+use Rattle.std.specs.Prelude.{◌≡◌, ℕ, ◌+◌, ◌-◌, ◌<◌, Bool, true, false, ◌&&◌, nat_lt, min, List, ◌∷◌, Result, Ok, Err}
 use Rattle.im_types.specs.declared.TheConstants.{LAST}
+use Rattle.im_types.specs.declared.refusals.Refusal.{Refusal}
 use Rattle.im_types.specs.Contents.{Contents}
 use Rattle.im_types.specs.Layout.{layout_in_use, area_pages}
 use Rattle.im_types.specs.Header.{Header}
@@ -40,11 +41,12 @@ pub record Turned (old : CheckpointState) (j : JournalState) (m : Contents) (ans
   pub in_force : (taken : Taken) → old.step ≡ Synced taken
       → (answer ≡ InForce) × (new ≡ record { header = next_header old.header taken.count; step = NoCheckpoint }) × (k ≡ begun_at taken.count j)
 
--- at most so many device calls come before this answer
-abbrev pub most_calls : TurnDone → ℕ
-most_calls Idle = 0
-most_calls Began = 0
-most_calls (Page i) = 1
-most_calls SyncedNow = 3
-most_calls InForce = 4
-most_calls Swept = 4
+-- at most so many device calls come before this answer: by what was done, and four before a refusal
+abbrev pub most_calls : Result TurnDone Refusal → ℕ
+most_calls (Ok Idle) = 0
+most_calls (Ok Began) = 0
+most_calls (Ok (Page i)) = 1
+most_calls (Ok SyncedNow) = 3
+most_calls (Ok InForce) = 4
+most_calls (Ok Swept) = 4
+most_calls (Err refusal) = 4

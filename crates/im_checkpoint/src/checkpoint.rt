@@ -2,29 +2,32 @@
 //!
 //! | state | the turn | its answer | the next state |
 //! |---|---|---|---|
-//! | no checkpoint, old slots to be swept | closes the gates of three of them at most | `Swept` | no checkpoint |
-//! | no checkpoint, none to be swept, commands since the header's count | takes the memory's pages and count | `Began` | pages left |
+//! | no checkpoint, old slots to be swept | closes the gates of three at most | `Swept` | no checkpoint |
+//! | no checkpoint, none to be swept, new commands | takes the memory's pages and count | `Began` | pages left |
 //! | no checkpoint, none of either | nothing | `Idle` | no checkpoint |
-//! | pages left | writes the next page into the area that isn't in force | `Page` | pages left, or after the last page pages done |
-//! | pages done | puts the pages on the disk, and closes the other header's gate | `Synced` | synced |
+//! | pages left | writes the next page into the other area | `Page` | pages left; after the last, pages done |
+//! | pages done | syncs the pages, and closes the other header's gate | `Synced` | synced |
 //! | synced | writes the other area's header, and opens its gate | `InForce` | no checkpoint |
 //!
-//! A turn that answers `Device` leaves the state as it was. After generation [`LAST`] no checkpoint begins. The table is
-//! `Turned` (`specs/Turns.antt`); what holds of the disk in each state, and what a stop leaves, is `IsKept`
+//! The other area is the one that isn't in force, and new commands are those since the header's count. A turn that
+//! answers `Device` leaves the state as it was. After generation [`LAST`] no checkpoint begins. The table is `Turned`
+//! (`specs/Turns.antt`); what holds of the disk in each state, and what a stop leaves, is `IsKept`
 //! (`specs/Keeping.antt`), told in docs/CRASH.md.
-ghost use Rattle.std.specs.Prelude.{◌≡◌, ◌+◌, ◌*◌, ◌<◌, ◌≤◌, ℕ, List, length, min, if◌then◌else◌, ◌==◌, OnOk, OnErr, IfOk, IfErr};
+ghost use Rattle.std.specs.Prelude.{◌≡◌, ◌+◌, ◌*◌, ◌<◌, ◌≤◌, ℕ, List, length, min, if◌then◌else◌, ◌==◌};
+ghost use Rattle.std.specs.Prelude.{OnOk, OnErr, IfOk, IfErr};
 ghost use Rattle.im_types.specs.declared.refusals.Refusal.TheVariants.{NoMemory, Device};
 ghost use Rattle.im_types.specs.Contents.{Contents};
 ghost use Rattle.im_types.specs.Layout as layout;
 ghost use Rattle.im_types.specs.Layout.{layout_in_use, sizes_of};
 ghost use Rattle.im_types.specs.Pages.{Shows};
 ghost use Rattle.im_disk.specs.Moment.{Moment, Faults};
-ghost use Rattle.im_disk.specs.Since.{Leaves, LeavesNow};
+ghost use Rattle.im_disk.specs.Since.{CallsAtMost};
 ghost use Rattle.im_journal.specs.Holding.{JournalState, AllHold, to_sweep, with_room};
 ghost use Rattle.im_image.specs.Headers.{seen};
-ghost use Rattle.im_checkpoint.specs.Step.{Taken, NoCheckpoint, PagesLeft, CheckpointState, all_pages, pages_from, IsPagesLeft, IsPagesDone, IsSynced, IsUnderWay, turns_left};
+ghost use Rattle.im_checkpoint.specs.Step.{Taken, NoCheckpoint, PagesLeft, CheckpointState, all_pages, pages_from};
+ghost use Rattle.im_checkpoint.specs.Step.{IsPagesLeft, IsPagesDone, IsSynced};
 ghost use Rattle.im_checkpoint.specs.Turns.{Turned, Begins, is_due, most_calls};
-ghost use Rattle.im_checkpoint.specs.Keeping.{MeansWith, StepFits, Fits, IsKept};
+ghost use Rattle.im_checkpoint.specs.Keeping.{Fits, IsKept, IsAtRest, IsReady, ComesTo, KeepsMeaning};
 
 use crate::header::{close_other, next_header, open_next};
 use im_disk::Disk;
@@ -82,7 +85,10 @@ impl Model for Checkpoint {
 
     ghost Value = { CheckpointState };
 
-    ghost view = { λ c. record { header = seen c.header; step = step_of c.progress (record { count = c.count; area = c.area.items }) (drop c.written c.pages.items) } };
+    ghost view = { λ c. record {
+      header = seen c.header;
+      step = step_of c.progress (record { count = c.count; area = c.area.items }) (drop c.written c.pages.items);
+    } };
 
     ghost invariant = { λ c. IsCheckpoint (seen c.header) c.progress c.pages.items c.written c.area.items };
 }
@@ -113,16 +119,13 @@ fn progress_after(written: usize, pages: usize) -> Progress
 fn sweep<D: Disk>(disk: &mut D, journal: &mut Journal) -> Result<TurnDone, Refusal>
     requires some { 0 < to_sweep journal.old }
     requires holds { D.honest disk.old → AllHold journal.old (D.now disk.old) }
-    ensures count { OnOk result (journal.new.count ≡ journal.old.count) }
-    ensures swept { IfOk result (λ answer. (answer ≡ TurnDone.Swept) × (journal.new ≡ with_room journal.old (min 3 (to_sweep journal.old)))) }
-    ensures leaves { D.honest disk.new → (c : CheckpointState) (m : Contents) → c.step ≡ NoCheckpoint → IsKept c m journal.old (D.now disk.old)
-        → Leaves (D.now disk.old) (D.now disk.new) (D.past disk.old) (D.past disk.new) (MeansWith m journal.old) }
-    ensures now { D.honest disk.new → (c : CheckpointState) (m : Contents) → c.step ≡ NoCheckpoint → IsKept c m journal.old (D.now disk.old)
-        → LeavesNow (D.now disk.new) (MeansWith m journal.old) }
-    ensures kept { OnOk result (D.honest disk.new → (c : CheckpointState) (m : Contents) → c.step ≡ NoCheckpoint
-        → IsKept c m journal.old (D.now disk.old) → IsKept c m journal.new (D.now disk.new)) }
+    ensures swept { IfOk result (λ answer. (answer ≡ TurnDone.Swept)
+        × (journal.new ≡ with_room journal.old (min 3 (to_sweep journal.old)))) }
     ensures same { OnErr result (journal.new ≡ journal.old) }
-    ensures few { D.honest disk.new → length (D.past disk.new) ≤ length (D.past disk.old) + 4 }
+    ensures keeps { D.honest disk.new → (c : CheckpointState) (m : Contents) → c.step ≡ NoCheckpoint
+        → IsKept c m journal.old (D.now disk.old)
+        → KeepsMeaning D.now D.past disk.old disk.new m journal.old result c journal.new }
+    ensures calls { D.honest disk.new → CallsAtMost D.past disk.old disk.new (most_calls result) }
     ensures honest { D.honest disk.new → D.honest disk.old }
     ensures faults { Faults (λ e. e ≡ Device) result (D.failures disk.old) (D.failures disk.new) }
 {
@@ -134,7 +137,8 @@ fn sweep<D: Disk>(disk: &mut D, journal: &mut Journal) -> Result<TurnDone, Refus
 }
 
 impl Checkpoint {
-    /// No checkpoint yet, with this header in force. It takes the space for a whole area: `NoMemory` where that is refused.
+    /// No checkpoint yet, with this header in force. It takes the space for a whole area: `NoMemory` where that is
+    /// refused.
     pub fn idle(alloc: Global, header: &Header) -> Result<Checkpoint, Refusal>
         requires { header.now.area ≤ 1 }
         ensures state { IfOk result (λ c. c ≡ record { header = seen header.now; step = NoCheckpoint }) }
@@ -166,18 +170,14 @@ impl Checkpoint {
     // Writes the next page into the area that isn't in force.
     fn write_page<D: Disk>(&mut self, disk: &mut D) -> Result<TurnDone, Refusal>
         requires step { IsPagesLeft self.old.step }
-        requires inside { D.honest disk.old → layout.journal_at layout_in_use self.old.header.sizes ≤ length (D.now disk.old).bytes }
-        ensures turned { IfOk result (λ answer. (m : Contents) (j : JournalState) → Turned self.old j m answer self.new j) }
-        ensures nearer { OnOk result (turns_left self.old.step ≡ turns_left self.new.step + 1) }
-        ensures leaves { D.honest disk.new → (m : Contents) (j : JournalState) → IsKept self.old m j (D.now disk.old)
-            → Leaves (D.now disk.old) (D.now disk.new) (D.past disk.old) (D.past disk.new) (MeansWith m j) }
-        ensures now { D.honest disk.new → (m : Contents) (j : JournalState) → IsKept self.old m j (D.now disk.old)
-            → LeavesNow (D.now disk.new) (MeansWith m j) }
-        ensures kept { OnOk result (D.honest disk.new → (m : Contents) (j : JournalState) → IsKept self.old m j (D.now disk.old)
-            → IsKept self.new m j (D.now disk.new)) }
+        requires inside { D.honest disk.old
+            → layout.journal_at layout_in_use self.old.header.sizes ≤ length (D.now disk.old).bytes }
+        ensures turned { IfOk result (λ answer. (m : Contents) (j : JournalState)
+            → Turned self.old j m answer self.new j) }
         ensures same { OnErr result (self.new ≡ self.old) }
-        ensures few { D.honest disk.new → length (D.past disk.new) ≤ length (D.past disk.old) + 4 }
-        ensures calls { IfOk result (λ answer. D.honest disk.new → length (D.past disk.new) ≤ length (D.past disk.old) + most_calls answer) }
+        ensures keeps { D.honest disk.new → (m : Contents) (j : JournalState) → IsKept self.old m j (D.now disk.old)
+            → KeepsMeaning D.now D.past disk.old disk.new m j result self.new j }
+        ensures calls { D.honest disk.new → CallsAtMost D.past disk.old disk.new (most_calls result) }
         ensures honest { D.honest disk.new → D.honest disk.old }
         ensures faults { Faults (λ e. e ≡ Device) result (D.failures disk.old) (D.failures disk.new) }
     {
@@ -197,17 +197,12 @@ impl Checkpoint {
     fn sync_pages<D: Disk>(&mut self, disk: &mut D) -> Result<TurnDone, Refusal>
         requires step { IsPagesDone self.old.step }
         requires inside { D.honest disk.old → 8192 ≤ length (D.now disk.old).bytes }
-        ensures turned { IfOk result (λ answer. (m : Contents) (j : JournalState) → Turned self.old j m answer self.new j) }
-        ensures nearer { OnOk result (turns_left self.old.step ≡ turns_left self.new.step + 1) }
-        ensures leaves { D.honest disk.new → (m : Contents) (j : JournalState) → IsKept self.old m j (D.now disk.old)
-            → Leaves (D.now disk.old) (D.now disk.new) (D.past disk.old) (D.past disk.new) (MeansWith m j) }
-        ensures now { D.honest disk.new → (m : Contents) (j : JournalState) → IsKept self.old m j (D.now disk.old)
-            → LeavesNow (D.now disk.new) (MeansWith m j) }
-        ensures kept { OnOk result (D.honest disk.new → (m : Contents) (j : JournalState) → IsKept self.old m j (D.now disk.old)
-            → IsKept self.new m j (D.now disk.new)) }
+        ensures turned { IfOk result (λ answer. (m : Contents) (j : JournalState)
+            → Turned self.old j m answer self.new j) }
         ensures same { OnErr result (self.new ≡ self.old) }
-        ensures few { D.honest disk.new → length (D.past disk.new) ≤ length (D.past disk.old) + 4 }
-        ensures calls { IfOk result (λ answer. D.honest disk.new → length (D.past disk.new) ≤ length (D.past disk.old) + most_calls answer) }
+        ensures keeps { D.honest disk.new → (m : Contents) (j : JournalState) → IsKept self.old m j (D.now disk.old)
+            → KeepsMeaning D.now D.past disk.old disk.new m j result self.new j }
+        ensures calls { D.honest disk.new → CallsAtMost D.past disk.old disk.new (most_calls result) }
         ensures honest { D.honest disk.new → D.honest disk.old }
         ensures faults { Faults (λ e. e ≡ Device) result (D.failures disk.old) (D.failures disk.new) }
     {
@@ -225,22 +220,14 @@ impl Checkpoint {
         disk: &mut D,
         journal: &mut Journal,
     ) -> Result<TurnDone, Refusal>
-        requires step { IsSynced self.old.step }
-        requires first { journal.old.first ≡ self.old.header.count }
-        requires counted { StepFits self.old.header journal.old self.old.step }
+        requires ready { IsReady self.old journal.old }
         requires inside { D.honest disk.old → 8192 ≤ length (D.now disk.old).bytes }
-        ensures turned { IfOk result (λ answer. (m : Contents) → Turned self.old journal.old m answer self.new journal.new) }
-        ensures nearer { OnOk result (turns_left self.old.step ≡ turns_left self.new.step + 1) }
-        ensures count { OnOk result (journal.new.count ≡ journal.old.count) }
-        ensures leaves { D.honest disk.new → (m : Contents) → IsKept self.old m journal.old (D.now disk.old)
-            → Leaves (D.now disk.old) (D.now disk.new) (D.past disk.old) (D.past disk.new) (MeansWith m journal.old) }
-        ensures now { D.honest disk.new → (m : Contents) → IsKept self.old m journal.old (D.now disk.old)
-            → LeavesNow (D.now disk.new) (MeansWith m journal.old) }
-        ensures kept { OnOk result (D.honest disk.new → (m : Contents) → IsKept self.old m journal.old (D.now disk.old)
-            → IsKept self.new m journal.new (D.now disk.new)) }
+        ensures turned { IfOk result (λ answer. (m : Contents)
+            → Turned self.old journal.old m answer self.new journal.new) }
         ensures same { OnErr result ((self.new ≡ self.old) × (journal.new ≡ journal.old)) }
-        ensures few { D.honest disk.new → length (D.past disk.new) ≤ length (D.past disk.old) + 4 }
-        ensures calls { IfOk result (λ answer. D.honest disk.new → length (D.past disk.new) ≤ length (D.past disk.old) + most_calls answer) }
+        ensures keeps { D.honest disk.new → (m : Contents) → IsKept self.old m journal.old (D.now disk.old)
+            → KeepsMeaning D.now D.past disk.old disk.new m journal.old result self.new journal.new }
+        ensures calls { D.honest disk.new → CallsAtMost D.past disk.old disk.new (most_calls result) }
         ensures honest { D.honest disk.new → D.honest disk.old }
         ensures faults { Faults (λ e. e ≡ Device) result (D.failures disk.old) (D.failures disk.new) }
     {
@@ -262,7 +249,8 @@ impl Checkpoint {
         requires cells { length memory.now.cells ≡ self.old.header.sizes.cells }
         requires elements { length memory.now.windows ≡ self.old.header.sizes.elements }
         ensures began { Begins self.old.header memory.now journal.now.count self.new }
-        ensures kept { (now : Moment) → IsKept self.old memory.now journal.now now → IsKept self.new memory.now journal.now now }
+        ensures kept { (now : Moment) → IsKept self.old memory.now journal.now now
+            → IsKept self.new memory.now journal.now now }
     {
         encode(memory, self.header.limits, &mut self.area);
         self.count = journal.count();
@@ -284,19 +272,13 @@ impl Checkpoint {
         memory: &Memory,
         journal: &mut Journal,
     ) -> Result<TurnDone, Refusal>
-        requires step { self.old.step ≡ NoCheckpoint }
-        requires cells { length memory.now.cells ≡ self.old.header.sizes.cells }
-        requires elements { length memory.now.windows ≡ self.old.header.sizes.elements }
+        requires rests { IsAtRest self.old memory.now journal.old }
         requires kept { D.honest disk.old → IsKept self.old memory.now journal.old (D.now disk.old) }
         ensures turned { IfOk result (λ answer. Turned self.old journal.old memory.now answer self.new journal.new) }
-        ensures count { OnOk result (journal.new.count ≡ journal.old.count) }
-        ensures leaves { D.honest disk.new
-            → Leaves (D.now disk.old) (D.now disk.new) (D.past disk.old) (D.past disk.new) (MeansWith memory.now journal.old) }
-        ensures now { D.honest disk.new → LeavesNow (D.now disk.new) (MeansWith memory.now journal.old) }
-        ensures kept { OnOk result (D.honest disk.new → IsKept self.new memory.now journal.new (D.now disk.new)) }
         ensures same { OnErr result ((self.new ≡ self.old) × (journal.new ≡ journal.old)) }
-        ensures few { D.honest disk.new → length (D.past disk.new) ≤ length (D.past disk.old) + 4 }
-        ensures calls { IfOk result (λ answer. D.honest disk.new → length (D.past disk.new) ≤ length (D.past disk.old) + most_calls answer) }
+        ensures keeps { D.honest disk.new
+            → KeepsMeaning D.now D.past disk.old disk.new memory.now journal.old result self.new journal.new }
+        ensures calls { D.honest disk.new → CallsAtMost D.past disk.old disk.new (most_calls result) }
         ensures honest { D.honest disk.new → D.honest disk.old }
         ensures faults { Faults (λ e. e ≡ Device) result (D.failures disk.old) (D.failures disk.new) }
     {
@@ -310,10 +292,10 @@ impl Checkpoint {
         Ok(TurnDone::Idle)
     }
 
-    /// One turn, by what was done so far: it takes the memory's pages, writes one of them, puts them on the disk, puts the
-    /// header of their area in force, or closes the gates of slots whose commands the area in force holds, three at most.
-    /// `Idle` where there is none of it to do. It makes at most four device calls and takes no memory. The memory and the
-    /// journal are those that the header's image means.
+    /// One turn, by what was done so far: it takes the memory's pages, writes one of them, puts them on the disk, puts
+    /// the header of their area in force, or closes the gates of slots whose commands the area in force holds, three at
+    /// most. `Idle` where there is none of it to do. It makes at most four device calls and takes no memory. The memory
+    /// and the journal are those that the header's image means.
     ///
     /// `Device` where a call of the disk failed: the checkpoint and the journal are as they were, but the disk may be
     /// further, so the image has to be opened again.
@@ -325,20 +307,13 @@ impl Checkpoint {
     ) -> Result<TurnDone, Refusal>
         requires fits { Fits self.old memory.now journal.old }
         requires kept { D.honest disk.old → IsKept self.old memory.now journal.old (D.now disk.old) }
-        // What it answers, and what it comes to.
-        ensures turned { IfOk result (λ answer. Turned self.old journal.old memory.now answer self.new journal.new) }
-        // The header of the other area is in force after a turn for each page and two more, whatever is served between.
-        ensures nearer { OnOk result (IsUnderWay self.old.step → turns_left self.old.step ≡ turns_left self.new.step + 1) }
-        ensures count { OnOk result (journal.new.count ≡ journal.old.count) }
+        // What it answers, and what it comes to: the table of turns, and how far a checkpoint still has to go.
+        ensures turned { IfOk result (λ answer. ComesTo self.old journal.old memory.now answer self.new journal.new) }
         ensures same { OnErr result ((self.new ≡ self.old) × (journal.new ≡ journal.old)) }
-        ensures fits { OnOk result (Fits self.new memory.now journal.new) }
         // Each file that a crash may leave, from the start on, and now, means the memory after all its commands.
-        ensures leaves { D.honest disk.new
-            → Leaves (D.now disk.old) (D.now disk.new) (D.past disk.old) (D.past disk.new) (MeansWith memory.now journal.old) }
-        ensures now { D.honest disk.new → LeavesNow (D.now disk.new) (MeansWith memory.now journal.old) }
-        ensures kept { OnOk result (D.honest disk.new → IsKept self.new memory.now journal.new (D.now disk.new)) }
-        ensures few { D.honest disk.new → length (D.past disk.new) ≤ length (D.past disk.old) + 4 }
-        ensures calls { IfOk result (λ answer. D.honest disk.new → length (D.past disk.new) ≤ length (D.past disk.old) + most_calls answer) }
+        ensures keeps { D.honest disk.new
+            → KeepsMeaning D.now D.past disk.old disk.new memory.now journal.old result self.new journal.new }
+        ensures calls { D.honest disk.new → CallsAtMost D.past disk.old disk.new (most_calls result) }
         ensures honest { D.honest disk.new → D.honest disk.old }
         ensures faults { Faults (λ e. e ≡ Device) result (D.failures disk.old) (D.failures disk.new) }
     {

@@ -3,7 +3,7 @@ ghost use Rattle.std.specs.Prelude.{◌≡◌, ◌+◌, ◌<◌, ◌≤◌, List
 ghost use Rattle.im_types.specs.Contents.{Contents};
 ghost use Rattle.im_types.specs.Header as definition;
 ghost use Rattle.im_disk.specs.Moment.{Counts};
-ghost use Rattle.im_disk.specs.Since.{Leaves, LeavesNow};
+ghost use Rattle.im_disk.specs.Since.{LeavesWithin, LeavesNow, CallsAtMost};
 ghost use Rattle.im_journal.specs.Holding.{JournalState, Holds};
 ghost use Rattle.im_image.specs.Headers.{seen};
 ghost use Rattle.im_checkpoint.specs.Step.{Taken, NoCheckpoint, PagesDone, Synced};
@@ -37,14 +37,14 @@ pub(crate) fn close_other<D: Disk>(disk: &mut D, header: &Header) -> Result<(), 
     requires inside { D.honest disk.old → 8192 ≤ length (D.now disk.old).bytes }
     ensures leaves { D.honest disk.new → (taken : Taken) (m : Contents) (j : JournalState)
         → IsKept (record { header = seen header.now; step = PagesDone taken }) m j (D.now disk.old)
-        → Leaves (D.now disk.old) (D.now disk.new) (D.past disk.old) (D.past disk.new) (MeansWith m j) }
+        → LeavesWithin D.now D.past disk.old disk.new (MeansWith m j) }
     ensures now { D.honest disk.new → (taken : Taken) (m : Contents) (j : JournalState)
         → IsKept (record { header = seen header.now; step = PagesDone taken }) m j (D.now disk.old)
         → LeavesNow (D.now disk.new) (MeansWith m j) }
     ensures kept { OnOk result (D.honest disk.new → (taken : Taken) (m : Contents) (j : JournalState)
         → IsKept (record { header = seen header.now; step = PagesDone taken }) m j (D.now disk.old)
         → IsKept (record { header = seen header.now; step = Synced taken }) m j (D.now disk.new)) }
-    ensures few { D.honest disk.new → length (D.past disk.new) ≤ length (D.past disk.old) + 3 }
+    ensures few { D.honest disk.new → CallsAtMost D.past disk.old disk.new 3 }
     ensures honest { D.honest disk.new → D.honest disk.old }
     ensures failures { Counts result (D.failures disk.old) (D.failures disk.new) }
 {
@@ -52,7 +52,7 @@ pub(crate) fn close_other<D: Disk>(disk: &mut D, header: &Header) -> Result<(), 
     let mut gate = [0; 1];
     disk.read(at, &mut gate)?; // A stop leaves what was there: nothing is written.
     if gate[0] == OPEN {
-        disk.write_at(at, &[CLOSED])?; // A header of a lower generation: it isn't in force, whatever a stop leaves of its gate.
+        disk.write_at(at, &[CLOSED])?; // Of a lower generation: it isn't in force, whatever a stop leaves of its gate.
         return disk.sync(); // The same.
     }
     // A closed gate isn't written: a stop within the write could open it, over what an earlier stop left of a header.
@@ -64,16 +64,21 @@ pub(crate) fn open_next<D: Disk>(disk: &mut D, next: &Header) -> Result<(), Devi
     requires area { next.now.area ≤ 1 }
     requires inside { D.honest disk.old → 8192 ≤ length (D.now disk.old).bytes }
     ensures leaves { D.honest disk.new → (h : definition.Header) (taken : Taken) (m : Contents) (j : JournalState)
-        → seen next.now ≡ next_header h taken.count → IsKept (record { header = h; step = Synced taken }) m j (D.now disk.old)
-        → Leaves (D.now disk.old) (D.now disk.new) (D.past disk.old) (D.past disk.new) (MeansWith m j) }
+        → seen next.now ≡ next_header h taken.count
+        → IsKept (record { header = h; step = Synced taken }) m j (D.now disk.old)
+        → LeavesWithin D.now D.past disk.old disk.new (MeansWith m j) }
     ensures now { D.honest disk.new → (h : definition.Header) (taken : Taken) (m : Contents) (j : JournalState)
-        → seen next.now ≡ next_header h taken.count → IsKept (record { header = h; step = Synced taken }) m j (D.now disk.old)
+        → seen next.now ≡ next_header h taken.count
+        → IsKept (record { header = h; step = Synced taken }) m j (D.now disk.old)
         → LeavesNow (D.now disk.new) (MeansWith m j) }
-    ensures kept { OnOk result (D.honest disk.new → (h : definition.Header) (taken : Taken) (m : Contents) (j : JournalState)
-        → seen next.now ≡ next_header h taken.count → IsKept (record { header = h; step = Synced taken }) m j (D.now disk.old)
+    ensures kept { OnOk result (D.honest disk.new
+        → (h : definition.Header) (taken : Taken) (m : Contents) (j : JournalState)
+        → seen next.now ≡ next_header h taken.count
+        → IsKept (record { header = h; step = Synced taken }) m j (D.now disk.old)
         → ((file : List ℕ) → Holds j file → Holds (begun_at taken.count j) file)
-        → IsKept (record { header = next_header h taken.count; step = NoCheckpoint }) m (begun_at taken.count j) (D.now disk.new)) }
-    ensures few { D.honest disk.new → length (D.past disk.new) ≤ length (D.past disk.old) + 4 }
+        → IsKept (record { header = next_header h taken.count; step = NoCheckpoint }) m (begun_at taken.count j)
+        (D.now disk.new)) }
+    ensures few { D.honest disk.new → CallsAtMost D.past disk.old disk.new 4 }
     ensures honest { D.honest disk.new → D.honest disk.old }
     ensures failures { Counts result (D.failures disk.old) (D.failures disk.new) }
 {

@@ -1,4 +1,5 @@
-//! Checkpoints: how the memory gets to the area that isn't in force, a turn at a time, and how that area comes into force.
+//! Checkpoints: how the memory gets to the area that isn't in force, a turn at a time, and how that area comes into
+//! force.
 //!
 //! A turn makes at most four device calls. Between two turns the journal goes on: what was taken of the memory at the
 //! first turn stays as it was, and the commands since then stay in the journal. Stands on `im_image` for pages and

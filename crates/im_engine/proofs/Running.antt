@@ -9,6 +9,8 @@ use Rattle.im_types.specs.Contents.{Contents}
 use Rattle.im_types.specs.Step.{step, is_accepted}
 use Rattle.im_types.specs.Run.{after}
 use Rattle.im_laws.proofs.RunLemmas.{after-append}
+use Rattle.im_laws.proofs.Tests.{true_or_false}
+use Rattle.im_checkpoint.proofs.Fitting.{none_or_some}
 use Rattle.im_laws.proofs.RefusalLemmas.{step-refusals}
 use Rattle.im_types.specs.Refusals.{number_of}
 use Rattle.im_types.specs.declared.refusals.Refusal.TheVariants.{JournalFull}
@@ -23,7 +25,7 @@ use Rattle.im_engine.specs.declared.run.Event.TheVariants.{Command as Serve, Tur
 use Rattle.im_engine.specs.declared.run.Answer.{Answer}
 use Rattle.im_engine.specs.declared.run.Answer.TheVariants.{Served, Turned as TookTurn}
 use Rattle.im_engine.specs.State.{EngineState, MeansState, MeansEither, with_command}
-use Rattle.im_engine.specs.Run.{Answered, TurnTaken, TurnAnswered, EventAnswered, AnsweredInTurn, is_put, put_by_command, put_by_event, put_on_disk, MeansBy, MeansAfter, MeansBeginning, MeansAllOrInDoubt, is_doubt, has_doubt, IsDevice, HasDevice, HasCause}
+use Rattle.im_engine.specs.Run.{Answered, TurnTaken, TurnAnswered, EventAnswered, AnsweredInTurn, is_put, put_by_command, put_by_event, put_on_disk, HasRun, MeansBy, MeansAfter, MeansBeginning, MeansAllOrInDoubt, is_doubt, has_doubt, IsDevice, HasDevice, HasCause}
 use Rattle.im_engine.proofs.Accepting.{Answers, accepted_answers}
 
 -- after all these commands, or all but the last one
@@ -53,19 +55,6 @@ put_on_disk-push m (d ∷ events) (b ∷ answers) e a same =
     ∙ ap (λ (x : Contents). put_by_event m d b ++ (put_on_disk (after m (put_by_event m d b)) events answers ++ put_by_event x e a)) (sym (after-append m (put_by_event m d b) (put_on_disk (after m (put_by_event m d b)) events answers)))
     ∙ sym (append_assoc (put_by_event m d b) (put_on_disk (after m (put_by_event m d b)) events answers) (put_by_event (after m (put_by_event m d b ++ put_on_disk (after m (put_by_event m d b)) events answers)) e a))
 
--- while the engine hasn't failed it has all that was put
-pub record Far {D : Type 0} (old now : EngineState D) (put : List Command) : Type 0 where
-  pub memory : now.failed ≡ false → now.memory ≡ after old.memory put
-  pub count : now.failed ≡ false → now.count ≡ old.count + length put
-
-bool_cases : (b : Bool) → (b ≡ true) ⊎ (b ≡ false)
-bool_cases true = inl refl
-bool_cases false = inr refl
-
-none_or_some : (n : ℕ) → (n ≡ 0) ⊎ (0 < n)
-none_or_some zero = inl refl
-none_or_some (suc n) = inr (omega arith)
-
 not_put : (m : Contents) (c : Command) (a : Result Outcome Refusal) → is_put a ≡ false → put_by_command m c a ≡ []
 not_put m c a e = by_test (is_accepted m c) (is_put a) e
   where
@@ -85,12 +74,12 @@ some_room : (m : Contents) (count room : ℕ) (file : List ℕ) → Means m coun
 some_room m count room file it = (it.0, omega arith, it.2)
 
 -- what the engine is after all that was put
-all_put : {D : Type 0} (old mid : EngineState D) (put : List Command) → Far old mid put → mid.failed ≡ false → (file : List ℕ) → MeansState mid file → Means (after old.memory put) (old.count + length put) 0 file
+all_put : {D : Type 0} (old mid : EngineState D) (put : List Command) → HasRun old mid put → mid.failed ≡ false → (file : List ℕ) → MeansState mid file → Means (after old.memory put) (old.count + length put) 0 file
 all_put old mid put far f file means =
     subst (λ (m : Contents). Means m (old.count + length put) 0 file) (far.memory f)
     (subst (λ (n : ℕ). Means mid.memory n 0 file) (far.count f) (some_room mid.memory mid.count mid.room file means))
 
-pub means_all : {D : Type 0} (old mid : EngineState D) (put : List Command) → Far old mid put → mid.failed ≡ false → (file : List ℕ) → MeansState mid file → MeansAfter old put (length put) file
+pub means_all : {D : Type 0} (old mid : EngineState D) (put : List Command) → HasRun old mid put → mid.failed ≡ false → (file : List ℕ) → MeansState mid file → MeansAfter old put (length put) file
 means_all old mid put far f file means =
     subst (λ (k : List Command). Means (after old.memory k) (old.count + length put) 0 file) (sym (take_all (length put) put (omega arith))) (all_put old mid put far f file means)
 
@@ -99,7 +88,7 @@ abbrev pub Went : {D : Type 0} → EngineState D → EngineState D → Command �
 Went mid new c more = ((new ≡ mid) × (more ≡ []))
     ⊎ ((more ≡ c ∷ []) × (mid.failed ≡ false) × (new.failed ≡ false → (new.memory ≡ (step mid.memory c).contents) × (new.count ≡ mid.count + 1)))
 
-module _ {D : Type 0} (old mid new : EngineState D) (put : List Command) (c : Command) (a : Result Outcome Refusal) (far : Far old mid put) (it : Answered mid c a new) where
+module _ {D : Type 0} (old mid new : EngineState D) (put : List Command) (c : Command) (a : Result Outcome Refusal) (far : HasRun old mid put) (it : Answered mid c a new) where
   abbrev more : List Command
   more = put_by_command (after old.memory put) c a
 
@@ -130,16 +119,16 @@ module _ {D : Type 0} (old mid new : EngineState D) (put : List Command) (c : Co
       (λ f. ⊎_elim
       (λ accepted. accepted_went f accepted)
       (λ un. inl ((it.unaccepted f un).1, sym (same_one f) ∙ not_accepted mid.memory c a un))
-      (bool_cases (is_accepted mid.memory c)))
-      (bool_cases mid.failed)
+      (true_or_false (is_accepted mid.memory c)))
+      (true_or_false mid.failed)
 
   one_more : mid.failed ≡ false → (step mid.memory c).contents ≡ after old.memory (put ++ c ∷ [])
   one_more f = ap (λ (m : Contents). (step m c).contents) (far.memory f) ∙ sym (after-append old.memory put (c ∷ []))
 
-  pub far_on : Far old new (put ++ more)
+  pub far_on : HasRun old new (put ++ more)
   far_on = elim went [
-    | inl same ↦ subst (λ (l : List Command). Far old new (put ++ l)) (sym same.1) (subst (λ (l : List Command). Far old new l) (sym (append-nil put)) (subst (λ (s : EngineState D). Far old s put) (sym same.0) far))
-    | inr on ↦ subst (λ (l : List Command). Far old new (put ++ l)) (sym on.0) (record {
+    | inl same ↦ subst (λ (l : List Command). HasRun old new (put ++ l)) (sym same.1) (subst (λ (l : List Command). HasRun old new l) (sym (append-nil put)) (subst (λ (s : EngineState D). HasRun old s put) (sym same.0) far))
+    | inr on ↦ subst (λ (l : List Command). HasRun old new (put ++ l)) (sym on.0) (record {
       memory = λ f. (on.2 f).0 ∙ one_more on.1;
       count = λ f. let a : new.count ≡ mid.count + 1 = (on.2 f).1 in let b : mid.count ≡ old.count + length put = far.count on.1 in omega (arith, length-append put (c ∷ []));
     })
@@ -199,18 +188,18 @@ module _ {D : Type 0} (old mid new : EngineState D) (put : List Command) (c : Co
 
 -- one turn more
 
-module _ {D : Type 0} (old mid new : EngineState D) (put : List Command) (a : Result TurnDone Refusal) (far : Far old mid put) (it : TurnAnswered mid a new) where
-  turn_alive : mid.failed ≡ false → ((done : TurnDone) × (a ≡ Ok done) × TurnTaken mid done new) ⊎ ((a ≡ Err Device) × (new ≡ record mid { disk = new.disk; failed = true })) → Far old new put
+module _ {D : Type 0} (old mid new : EngineState D) (put : List Command) (a : Result TurnDone Refusal) (far : HasRun old mid put) (it : TurnAnswered mid a new) where
+  turn_alive : mid.failed ≡ false → ((done : TurnDone) × (a ≡ Ok done) × TurnTaken mid done new) ⊎ ((a ≡ Err Device) × (new ≡ record mid { disk = new.disk; failed = true })) → HasRun old new put
   turn_alive f (inl done) = record { memory = λ g. done.2.memory ∙ far.memory f; count = λ g. done.2.count ∙ far.count f }
   turn_alive f (inr fault) =
       let dead : new.failed ≡ true = ap (λ (s : EngineState D). s.failed) fault.1 in
       record { memory = λ g. absurd (cc); count = λ g. absurd (cc) }
 
-  pub far_turned : Far old new put
+  pub far_turned : HasRun old new put
   far_turned = ⊎_elim
-      (λ dead. subst (λ (s : EngineState D). Far old s put) (sym (it.dead dead).1) far)
+      (λ dead. subst (λ (s : EngineState D). HasRun old s put) (sym (it.dead dead).1) far)
       (λ f. turn_alive f (it.alive f))
-      (bool_cases mid.failed)
+      (true_or_false mid.failed)
 
   pub leaves_turned : (now : D → Moment) (past : D → List Moment)
       → Leaves (now old.disk) (now mid.disk) (past old.disk) (past mid.disk) (MeansBeginning old put)
@@ -220,24 +209,24 @@ module _ {D : Type 0} (old mid new : EngineState D) (put : List Command) (a : Re
       (λ dead. subst (λ (s : EngineState D). Leaves (now old.disk) (now s.disk) (past old.disk) (past s.disk) (MeansBeginning old put)) (sym (it.dead dead).1) so_far)
       (λ f. leaves_then (now old.disk) (now mid.disk) (now new.disk) (past old.disk) (past mid.disk) (past new.disk) (MeansBeginning old put) (MeansState mid) (MeansBeginning old put) so_far (call f)
       (λ file is. is) (λ file means. (length put, omega arith, means_all old mid put far f file means)))
-      (bool_cases mid.failed)
+      (true_or_false mid.failed)
 
   pub now_turned : (now : D → Moment) → LeavesNow (now mid.disk) (AllOrLess old put) → (mid.failed ≡ false → LeavesNow (now new.disk) (MeansState mid)) → LeavesNow (now new.disk) (AllOrLess old put)
   now_turned now so_far call = ⊎_elim
       (λ dead. subst (λ (s : EngineState D). LeavesNow (now s.disk) (AllOrLess old put)) (sym (it.dead dead).1) so_far)
       (λ f file left. (length put, inl refl, means_all old mid put far f file (call f file left)))
-      (bool_cases mid.failed)
+      (true_or_false mid.failed)
 
 -- one event more
 
-pub far_by : {D : Type 0} (old mid new : EngineState D) (put : List Command) (e : Event) (a : Answer) → Far old mid put → EventAnswered mid e a new → Far old new (put ++ put_by_event (after old.memory put) e a)
+pub far_by : {D : Type 0} (old mid new : EngineState D) (put : List Command) (e : Event) (a : Answer) → HasRun old mid put → EventAnswered mid e a new → HasRun old new (put ++ put_by_event (after old.memory put) e a)
 far_by old mid new put (Serve c) (Served a) far it = far_on old mid new put c a far it
 far_by old mid new put (Serve c) (TookTurn a) far it = absurd it
 far_by old mid new put Turn (Served a) far it = absurd it
-far_by old mid new put Turn (TookTurn a) far it = subst (λ (l : List Command). Far old new l) (sym (append-nil put)) (far_turned old mid new put a far it)
+far_by old mid new put Turn (TookTurn a) far it = subst (λ (l : List Command). HasRun old new l) (sym (append-nil put)) (far_turned old mid new put a far it)
 
 module _ {D : Type 0} (now : D → Moment) (past : D → List Moment) where
-  leaves_by : (old mid new : EngineState D) (put : List Command) (e : Event) (a : Answer) → Far old mid put → EventAnswered mid e a new
+  leaves_by : (old mid new : EngineState D) (put : List Command) (e : Event) (a : Answer) → HasRun old mid put → EventAnswered mid e a new
       → Leaves (now old.disk) (now mid.disk) (past old.disk) (past mid.disk) (MeansBeginning old put)
       → (mid.failed ≡ false → Leaves (now mid.disk) (now new.disk) (past mid.disk) (past new.disk) (MeansBy mid e))
       → Leaves (now old.disk) (now new.disk) (past old.disk) (past new.disk) (MeansBeginning old (put ++ put_by_event (after old.memory put) e a))
@@ -248,7 +237,7 @@ module _ {D : Type 0} (now : D → Moment) (past : D → List Moment) where
       subst (λ (l : List Command). Leaves (now old.disk) (now new.disk) (past old.disk) (past new.disk) (MeansBeginning old l)) (sym (append-nil put))
       (leaves_turned old mid new put a far it now past so_far call)
 
-  now_by : (old mid new : EngineState D) (put : List Command) (e : Event) (a : Answer) → Far old mid put → EventAnswered mid e a new
+  now_by : (old mid new : EngineState D) (put : List Command) (e : Event) (a : Answer) → HasRun old mid put → EventAnswered mid e a new
       → LeavesNow (now mid.disk) (AllOrLess old put) → (mid.failed ≡ false → LeavesNow (now new.disk) (MeansBy mid e))
       → LeavesNow (now new.disk) (AllOrLess old (put ++ put_by_event (after old.memory put) e a))
   now_by old mid new put (Serve c) (Served a) far it so_far call = now_on old mid new put c a far it now so_far call
@@ -291,17 +280,17 @@ module _ {D : Type 0} (now : D → Moment) where
       (it.put f accepted some))
       (none_or_some mid.room))
       (λ un. absurd (true_false new.failed dead (ap (λ (s : EngineState D). s.failed) (it.unaccepted f un).1 ∙ f)))
-      (bool_cases (is_accepted mid.memory c)))
-      (bool_cases mid.failed)
+      (true_or_false (is_accepted mid.memory c)))
+      (true_or_false mid.failed)
 
-  told_turned : (old mid new : EngineState D) (put : List Command) (a : Result TurnDone Refusal) → Far old mid put → TurnAnswered mid a new
+  told_turned : (old mid new : EngineState D) (put : List Command) (a : Result TurnDone Refusal) → HasRun old mid put → TurnAnswered mid a new
       → LeavesNow (now mid.disk) (All old put) → (mid.failed ≡ false → LeavesNow (now new.disk) (MeansState mid)) → LeavesNow (now new.disk) (All old put)
   told_turned old mid new put a far it so_far call = ⊎_elim
       (λ dead. subst (λ (s : EngineState D). LeavesNow (now s.disk) (All old put)) (sym (it.dead dead).1) so_far)
       (λ f file left. means_all old mid put far f file (call f file left))
-      (bool_cases mid.failed)
+      (true_or_false mid.failed)
 
-  told_by : (old mid new : EngineState D) (put : List Command) (e : Event) (a : Answer) → Far old mid put → EventAnswered mid e a new → is_doubt a ≡ false
+  told_by : (old mid new : EngineState D) (put : List Command) (e : Event) (a : Answer) → HasRun old mid put → EventAnswered mid e a new → is_doubt a ≡ false
       → LeavesNow (now mid.disk) (All old put) → (mid.failed ≡ false → LeavesNow (now new.disk) (MeansBy mid e)) → (new.failed ≡ false → LeavesNow (now new.disk) (MeansState new))
       → LeavesNow (now new.disk) (All old (put ++ put_by_event (after old.memory put) e a))
   told_by old mid new put (Serve c) (Served a) far it sure so_far call works = ⊎_elim
@@ -310,7 +299,7 @@ module _ {D : Type 0} (now : D → Moment) where
       (subst (λ (l : List Command). LeavesNow (now new.disk) (All old l)) (sym (append-nil put))
       (subst (λ (s : EngineState D). LeavesNow (now s.disk) (All old put)) (sym same.0) so_far)))
       (λ f file left. means_all old new (put ++ put_by_command (after old.memory put) c a) (far_on old mid new put c a far it) f file (works f file left))
-      (bool_cases new.failed)
+      (true_or_false new.failed)
   told_by old mid new put (Serve c) (TookTurn a) far it sure so_far call works = absurd it
   told_by old mid new put Turn (Served a) far it sure so_far call works = absurd it
   told_by old mid new put Turn (TookTurn a) far it sure so_far call works =
@@ -323,7 +312,7 @@ told_start s file means = subst (λ (n : ℕ). Means s.memory n 0 file) (none s.
     none n = omega arith
 
 -- a run that has done nothing yet
-pub far_start : {D : Type 0} (s : EngineState D) → Far s s []
+pub far_start : {D : Type 0} (s : EngineState D) → HasRun s s []
 far_start s = record { memory = λ f. refl; count = λ f. omega arith }
 
 pub now_start : {D : Type 0} (s : EngineState D) (file : List ℕ) → MeansState s file → AllOrLess s [] file
@@ -350,9 +339,9 @@ module _ {D : Type 0} (old mid new : EngineState D) (events : List Event) (answe
   answers_step so_far = subst (λ (l : List Event). AnsweredInTurn old l longer_answers new) (sym stepped)
       (subst (λ (l : List Answer). AnsweredInTurn old (take i events ++ get_or events i d ∷ []) l new) (sym items) (in_turn_more old mid new (take i events) answers (get_or events i d) a so_far it))
 
-  module _ (far : Far old mid put) where
-    pub far_step : Far old new (put_on_disk old.memory (take (i + 1) events) longer_answers)
-    far_step = subst (λ (l : List Command). Far old new l) (sym grown) (far_by old mid new put (get_or events i d) a far it)
+  module _ (far : HasRun old mid put) where
+    pub far_step : HasRun old new (put_on_disk old.memory (take (i + 1) events) longer_answers)
+    far_step = subst (λ (l : List Command). HasRun old new l) (sym grown) (far_by old mid new put (get_or events i d) a far it)
 
     pub leaves_step_on : (now : D → Moment) (past : D → List Moment)
         → Leaves (now old.disk) (now mid.disk) (past old.disk) (past mid.disk) (MeansBeginning old put)
@@ -418,7 +407,7 @@ device_fails D mid new (Serve c) (Served a) it f d = ⊎_elim
     (it.put f accepted some))
     (none_or_some mid.room))
     (λ un. absurd (not_of_a_step mid.memory c (sym (it.unaccepted f un).0 ∙ d)))
-    (bool_cases (is_accepted mid.memory c))
+    (true_or_false (is_accepted mid.memory c))
 device_fails D mid new (Serve c) (TookTurn a) it f d = absurd it
 device_fails D mid new Turn (Served a) it f d = absurd it
 device_fails D mid new Turn (TookTurn a) it f d = ⊎_elim
@@ -456,7 +445,7 @@ counted_step {D} failures old mid new answers e a it cause so_far = let both = c
       (λ now. ⊎_elim
       (λ dead. absurd ((dead_event mid new e a it dead).0 now))
       (λ f. (subst (λ (n : ℕ). Rises n (failures new.disk) × (n ≤ failures new.disk)) (so_far.steady (λ before. true_false mid.failed (so_far.device before).1 f)) (both.0 now), device_fails D mid new e a it f now))
-      (bool_cases mid.failed))
+      (true_or_false mid.failed))
       (has_device answers a has);
   steady = λ none. both.1 (λ d. none (device_last answers a d)) ∙ so_far.steady (λ d. none (device_before answers a d));
 }
@@ -473,7 +462,7 @@ fails_by_device mid new c a it f dead = ⊎_elim
     (it.put f accepted some))
     (none_or_some mid.room))
     (λ un. absurd (true_false new.failed dead (ap (λ (s : EngineState _). s.failed) (it.unaccepted f un).1 ∙ f)))
-    (bool_cases (is_accepted mid.memory c))
+    (true_or_false (is_accepted mid.memory c))
 
 pub turn_fails_by_device : {D : Type 0} (mid new : EngineState D) (a : Result TurnDone Refusal) → TurnAnswered mid a new → mid.failed ≡ false → new.failed ≡ true → a ≡ Err Device
 turn_fails_by_device mid new a it f dead = ⊎_elim (λ done. absurd (true_false new.failed dead done.2.alive)) (λ fault. fault.0) (it.alive f)
@@ -491,11 +480,11 @@ failures_on failures start mid new e a it cause by_device so_far =
       rose = λ dead. ⊎_elim
           (λ was. subst (λ (s : EngineState _). Rises (failures start.disk) (failures s.disk)) (sym (dead_event mid new e a it was).1) (so_far.rose was))
           (λ f. subst (λ (n : ℕ). Rises n (failures new.disk)) (so_far.stayed f) (both.0 (by_device f dead)).0)
-          (bool_cases mid.failed);
+          (true_or_false mid.failed);
       stayed = λ works. ⊎_elim
           (λ was. absurd (true_false new.failed (ap (λ (s : EngineState _). s.failed) (dead_event mid new e a it was).1 ∙ was) works))
           (λ f. both.1 (λ d. true_false new.failed (device_fails _ mid new e a it f d) works) ∙ so_far.stayed f)
-          (bool_cases mid.failed);
+          (true_or_false mid.failed);
     }
 
 pub failures_more : {D : Type 0} (failures : D → ℕ) (start mid new : EngineState D) (c : Command) (a : Result Outcome Refusal) → Answered mid c a new → Faults (λ e. Unit {0}) a (failures mid.disk) (failures new.disk)

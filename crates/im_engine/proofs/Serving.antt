@@ -1,5 +1,5 @@
 -- How one command is served.
-use Rattle.std.proofs.Common.{◌≡◌, ℕ, ◌≤◌, [], Bool, true, false, List, length, Result, Ok, Err, refl, sym, ◌∙◌, ap, subst, arith}
+use Rattle.std.proofs.Common.{◌≡◌, ℕ, ◌≤◌, [], Bool, true, false, List, length, Result, Ok, Err, if◌then◌else◌, refl, sym, ◌∙◌, ap, subst, arith}
 use Rattle.im_types.specs.declared.commands.Command.{Command}
 use Rattle.im_types.specs.declared.commands.Outcome.{Outcome}
 use Rattle.im_types.specs.declared.refusals.Refusal.{Refusal}
@@ -10,13 +10,13 @@ use Rattle.im_types.specs.Step.{step, is_accepted, unless_refused, acceptance}
 use Rattle.im_laws.proofs.AcceptLemmas.{unaccepted-leaves}
 use Rattle.im_laws.proofs.MemoryLemmas.{step-cell_count, step-window_count}
 use Rattle.im_disk.specs.Moment.{Moment, Left}
-use Rattle.im_disk.specs.Since.{SameBut}
+use Rattle.im_disk.specs.Since.{SameBut, Calls, CallsBy}
 use Rattle.im_disk.proofs.SinceLemmas.{left_now}
 use Rattle.im_journal.specs.Holding.{JournalState, Holds, AllHold, longer, Appended}
 use Rattle.im_checkpoint.specs.Step.{Taken, Step, NoCheckpoint, PagesLeft, PagesDone, Synced, CheckpointState}
 use Rattle.im_checkpoint.specs.Keeping.{IsBetween, StepFits, Fits, IsKept}
 use Rattle.im_engine.specs.State.{EngineState}
-use Rattle.im_engine.specs.Run.{Answered}
+use Rattle.im_engine.specs.Run.{Answered, calls_for}
 use Rattle.im_engine.proofs.Accepting.{Answers, accepted_answers}
 use Rattle.im_engine.proofs.Keeping.{kept_longer}
 
@@ -86,3 +86,18 @@ refused_unaccepted m command refusal is = by_test (is_accepted m command) refl
 
 pub refused_acceptance : (m : Contents) (command : Command) (refusal : Refusal) (r : Result Bool Refusal) → r ≡ acceptance m command → r ≡ Err refusal → (step m command).answer ≡ Err refusal
 refused_acceptance m command refusal r is e = judged_refused (is_accepted m command) refusal (step m command).answer (sym is ∙ e)
+
+-- how many calls of the disk a command takes
+abbrev calls_where : Bool → ℕ
+calls_where accepted = if accepted then 4 else 0
+
+pub calls_always : {D T E : Type 0} (past : D → List Moment) (old new : D) (n : ℕ) (r : Result T E) → Calls past old new n → CallsBy past old new n r
+calls_always past old new n (Ok x) is = is
+calls_always past old new n (Err e) is = omega (arith, is)
+
+pub calls_accepted : {D T E : Type 0} (past : D → List Moment) (old new : D) (m : Contents) (command : Command) (r : Result T E) → is_accepted m command ≡ true → CallsBy past old new 4 r
+    → CallsBy past old new (calls_for m command) r
+calls_accepted past old new m command r accepted is = subst (λ (n : ℕ). CallsBy past old new n r) (sym (ap calls_where accepted)) is
+
+pub calls_none : {D T E : Type 0} (past : D → List Moment) (d : D) (m : Contents) (command : Command) (r : Result T E) → is_accepted m command ≡ false → CallsBy past d d (calls_for m command) r
+calls_none past d m command r un = subst (λ (n : ℕ). CallsBy past d d n r) (sym (ap calls_where un)) (calls_always past d d 0 r (omega arith))

@@ -26,6 +26,10 @@ pub record Answered {D : Type 0} (old : EngineState D) (command : Command) (answ
       ((answer ≡ (step old.memory command).answer) × (new ≡ record (with_command old command) { disk = new.disk }))
       ⊎ ((answer ≡ Err Device) × (new ≡ record old { disk = new.disk; failed = true }))
 
+-- how many calls of the disk a command takes: four where it is accepted, and none for a repeat or a command that is refused
+abbrev pub calls_for : Contents → Command → ℕ
+calls_for m command = if is_accepted m command then 4 else 0
+
 -- a turn that was done: memory, count and life stay, and the rest is as the table of turns says
 pub record TurnTaken {D : Type 0} (old : EngineState D) (done : TurnDone) (new : EngineState D) : Type 0 where
   pub memory : new.memory ≡ old.memory
@@ -85,6 +89,13 @@ put_on_disk m [] answers = []
 put_on_disk m (event ∷ events) [] = []
 put_on_disk m (event ∷ events) (answer ∷ answers) =
     put_by_event m event answer ++ put_on_disk (after m (put_by_event m event answer)) events answers
+
+-- Unless it has failed, the engine has all that was put on the disk.
+pub record HasRun {D : Type 0} (old new : EngineState D) (put : List Command) : Type 0 where
+  -- the memory after these commands
+  pub memory : new.failed ≡ false → new.memory ≡ after old.memory put
+  -- and as many commands more
+  pub count : new.failed ≡ false → new.count ≡ old.count + length put
 
 -- the file means what the engine is after this many of these commands
 abbrev pub MeansAfter : {D : Type 0} → EngineState D → List Command → ℕ → List ℕ → Type 0

@@ -1,13 +1,14 @@
 //! The engine, and how it serves one command.
-ghost use Rattle.std.specs.Prelude.{◌≡◌, ◌↔◌, ◌⊎◌, ◌+◌, ◌≤◌, ◌<◌, List, ℕ, length, true, false, IsTrue, Ok, Err, OnOk, OnErr, IfOk, IfErr, IsErrOf};
+ghost use Rattle.std.specs.Prelude.{◌≡◌, ◌↔◌, ◌⊎◌, ◌+◌, ◌≤◌, ◌<◌, List, ℕ, length, true, false, IsTrue, Ok, Err};
+ghost use Rattle.std.specs.Prelude.{OnOk, OnErr, IfOk, IfErr, IsErrOf};
 ghost use Rattle.im_types.specs.Window.{ask, bounds};
 ghost use Rattle.im_types.specs.Step.{step, is_accepted};
 ghost use Rattle.im_disk.specs.Moment.{Faults};
-ghost use Rattle.im_disk.specs.Since.{Leaves, LeavesNow};
+ghost use Rattle.im_disk.specs.Since.{LeavesWithin, LeavesNow, LeavesOnly, CallsAtMost, CallsBy};
 ghost use Rattle.im_checkpoint.specs.Keeping.{Fits, IsKept};
 ghost use Rattle.im_checkpoint.specs.Step.{IsUnderWay, turns_left};
 ghost use Rattle.im_checkpoint.specs.Turns.{most_calls};
-ghost use Rattle.im_engine.specs.Run.{Answered, TurnAnswered};
+ghost use Rattle.im_engine.specs.Run.{Answered, TurnAnswered, calls_for};
 ghost use Rattle.im_engine.specs.State.{MeansState, MeansEither, with_command};
 
 use im_checkpoint::{Checkpoint, TurnDone};
@@ -20,8 +21,8 @@ use std::marker::Model;
 /// A memory that a disk keeps.
 ///
 /// Contracts see its disk, the header in force, how far the next checkpoint has come, the memory, the count of all
-/// accepted commands, the room for more, and whether the disk has failed it. While it hasn't failed, each file that a crash
-/// may leave means this memory and this count.
+/// accepted commands, the room for more, and whether the disk has failed it. While it hasn't failed, each file that a
+/// crash may leave means this memory and this count.
 #[derive(Drop)]
 pub struct Engine<D: Disk> {
     disk: D,
@@ -38,7 +39,15 @@ impl<D: Disk> Model for Engine<D> {
 
     ghost Value = { EngineState D };
 
-    ghost view = { λ e. record { disk = e.disk; header = e.checkpoint.header; step = e.checkpoint.step; memory = e.memory; count = e.journal.count; room = e.journal.room; failed = e.failed } };
+    ghost view = { λ e. record {
+      disk = e.disk;
+      header = e.checkpoint.header;
+      step = e.checkpoint.step;
+      memory = e.memory;
+      count = e.journal.count;
+      room = e.journal.room;
+      failed = e.failed;
+    } };
 
     ghost invariant = { λ e. Fits e.checkpoint e.memory e.journal
         × (D.honest e.disk → e.failed ≡ false → IsKept e.checkpoint e.memory e.journal (D.now e.disk)) };
@@ -50,20 +59,23 @@ impl<D: Disk> Engine<D> {
     /// confirmation that forgets nothing by `Confirmed`. It takes no memory.
     ///
     /// `Failed` exactly where an earlier call failed on the disk. The refusals of numbers, where the command isn't
-    /// accepted. `JournalFull` exactly where it would be accepted and there is no room. All of these leave all as it is.
-    /// `Device` where a call of the disk failed: then the command is on the disk or not, the engine has failed, and the
-    /// image has to be opened again.
+    /// accepted. `JournalFull` exactly where it would be accepted and there is no room. All of these leave all as it
+    /// is. `Device` where a call of the disk failed: then the command is on the disk or not, the engine has failed, and
+    /// the image has to be opened again.
     pub fn serve(&mut self, command: &Command) -> Result<Outcome, Refusal>
         ensures answered { Answered self.old command.now result self.new }
-        ensures calls { OnOk result (is_accepted self.old.memory command.now ≡ true → D.honest self.new.disk → length (D.past self.new.disk) ≡ length (D.past self.old.disk) + 4) }
-        ensures few { D.honest self.new.disk → length (D.past self.new.disk) ≤ length (D.past self.old.disk) + 4 }
+        // Four calls of the disk for an accepted command, and none for another.
+        ensures calls { D.honest self.new.disk
+            → CallsBy D.past self.old.disk self.new.disk (calls_for self.old.memory command.now) result }
         ensures faults { Faults (λ e. Unit {0}) result (D.failures self.old.disk) (D.failures self.new.disk) }
 
         // Each file that a crash may leave, from the start on, and now.
         ensures leaves { D.honest self.new.disk → self.old.failed ≡ false
-            → Leaves (D.now self.old.disk) (D.now self.new.disk) (D.past self.old.disk) (D.past self.new.disk) (MeansEither self.old command.now) }
-        ensures doubt { D.honest self.new.disk → self.old.failed ≡ false → LeavesNow (D.now self.new.disk) (MeansEither self.old command.now) }
-        ensures means { D.honest self.new.disk → self.new.failed ≡ false → LeavesNow (D.now self.new.disk) (MeansState self.new) }
+            → LeavesWithin D.now D.past self.old.disk self.new.disk (MeansEither self.old command.now) }
+        ensures doubt { D.honest self.new.disk → self.old.failed ≡ false
+            → LeavesNow (D.now self.new.disk) (MeansEither self.old command.now) }
+        ensures means { D.honest self.new.disk → self.new.failed ≡ false
+            → LeavesNow (D.now self.new.disk) (MeansState self.new) }
         ensures honest { D.honest self.new.disk → D.honest self.old.disk }
     {
         if self.failed {
@@ -80,17 +92,13 @@ impl<D: Disk> Engine<D> {
     fn accept(&mut self, command: &Command) -> Result<Outcome, Refusal>
         requires alive { self.old.failed ≡ false }
         requires accepted { is_accepted self.old.memory command.now ≡ true }
-        ensures full { self.old.room ≡ 0 → (result ≡ Err Refusal.JournalFull) × (self.new ≡ self.old) }
-        ensures put { 0 < self.old.room →
-            ((result ≡ (step self.old.memory command.now).answer) × (self.new ≡ record (with_command self.old command.now) { disk = self.new.disk }))
-            ⊎ ((result ≡ Err Refusal.Device) × (self.new ≡ record self.old { disk = self.new.disk; failed = true })) }
-        ensures calls { OnOk result (D.honest self.new.disk → length (D.past self.new.disk) ≡ length (D.past self.old.disk) + 4) }
-        ensures few { D.honest self.new.disk → length (D.past self.new.disk) ≤ length (D.past self.old.disk) + 4 }
+        ensures answered { Answered self.old command.now result self.new }
+        ensures calls { D.honest self.new.disk → CallsBy D.past self.old.disk self.new.disk 4 result }
         ensures faults { Faults (λ e. Unit {0}) result (D.failures self.old.disk) (D.failures self.new.disk) }
         ensures leaves { D.honest self.new.disk
-            → Leaves (D.now self.old.disk) (D.now self.new.disk) (D.past self.old.disk) (D.past self.new.disk) (MeansEither self.old command.now) }
-        ensures doubt { D.honest self.new.disk → LeavesNow (D.now self.new.disk) (MeansEither self.old command.now) }
-        ensures means { D.honest self.new.disk → self.new.failed ≡ false → LeavesNow (D.now self.new.disk) (MeansState self.new) }
+            → LeavesOnly D.now D.past self.old.disk self.new.disk (MeansEither self.old command.now) }
+        ensures means { D.honest self.new.disk → self.new.failed ≡ false
+            → LeavesNow (D.now self.new.disk) (MeansState self.new) }
         ensures honest { D.honest self.new.disk → D.honest self.old.disk }
     {
         if self.journal.room() == 0 {
@@ -113,7 +121,15 @@ impl<D: Disk> Engine<D> {
     ) -> Engine<D>
         requires fits { Fits checkpoint memory journal }
         requires kept { D.honest disk → IsKept checkpoint memory journal (D.now disk) }
-        ensures state { result ≡ record { disk = disk; header = checkpoint.header; step = checkpoint.step; memory = memory; count = journal.count; room = journal.room; failed = false } }
+        ensures state { result ≡ record {
+          disk = disk;
+          header = checkpoint.header;
+          step = checkpoint.step;
+          memory = memory;
+          count = journal.count;
+          room = journal.room;
+          failed = false;
+        } }
         ensures means { D.honest result.disk → LeavesNow (D.now result.disk) (MeansState result) }
     {
         Engine {
@@ -125,23 +141,27 @@ impl<D: Disk> Engine<D> {
         }
     }
 
-    /// Makes one turn of a checkpoint: at most four calls of the disk, and what its answer says. The memory and the count
-    /// stay. It takes no memory.
+    /// Makes one turn of a checkpoint: at most four calls of the disk, and what its answer says. The memory and the
+    /// count stay. It takes no memory.
     ///
-    /// `Failed` exactly where an earlier call failed on the disk. `Device` where a call of the disk failed: then the engine
-    /// has failed, no command is in doubt, and the image has to be opened again.
+    /// `Failed` exactly where an earlier call failed on the disk. `Device` where a call of the disk failed: then the
+    /// engine has failed, no command is in doubt, and the image has to be opened again.
     pub fn turn(&mut self) -> Result<TurnDone, Refusal>
         ensures answered { TurnAnswered self.old result self.new }
         // A checkpoint that is under way comes nearer to its end, and nothing else takes it back.
-        ensures nearer { OnOk result (IsUnderWay self.old.step → turns_left self.old.step ≡ turns_left self.new.step + 1) }
-        ensures calls { IfOk result (λ done. D.honest self.new.disk → length (D.past self.new.disk) ≤ length (D.past self.old.disk) + most_calls done) }
-        ensures few { D.honest self.new.disk → length (D.past self.new.disk) ≤ length (D.past self.old.disk) + 4 }
+        ensures nearer { OnOk result (IsUnderWay self.old.step
+            → turns_left self.old.step ≡ turns_left self.new.step + 1) }
+        // As many calls of the disk as the table of turns says, and at most four.
+        ensures calls { D.honest self.new.disk
+            → CallsAtMost D.past self.old.disk self.new.disk (most_calls result) }
         ensures faults { Faults (λ e. Unit {0}) result (D.failures self.old.disk) (D.failures self.new.disk) }
         // Each file that a crash may leave, from the start on, and now.
         ensures leaves { D.honest self.new.disk → self.old.failed ≡ false
-            → Leaves (D.now self.old.disk) (D.now self.new.disk) (D.past self.old.disk) (D.past self.new.disk) (MeansState self.old) }
-        ensures now { D.honest self.new.disk → self.old.failed ≡ false → LeavesNow (D.now self.new.disk) (MeansState self.old) }
-        ensures means { D.honest self.new.disk → self.new.failed ≡ false → LeavesNow (D.now self.new.disk) (MeansState self.new) }
+            → LeavesWithin D.now D.past self.old.disk self.new.disk (MeansState self.old) }
+        ensures now { D.honest self.new.disk → self.old.failed ≡ false
+            → LeavesNow (D.now self.new.disk) (MeansState self.old) }
+        ensures means { D.honest self.new.disk → self.new.failed ≡ false
+            → LeavesNow (D.now self.new.disk) (MeansState self.new) }
         ensures honest { D.honest self.new.disk → D.honest self.old.disk }
     {
         if self.failed {
@@ -160,12 +180,13 @@ impl<D: Disk> Engine<D> {
         }
     }
 
-    /// The entry that is kept under an element's number: refused with `Failed` where an earlier call failed on the disk,
-    /// with `NoElement`, with `Forgotten` below the window, and with `Gap` where the number isn't used yet. No call of the
-    /// disk.
+    /// The entry that is kept under an element's number: refused with `Failed` where an earlier call failed on the
+    /// disk, with `NoElement`, with `Forgotten` below the window, and with `Gap` where the number isn't used yet. No
+    /// call of the disk.
     pub fn collect(&self, element: u16, number: u64) -> Result<Entry, Refusal>
         ensures failed { self.now.failed ≡ true → result ≡ Err Refusal.Failed }
-        ensures answer { self.now.failed ≡ false → result ≡ ask self.now.memory.windows (record { element = element; number = number }) }
+        ensures answer { self.now.failed ≡ false
+            → result ≡ ask self.now.memory.windows (record { element = element; number = number }) }
     {
         if self.failed {
             return Err(Refusal::Failed);
@@ -199,11 +220,12 @@ impl<D: Disk> Engine<D> {
         self.journal.count()
     }
 
-    /// Whether a call of the disk has failed. From then on `serve`, `turn`, `collect` and `window` only answer `Failed`. While none
-    /// has, each file that a crash may leave means the memory and the count.
+    /// Whether a call of the disk has failed. From then on `serve`, `turn`, `collect` and `window` only answer
+    /// `Failed`. While none has, each file that a crash may leave means the memory and the count.
     pub fn failed(&self) -> bool
         ensures failed { result ≡ self.now.failed }
-        ensures means { D.honest self.now.disk → self.now.failed ≡ false → LeavesNow (D.now self.now.disk) (MeansState self.now) }
+        ensures means { D.honest self.now.disk → self.now.failed ≡ false
+            → LeavesNow (D.now self.now.disk) (MeansState self.now) }
     {
         self.failed // Nothing sets it back.
     }

@@ -1,5 +1,6 @@
 //! How an image is made of a file.
-ghost use Rattle.std.specs.Prelude.{◌≡◌, ◌≢◌, false, ◌⊎◌, [], ◌∷◌, ◌<◌, length, drop, IfOk, IfErr, OnOk, IsErrOf, MatchResult};
+ghost use Rattle.std.specs.Prelude.{◌≡◌, ◌≢◌, false, ◌⊎◌, [], ◌∷◌, ◌<◌, length, drop};
+ghost use Rattle.std.specs.Prelude.{IfOk, IfErr, OnOk, IsErrOf, MatchResult};
 ghost use Rattle.im_types.specs.declared.refusals.Refusal.TheVariants.{WrongLength, NoMemory, Device};
 ghost use Rattle.im_types.specs.Contents.{empty_contents};
 ghost use Rattle.im_types.specs.Layout.{layout_in_use, image_length};
@@ -62,11 +63,15 @@ fn lay_down<D: Disk>(
     ensures written { OnOk result (D.honest disk.new → (D.now disk.new).bytes ≡ new_image 0xA5 (sizes_of limits)) }
     ensures calm { OnOk result (D.honest disk.new → (D.now disk.new).ranges ≡ []) }
     ensures wrong { IsErrOf result Refusal.WrongLength → D.honest disk.new
-        → (length (D.now disk.old).bytes ≢ image_length layout_in_use (sizes_of limits)) × (D.now disk.new ≡ D.now disk.old) × (D.past disk.new ≡ D.past disk.old) }
-    ensures right { MatchResult result (λ r. D.honest disk.new → length (D.now disk.old).bytes ≡ image_length layout_in_use (sizes_of limits))
+        → (length (D.now disk.old).bytes ≢ image_length layout_in_use (sizes_of limits))
+        × (D.now disk.new ≡ D.now disk.old) × (D.past disk.new ≡ D.past disk.old) }
+    ensures right { MatchResult result
+        (λ r. D.honest disk.new → length (D.now disk.old).bytes ≡ image_length layout_in_use (sizes_of limits))
         (λ e. e ≡ NoMemory → D.honest disk.new
-        → (length (D.now disk.old).bytes ≡ image_length layout_in_use (sizes_of limits)) × (D.now disk.new ≡ D.now disk.old) × (D.past disk.new ≡ D.past disk.old)) }
-    ensures faults { Faults (λ e. (e ≡ WrongLength) ⊎ (e ≡ NoMemory) ⊎ (e ≡ Device)) result (D.failures disk.old) (D.failures disk.new) }
+        → (length (D.now disk.old).bytes ≡ image_length layout_in_use (sizes_of limits))
+        × (D.now disk.new ≡ D.now disk.old) × (D.past disk.new ≡ D.past disk.old)) }
+    ensures faults { Faults (λ e. (e ≡ WrongLength) ⊎ (e ≡ NoMemory) ⊎ (e ≡ Device)) result
+        (D.failures disk.old) (D.failures disk.new) }
     ensures honest { D.honest disk.new → D.honest disk.old }
 {
     let Ok(length) = disk.len() else {
@@ -92,26 +97,33 @@ fn lay_down<D: Disk>(
 }
 
 impl<D: Disk> Engine<D> {
-    /// Makes the image of an empty memory of a file: the header in area 0, at generation 1 and count 0, and every gate of
-    /// the journal closed. What the file held is gone. One write of the whole image, a sync, one of its gate alone, a sync.
+    /// Makes the image of an empty memory of a file: the header in area 0, at generation 1 and count 0, and every gate
+    /// of the journal closed. What the file held is gone. One write of the whole image, a sync, one of its gate alone,
+    /// a sync.
     ///
     /// Each refusal gives the disk back. `WrongLength` exactly where the file's length isn't that of such an image, and
-    /// `NoMemory` where `alloc` refused the room for the image, the memory and the pages of a checkpoint: then nothing was
-    /// written. `Device` where a call of the disk failed: then the file may hold no image.
+    /// `NoMemory` where `alloc` refused the room for the image, the memory and the pages of a checkpoint: then nothing
+    /// was written. `Device` where a call of the disk failed: then the file may hold no image.
     pub fn format(alloc: Global, mut disk: D, limits: Limits) -> Result<Engine<D>, (Refusal, D)>
-        ensures empty { IfOk result (λ e. (e.memory ≡ empty_contents limits.cells limits.elements) × (e.count ≡ 0) × (e.room ≡ limits.slots)
+        ensures empty { IfOk result (λ e. (e.memory ≡ empty_contents limits.cells limits.elements)
+            × (e.count ≡ 0) × (e.room ≡ limits.slots)
             × (e.header ≡ new_header (sizes_of limits)) × (e.step ≡ NoCheckpoint)) }
-        ensures image { IfOk result (λ e. D.honest e.disk → LeavesNow (D.now e.disk) (λ file. file ≡ new_image 0xA5 (sizes_of limits))) }
+        ensures image { IfOk result (λ e. D.honest e.disk
+            → LeavesNow (D.now e.disk) (λ file. file ≡ new_image 0xA5 (sizes_of limits))) }
         // Each file that a crash may leave means that.
         ensures means { IfOk result (λ e. D.honest e.disk → LeavesNow (D.now e.disk) (MeansState e)) }
         ensures works { IfOk result (λ e. e.failed ≡ false) }
         ensures wrong { IfErr result (λ e. e.0 ≡ WrongLength → D.honest e.1
-            → (length (D.now disk).bytes ≢ image_length layout_in_use (sizes_of limits)) × (D.now e.1 ≡ D.now disk) × (D.past e.1 ≡ D.past disk)) }
-        ensures right { MatchResult result (λ e. D.honest e.disk → length (D.now disk).bytes ≡ image_length layout_in_use (sizes_of limits))
+            → (length (D.now disk).bytes ≢ image_length layout_in_use (sizes_of limits))
+            × (D.now e.1 ≡ D.now disk) × (D.past e.1 ≡ D.past disk)) }
+        ensures right { MatchResult result
+            (λ e. D.honest e.disk → length (D.now disk).bytes ≡ image_length layout_in_use (sizes_of limits))
             (λ e. e.0 ≡ NoMemory → D.honest e.1
-            → (length (D.now disk).bytes ≡ image_length layout_in_use (sizes_of limits)) × (D.now e.1 ≡ D.now disk) × (D.past e.1 ≡ D.past disk)) }
+            → (length (D.now disk).bytes ≡ image_length layout_in_use (sizes_of limits))
+            × (D.now e.1 ≡ D.now disk) × (D.past e.1 ≡ D.past disk)) }
         ensures faults { MatchResult result (λ e. D.failures e.disk ≡ D.failures disk)
-            (λ e. Fault (λ r. (r ≡ WrongLength) ⊎ (r ≡ NoMemory) ⊎ (r ≡ Device)) (D.failures disk) (D.failures e.1) e.0) }
+            (λ e. Fault (λ r. (r ≡ WrongLength) ⊎ (r ≡ NoMemory) ⊎ (r ≡ Device))
+            (D.failures disk) (D.failures e.1) e.0) }
         ensures honest { MatchResult result (λ e. D.honest e.disk → D.honest disk) (λ e. D.honest e.1 → D.honest disk) }
     {
         match lay_down(alloc, &mut disk, limits) {

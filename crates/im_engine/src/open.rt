@@ -2,14 +2,13 @@
 ghost use Rattle.std.specs.Prelude.{◌≡◌, ◌⊎◌, ◌≤◌, false, length, Ok, IfOk, IfErr, MatchResult};
 ghost use Rattle.im_types.specs.declared.refusals.Refusal.TheVariants.{NoMemory, Device};
 ghost use Rattle.im_disk.specs.Moment.{Left, Fault, Faults};
-ghost use Rattle.im_disk.specs.Since.{Leaves, LeavesNow};
+ghost use Rattle.im_disk.specs.Since.{LeavesWithin, LeavesNow};
 ghost use Rattle.im_types.specs.Layout.{layout_in_use};
 ghost use Rattle.im_types.specs.Header.{header_of};
 ghost use Rattle.im_types.specs.Meaning.{Reads};
 ghost use Rattle.im_image.specs.Headers.{seen, MayRefuseImage};
-ghost use Rattle.im_image.specs.Reading.{JournalOf};
 ghost use Rattle.im_checkpoint.specs.Step.{NoCheckpoint};
-ghost use Rattle.im_checkpoint.specs.Keeping.{IsKept};
+ghost use Rattle.im_checkpoint.specs.Keeping.{Fits, IsKept};
 ghost use Rattle.im_engine.specs.State.{MeansState, IsFirstFault, IsFound};
 
 use crate::engine::Engine;
@@ -22,14 +21,16 @@ use std::alloc::Global;
 // Puts all that was written on the disk, and reads the image then: what is read is what each file left means.
 fn read_synced<D: Disk>(alloc: Global, disk: &mut D) -> Result<Image, Refusal>
     ensures area { IfOk result (λ i. i.header.area ≤ 1) }
-    ensures cells { IfOk result (λ i. length i.memory.cells ≡ i.header.limits.cells) }
-    ensures elements { IfOk result (λ i. length i.memory.windows ≡ i.header.limits.elements) }
-    ensures journal { IfOk result (λ i. JournalOf (seen i.header) i.journal) }
-    ensures kept { IfOk result (λ i. D.honest disk.new → IsKept (record { header = seen i.header; step = NoCheckpoint }) i.memory i.journal (D.now disk.new)) }
+    ensures fits { IfOk result (λ i.
+        Fits (record { header = seen i.header; step = NoCheckpoint }) i.memory i.journal) }
+    ensures kept { IfOk result (λ i. D.honest disk.new
+        → IsKept (record { header = seen i.header; step = NoCheckpoint }) i.memory i.journal (D.now disk.new)) }
     ensures found { IfOk result (λ i. D.honest disk.new → LeavesNow (D.now disk.new)
-        (λ file. (seen i.header ≡ header_of file) × Reads layout_in_use file (Ok (record { contents = i.memory; count = i.journal.count; room = i.journal.room })))) }
-    ensures leaves { D.honest disk.new → Leaves (D.now disk.old) (D.now disk.new) (D.past disk.old) (D.past disk.new) (Left (D.now disk.old)) }
-    ensures fault { IfErr result (λ e. (e ≡ NoMemory) ⊎ (e ≡ Device) ⊎ (D.honest disk.new → LeavesNow (D.now disk.new) (IsFirstFault e))) }
+        (λ file. (seen i.header ≡ header_of file) × Reads layout_in_use file
+        (Ok (record { contents = i.memory; count = i.journal.count; room = i.journal.room })))) }
+    ensures leaves { D.honest disk.new → LeavesWithin D.now D.past disk.old disk.new (Left (D.now disk.old)) }
+    ensures fault { IfErr result (λ e. (e ≡ NoMemory) ⊎ (e ≡ Device)
+        ⊎ (D.honest disk.new → LeavesNow (D.now disk.new) (IsFirstFault e))) }
     ensures faults { Faults MayRefuseImage result (D.failures disk.old) (D.failures disk.new) }
     ensures honest { D.honest disk.new → D.honest disk.old }
 {
@@ -48,9 +49,9 @@ impl<D: Disk> Engine<D> {
     /// Opens an image. It syncs first, then reads, and writes nothing.
     ///
     /// Each refusal gives the disk back. The first fault of the file: `WrongLength`, `NoHeader`, `BadHeader`, `BadPage`
-    /// where the pages in force show no memory, `BadRecord` where the journal's run is at fault, or a command in it isn't
-    /// accepted where it stands. `NoMemory` where `alloc` refused the room for the memory, for what is read, or for the
-    /// pages of a checkpoint. `Device` where a call of the disk failed.
+    /// where the pages in force show no memory, `BadRecord` where the journal's run is at fault, or a command in it
+    /// isn't accepted where it stands. `NoMemory` where `alloc` refused the room for the memory, for what is read, or
+    /// for the pages of a checkpoint. `Device` where a call of the disk failed.
     pub fn open(alloc: Global, mut disk: D) -> Result<Engine<D>, (Refusal, D)>
         // Each file that a crash may leave means what the engine is, and could have been left before.
         ensures means { IfOk result (λ e. D.honest e.disk → LeavesNow (D.now e.disk) (MeansState e)) }
@@ -59,9 +60,10 @@ impl<D: Disk> Engine<D> {
         ensures idle { IfOk result (λ e. e.step ≡ NoCheckpoint) }
         ensures found { IfOk result (λ e. D.honest e.disk → LeavesNow (D.now e.disk) (IsFound e)) }
         ensures leaves { MatchResult result
-            (λ e. D.honest e.disk → Leaves (D.now disk) (D.now e.disk) (D.past disk) (D.past e.disk) (Left (D.now disk)))
-            (λ e. D.honest e.1 → Leaves (D.now disk) (D.now e.1) (D.past disk) (D.past e.1) (Left (D.now disk))) }
-        ensures fault { IfErr result (λ e. (e.0 ≡ NoMemory) ⊎ (e.0 ≡ Device) ⊎ (D.honest e.1 → LeavesNow (D.now e.1) (IsFirstFault e.0))) }
+            (λ e. D.honest e.disk → LeavesWithin D.now D.past disk e.disk (Left (D.now disk)))
+            (λ e. D.honest e.1 → LeavesWithin D.now D.past disk e.1 (Left (D.now disk))) }
+        ensures fault { IfErr result (λ e. (e.0 ≡ NoMemory) ⊎ (e.0 ≡ Device)
+            ⊎ (D.honest e.1 → LeavesNow (D.now e.1) (IsFirstFault e.0))) }
         ensures faults { MatchResult result (λ e. D.failures e.disk ≡ D.failures disk)
             (λ e. Fault MayRefuseImage (D.failures disk) (D.failures e.1) e.0) }
         ensures honest { MatchResult result (λ e. D.honest e.disk → D.honest disk) (λ e. D.honest e.1 → D.honest disk) }

@@ -14,8 +14,8 @@ use Rattle.im_checkpoint.specs.declared.checkpoint.TurnDone.{TurnDone}
 use Rattle.im_types.specs.declared.commands.Outcome.{Outcome}
 use Rattle.im_types.specs.declared.refusals.Refusal.{Refusal}
 use Rattle.im_engine.specs.State.{EngineState, MeansState, MeansEither}
-use Rattle.im_engine.specs.Run.{Answered, TurnAnswered, is_put, put_by_command, MeansAfter, MeansBeginning}
-use Rattle.im_engine.proofs.Running.{Far, far_on, leaves_on, now_on, now_start, far_turned, leaves_turned, now_turned, means_all, all_or_in_doubt, or_less, doubt_by, Failures, failures_more, failures_turned}
+use Rattle.im_engine.specs.Run.{Answered, TurnAnswered, is_put, put_by_command, HasRun, MeansAfter, MeansBeginning}
+use Rattle.im_engine.proofs.Running.{far_on, leaves_on, now_on, now_start, far_turned, leaves_turned, now_turned, means_all, all_or_in_doubt, or_less, doubt_by, Failures, failures_more, failures_turned}
 use Rattle.im_program.specs.Serving.{HasPut, OnlyPuts, Closed, Served}
 
 -- ---- accepted commands
@@ -66,8 +66,8 @@ module _ {D : Type 0} (now : D → Moment) (past : D → List Moment) (failures 
       → (mid.failed ≡ false → LeavesNow (now new.disk) (MeansEither mid c)) → (new.failed ≡ false → LeavesNow (now new.disk) (MeansState new)) → Faults (λ e. Unit {0}) a (failures mid.disk) (failures new.disk)
       → HasPut now past failures start new (put ++ put_by_command (after start.memory put) c a)
   put_more start mid new put c a so_far it leaves doubt means cause =
-      let far : Far start mid put = record { memory = so_far.memory; count = so_far.count } in
-      let far_new : Far start new (put ++ put_by_command (after start.memory put) c a) = far_on start mid new put c a far it in
+      let far : HasRun start mid put = record { memory = so_far.memory; count = so_far.count } in
+      let far_new : HasRun start new (put ++ put_by_command (after start.memory put) c a) = far_on start mid new put c a far it in
       record {
         accepted = accepted_on start.memory put c a so_far.accepted;
         memory = far_new.memory;
@@ -85,8 +85,8 @@ module _ {D : Type 0} (now : D → Moment) (past : D → List Moment) (failures 
       → (mid.failed ≡ false → LeavesNow (now new.disk) (MeansState mid)) → (new.failed ≡ false → LeavesNow (now new.disk) (MeansState new)) → Faults (λ e. Unit {0}) a (failures mid.disk) (failures new.disk)
       → HasPut now past failures start new put
   put_turn start mid new put a so_far it leaves means works cause =
-      let far : Far start mid put = record { memory = so_far.memory; count = so_far.count } in
-      let far_new : Far start new put = far_turned start mid new put a far it in
+      let far : HasRun start mid put = record { memory = so_far.memory; count = so_far.count } in
+      let far_new : HasRun start new put = far_turned start mid new put a far it in
       record {
         accepted = so_far.accepted;
         memory = far_new.memory;

@@ -13,48 +13,39 @@ slice_bounds-write_at-end g c =
     let low = page_low c.args.self.now (seen e.header) e.progress (record { count = e.count; area = e.area.items }) e.pages.items e.written c.self.view_is c.self.invariant c.requires.step in
     omega (arith, page, low, c.self.invariant.size, c.deref.ensures.len)
 
-pub returns-in-Err-clause-leaves : goal.returns-in-Err-clause-leaves
-returns-in-Err-clause-leaves g c = λ h m j kept.
+pub returns-in-Err-clause-keeps : goal.returns-in-Err-clause-keeps
+returns-in-Err-clause-keeps g c = λ h m j kept.
     let e = c.self.inside in
     let some = c.self.invariant.some (progress_left c.args.self.now (seen e.header) e.progress (record { count = e.count; area = e.area.items }) e.pages.items e.written c.self.view_is c.requires.step) in
     let page = get_or_read_under e.pages.items e.written _ c.index-page.result.now 0 c.index-page.ensures some refl in
-    wrote_leaves c.args.self.now (seen e.header) e.progress (record { count = e.count; area = e.area.items }) e.pages.items e.written c.self.view_is c.self.invariant c.requires.step
-    c.index-page.result.now page _ (ap (λ (l : List ℕ). slice_range l (4096 * c.index-page.result.now) (4096 * c.index-page.result.now + 4096)) c.deref.ensures.value) c.area_at.result c.area_at.ensures.at
-    m j (g.D.Disk.now c.args.disk.now) kept (g.D.Disk.past c.args.disk.now) (g.D.Disk.now c.write_at.new.self) (g.D.Disk.past c.write_at.new.self) (c.write_at.ensures.moment h)
+    record {
+      leaves = record {
+        within = wrote_leaves c.args.self.now (seen e.header) e.progress (record { count = e.count; area = e.area.items }) e.pages.items e.written c.self.view_is c.self.invariant c.requires.step
+            c.index-page.result.now page _ (ap (λ (l : List ℕ). slice_range l (4096 * c.index-page.result.now) (4096 * c.index-page.result.now + 4096)) c.deref.ensures.value) c.area_at.result c.area_at.ensures.at
+            m j (g.D.Disk.now c.args.disk.now) kept (g.D.Disk.past c.args.disk.now) (g.D.Disk.now c.write_at.new.self) (g.D.Disk.past c.write_at.new.self) (c.write_at.ensures.moment h);
+        after = wrote_now c.args.self.now (seen e.header) e.progress (record { count = e.count; area = e.area.items }) e.pages.items e.written c.self.view_is c.self.invariant c.requires.step
+            c.index-page.result.now page _ (ap (λ (l : List ℕ). slice_range l (4096 * c.index-page.result.now) (4096 * c.index-page.result.now + 4096)) c.deref.ensures.value) c.area_at.result c.area_at.ensures.at
+            m j (g.D.Disk.now c.args.disk.now) kept (g.D.Disk.past c.args.disk.now) (g.D.Disk.now c.write_at.new.self) (g.D.Disk.past c.write_at.new.self) (c.write_at.ensures.moment h);
+      };
+      kept = tt;
+    }
 
-pub returns-in-Err-clause-now : goal.returns-in-Err-clause-now
-returns-in-Err-clause-now g c = λ h m j kept.
+pub returns-clause-keeps : goal.returns-clause-keeps
+returns-clause-keeps g c = λ h m j kept.
     let e = c.self.inside in
     let some = c.self.invariant.some (progress_left c.args.self.now (seen e.header) e.progress (record { count = e.count; area = e.area.items }) e.pages.items e.written c.self.view_is c.requires.step) in
     let page = get_or_read_under e.pages.items e.written _ c.index-page.result.now 0 c.index-page.ensures some refl in
-    wrote_now c.args.self.now (seen e.header) e.progress (record { count = e.count; area = e.area.items }) e.pages.items e.written c.self.view_is c.self.invariant c.requires.step
-    c.index-page.result.now page _ (ap (λ (l : List ℕ). slice_range l (4096 * c.index-page.result.now) (4096 * c.index-page.result.now + 4096)) c.deref.ensures.value) c.area_at.result c.area_at.ensures.at
-    m j (g.D.Disk.now c.args.disk.now) kept (g.D.Disk.past c.args.disk.now) (g.D.Disk.now c.write_at.new.self) (g.D.Disk.past c.write_at.new.self) (c.write_at.ensures.moment h)
-
-pub returns-clause-leaves : goal.returns-clause-leaves
-returns-clause-leaves g c = λ h m j kept.
-    let e = c.self.inside in
-    let some = c.self.invariant.some (progress_left c.args.self.now (seen e.header) e.progress (record { count = e.count; area = e.area.items }) e.pages.items e.written c.self.view_is c.requires.step) in
-    let page = get_or_read_under e.pages.items e.written _ c.index-page.result.now 0 c.index-page.ensures some refl in
-    wrote_leaves c.args.self.now (seen e.header) e.progress (record { count = e.count; area = e.area.items }) e.pages.items e.written c.self.view_is c.self.invariant c.requires.step
-    c.index-page.result.now page _ (ap (λ (l : List ℕ). slice_range l (4096 * c.index-page.result.now) (4096 * c.index-page.result.now + 4096)) c.deref.ensures.value) c.area_at.result c.area_at.ensures.at
-    m j (g.D.Disk.now c.args.disk.now) kept (g.D.Disk.past c.args.disk.now) (g.D.Disk.now c.write_at.new.self) (g.D.Disk.past c.write_at.new.self) (c.write_at.ensures.moment h)
-
-pub returns-clause-now : goal.returns-clause-now
-returns-clause-now g c = λ h m j kept.
-    let e = c.self.inside in
-    let some = c.self.invariant.some (progress_left c.args.self.now (seen e.header) e.progress (record { count = e.count; area = e.area.items }) e.pages.items e.written c.self.view_is c.requires.step) in
-    let page = get_or_read_under e.pages.items e.written _ c.index-page.result.now 0 c.index-page.ensures some refl in
-    wrote_now c.args.self.now (seen e.header) e.progress (record { count = e.count; area = e.area.items }) e.pages.items e.written c.self.view_is c.self.invariant c.requires.step
-    c.index-page.result.now page _ (ap (λ (l : List ℕ). slice_range l (4096 * c.index-page.result.now) (4096 * c.index-page.result.now + 4096)) c.deref.ensures.value) c.area_at.result c.area_at.ensures.at
-    m j (g.D.Disk.now c.args.disk.now) kept (g.D.Disk.past c.args.disk.now) (g.D.Disk.now c.write_at.new.self) (g.D.Disk.past c.write_at.new.self) (c.write_at.ensures.moment h)
-
-pub returns-clause-kept : goal.returns-clause-kept
-returns-clause-kept g c = λ h m j kept.
-    let e = c.self.inside in
-    let some = c.self.invariant.some (progress_left c.args.self.now (seen e.header) e.progress (record { count = e.count; area = e.area.items }) e.pages.items e.written c.self.view_is c.requires.step) in
-    let page = get_or_read_under e.pages.items e.written _ c.index-page.result.now 0 c.index-page.ensures some refl in
-    wrote_kept c.args.self.now (seen e.header) e.progress (record { count = e.count; area = e.area.items }) e.pages.items e.written c.self.view_is c.self.invariant c.requires.step
-    c.index-page.result.now page _ (ap (λ (l : List ℕ). slice_range l (4096 * c.index-page.result.now) (4096 * c.index-page.result.now + 4096)) c.deref.ensures.value) c.area_at.result c.area_at.ensures.at
-    m j (g.D.Disk.now c.args.disk.now) kept (g.D.Disk.past c.args.disk.now) (g.D.Disk.now c.write_at.new.self) (g.D.Disk.past c.write_at.new.self) (c.write_at.ensures.moment h)
-    (c.in_default.ensures.tick h).now c.progress_after-self-inside.result c.len.result (omega (arith, c.len.ensures, e.pages.ok.0)) c.progress_after-self-inside.ensures (omega (arith, some))
+    record {
+      leaves = record {
+        within = wrote_leaves c.args.self.now (seen e.header) e.progress (record { count = e.count; area = e.area.items }) e.pages.items e.written c.self.view_is c.self.invariant c.requires.step
+            c.index-page.result.now page _ (ap (λ (l : List ℕ). slice_range l (4096 * c.index-page.result.now) (4096 * c.index-page.result.now + 4096)) c.deref.ensures.value) c.area_at.result c.area_at.ensures.at
+            m j (g.D.Disk.now c.args.disk.now) kept (g.D.Disk.past c.args.disk.now) (g.D.Disk.now c.write_at.new.self) (g.D.Disk.past c.write_at.new.self) (c.write_at.ensures.moment h);
+        after = wrote_now c.args.self.now (seen e.header) e.progress (record { count = e.count; area = e.area.items }) e.pages.items e.written c.self.view_is c.self.invariant c.requires.step
+            c.index-page.result.now page _ (ap (λ (l : List ℕ). slice_range l (4096 * c.index-page.result.now) (4096 * c.index-page.result.now + 4096)) c.deref.ensures.value) c.area_at.result c.area_at.ensures.at
+            m j (g.D.Disk.now c.args.disk.now) kept (g.D.Disk.past c.args.disk.now) (g.D.Disk.now c.write_at.new.self) (g.D.Disk.past c.write_at.new.self) (c.write_at.ensures.moment h);
+      };
+      kept = wrote_kept c.args.self.now (seen e.header) e.progress (record { count = e.count; area = e.area.items }) e.pages.items e.written c.self.view_is c.self.invariant c.requires.step
+          c.index-page.result.now page _ (ap (λ (l : List ℕ). slice_range l (4096 * c.index-page.result.now) (4096 * c.index-page.result.now + 4096)) c.deref.ensures.value) c.area_at.result c.area_at.ensures.at
+          m j (g.D.Disk.now c.args.disk.now) kept (g.D.Disk.past c.args.disk.now) (g.D.Disk.now c.write_at.new.self) (g.D.Disk.past c.write_at.new.self) (c.write_at.ensures.moment h)
+          (c.in_default.ensures.tick h).now c.progress_after-self-inside.result c.len.result (omega (arith, c.len.ensures, e.pages.ok.0)) c.progress_after-self-inside.ensures (omega (arith, some));
+    }

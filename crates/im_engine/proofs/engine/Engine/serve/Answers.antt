@@ -1,11 +1,12 @@
-use Rattle.std.proofs.Common.{◌≡◌, false, Ok, inl, sym, ◌∙◌, ap, subst}
-use Rattle.im_disk.specs.Since.{LeavesNow}
+use Rattle.std.proofs.Common.{◌≡◌, true, false, Ok, inl, sym, ◌∙◌, ap, subst}
+use Rattle.im_disk.specs.Since.{LeavesNow, CallsBy}
 use Rattle.im_types.specs.Contents.{Contents}
 use Rattle.im_types.specs.Step.{step, is_accepted}
 use Rattle.im_checkpoint.specs.Keeping.{Fits, IsKept}
 use Rattle.im_engine.specs.State.{EngineState, MeansState, MeansEither}
+use Rattle.im_engine.specs.Run.{calls_for}
 use Rattle.im_engine.proofs.Keeping.{all_mean}
-use Rattle.im_engine.proofs.Serving.{accepts, unaccepted_same, answered_unaccepted}
+use Rattle.im_engine.proofs.Serving.{accepts, unaccepted_same, answered_unaccepted, calls_accepted, calls_none}
 use Rattle.im_engine.proofs.engine.Engine.serve.Goals as goal
 
 pub invariant_of-self : goal.invariant_of-self
@@ -17,8 +18,25 @@ invariant_of-self g c =
       λ h f. subst (λ (m : Contents). IsKept e.checkpoint m e.journal (g.D.Disk.now e.disk)) (sym same) (c.self.invariant.1 h f),
     )
 
+pub returns-in-Ok-true-clause-leaves : goal.returns-in-Ok-true-clause-leaves
+returns-in-Ok-true-clause-leaves g c = λ h f. (c.accept.ensures.leaves h).within
+
 pub returns-in-Ok-true-clause-doubt : goal.returns-in-Ok-true-clause-doubt
-returns-in-Ok-true-clause-doubt g c = λ h f. c.accept.ensures.doubt h
+returns-in-Ok-true-clause-doubt g c = λ h f. (c.accept.ensures.leaves h).after
+
+pub returns-in-Ok-true-clause-calls : goal.returns-in-Ok-true-clause-calls
+returns-in-Ok-true-clause-calls g c = λ h.
+    let e = c.self.inside in
+    let accepted : is_accepted e.memory c.args.command.now ≡ true = accepts e.memory c.args.command.now true c.judge.result c.judge.ensures (c.in-Ok-true.is ∙ ap (λ b. Ok b) c.in-Ok-true.field-0-test) in
+    calls_accepted g.D.Disk.past c.args.self.now.disk c.accept.new.self.disk c.args.self.now.memory c.args.command.now c.accept.result
+    (sym (ap (λ (s : EngineState g.row.D.Denot). is_accepted s.memory c.args.command.now) c.self.view_is) ∙ accepted) (c.accept.ensures.calls h)
+
+pub returns-in-Ok-false-clause-calls : goal.returns-in-Ok-false-clause-calls
+returns-in-Ok-false-clause-calls g c = λ h.
+    let e = c.self.inside in
+    let un : is_accepted e.memory c.args.command.now ≡ false = accepts e.memory c.args.command.now false c.judge.result c.judge.ensures (c.in-Ok-false.is ∙ ap (λ b. Ok b) c.in-Ok-false.field-0-test) in
+    subst (λ (s : EngineState g.row.D.Denot). CallsBy g.D.Disk.past s.disk e.disk (calls_for s.memory c.args.command.now) c.step.result) c.self.view_is
+    (calls_none g.D.Disk.past e.disk e.memory c.args.command.now c.step.result un)
 
 pub returns-in-Ok-false-clause-doubt : goal.returns-in-Ok-false-clause-doubt
 returns-in-Ok-false-clause-doubt g c =
