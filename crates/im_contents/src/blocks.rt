@@ -73,8 +73,8 @@ fn is_block_at(cells: &[CellRecord], at: usize, block: &Block) -> bool
     base == at && at < end && end <= cells.len() && are_in(cells, at + 1, end, block)
 }
 
-/// Whether the cells lie in blocks: each block stands below the number of cells, and each of its cells says that it lies in
-/// it. This doesn't depend on who waits. It looks once at each cell.
+/// Whether the cells lie in blocks: each block stands below the number of cells, and each of its cells says that it
+/// lies in it. This doesn't depend on who waits. It looks once at each cell.
 pub fn are_blocks(cells: &[CellRecord]) -> bool
     ensures { (lists : List (List Waiter)) → (IsTrue result) ↔ (HasBlocks (cells_shown cells.now lists)) }
 {

@@ -50,11 +50,11 @@ fn have_parts(limits: Limits, cells: &[CellRecord], windows: &[WindowRecord]) ->
     are_windows(windows) && are_blocks(cells)
 }
 
-/// The lists of waiters of the memory that these records show: with them the cells' records stand for its cells, and the
-/// windows are its own.
+/// The lists of waiters of the memory that these records show: with them the cells' records stand for its cells, and
+/// the windows are its own.
 ///
-/// `BadPage` where the records show no memory, `NoMemory` where there is no room for the lists. It takes a step for each
-/// record and each entry.
+/// `BadPage` where the records show no memory, `NoMemory` where there is no room for the lists. It takes a step for
+/// each record and each entry.
 pub fn read_contents(
     alloc: Global,
     limits: Limits,

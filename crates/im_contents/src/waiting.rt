@@ -1,10 +1,12 @@
 //! Whether who waits at the cells is who has a waiting entry.
-ghost use Rattle.std.specs.Prelude.{◌≡◌, ◌+◌, ◌*◌, ◌≤◌, ◌<◌, ◌↔◌, [], ℕ, Some, None, IfOk, IsSome, IsTrue, length, replicate, false, slice_index_or, if◌then◌else◌};
+ghost use Rattle.std.specs.Prelude.{◌≡◌, ◌+◌, ◌*◌, ◌≤◌, ◌<◌, ◌↔◌, [], ℕ, Some, None, IfOk, IsSome, IsTrue, length};
+ghost use Rattle.std.specs.Prelude.{replicate, false, slice_index_or, if◌then◌else◌};
 ghost use Rattle.im_types.specs.Contents.{kept_under, kept_for};
 ghost use Rattle.im_types.specs.Window.{is_waiting};
 ghost use Rattle.im_types.specs.Agreement.{awaiting, waits_for, WaitersAgree};
 ghost use Rattle.im_types.specs.Pages.{cell_shown, cells_shown};
-ghost use Rattle.im_contents.specs.Marking.{place_in, AreFew, mark_one, mark_list, mark_held, mark_all, ListMarked, AreMarked};
+ghost use Rattle.im_contents.specs.Marking.{place_in, AreFew, mark_one, mark_list, mark_held, mark_all, ListMarked};
+ghost use Rattle.im_contents.specs.Marking.{AreMarked};
 
 use crate::lists::Lists;
 use im_records::WindowRecord;
@@ -127,7 +129,8 @@ fn mark_cell(
     requires few { AreFew windows.now }
     requires places { length marks.old ≡ WINDOW * length windows.now }
     requires listed { address < length lists.now }
-    ensures { mark_held (kept_for windows.now) (place_in windows.now) address marks.old (cell_shown cell.now (slice_index_or lists.now address []))
+    ensures { mark_held (kept_for windows.now) (place_in windows.now) address marks.old
+        (cell_shown cell.now (slice_index_or lists.now address []))
         ≡ (if result then Some marks.new else None) }
 {
     match *cell {
@@ -187,8 +190,8 @@ fn are_marked(windows: &[WindowRecord], marks: &[bool]) -> bool
     true
 }
 
-// Whether each request in a list has a waiting entry for its cell, none stands twice, and each waiting entry is of one of
-// them. No entry is marked yet.
+// Whether each request in a list has a waiting entry for its cell, none stands twice, and each waiting entry is of one
+// of them. No entry is marked yet.
 fn agree_by_marks(
     cells: &[CellRecord],
     lists: &Lists,
@@ -203,10 +206,11 @@ fn agree_by_marks(
     mark_all(cells, lists, windows, marks) && are_marked(windows, marks)
 }
 
-/// Whether who waits at the cells is who has a waiting entry: each request in a list has an entry that waits for that very
-/// cell, it stands once in all lists, and each entry that waits is that of a request in a list.
+/// Whether who waits at the cells is who has a waiting entry: each request in a list has an entry that waits for that
+/// very cell, it stands once in all lists, and each entry that waits is that of a request in a list.
 ///
-/// `AllocError` where there is no room for a mark for each entry. It takes a step for each cell, each waiter and each entry.
+/// `AllocError` where there is no room for a mark for each entry. It takes a step for each cell, each waiter and each
+/// entry.
 pub fn agree(
     alloc: Global,
     cells: &[CellRecord],
@@ -215,7 +219,8 @@ pub fn agree(
 ) -> Result<bool, AllocError>
     requires few { AreFew windows.now }
     requires count { length lists.now ≡ length cells.now }
-    ensures { IfOk result (λ yes. (IsTrue yes) ↔ (WaitersAgree (cells_shown cells.now lists.now) (kept_for windows.now))) }
+    ensures { IfOk result (λ yes. (IsTrue yes)
+        ↔ (WaitersAgree (cells_shown cells.now lists.now) (kept_for windows.now))) }
 {
     let mut marks = vec![in alloc; false; PLACES * windows.len()]?;
     Ok(agree_by_marks(cells, lists, windows, &mut marks))

@@ -1,5 +1,6 @@
 //! Lists of waiters, read from linked nodes whatever the links are.
-ghost use Rattle.std.specs.Prelude.{◌≡◌, ◌≤◌, ◌⊎◌, List, Option, Some, None, IfOk, IfErr, IsErrOf, length, replicate, false, if◌then◌else◌};
+ghost use Rattle.std.specs.Prelude.{◌≡◌, ◌≤◌, ◌⊎◌, List, Option, Some, None, IfOk, IfErr, IsErrOf, length, replicate};
+ghost use Rattle.std.specs.Prelude.{false, if◌then◌else◌};
 ghost use Rattle.im_types.specs.declared.operations.Waiter.{Waiter};
 ghost use Rattle.im_types.specs.declared.records.CellRecord.{CellRecord};
 ghost use Rattle.im_types.specs.declared.records.NodeRecord.{NodeRecord};
@@ -22,7 +23,8 @@ fn fresh(marks: &[bool], nodes: &[NodeRecord], at: u32) -> NodeRecord
     }
 }
 
-// Follows the links from a first node to a last one, marks each node and keeps its waiter. Whether there is such a list.
+// Follows the links from a first node to a last one, marks each node and keeps its waiter. Whether there is such a
+// list.
 fn walk(
     nodes: &[NodeRecord],
     first: u32,
@@ -118,8 +120,8 @@ fn find_lists(
     }
 }
 
-/// The lists of waiters that stand in the nodes of an image, a list for each cell: each begins and ends where its cell's
-/// presence tag says, and each node that is marked as one of a list stands once in one of them.
+/// The lists of waiters that stand in the nodes of an image, a list for each cell: each begins and ends where its
+/// cell's presence tag says, and each node that is marked as one of a list stands once in one of them.
 ///
 /// `BadPage` where there are no such lists, `NoMemory` where there is no room for them. It ends whatever the links are.
 pub fn read_lists(
@@ -146,6 +148,7 @@ pub fn read_lists(
 
 /// The same records show no two lists of waiters for a cell.
 pub fn one_list_is_shown()
-    ensures { (nodes : List NodeRecord) (cells : List CellRecord) (lists others : List (List Waiter)) → length nodes ≤ NONE
+    ensures { (nodes : List NodeRecord) (cells : List CellRecord) (lists others : List (List Waiter))
+        → length nodes ≤ NONE
         → ShowLists nodes cells lists → ShowLists nodes cells others → lists ≡ others }
 {}

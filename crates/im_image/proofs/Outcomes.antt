@@ -12,7 +12,6 @@ use Rattle.im_types.specs.Meaning.{Reached, IsShown, Reads, accept_each, reached
 use Rattle.im_types.specs.Step.{step, is_accepted}
 use Rattle.im_laws.proofs.MemoryLemmas.{step-cell_count, step-window_count}
 use Rattle.im_disk.specs.Moment.{Moment}
-use Rattle.im_journal.specs.Holding.{JournalState, Holds}
 use Rattle.im_image.proofs.OpenArea.{length_of_image}
 
 -- the outcome of reading a file, by the fault of its headers
@@ -56,15 +55,10 @@ in-room file h is good =
     subst (λ (x : Header). (ring_of layout_in_use x.sizes).base + 64 * x.sizes.slots ≤ length file) (sym is) (omega arith)
 
 -- what was read at one moment holds of another at which the bytes are the same
-pub read-ok : {T : Type 0} (r : Result T Refusal) (reached : T → Reached) (old mid : Moment) (Honest : Type 0) → (Honest → mid ≡ old)
-    → IfOk r (λ x. Honest → Reads layout_in_use mid.bytes (Ok (reached x))) → IfOk r (λ x. Honest → Reads layout_in_use old.bytes (Ok (reached x)))
-read-ok (Ok x) reached old mid Honest same means = λ h. subst (λ (m : Moment). Reads layout_in_use m.bytes (Ok (reached x))) (same h) (means h)
-read-ok (Err e) reached old mid Honest same means = means
-
-pub read-holds : {T : Type 0} (r : Result T Refusal) (journal : T → JournalState) (old mid : Moment) (Honest : Type 0) → (Honest → mid ≡ old)
-    → IfOk r (λ x. Honest → Holds (journal x) mid.bytes) → IfOk r (λ x. Honest → Holds (journal x) old.bytes)
-read-holds (Ok x) journal old mid Honest same holds = λ h. subst (λ (m : Moment). Holds (journal x) m.bytes) (same h) (holds h)
-read-holds (Err e) journal old mid Honest same holds = holds
+pub read-ok : {T : Type 0} (r : Result T Refusal) (P : List ℕ → T → Type 0) (Q : T → Type 0) (old mid : Moment) (Honest : Type 0) → (Honest → mid ≡ old) → ((x : T) → P old.bytes x → Q x)
+    → IfOk r (λ x. Honest → P mid.bytes x) → IfOk r (λ x. Honest → Q x)
+read-ok (Ok x) P Q old mid Honest same so means = λ h. so x (subst (λ (m : Moment). P m.bytes x) (same h) (means h))
+read-ok (Err e) P Q old mid Honest same so means = means
 
 pub read-err : {T : Type 0} (r : Result T Refusal) (old mid : Moment) (Honest : Type 0) → (Honest → mid ≡ old)
     → IfErr r (λ e. (e ≡ NoMemory) ⊎ (e ≡ Device) ⊎ (Honest → Reads layout_in_use mid.bytes (Err e))) → IfErr r (λ e. (e ≡ NoMemory) ⊎ (e ≡ Device) ⊎ (Honest → Reads layout_in_use old.bytes (Err e)))

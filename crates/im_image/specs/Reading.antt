@@ -1,11 +1,63 @@
--- The journal of an image that was read. (Own.)
-use Rattle.std.specs.Prelude.{◌≡◌, ◌≤◌}
-use Rattle.im_types.specs.Header.{Header}
-use Rattle.im_types.specs.Layout.{layout_in_use, ring_of}
-use Rattle.im_journal.specs.Holding.{JournalState}
+-- What is read of an image: its header in force, the memory that its area shows, its journal, and the memory after that. (Own.)
+use Rattle.std.specs.Prelude.{◌≡◌, ℕ, ◌≤◌, List, length, None, Ok}
+use Rattle.im_types.specs.declared.TheConstants.{LAST}
+use Rattle.im_types.specs.Contents.{Contents}
+use Rattle.im_types.specs.Header.{Header, header_of, header_fault}
+use Rattle.im_types.specs.Layout.{Sizes, layout_in_use, sizes_of, ring_of}
+use Rattle.im_types.specs.Meaning.{Reached, IsShown, Reads}
+use Rattle.im_journal.specs.Holding.{JournalState, Holds}
+use Rattle.im_image.specs.Headers.{seen}
+use Rattle.im_image.specs.declared.reading.Image.{Image}
 
 -- the journal is the one behind this header: its ring lies where the header's sizes say, and its run begins at the header's count
 pub record JournalOf (h : Header) (j : JournalState) : Type 0 where
   pub ring : j.ring ≡ ring_of layout_in_use h.sizes
   pub first : j.first ≡ h.count
   pub begun : h.count ≤ j.count
+
+-- a memory has as many cells and elements as these sizes say
+pub record HasSizes (s : Sizes) (m : Contents) : Type 0 where
+  pub cells : length m.cells ≡ s.cells
+  pub elements : length m.windows ≡ s.elements
+
+-- a file is sound up to its headers, of which this one is in force
+pub record HasHeader (h : Header) (file : List ℕ) : Type 0 where
+  -- its length and its headers have no fault
+  pub good : header_fault layout_in_use file ≡ None
+  pub is : h ≡ header_of file
+
+-- a file is sound up to its area in force, which shows this memory
+pub record HasArea (h : Header) (m : Contents) (file : List ℕ) : Type 0 where
+  pub header : HasHeader h file
+  pub shown : IsShown layout_in_use file m
+
+-- a header and a memory whose numbers fit
+pub record AreUnder (h : Header) (m : Contents) : Type 0 where
+  -- the header is of one of the two areas
+  pub area : h.area ≤ 1
+  -- its count is one that there is
+  pub last : h.count ≤ LAST
+  -- the memory has its sizes
+  pub sizes : HasSizes h.sizes m
+
+-- the parts of an image that was read fit each other
+pub record AreParts (i : Image) : Type 0 where
+  -- the header is of one of the two areas
+  pub area : i.header.area ≤ 1
+  -- the memory has as many cells and elements as the header says
+  pub sizes : HasSizes (sizes_of i.header.limits) i.memory
+  -- the journal is the one behind the header
+  pub journal : JournalOf (seen i.header) i.journal
+
+-- what an image that was read comes to
+abbrev pub reached : Image → Reached
+reached i = record { contents = i.memory; count = i.journal.count; room = i.journal.room }
+
+-- the image is what this file is
+pub record IsImageOf (file : List ℕ) (i : Image) : Type 0 where
+  -- its header is the one in force
+  pub header : seen i.header ≡ header_of file
+  -- the file holds its journal
+  pub holds : Holds i.journal file
+  -- reading the file comes to its memory, its count and its room
+  pub means : Reads layout_in_use file (Ok (reached i))

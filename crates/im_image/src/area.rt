@@ -1,5 +1,6 @@
 //! Which memory the pages of an area show.
-ghost use Rattle.std.specs.Prelude.{◌≡◌, ◌⊎◌, ◌*◌, ◌≤◌, ℕ, List, [], length, replicate, slice_get, Some, IfOk, IfErr, IsErrOf};
+ghost use Rattle.std.specs.Prelude.{◌≡◌, ◌⊎◌, ◌*◌, ◌≤◌, ℕ, List, [], length, replicate, slice_get, Some, IfOk, IfErr};
+ghost use Rattle.std.specs.Prelude.{IsErrOf};
 ghost use Rattle.std.specs.List.{sum_by};
 ghost use Rattle.im_types.specs.declared.TheConstants.{WINDOW};
 ghost use Rattle.im_types.specs.Chains.{ShowLists};
@@ -50,8 +51,10 @@ fn restore(
 ) -> Result<Memory, Refusal>
     requires chained { ShowLists records.now.nodes records.now.cells lists.now }
     requires count { length lists.now ≡ length records.now.cells }
-    requires memory { IsMemory limits.cells limits.elements (record { cells = cells_shown records.now.cells lists.now; windows = records.now.windows }) }
-    ensures memory { IfOk result (λ m. m ≡ record { cells = cells_shown records.now.cells lists.now; windows = records.now.windows }) }
+    requires memory { IsMemory limits.cells limits.elements
+        (record { cells = cells_shown records.now.cells lists.now; windows = records.now.windows }) }
+    ensures memory { IfOk result
+        (λ m. m ≡ record { cells = cells_shown records.now.cells lists.now; windows = records.now.windows }) }
     ensures only { IfErr result (λ e. e ≡ Refusal.NoMemory) }
 {
     let mut restoring = match Restoring::new(alloc, limits, records.cells()) {
@@ -70,7 +73,8 @@ fn restore(
 pub fn decode(alloc: Global, area: &[u8], limits: Limits) -> Result<Memory, Refusal>
     requires { length area.now ≡ layout.area_bytes layout_in_use (sizes_of limits) }
     ensures found { IfOk result (λ m. Shows layout_in_use (sizes_of limits) area.now m) }
-    ensures bad { IsErrOf result Refusal.BadPage → (m : Contents) → Shows layout_in_use (sizes_of limits) area.now m → ⊥ }
+    ensures bad { IsErrOf result Refusal.BadPage → (m : Contents) → Shows layout_in_use (sizes_of limits) area.now m
+        → ⊥ }
     ensures only { IfErr result (λ e. (e ≡ Refusal.BadPage) ⊎ (e ≡ Refusal.NoMemory)) }
 {
     let records = match read_area(alloc, area, limits) {

@@ -70,7 +70,8 @@ fn push_zeros(image: &mut Vec<u8>, count: usize) -> Result<(), AllocError>
 fn push_row(image: &mut Vec<u8>, pages: usize, bytes: &[u8], count: usize) -> Result<(), AllocError>
     requires room { length image.old.items + 4096 * pages < 2 ^ 63 }
     requires fits { length bytes.now * count ≤ 4096 * pages }
-    ensures items { OnOk result (image.new.items ≡ image.old.items ++ new_row pages (length bytes.now) bytes.now count) }
+    ensures items { OnOk result (image.new.items ≡ image.old.items
+        ++ new_row pages (length bytes.now) bytes.now count) }
     ensures longer { OnOk result (length image.new.items ≡ length image.old.items + 4096 * pages) }
 {
     push_repeated(image, bytes, count)?;
@@ -81,7 +82,8 @@ fn push_row(image: &mut Vec<u8>, pages: usize, bytes: &[u8], count: usize) -> Re
 fn push_area(image: &mut Vec<u8>, limits: Limits) -> Result<(), AllocError>
     requires { length image.old.items < 2 ^ 62 }
     ensures items { OnOk result (image.new.items ≡ image.old.items ++ new_area (sizes_of limits)) }
-    ensures longer { OnOk result (length image.new.items ≡ length image.old.items + area_bytes layout_in_use (sizes_of limits)) }
+    ensures longer { OnOk result (length image.new.items
+        ≡ length image.old.items + area_bytes layout_in_use (sizes_of limits)) }
 {
     push_row(
         image,
@@ -117,7 +119,8 @@ fn new_header(limits: Limits) -> [u8; 64]
 // The bytes of a new image that begins so.
 fn lay_out(alloc: Global, first: &[u8], limits: Limits) -> Result<Vec<u8>, AllocError>
     requires { length first.now ≡ 64 }
-    ensures { IfOk result (λ image. image.items ≡ first.now ++ zeros (2 * 4096 - 64) ++ new_area (sizes_of limits) ++ zeros (area_bytes layout_in_use (sizes_of limits) + 64 * limits.slots)) }
+    ensures { IfOk result (λ image. image.items ≡ first.now ++ zeros (2 * 4096 - 64) ++ new_area (sizes_of limits)
+        ++ zeros (area_bytes layout_in_use (sizes_of limits) + 64 * limits.slots)) }
 {
     let mut image = Vec::with_capacity(alloc, image_length(limits))?;
     image.extend_from_slice(first)?;
@@ -133,7 +136,8 @@ fn lay_out(alloc: Global, first: &[u8], limits: Limits) -> Result<Vec<u8>, Alloc
 /// The bytes of a new image, but for the gate of its first header, which is still closed: the empty memory in area 0 at
 /// generation 1 and count 0, the second header closed, and every gate of the journal closed.
 ///
-/// Memory: as much as the image is long, at most [`LONGEST_IMAGE`](im_types::layout::LONGEST_IMAGE) bytes; `NoMemory` where it is refused.
+/// Memory: as much as the image is long, at most [`LONGEST_IMAGE`](im_types::layout::LONGEST_IMAGE) bytes; `NoMemory`
+/// where it is refused.
 pub fn new_image(alloc: Global, limits: Limits) -> Result<Vec<u8>, Refusal>
     ensures image { IfOk result (λ image. image.items ≡ new_image 0 (sizes_of limits)) }
     ensures only { IfErr result (λ e. e ≡ NoMemory) }

@@ -65,7 +65,8 @@ impl Header {
 
     // Whether these bytes spell it for this area.
     fn is_spelled(&self, bytes: &[u8; 64], area: u8) -> bool
-        ensures is { result ≡ (same_bytes (slice_range bytes.now 1 64) (header_body (seen self.now)) && is_header layout_in_use area (seen self.now)) }
+        ensures is { result ≡ (same_bytes (slice_range bytes.now 1 64) (header_body (seen self.now))
+            && is_header layout_in_use area (seen self.now)) }
         ensures range { IsTrue result → (self.now.area ≡ area) × (self.now.count ≤ LAST) }
     {
         bytes[1..] == self.spell()[1..] && self.is_of(area)
@@ -103,7 +104,8 @@ impl Header {
 // The limits that stand in these bytes, if they are in range.
 fn limits_in(bytes: &[u8; 64]) -> Option<Limits>
     ensures found { IfSome result (λ l. sizes_of l ≡ (header_in bytes.now).sizes) }
-    ensures only { AreLimits (header_in bytes.now).sizes.cells (header_in bytes.now).sizes.elements (header_in bytes.now).sizes.slots → IsSome result }
+    ensures only { AreLimits (header_in bytes.now).sizes.cells (header_in bytes.now).sizes.elements
+        (header_in bytes.now).sizes.slots → IsSome result }
 {
     Limits::new(
         LittleEndian::read_u32(&bytes[24..28]),

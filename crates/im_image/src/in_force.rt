@@ -1,10 +1,12 @@
 //! Which header is in force.
-ghost use Rattle.std.specs.Prelude.{◌≡◌, ◌⊎◌, ◌↔◌, ◌≤◌, ◌||◌, not, true, Some, None, IfSome, IsSome, length, ◌<◌, IfOk, IfErr, OnOk, IsErrOf};
+ghost use Rattle.std.specs.Prelude.{◌≡◌, ◌⊎◌, ◌↔◌, ◌≤◌, ◌||◌, not, true, Some, None, IfSome, IsSome, length, ◌<◌, IfOk};
+ghost use Rattle.std.specs.Prelude.{IfErr, OnOk, IsErrOf};
 ghost use Rattle.im_types.specs.declared.refusals.Refusal.TheVariants.{NoHeader, BadHeader, WrongLength, Device};
 ghost use Rattle.im_types.specs.Layout.{layout_in_use, image_length};
-ghost use Rattle.im_types.specs.Header.{header_in, header_of, header_fault, is_open_header, generation_in, is_second, are_ambiguous, number_in_force, place_in_force, place_fault, spells_header};
+ghost use Rattle.im_types.specs.Header.{header_in, header_of, header_fault, is_open_header, generation_in, is_second};
+ghost use Rattle.im_types.specs.Header.{are_ambiguous, number_in_force, place_in_force, place_fault, spells_header};
 ghost use Rattle.im_disk.specs.Moment.{Counts, Faults};
-ghost use Rattle.im_disk.specs.Since.{ReadsOnly};
+ghost use Rattle.im_disk.specs.Since.{OnlyReads};
 ghost use Rattle.im_image.specs.Headers.{seen, IsHeaderFault, beginning_fault};
 ghost use Rattle.im_image.specs.Beginning.{IsBeginning};
 ghost use Rattle.im_types.specs.declared.TheConstants.{LAST};
@@ -52,7 +54,8 @@ fn are_ambiguous(zero: &[u8; 64], one: &[u8; 64]) -> bool
 fn read_in_force(zero: &[u8; 64], one: &[u8; 64]) -> Option<Header>
     ensures found { IfSome result (λ h. seen h ≡ header_in (place_in_force zero.now one.now)) }
     ensures range { IfSome result (λ h. (h.area ≤ 1) × (h.count ≤ LAST)) }
-    ensures only { IsSome result ↔ (spells_header layout_in_use (number_in_force zero.now one.now) (place_in_force zero.now one.now) ≡ true) }
+    ensures only { IsSome result ↔ (spells_header layout_in_use (number_in_force zero.now one.now)
+        (place_in_force zero.now one.now) ≡ true) }
 {
     if is_second(zero, one) {
         Header::read(one, 1)
@@ -93,8 +96,10 @@ fn header_of_places(zero: &[u8; 64], one: &[u8; 64]) -> Result<Header, Refusal>
 fn header_of(beginning: &Beginning) -> Result<Header, Refusal>
     ensures found { IfOk result (λ h. seen h ≡ header_in (place_in_force beginning.now.zero beginning.now.one)) }
     ensures range { IfOk result (λ h. (h.area ≤ 1) × (h.count ≤ LAST)) }
-    ensures good { OnOk result (beginning_fault layout_in_use beginning.now.length beginning.now.zero beginning.now.one ≡ None) }
-    ensures fault { IfErr result (λ e. beginning_fault layout_in_use beginning.now.length beginning.now.zero beginning.now.one ≡ Some e) }
+    ensures good { OnOk result (beginning_fault layout_in_use beginning.now.length beginning.now.zero beginning.now.one
+        ≡ None) }
+    ensures fault { IfErr result
+        (λ e. beginning_fault layout_in_use beginning.now.length beginning.now.zero beginning.now.one ≡ Some e) }
     ensures only { IfErr result (λ e. IsHeaderFault e) }
 {
     match header_of_places(&beginning.zero, &beginning.one) {
@@ -113,7 +118,7 @@ fn header_of(beginning: &Beginning) -> Result<Header, Refusal>
 fn read_beginning<D: Disk>(disk: &mut D) -> Result<Option<Beginning>, DeviceFault>
     ensures short { IfOk result (λ o. D.honest disk.new → o ≡ None → length (D.now disk.old).bytes < 8192) }
     ensures found { IfOk result (λ o. IfSome o (λ b. D.honest disk.new → IsBeginning b (D.now disk.old).bytes)) }
-    ensures reads { D.honest disk.new → ReadsOnly (D.now disk.old) (D.now disk.new) (D.past disk.old) (D.past disk.new) }
+    ensures reads { D.honest disk.new → OnlyReads D.now D.past disk.old disk.new }
     ensures honest { D.honest disk.new → D.honest disk.old }
     ensures failures { Counts result (D.failures disk.old) (D.failures disk.new) }
 {
@@ -136,8 +141,9 @@ fn read_beginning<D: Disk>(disk: &mut D) -> Result<Option<Beginning>, DeviceFaul
 pub fn read_header<D: Disk>(disk: &mut D) -> Result<Header, Refusal>
     ensures found { IfOk result (λ h. D.honest disk.new → seen h ≡ header_of (D.now disk.old).bytes) }
     ensures good { OnOk result (D.honest disk.new → header_fault layout_in_use (D.now disk.old).bytes ≡ None) }
-    ensures fault { IfErr result (λ e. (e ≡ Device) ⊎ (D.honest disk.new → header_fault layout_in_use (D.now disk.old).bytes ≡ Some e)) }
-    ensures reads { D.honest disk.new → ReadsOnly (D.now disk.old) (D.now disk.new) (D.past disk.old) (D.past disk.new) }
+    ensures fault { IfErr result (λ e. (e ≡ Device)
+        ⊎ (D.honest disk.new → header_fault layout_in_use (D.now disk.old).bytes ≡ Some e)) }
+    ensures reads { D.honest disk.new → OnlyReads D.now D.past disk.old disk.new }
     ensures honest { D.honest disk.new → D.honest disk.old }
     ensures faults { Faults (λ e. (e ≡ Device) ⊎ IsHeaderFault e) result (D.failures disk.old) (D.failures disk.new) }
     ensures range { IfOk result (λ h. (h.area ≤ 1) × (h.count ≤ LAST)) }

@@ -1,15 +1,13 @@
 //! Reading the area in force.
-ghost use Rattle.std.specs.Prelude.{◌≡◌, ◌⊎◌, ◌↔◌, ◌≤◌, ◌+◌, None, length, drop, take, IsTrue, IfOk, IfErr, OnOk, IsErrOf};
-ghost use Rattle.im_types.specs.Contents.{Contents, empty_contents};
+ghost use Rattle.std.specs.Prelude.{◌≡◌, ◌⊎◌, ◌≤◌, ◌+◌, length, drop, take, IfOk, OnOk, IsErrOf};
+ghost use Rattle.im_types.specs.Contents.{Contents};
 ghost use Rattle.im_types.specs.Layout as layout;
-ghost use Rattle.im_types.specs.Layout.{layout_in_use, area_of};
-ghost use Rattle.im_types.specs.Header.{header_of, header_fault};
-ghost use Rattle.im_types.specs.Pages.{Shows};
+ghost use Rattle.im_types.specs.Layout.{layout_in_use, area_of, sizes_of};
 ghost use Rattle.im_types.specs.Meaning.{IsShown};
 ghost use Rattle.im_disk.specs.Moment.{Counts, Faults};
-ghost use Rattle.im_disk.specs.Since.{ReadsOnly};
-ghost use Rattle.im_types.specs.Layout.{sizes_of};
+ghost use Rattle.im_disk.specs.Since.{OnlyReads};
 ghost use Rattle.im_image.specs.Headers.{seen};
+ghost use Rattle.im_image.specs.Reading.{HasHeader, HasSizes};
 
 use crate::area::decode;
 use crate::header::Header;
@@ -22,8 +20,9 @@ use std::alloc::{AllocError, Global};
 // Reads a part of a file.
 fn read_part<D: Disk>(disk: &mut D, at: usize, part: &mut [u8]) -> Result<(), DeviceFault>
     requires { D.honest disk.old → at + length part.old ≤ length (D.now disk.old).bytes }
-    ensures read { OnOk result (D.honest disk.new → part.new ≡ take (length part.old) (drop at (D.now disk.old).bytes)) }
-    ensures reads { D.honest disk.new → ReadsOnly (D.now disk.old) (D.now disk.new) (D.past disk.old) (D.past disk.new) }
+    ensures read { OnOk result (D.honest disk.new
+        → part.new ≡ take (length part.old) (drop at (D.now disk.old).bytes)) }
+    ensures reads { D.honest disk.new → OnlyReads D.now D.past disk.old disk.new }
     ensures honest { D.honest disk.new → D.honest disk.old }
     ensures failures { Counts result (D.failures disk.old) (D.failures disk.new) }
 {
@@ -46,11 +45,14 @@ fn read_area<D: Disk>(
     number: u8,
 ) -> Result<Vec<u8>, Refusal>
     requires number { number ≤ 1 }
-    requires length { D.honest disk.old → length (D.now disk.old).bytes ≡ layout.image_length layout_in_use (sizes_of limits) }
-    ensures area { IfOk result (λ v. D.honest disk.new → v.items ≡ area_of layout_in_use (sizes_of limits) number (D.now disk.old).bytes) }
+    requires length { D.honest disk.old
+        → length (D.now disk.old).bytes ≡ layout.image_length layout_in_use (sizes_of limits) }
+    ensures area { IfOk result (λ v. D.honest disk.new
+        → v.items ≡ area_of layout_in_use (sizes_of limits) number (D.now disk.old).bytes) }
     ensures size { IfOk result (λ v. length v.items ≡ layout.area_bytes layout_in_use (sizes_of limits)) }
-    ensures faults { Faults (λ e. (e ≡ Refusal.NoMemory) ⊎ (e ≡ Refusal.Device)) result (D.failures disk.old) (D.failures disk.new) }
-    ensures reads { D.honest disk.new → ReadsOnly (D.now disk.old) (D.now disk.new) (D.past disk.old) (D.past disk.new) }
+    ensures faults { Faults (λ e. (e ≡ Refusal.NoMemory) ⊎ (e ≡ Refusal.Device)) result
+        (D.failures disk.old) (D.failures disk.new) }
+    ensures reads { D.honest disk.new → OnlyReads D.now D.past disk.old disk.new }
     ensures honest { D.honest disk.new → D.honest disk.old }
 {
     let Ok(mut area) = zero_area(alloc, limits) else {
@@ -68,15 +70,14 @@ fn read_area<D: Disk>(
 /// memory; `NoMemory` where it is refused. `Device`: the read failed.
 pub fn read_memory<D: Disk>(alloc: Global, disk: &mut D, header: &Header) -> Result<Memory, Refusal>
     requires area { header.now.area ≤ 1 }
-    requires good { D.honest disk.old → header_fault layout_in_use (D.now disk.old).bytes ≡ None }
-    requires header { D.honest disk.old → seen header.now ≡ header_of (D.now disk.old).bytes }
+    requires sound { D.honest disk.old → HasHeader (seen header.now) (D.now disk.old).bytes }
     ensures shown { IfOk result (λ m. D.honest disk.new → IsShown layout_in_use (D.now disk.old).bytes m) }
-    ensures cells { IfOk result (λ m. length m.cells ≡ header.now.limits.cells) }
-    ensures elements { IfOk result (λ m. length m.windows ≡ header.now.limits.elements) }
-    ensures bad { IsErrOf result Refusal.BadPage → D.honest disk.new → (m : Contents) → IsShown layout_in_use (D.now disk.old).bytes m → ⊥ }
+    ensures sizes { IfOk result (λ m. HasSizes (sizes_of header.now.limits) m) }
+    ensures bad { IsErrOf result Refusal.BadPage → D.honest disk.new
+        → (m : Contents) → IsShown layout_in_use (D.now disk.old).bytes m → ⊥ }
     ensures faults { Faults (λ e. (e ≡ Refusal.BadPage) ⊎ (e ≡ Refusal.NoMemory) ⊎ (e ≡ Refusal.Device)) result
         (D.failures disk.old) (D.failures disk.new) }
-    ensures reads { D.honest disk.new → ReadsOnly (D.now disk.old) (D.now disk.new) (D.past disk.old) (D.past disk.new) }
+    ensures reads { D.honest disk.new → OnlyReads D.now D.past disk.old disk.new }
     ensures honest { D.honest disk.new → D.honest disk.old }
 {
     match read_area(alloc, disk, header.limits, header.area) {

@@ -24,7 +24,8 @@ use im_types::{CellRecord, Limits, NodeRecord};
 fn cell_at(records: &MemoryRecords<'_>, limits: Limits, a: usize) -> Option<CellRecord>
     requires { AreCounted (sizes_of limits) records.now }
     ensures found { result ≡ slice_get records.now.cells a }
-    ensures fits { a < length records.now.cells → FitsCell limits.cells (layout.node_count layout_in_use (sizes_of limits)) (slice_index_or records.now.cells a (FreeCell 0 NONE)) }
+    ensures fits { a < length records.now.cells → FitsCell limits.cells
+        (layout.node_count layout_in_use (sizes_of limits)) (slice_index_or records.now.cells a (FreeCell 0 NONE)) }
 {
     if a < limits.cells as usize {
         Some(records.cell_record(a as u32))
@@ -37,7 +38,8 @@ fn cell_at(records: &MemoryRecords<'_>, limits: Limits, a: usize) -> Option<Cell
 fn node_at(records: &MemoryRecords<'_>, limits: Limits, n: usize) -> Option<NodeRecord>
     requires { AreCounted (sizes_of limits) records.now }
     ensures found { result ≡ slice_get records.now.nodes n }
-    ensures fits { n < length records.now.nodes → FitsNode (layout.node_count layout_in_use (sizes_of limits)) (slice_index_or records.now.nodes n (FreeNode NONE)) }
+    ensures fits { n < length records.now.nodes → FitsNode (layout.node_count layout_in_use (sizes_of limits))
+        (slice_index_or records.now.nodes n (FreeNode NONE)) }
 {
     if n < node_count(limits) {
         Some(records.node_record(n as u32))
@@ -97,9 +99,12 @@ fn put_element(
 )
     requires count { AreCounted (sizes_of limits) records.now }
     requires place { place < SESSIONS_ON_A_PAGE }
-    ensures here { record_at SESSION_RECORD page.new place ≡ bytes_or_zeros SESSION_RECORD (session_bytes layout_in_use) (slice_get records.now.windows element) }
-    ensures others { (k : ℕ) → k < SESSIONS_ON_A_PAGE → k ≢ place → record_at SESSION_RECORD page.new k ≡ record_at SESSION_RECORD page.old k }
-    ensures fits { element < length records.now.windows → FitsWindow layout_in_use (slice_index_or records.now.windows element new_window) }
+    ensures here { record_at SESSION_RECORD page.new place
+        ≡ bytes_or_zeros SESSION_RECORD (session_bytes layout_in_use) (slice_get records.now.windows element) }
+    ensures others { (k : ℕ) → k < SESSIONS_ON_A_PAGE → k ≢ place
+        → record_at SESSION_RECORD page.new k ≡ record_at SESSION_RECORD page.old k }
+    ensures fits { element < length records.now.windows
+        → FitsWindow layout_in_use (slice_index_or records.now.windows element new_window) }
 {
     if element < limits.elements as usize {
         put_session(page, place, Some(&window_at(records, element as u16)));
@@ -162,11 +167,14 @@ pub fn encode(memory: &Memory, limits: Limits, area: &mut [u8])
 /// The pages that [`encode_page`] makes of a memory's records show the memory, one behind the other.
 pub fn pages_show_the_memory()
     ensures { (s : Sizes) (r : Records) (m : Contents) (page : ℕ → List ℕ) → AreCounted s r → ShowsRecords s r m
-        → ((i : ℕ) → i < layout.area_pages layout_in_use s → IsAreaPage s r i (page i)) → Shows layout_in_use s (joined (layout.area_pages layout_in_use s) page) m }
+        → ((i : ℕ) → i < layout.area_pages layout_in_use s → IsAreaPage s r i (page i))
+        → Shows layout_in_use s (joined (layout.area_pages layout_in_use s) page) m }
 {}
 
 /// An area shows the memory whose records its pages have.
 pub fn areas_show_the_memory()
-    ensures { (s : Sizes) (r : Records) (m : Contents) (area : List ℕ) → AreCounted s r → ShowsRecords s r m → length area ≡ layout.area_bytes layout_in_use s
-        → ((i : ℕ) → i < layout.area_pages layout_in_use s → IsAreaPage s r i (record_at page_bytes area i)) → Shows layout_in_use s area m }
+    ensures { (s : Sizes) (r : Records) (m : Contents) (area : List ℕ) → AreCounted s r → ShowsRecords s r m
+        → length area ≡ layout.area_bytes layout_in_use s
+        → ((i : ℕ) → i < layout.area_pages layout_in_use s → IsAreaPage s r i (record_at page_bytes area i))
+        → Shows layout_in_use s area m }
 {}

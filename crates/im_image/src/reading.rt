@@ -1,16 +1,16 @@
 //! What an image means: the memory of the area in force, after the run of commands in the journal.
-ghost use Rattle.std.specs.Prelude.{◌≡◌, ◌⊎◌, ◌+◌, ◌≤◌, length, false, None, Some, Ok, Err, IsTrue, IfOk, IfErr, OnOk, IsErrOf};
+ghost use Rattle.std.specs.Prelude.{◌≡◌, ◌⊎◌, ◌+◌, ◌≤◌, false, None, Some, Ok, Err, IsTrue, IfOk, IfErr};
 ghost use Rattle.im_types.specs.declared.TheConstants.{LAST};
 ghost use Rattle.im_types.specs.declared.refusals.Refusal.TheVariants.{NoMemory, Device};
-ghost use Rattle.im_types.specs.Header.{header_of, header_fault};
-ghost use Rattle.im_types.specs.Layout.{layout_in_use, sizes_of, ring_of};
-ghost use Rattle.im_types.specs.Meaning.{IsShown, Reads, accept_each};
+ghost use Rattle.im_types.specs.Header.{header_of};
+ghost use Rattle.im_types.specs.Layout.{layout_in_use};
+ghost use Rattle.im_types.specs.Meaning.{Reads, accept_each};
 ghost use Rattle.im_types.specs.Step.{is_accepted};
 ghost use Rattle.im_disk.specs.Moment.{Faults};
-ghost use Rattle.im_disk.specs.Since.{ReadsOnly};
+ghost use Rattle.im_disk.specs.Since.{OnlyReads};
 ghost use Rattle.im_journal.specs.Holding.{Holds};
 ghost use Rattle.im_image.specs.Headers.{seen, MayRefuseImage};
-ghost use Rattle.im_image.specs.Reading.{JournalOf};
+ghost use Rattle.im_image.specs.Reading.{JournalOf, HasHeader, HasArea, AreUnder, AreParts, IsImageOf, reached};
 
 use crate::header::Header;
 use crate::in_force::read_header;
@@ -55,8 +55,8 @@ fn accepts(memory: &Memory, command: &Command) -> bool
     }
 }
 
-/// Serves commands one after another, as long as the memory accepts each of them in its turn. Whether it accepts all; then
-/// it is the memory after all of them.
+/// Serves commands one after another, as long as the memory accepts each of them in its turn. Whether it accepts all;
+/// then it is the memory after all of them.
 pub fn replay(memory: &mut Memory, commands: &[Command]) -> bool
     ensures yes { IsTrue result → accept_each memory.old commands.now ≡ Some memory.new }
     ensures no { result ≡ false → accept_each memory.old commands.now ≡ None }
@@ -77,20 +77,13 @@ fn read_run<D: Disk>(
     header: Header,
     mut memory: Memory,
 ) -> Result<Image, Refusal>
-    requires last { header.count ≤ LAST }
-    requires good { D.honest disk.old → header_fault layout_in_use (D.now disk.old).bytes ≡ None }
-    requires header { D.honest disk.old → seen header ≡ header_of (D.now disk.old).bytes }
-    requires shown { D.honest disk.old → IsShown layout_in_use (D.now disk.old).bytes memory }
-    requires cells { length memory.cells ≡ header.limits.cells }
-    requires elements { length memory.windows ≡ header.limits.elements }
-    ensures header { IfOk result (λ i. i.header ≡ header) }
-    ensures cells { IfOk result (λ i. length i.memory.cells ≡ header.limits.cells) }
-    ensures elements { IfOk result (λ i. length i.memory.windows ≡ header.limits.elements) }
-    ensures journal { IfOk result (λ i. JournalOf (seen i.header) i.journal) }
-    ensures holds { IfOk result (λ i. D.honest disk.new → Holds i.journal (D.now disk.old).bytes) }
-    ensures means { IfOk result (λ i. D.honest disk.new → Reads layout_in_use (D.now disk.old).bytes (Ok (record { contents = i.memory; count = i.journal.count; room = i.journal.room }))) }
-    ensures fault { IfErr result (λ e. (e ≡ NoMemory) ⊎ (e ≡ Device) ⊎ (D.honest disk.new → Reads layout_in_use (D.now disk.old).bytes (Err e))) }
-    ensures reads { D.honest disk.new → ReadsOnly (D.now disk.old) (D.now disk.new) (D.past disk.old) (D.past disk.new) }
+    requires under { AreUnder (seen header) memory }
+    requires shown { D.honest disk.old → HasArea (seen header) memory (D.now disk.old).bytes }
+    ensures parts { IfOk result (λ i. AreParts i) }
+    ensures means { IfOk result (λ i. D.honest disk.new → IsImageOf (D.now disk.old).bytes i) }
+    ensures fault { IfErr result (λ e. (e ≡ NoMemory) ⊎ (e ≡ Device)
+        ⊎ (D.honest disk.new → Reads layout_in_use (D.now disk.old).bytes (Err e))) }
+    ensures reads { D.honest disk.new → OnlyReads D.now D.past disk.old disk.new }
     ensures honest { D.honest disk.new → D.honest disk.old }
     ensures faults { Faults MayRefuseImage result (D.failures disk.old) (D.failures disk.new) }
 {
@@ -111,18 +104,13 @@ fn read_run<D: Disk>(
 
 // Reads the rest of an image whose header in force is known.
 fn read_behind<D: Disk>(alloc: Global, disk: &mut D, header: Header) -> Result<Image, Refusal>
-    requires area { header.area ≤ 1 }
-    requires last { header.count ≤ LAST }
-    requires good { D.honest disk.old → header_fault layout_in_use (D.now disk.old).bytes ≡ None }
-    requires header { D.honest disk.old → seen header ≡ header_of (D.now disk.old).bytes }
-    ensures header { IfOk result (λ i. i.header ≡ header) }
-    ensures cells { IfOk result (λ i. length i.memory.cells ≡ i.header.limits.cells) }
-    ensures elements { IfOk result (λ i. length i.memory.windows ≡ i.header.limits.elements) }
-    ensures journal { IfOk result (λ i. JournalOf (seen i.header) i.journal) }
-    ensures holds { IfOk result (λ i. D.honest disk.new → Holds i.journal (D.now disk.old).bytes) }
-    ensures means { IfOk result (λ i. D.honest disk.new → Reads layout_in_use (D.now disk.old).bytes (Ok (record { contents = i.memory; count = i.journal.count; room = i.journal.room }))) }
-    ensures fault { IfErr result (λ e. (e ≡ NoMemory) ⊎ (e ≡ Device) ⊎ (D.honest disk.new → Reads layout_in_use (D.now disk.old).bytes (Err e))) }
-    ensures reads { D.honest disk.new → ReadsOnly (D.now disk.old) (D.now disk.new) (D.past disk.old) (D.past disk.new) }
+    requires range { (header.area ≤ 1) × (header.count ≤ LAST) }
+    requires sound { D.honest disk.old → HasHeader (seen header) (D.now disk.old).bytes }
+    ensures parts { IfOk result (λ i. AreParts i) }
+    ensures means { IfOk result (λ i. D.honest disk.new → IsImageOf (D.now disk.old).bytes i) }
+    ensures fault { IfErr result (λ e. (e ≡ NoMemory) ⊎ (e ≡ Device)
+        ⊎ (D.honest disk.new → Reads layout_in_use (D.now disk.old).bytes (Err e))) }
+    ensures reads { D.honest disk.new → OnlyReads D.now D.past disk.old disk.new }
     ensures honest { D.honest disk.new → D.honest disk.old }
     ensures faults { Faults MayRefuseImage result (D.failures disk.old) (D.failures disk.new) }
 {
@@ -134,19 +122,19 @@ fn read_behind<D: Disk>(alloc: Global, disk: &mut D, header: Header) -> Result<I
 
 /// What an image means, or its first fault. It only reads.
 ///
-/// The first fault of the file: `WrongLength`, `NoHeader`, `BadHeader`, `BadPage` where the pages in force show no memory,
-/// `BadRecord` where the journal's run is at fault or a command in it isn't accepted where it stands. `NoMemory` where
-/// `alloc` refused the room for the memory, or for what is read. `Device` where a call of the disk failed.
+/// The first fault of the file: `WrongLength`, `NoHeader`, `BadHeader`, `BadPage` where the pages in force show no
+/// memory, `BadRecord` where the journal's run is at fault or a command in it isn't accepted where it stands.
+/// `NoMemory` where `alloc` refused the room for the memory, or for what is read. `Device` where a call of the disk
+/// failed.
 pub fn read_image<D: Disk>(alloc: Global, disk: &mut D) -> Result<Image, Refusal>
+    ensures parts { IfOk result (λ i. AreParts i) }
     ensures header { IfOk result (λ i. D.honest disk.new → seen i.header ≡ header_of (D.now disk.old).bytes) }
-    ensures area { IfOk result (λ i. i.header.area ≤ 1) }
-    ensures cells { IfOk result (λ i. length i.memory.cells ≡ i.header.limits.cells) }
-    ensures elements { IfOk result (λ i. length i.memory.windows ≡ i.header.limits.elements) }
-    ensures journal { IfOk result (λ i. JournalOf (seen i.header) i.journal) }
     ensures holds { IfOk result (λ i. D.honest disk.new → Holds i.journal (D.now disk.old).bytes) }
-    ensures means { IfOk result (λ i. D.honest disk.new → Reads layout_in_use (D.now disk.old).bytes (Ok (record { contents = i.memory; count = i.journal.count; room = i.journal.room }))) }
-    ensures fault { IfErr result (λ e. (e ≡ NoMemory) ⊎ (e ≡ Device) ⊎ (D.honest disk.new → Reads layout_in_use (D.now disk.old).bytes (Err e))) }
-    ensures reads { D.honest disk.new → ReadsOnly (D.now disk.old) (D.now disk.new) (D.past disk.old) (D.past disk.new) }
+    ensures means { IfOk result (λ i. D.honest disk.new
+        → Reads layout_in_use (D.now disk.old).bytes (Ok (reached i))) }
+    ensures fault { IfErr result (λ e. (e ≡ NoMemory) ⊎ (e ≡ Device)
+        ⊎ (D.honest disk.new → Reads layout_in_use (D.now disk.old).bytes (Err e))) }
+    ensures reads { D.honest disk.new → OnlyReads D.now D.past disk.old disk.new }
     ensures honest { D.honest disk.new → D.honest disk.old }
     ensures faults { Faults MayRefuseImage result (D.failures disk.old) (D.failures disk.new) }
 {
@@ -160,9 +148,11 @@ pub fn read_image<D: Disk>(alloc: Global, disk: &mut D) -> Result<Image, Refusal
 /// refusals are those of [`read_image`].
 pub fn inspect<D: Disk>(alloc: Global, disk: &mut D) -> Result<Report, Refusal>
     ensures header { IfOk result (λ r. D.honest disk.new → seen r.header ≡ header_of (D.now disk.old).bytes) }
-    ensures means { IfOk result (λ r. D.honest disk.new → Reads layout_in_use (D.now disk.old).bytes (Ok (record { contents = r.memory; count = r.header.count + r.run; room = r.room }))) }
-    ensures fault { IfErr result (λ e. (e ≡ NoMemory) ⊎ (e ≡ Device) ⊎ (D.honest disk.new → Reads layout_in_use (D.now disk.old).bytes (Err e))) }
-    ensures reads { D.honest disk.new → ReadsOnly (D.now disk.old) (D.now disk.new) (D.past disk.old) (D.past disk.new) }
+    ensures means { IfOk result (λ r. D.honest disk.new → Reads layout_in_use (D.now disk.old).bytes
+        (Ok (record { contents = r.memory; count = r.header.count + r.run; room = r.room }))) }
+    ensures fault { IfErr result (λ e. (e ≡ NoMemory) ⊎ (e ≡ Device)
+        ⊎ (D.honest disk.new → Reads layout_in_use (D.now disk.old).bytes (Err e))) }
+    ensures reads { D.honest disk.new → OnlyReads D.now D.past disk.old disk.new }
     ensures honest { D.honest disk.new → D.honest disk.old }
     ensures faults { Faults MayRefuseImage result (D.failures disk.old) (D.failures disk.new) }
 {

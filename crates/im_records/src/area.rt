@@ -16,7 +16,8 @@ use im_types::{CellRecord, Limits, NodeRecord, Refusal};
 use std::alloc::Global;
 use std::marker::Model;
 
-/// The records of an area: of each cell by its address, of each waiter node by its number, and of each element's window.
+/// The records of an area: of each cell by its address, of each waiter node by its number, and of each element's
+/// window.
 #[derive(Drop)]
 pub struct AreaRecords {
     cells: Vec<CellRecord>,
@@ -57,8 +58,10 @@ impl AreaRecords {
 
 fn cells_of(alloc: Global, limits: Limits, part: &[u8]) -> Result<Vec<CellRecord>, Refusal>
     requires { length part.now ≡ layout.page_bytes * layout.cell_pages (sizes_of limits) }
-    ensures found { IfOk result (λ row. AreCells limits.cells (layout.node_count layout_in_use (sizes_of limits)) part.now row.items) }
-    ensures bad { IsErrOf result Refusal.BadPage → (row : List CellRecordSpec) → AreCells limits.cells (layout.node_count layout_in_use (sizes_of limits)) part.now row → ⊥ }
+    ensures found { IfOk result (λ row. AreCells limits.cells
+        (layout.node_count layout_in_use (sizes_of limits)) part.now row.items) }
+    ensures bad { IsErrOf result Refusal.BadPage → (row : List CellRecordSpec)
+        → AreCells limits.cells (layout.node_count layout_in_use (sizes_of limits)) part.now row → ⊥ }
     ensures only { IfErr result (λ e. (e ≡ Refusal.BadPage) ⊎ (e ≡ Refusal.NoMemory)) }
 {
     read_cells(alloc, limits.cells, node_count(limits) as u32, part)
@@ -66,8 +69,10 @@ fn cells_of(alloc: Global, limits: Limits, part: &[u8]) -> Result<Vec<CellRecord
 
 fn nodes_of(alloc: Global, limits: Limits, part: &[u8]) -> Result<Vec<NodeRecord>, Refusal>
     requires { length part.now ≡ layout.page_bytes * layout.node_pages layout_in_use (sizes_of limits) }
-    ensures found { IfOk result (λ row. AreNodes (layout.node_count layout_in_use (sizes_of limits)) part.now row.items) }
-    ensures bad { IsErrOf result Refusal.BadPage → (row : List NodeRecordSpec) → AreNodes (layout.node_count layout_in_use (sizes_of limits)) part.now row → ⊥ }
+    ensures found { IfOk result (λ row. AreNodes
+        (layout.node_count layout_in_use (sizes_of limits)) part.now row.items) }
+    ensures bad { IsErrOf result Refusal.BadPage → (row : List NodeRecordSpec)
+        → AreNodes (layout.node_count layout_in_use (sizes_of limits)) part.now row → ⊥ }
     ensures only { IfErr result (λ e. (e ≡ Refusal.BadPage) ⊎ (e ≡ Refusal.NoMemory)) }
 {
     read_nodes(alloc, node_count(limits) as u32, part)
@@ -91,7 +96,8 @@ fn windows_of(alloc: Global, limits: Limits, part: &[u8]) -> Result<Vec<WindowRe
 pub fn read_area(alloc: Global, area: &[u8], limits: Limits) -> Result<AreaRecords, Refusal>
     requires { length area.now ≡ layout.area_bytes layout_in_use (sizes_of limits) }
     ensures found { IfOk result (λ r. SpellsArea layout_in_use (sizes_of limits) area.now r) }
-    ensures bad { IsErrOf result Refusal.BadPage → (r : Records) → SpellsArea layout_in_use (sizes_of limits) area.now r → ⊥ }
+    ensures bad { IsErrOf result Refusal.BadPage → (r : Records) → SpellsArea layout_in_use (sizes_of limits) area.now r
+        → ⊥ }
     ensures only { IfErr result (λ e. (e ≡ Refusal.BadPage) ⊎ (e ≡ Refusal.NoMemory)) }
 {
     let behind_cells = &area[cell_bytes(limits)..];

@@ -7,15 +7,18 @@ ghost use Rattle.im_records.specs.Paging.{ArePages, FitRecords, joined};
 
 /// An area spells one list of records.
 pub fn areas_spell_one_list_of_records()
-    ensures { (s : Sizes) (area : List ℕ) (r q : Records) → AreLimits s.cells s.elements s.slots → SpellsArea layout_in_use s area r → SpellsArea layout_in_use s area q → r ≡ q }
+    ensures { (s : Sizes) (area : List ℕ) (r q : Records) → AreLimits s.cells s.elements s.slots
+        → SpellsArea layout_in_use s area r → SpellsArea layout_in_use s area q → r ≡ q }
 {}
 
 /// An area whose pages have the records, and zeros where there is none, spells these records.
 pub fn pages_are_an_area()
-    ensures { (s : Sizes) (r : Records) (area : List ℕ) → FitRecords s r → length area ≡ area_bytes layout_in_use s → ArePages s r (record_at page_bytes area) → SpellsArea layout_in_use s area r }
+    ensures { (s : Sizes) (r : Records) (area : List ℕ) → FitRecords s r → length area ≡ area_bytes layout_in_use s
+        → ArePages s r (record_at page_bytes area) → SpellsArea layout_in_use s area r }
 {}
 
 /// Pages that have the records of an area, and zeros where there is none, spell these records, one behind the other.
 pub fn joined_pages_are_an_area()
-    ensures { (s : Sizes) (r : Records) (page : ℕ → List ℕ) → FitRecords s r → ArePages s r page → SpellsArea layout_in_use s (joined (area_pages layout_in_use s) page) r }
+    ensures { (s : Sizes) (r : Records) (page : ℕ → List ℕ) → FitRecords s r → ArePages s r page
+        → SpellsArea layout_in_use s (joined (area_pages layout_in_use s) page) r }
 {}

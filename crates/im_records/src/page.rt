@@ -1,8 +1,8 @@
 //! How a page of an area is made, record by record.
 //!
 //! Page i of an area's cells has the cells from [`CELLS_ON_A_PAGE`] * i on, page i of its waiter nodes the nodes from
-//! [`NODES_ON_A_PAGE`] * i on, and page i of its sessions the elements from [`SESSIONS_ON_A_PAGE`] * i on. A page is made
-//! by putting each of its records at its place, and zeros where there is none.
+//! [`NODES_ON_A_PAGE`] * i on, and page i of its sessions the elements from [`SESSIONS_ON_A_PAGE`] * i on. A page is
+//! made by putting each of its records at its place, and zeros where there is none.
 ghost use Rattle.std.specs.Prelude.{◌≡◌, ◌≢◌, ◌<◌, ℕ, option_map};
 ghost use Rattle.im_types.specs.Layout.{layout_in_use, record_at};
 ghost use Rattle.im_types.specs.Records.{cell_bytes, node_bytes, session_bytes};
@@ -31,7 +31,8 @@ fn cell_or_zeros(cell: Option<CellRecord>) -> [u8; CELL_RECORD]
 pub fn put_cell(page: &mut [u8; PAGE], place: usize, cell: Option<CellRecord>)
     requires { place < CELLS_ON_A_PAGE }
     ensures here { record_at CELL_RECORD page.new place ≡ bytes_or_zeros CELL_RECORD cell_bytes cell }
-    ensures others { (k : ℕ) → k < CELLS_ON_A_PAGE → k ≢ place → record_at CELL_RECORD page.new k ≡ record_at CELL_RECORD page.old k }
+    ensures others { (k : ℕ) → k < CELLS_ON_A_PAGE → k ≢ place
+        → record_at CELL_RECORD page.new k ≡ record_at CELL_RECORD page.old k }
 {
     put(page, CELL_RECORD * place, &cell_or_zeros(cell));
 }
@@ -49,13 +50,15 @@ fn node_or_zeros(node: Option<NodeRecord>) -> [u8; NODE_RECORD]
 pub fn put_node(page: &mut [u8; PAGE], place: usize, node: Option<NodeRecord>)
     requires { place < NODES_ON_A_PAGE }
     ensures here { record_at NODE_RECORD page.new place ≡ bytes_or_zeros NODE_RECORD node_bytes node }
-    ensures others { (k : ℕ) → k < NODES_ON_A_PAGE → k ≢ place → record_at NODE_RECORD page.new k ≡ record_at NODE_RECORD page.old k }
+    ensures others { (k : ℕ) → k < NODES_ON_A_PAGE → k ≢ place
+        → record_at NODE_RECORD page.new k ≡ record_at NODE_RECORD page.old k }
 {
     put(page, NODE_RECORD * place, &node_or_zeros(node));
 }
 
 fn session_or_zeros(window: Option<&WindowRecord>) -> [u8; SESSION_RECORD]
-    ensures { result ≡ bytes_or_zeros SESSION_RECORD (session_bytes layout_in_use) (option_map (λ w. w.now) window.entry) }
+    ensures { result ≡ bytes_or_zeros SESSION_RECORD (session_bytes layout_in_use)
+        (option_map (λ w. w.now) window.entry) }
 {
     match window {
         Some(window) => spell_session(window),
@@ -67,8 +70,10 @@ fn session_or_zeros(window: Option<&WindowRecord>) -> [u8; SESSION_RECORD]
 /// page stays.
 pub fn put_session(page: &mut [u8; PAGE], place: usize, window: Option<&WindowRecord>)
     requires { place < SESSIONS_ON_A_PAGE }
-    ensures here { record_at SESSION_RECORD page.new place ≡ bytes_or_zeros SESSION_RECORD (session_bytes layout_in_use) (option_map (λ w. w.now) window.entry) }
-    ensures others { (k : ℕ) → k < SESSIONS_ON_A_PAGE → k ≢ place → record_at SESSION_RECORD page.new k ≡ record_at SESSION_RECORD page.old k }
+    ensures here { record_at SESSION_RECORD page.new place
+        ≡ bytes_or_zeros SESSION_RECORD (session_bytes layout_in_use) (option_map (λ w. w.now) window.entry) }
+    ensures others { (k : ℕ) → k < SESSIONS_ON_A_PAGE → k ≢ place
+        → record_at SESSION_RECORD page.new k ≡ record_at SESSION_RECORD page.old k }
 {
     put(page, SESSION_RECORD * place, &session_or_zeros(window));
 }

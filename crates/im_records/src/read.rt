@@ -2,7 +2,8 @@
 ghost use Rattle.std.specs.Prelude.{◌≡◌, length, Some, None, if◌then◌else◌};
 ghost use Rattle.im_types.specs.Bytes.{same_bytes};
 ghost use Rattle.im_types.specs.Records.{node_bytes};
-ghost use Rattle.im_formats.specs.Reading.{read_cell, read_node, read_place, cell_in, node_in, place_in, cell_if, place_if, kept_of, block_cell};
+ghost use Rattle.im_formats.specs.Reading.{read_cell, read_node, read_place, cell_in, node_in, place_in, cell_if};
+ghost use Rattle.im_formats.specs.Reading.{place_if, kept_of, block_cell};
 
 use crate::fields::{entry_of, kind_of, tag_of};
 use crate::spell::{spell_cell, spell_node, spell_place};

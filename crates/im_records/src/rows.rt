@@ -14,7 +14,8 @@ use std::alloc::Global;
 // The record of a cell that these bytes spell, if it is within its bounds.
 fn cell_within(cells: u32, nodes: u32, bytes: &[u8]) -> Option<CellRecord>
     ensures found { IfSome result (λ cell. Spells cell_bytes (FitsCell cells nodes) bytes.now cell) }
-    ensures only { (cell : CellRecordSpec) → Spells cell_bytes (FitsCell cells nodes) bytes.now cell → result ≡ Some cell }
+    ensures only { (cell : CellRecordSpec) → Spells cell_bytes (FitsCell cells nodes) bytes.now cell
+        → result ≡ Some cell }
 {
     let cell = read_cell(bytes)?;
     if fits_cell(cells, nodes, cell) {
@@ -32,7 +33,8 @@ fn first_cells(
 ) -> Result<Vec<CellRecord>, Refusal>
     requires { CELL_RECORD * cells ≤ length bytes.now }
     ensures found { IfOk result (λ row. BeginWithCells cells cells nodes bytes.now row.items) }
-    ensures bad { IsErrOf result Refusal.BadPage → (row : List CellRecordSpec) → BeginWithCells cells cells nodes bytes.now row → ⊥ }
+    ensures bad { IsErrOf result Refusal.BadPage → (row : List CellRecordSpec)
+        → BeginWithCells cells cells nodes bytes.now row → ⊥ }
     ensures only { IfErr result (λ e. (e ≡ Refusal.BadPage) ⊎ (e ≡ Refusal.NoMemory)) }
 {
     let Ok(mut row) = Vec::with_capacity(alloc, cells as usize) else {
@@ -88,7 +90,8 @@ fn node_within(nodes: u32, bytes: &[u8]) -> Option<NodeRecord>
 fn first_nodes(alloc: Global, nodes: u32, bytes: &[u8]) -> Result<Vec<NodeRecord>, Refusal>
     requires { NODE_RECORD * nodes ≤ length bytes.now }
     ensures found { IfOk result (λ row. BeginWithNodes nodes nodes bytes.now row.items) }
-    ensures bad { IsErrOf result Refusal.BadPage → (row : List NodeRecordSpec) → BeginWithNodes nodes nodes bytes.now row → ⊥ }
+    ensures bad { IsErrOf result Refusal.BadPage → (row : List NodeRecordSpec)
+        → BeginWithNodes nodes nodes bytes.now row → ⊥ }
     ensures only { IfErr result (λ e. (e ≡ Refusal.BadPage) ⊎ (e ≡ Refusal.NoMemory)) }
 {
     let Ok(mut row) = Vec::with_capacity(alloc, nodes as usize) else {

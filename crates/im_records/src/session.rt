@@ -1,5 +1,6 @@
 //! How a session record is spelled and read.
-ghost use Rattle.std.specs.Prelude.{◌≡◌, ◌↔◌, ◌⊎◌, ◌<◌, ◌≤◌, ◌*◌, ◌∷◌, ◌++◌, List, length, slice_get, Some, IfSome, IfOk, IfErr, IsErrOf, IsTrue};
+ghost use Rattle.std.specs.Prelude.{◌≡◌, ◌↔◌, ◌⊎◌, ◌<◌, ◌≤◌, ◌*◌, ◌∷◌, ◌++◌, List, length, slice_get, Some, IfSome};
+ghost use Rattle.std.specs.Prelude.{IfOk, IfErr, IsErrOf, IsTrue};
 ghost use Rattle.im_types.specs.Contents.{Window};
 ghost use Rattle.byteorder.specs.Endian.{little_bytes};
 ghost use Rattle.im_types.specs.Bytes.{zeros};
@@ -122,8 +123,8 @@ fn first_sessions(alloc: Global, elements: u16, bytes: &[u8]) -> Result<Vec<Wind
     Ok(row)
 }
 
-/// The windows in their part of an area. `BadPage` where a session record isn't spelled as it should be, or where a byte
-/// behind the records isn't zero.
+/// The windows in their part of an area. `BadPage` where a session record isn't spelled as it should be, or where a
+/// byte behind the records isn't zero.
 pub(crate) fn read_sessions(
     alloc: Global,
     elements: u16,

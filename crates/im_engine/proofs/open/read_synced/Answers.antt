@@ -12,7 +12,7 @@ returns-in-Ok-clause-kept g c = λ h.
     let i = c.in-Ok.image in
     let done = (c.in_default.ensures.tick (c.read_image.ensures.honest h)).now in
     kept_read (g.D.Disk.now c.args.disk.now) (g.D.Disk.now c.sync.new.self) (g.D.Disk.now c.read_image.new.disk) (seen i.header) i.memory i.journal
-    done (c.read_image.ensures.reads h).now (c.in-Ok.ensures.header h) c.in-Ok.ensures.journal (c.in-Ok.ensures.holds h) (c.in-Ok.ensures.means h)
+    done (c.read_image.ensures.reads h).now (c.in-Ok.ensures.header h) c.in-Ok.ensures.parts.journal (c.in-Ok.ensures.holds h) (c.in-Ok.ensures.means h)
 
 pub returns-in-Ok-clause-leaves : goal.returns-in-Ok-clause-leaves
 returns-in-Ok-clause-leaves g c = λ h.

@@ -4,9 +4,9 @@ use Rattle.im_image.proofs.OpenArea.{length_by, shown-in}
 use Rattle.im_image.proofs.open_area.read_memory.Goals as goal
 
 pub read_area-requires-clause-length : goal.read_area-requires-clause-length
-read_area-requires-clause-length g c = λ h. length_by (seen c.args.header.now) (g.D.Disk.now c.args.disk.now).bytes (c.requires.good h) (c.requires.header h)
+read_area-requires-clause-length g c = λ h. length_by (seen c.args.header.now) (g.D.Disk.now c.args.disk.now).bytes (c.requires.sound h).good (c.requires.sound h).is
 
 pub returns-in-Ok-clause-bad : goal.returns-in-Ok-clause-bad
 returns-in-Ok-clause-bad g c = λ e h m shown.
     c.decode.ensures.bad e m
-    (shown-in (seen c.args.header.now) (g.D.Disk.now c.args.disk.now).bytes c.deref.result.now m (c.requires.header (c.read_area.ensures.honest h)) (c.deref.ensures.value ∙ c.in-Ok.ensures.area h) shown)
+    (shown-in (seen c.args.header.now) (g.D.Disk.now c.args.disk.now).bytes c.deref.result.now m (c.requires.sound (c.read_area.ensures.honest h)).is (c.deref.ensures.value ∙ c.in-Ok.ensures.area h) shown)

@@ -1,27 +1,23 @@
-use Rattle.std.proofs.Common.{◌≡◌, inl, inr, None, Err, sym, ap, subst}
+use Rattle.std.proofs.Common.{inl, inr, Err, sym, ap, subst}
 use Rattle.im_types.specs.declared.refusals.Refusal.{Refusal}
-use Rattle.im_types.specs.Header.{header_fault}
+use Rattle.im_types.specs.Meaning.{Reads}
 use Rattle.im_types.specs.Layout.{layout_in_use}
-use Rattle.im_types.specs.Meaning.{Reached, Reads}
 use Rattle.im_disk.specs.Moment.{Moment}
 use Rattle.im_disk.proofs.SinceLemmas.{reads_then}
-use Rattle.im_image.specs.declared.reading.Image.{Image}
-use Rattle.im_image.proofs.Outcomes.{read-ok, read-err, read-holds, reads-no-page}
+use Rattle.im_image.specs.Headers.{seen}
+use Rattle.im_image.specs.Reading.{HasArea, IsImageOf}
+use Rattle.im_image.proofs.Outcomes.{read-ok, read-err, reads-no-page}
 use Rattle.im_image.proofs.reading.read_behind.Goals as goal
 
-abbrev reached : Image → Reached
-reached i = record { contents = i.memory; count = i.journal.count; room = i.journal.room }
-
-pub read_run-requires-clause-good : goal.read_run-requires-clause-good
-read_run-requires-clause-good g c = λ h. subst (λ (m : Moment). header_fault layout_in_use m.bytes ≡ None) (sym (c.read_memory.ensures.reads h).now) (c.requires.good (c.read_memory.ensures.honest h))
+pub read_run-requires-clause-shown : goal.read_run-requires-clause-shown
+read_run-requires-clause-shown g c = λ h.
+    subst (λ (m : Moment). HasArea (seen c.args.header) c.in-Ok.memory m.bytes) (sym (c.read_memory.ensures.reads h).now)
+    (record { header = c.requires.sound (c.read_memory.ensures.honest h); shown = c.in-Ok.ensures.shown h })
 
 pub returns-in-Ok-clause-means : goal.returns-in-Ok-clause-means
 returns-in-Ok-clause-means g c =
-    read-ok c.read_run.result reached (g.D.Disk.now c.args.disk.now) (g.D.Disk.now c.read_memory.new.disk) (g.D.Disk.honest c.read_run.new.disk) (λ h. (c.read_memory.ensures.reads (c.read_run.ensures.honest h)).now) c.read_run.ensures.means
-
-pub returns-in-Ok-clause-holds : goal.returns-in-Ok-clause-holds
-returns-in-Ok-clause-holds g c =
-    read-holds c.read_run.result (λ i. i.journal) (g.D.Disk.now c.args.disk.now) (g.D.Disk.now c.read_memory.new.disk) (g.D.Disk.honest c.read_run.new.disk) (λ h. (c.read_memory.ensures.reads (c.read_run.ensures.honest h)).now) c.read_run.ensures.holds
+    read-ok c.read_run.result IsImageOf (λ i. IsImageOf (g.D.Disk.now c.args.disk.now).bytes i) (g.D.Disk.now c.args.disk.now) (g.D.Disk.now c.read_memory.new.disk) (g.D.Disk.honest c.read_run.new.disk)
+    (λ h. (c.read_memory.ensures.reads (c.read_run.ensures.honest h)).now) (λ i it. it) c.read_run.ensures.means
 
 pub returns-in-Ok-clause-fault : goal.returns-in-Ok-clause-fault
 returns-in-Ok-clause-fault g c =
@@ -37,6 +33,6 @@ returns-in-Err-clause-fault g c =
     elim c.in-Err.ensures.faults.0 [
       | inl is ↦ inr (inr (λ h.
           subst (λ (e : Refusal). Reads layout_in_use (g.D.Disk.now c.args.disk.now).bytes (Err e)) (sym is)
-          (reads-no-page (g.D.Disk.now c.args.disk.now).bytes (c.requires.good (c.read_memory.ensures.honest h)) (c.in-Err.ensures.bad (ap (λ (e : Refusal). Err e) is) h))))
+          (reads-no-page (g.D.Disk.now c.args.disk.now).bytes (c.requires.sound (c.read_memory.ensures.honest h)).good (c.in-Err.ensures.bad (ap (λ (e : Refusal). Err e) is) h))))
       | inr more ↦ elim more [ inl none ↦ inl none | inr device ↦ inr (inl device) ]
     ]

@@ -1,26 +1,33 @@
-use Rattle.std.proofs.Common.{◌≡◌, inl, inr, ⊎_elim, None, sym, subst}
-use Rattle.im_types.specs.Header.{header_fault}
+use Rattle.std.proofs.Common.{◌≡◌, inl, inr, ⊎_elim, Ok, sym, subst}
+use Rattle.im_types.specs.Header.{header_of}
 use Rattle.im_types.specs.Layout.{layout_in_use}
-use Rattle.im_types.specs.Meaning.{Reached}
+use Rattle.im_types.specs.Meaning.{Reads}
 use Rattle.im_disk.specs.Moment.{Moment}
 use Rattle.im_disk.proofs.SinceLemmas.{reads_then}
-use Rattle.im_image.specs.declared.reading.Image.{Image}
-use Rattle.im_image.proofs.Outcomes.{read-ok, read-err, read-holds, reads-fault}
+use Rattle.im_journal.specs.Holding.{Holds}
+use Rattle.im_image.specs.Headers.{seen}
+use Rattle.im_image.specs.Reading.{HasHeader, IsImageOf, reached}
+use Rattle.im_image.proofs.Outcomes.{read-ok, read-err, reads-fault}
 use Rattle.im_image.proofs.reading.read_image.Goals as goal
 
-abbrev reached : Image → Reached
-reached i = record { contents = i.memory; count = i.journal.count; room = i.journal.room }
+pub read_behind-requires-clause-sound : goal.read_behind-requires-clause-sound
+read_behind-requires-clause-sound g c = λ h.
+    subst (λ (m : Moment). HasHeader (seen c.in-Ok.header) m.bytes) (sym (c.read_header.ensures.reads h).now) (record { good = c.in-Ok.ensures.good h; is = c.in-Ok.ensures.found h })
 
-pub read_behind-requires-clause-good : goal.read_behind-requires-clause-good
-read_behind-requires-clause-good g c = λ h. subst (λ (m : Moment). header_fault layout_in_use m.bytes ≡ None) (sym (c.read_header.ensures.reads h).now) (c.in-Ok.ensures.good h)
-
-pub returns-in-Ok-clause-means : goal.returns-in-Ok-clause-means
-returns-in-Ok-clause-means g c =
-    read-ok c.read_behind.result reached (g.D.Disk.now c.args.disk.now) (g.D.Disk.now c.read_header.new.disk) (g.D.Disk.honest c.read_behind.new.disk) (λ h. (c.read_header.ensures.reads (c.read_behind.ensures.honest h)).now) c.read_behind.ensures.means
+pub returns-in-Ok-clause-header : goal.returns-in-Ok-clause-header
+returns-in-Ok-clause-header g c =
+    read-ok c.read_behind.result IsImageOf (λ i. seen i.header ≡ header_of (g.D.Disk.now c.args.disk.now).bytes) (g.D.Disk.now c.args.disk.now) (g.D.Disk.now c.read_header.new.disk) (g.D.Disk.honest c.read_behind.new.disk)
+    (λ h. (c.read_header.ensures.reads (c.read_behind.ensures.honest h)).now) (λ i it. it.header) c.read_behind.ensures.means
 
 pub returns-in-Ok-clause-holds : goal.returns-in-Ok-clause-holds
 returns-in-Ok-clause-holds g c =
-    read-holds c.read_behind.result (λ i. i.journal) (g.D.Disk.now c.args.disk.now) (g.D.Disk.now c.read_header.new.disk) (g.D.Disk.honest c.read_behind.new.disk) (λ h. (c.read_header.ensures.reads (c.read_behind.ensures.honest h)).now) c.read_behind.ensures.holds
+    read-ok c.read_behind.result IsImageOf (λ i. Holds i.journal (g.D.Disk.now c.args.disk.now).bytes) (g.D.Disk.now c.args.disk.now) (g.D.Disk.now c.read_header.new.disk) (g.D.Disk.honest c.read_behind.new.disk)
+    (λ h. (c.read_header.ensures.reads (c.read_behind.ensures.honest h)).now) (λ i it. it.holds) c.read_behind.ensures.means
+
+pub returns-in-Ok-clause-means : goal.returns-in-Ok-clause-means
+returns-in-Ok-clause-means g c =
+    read-ok c.read_behind.result IsImageOf (λ i. Reads layout_in_use (g.D.Disk.now c.args.disk.now).bytes (Ok (reached i))) (g.D.Disk.now c.args.disk.now) (g.D.Disk.now c.read_header.new.disk) (g.D.Disk.honest c.read_behind.new.disk)
+    (λ h. (c.read_header.ensures.reads (c.read_behind.ensures.honest h)).now) (λ i it. it.means) c.read_behind.ensures.means
 
 pub returns-in-Ok-clause-fault : goal.returns-in-Ok-clause-fault
 returns-in-Ok-clause-fault g c =
