@@ -1,5 +1,5 @@
 -- Blocks stay whole.
-use Rattle.std.proofs.Common.{◌≡◌, inl, inr, ⊎_elim, ℕ, zero, suc, ◌+◌, ◌<◌, ◌≤◌, List, length, get_or, set, replicate, Some, None, false, refl, sym, ap, ◌∙◌, arith, length-set}
+use Rattle.std.proofs.Common.{◌≡◌, inl, inr, ⊎_elim, ℕ, zero, suc, ◌+◌, ◌<◌, ◌≤◌, List, ◌∷◌, length, get_or, set, replicate, Some, None, refl, sym, ap, ◌∙◌, arith, length-set}
 use Rattle.std.specs.Prelude.{Option}
 use Rattle.std.proofs.lemmas.Bool.{cases_lt, cases_eq}
 use Rattle.std.proofs.lemmas.List.{get_or-set_same, get_or-set_other, get_or_past}
@@ -10,9 +10,11 @@ use Rattle.im_laws.proofs.PlaceLemmas.{get_or-fill, place-free}
 use Rattle.im_laws.proofs.BlockLemmas.{get_or-fill_in, place-fits}
 use Rattle.im_types.specs.declared.cells.Cell.{Cell}
 use Rattle.im_cell.specs.declared.slots.Slot.{Slot}
+use Rattle.im_cell.specs.declared.records.Record.{Record}
+use Rattle.im_cell.specs.declared.records.Record.TheVariants.{Free}
+use Rattle.im_cell.specs.Records.{slots_of}
 use Rattle.im_cell.specs.Slots.{slot_at, block_in, block_at, new_slot, empty_slot, HasBlocks}
-use Rattle.im_cell.specs.Holes.{free_at}
-use Rattle.im_cell.proofs.Places.{length-fill, free_at-Some}
+use Rattle.im_cell.proofs.Places.{length-fill}
 
 some_none : {X : Type 0} (x : X) → Some x ≡ None → ⊥
 some_none x e = cc
@@ -104,20 +106,11 @@ HasBlocks-released slots block at blocks = record {
       (get_or-fill slots block.base block.length None a);
 }
 
--- no cell of a block is free
-pub free_at-in_block : (slots : List (Option Slot)) (a : ℕ) (block : Block) → block_at slots a ≡ Some block → free_at slots a ≡ false
-free_at-in_block slots a block is = by_slot (slot_at slots a) refl
-  where
-    by_slot : (o : Option Slot) → slot_at slots a ≡ o → free_at slots a ≡ false
-    by_slot None at = absurd (some_none block (sym is ∙ ap block_in at))
-    by_slot (Some slot) at = free_at-Some slots a slot at
-
 -- what is known of the block whose base is this address
 pub record IsBlock (slots : List (Option Slot)) (block : Block) : Type 0 where
   pub here : block_at slots block.base ≡ Some block
   pub some : 0 < block.length
   pub inside : block.base + block.length ≤ length slots
-  pub used : (a : ℕ) → block.base ≤ a → a < block.base + block.length → free_at slots a ≡ false
 
 pub IsBlock-base : (slots : List (Option Slot)) (a : ℕ) (slot : Slot) → slot_at slots a ≡ Some slot → slot.block.base ≡ a → HasBlocks slots → IsBlock slots slot.block
 IsBlock-base slots a slot at base blocks =
@@ -127,9 +120,17 @@ IsBlock-base slots a slot at base blocks =
       here = here;
       some = omega (arith, w.1);
       inside = w.2;
-      used = λ b low high. free_at-in_block slots b slot.block (blocks.whole slot.block.base slot.block here b low high);
     }
 
 -- the same, where a look-up at an address of the table found it
 pub IsBlock-found : (slots value : List (Option Slot)) (a : ℕ) (found : Option Slot) (slot : Slot) → slots ≡ value → found ≡ slot_at value a → found ≡ Some slot → slot.block.base ≡ a → HasBlocks slots → IsBlock slots slot.block
 IsBlock-found slots value a found slot same look is base blocks = IsBlock-base slots a slot (ap (λ s. slot_at s a) same ∙ sym look ∙ is) base blocks
+
+-- the slots of new records
+pub slots-new : (n : ℕ) → slots_of (replicate n Free) ≡ replicate n None
+slots-new zero = refl
+slots-new (suc n) = ap (λ slots. None ∷ slots) (slots-new n)
+
+-- a record set at an address, spelled otherwise
+pub set-same : (records : List Record) (at a : ℕ) (kept : Record) → at ≡ a → set records at kept ≡ set records a kept
+set-same records at a kept same = ap (λ i. set records i kept) same

@@ -1,11 +1,8 @@
-pub mod Thread
-pub mod Taking
-pub mod Giving
 pub mod Places
-pub mod Walk
-pub mod Tables
-pub mod Taken
-pub mod Returned
+pub mod Splits
+pub mod Sums
+pub mod Nodes
+pub mod Leaves
+pub mod Descent
 pub mod Blocks
-pub mod Start
-pub mod Restored
+pub mod Scan

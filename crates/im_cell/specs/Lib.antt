@@ -1,4 +1,3 @@
 pub mod Slots
-pub mod Holes
+pub mod Summaries
 pub mod Records
-pub mod Restored

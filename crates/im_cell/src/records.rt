@@ -1,21 +1,14 @@
 //! How a cell is kept: one record for each, of 24 bytes.
-ghost use Rattle.std.specs.Prelude.{◌≡◌, Some};
+ghost use Rattle.std.specs.Prelude.{◌≡◌, ◌+◌, ◌<◌, ◌^◌, Some};
 ghost use Rattle.im_cell.specs.Slots.{is_waiting};
-ghost use Rattle.im_cell.specs.Records.{slot_of, hole_of};
+ghost use Rattle.im_cell.specs.Records.{slot_of};
+ghost use Rattle.im_cell.specs.Summaries.{cell_summary, run_at};
 
 use crate::slots::Slot;
-use im_types::{Block, Cell, NONE};
+use crate::summaries::Summary;
+use im_types::{Block, Cell};
 
-/// A run of free cells, as its first cell knows it.
-#[derive(Clone, Copy, Debug, PartialEq, Eq)]
-pub(crate) struct Hole {
-    /// How many cells it has.
-    pub(crate) length: u32,
-    /// The first cell of the hole after it, or `NONE`.
-    pub(crate) next: u32,
-}
-
-/// What is kept for a cell. A free cell that is not the first of its hole may hold any hole.
+/// What is kept for a cell.
 #[derive(Clone, Copy, Debug, PartialEq, Eq)]
 pub(crate) enum Record {
     /// A cell of this block without a value.
@@ -26,8 +19,8 @@ pub(crate) enum Record {
     Full(Block, u64),
     /// A cell of this block that was written while it had this value.
     Clashed(Block, u64),
-    /// A free cell, and its hole.
-    Free(Hole),
+    /// A free cell.
+    Free,
 }
 
 const _: () = prove!(size_of::<Record>() <= 24);
@@ -54,21 +47,39 @@ impl Record {
             Record::Waiting(block) => (block, Cell::Waiting),
             Record::Full(block, value) => (block, Cell::Full(value)),
             Record::Clashed(block, value) => (block, Cell::Clashed(value)),
-            Record::Free(_) => return None,
+            Record::Free => return None,
         };
         Some(Slot { block, cell })
     }
 
-    /// The hole that a free cell names; an empty one at a cell of a block.
-    pub(crate) fn hole(self) -> Hole
-        ensures { result ≡ hole_of self }
+    /// The summary of this cell alone.
+    pub(crate) fn summary(self) -> Summary
+        ensures { result ≡ cell_summary (slot_of self) }
     {
         match self {
-            Record::Free(hole) => hole,
-            _ => Hole {
-                length: 0,
-                next: NONE,
+            Record::Free => Summary {
+                length: 1,
+                front: 1,
+                back: 1,
+                longest: 1,
             },
+            _ => Summary {
+                length: 1,
+                front: 0,
+                back: 0,
+                longest: 0,
+            },
+        }
+    }
+
+    /// How many free cells end with this one, where so many end before it.
+    pub(crate) fn run(self, before: u32) -> u32
+        requires { before + 1 < 2 ^ 32 }
+        ensures { result ≡ run_at before (slot_of self) }
+    {
+        match self {
+            Record::Free => before + 1,
+            _ => 0,
         }
     }
 

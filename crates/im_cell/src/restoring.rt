@@ -1,13 +1,10 @@
-//! The records of a table, from what pages show of its cells. The holes are threaded anew, from the last cell to the
-//! first: the first cell of a hole is the last one of it that is restored.
-ghost use Rattle.std.specs.Prelude.{◌≡◌, ◌+◌, ◌<◌, ◌≤◌, length, map};
+//! The records of a table, from what pages show of its cells.
+ghost use Rattle.std.specs.Prelude.{◌≡◌, length, map};
 ghost use Rattle.im_cell.specs.Slots.{shown_cell, shown_slot};
-ghost use Rattle.im_cell.specs.Records.{slots_of, HasHoles};
-ghost use Rattle.im_cell.specs.Restored.{IsRestored};
+ghost use Rattle.im_cell.specs.Records.{slot_of, slots_of};
 
-use crate::holes::join_next;
 use crate::records::Record;
-use im_types::{Cell, CellRecord, NONE, PresenceTag};
+use im_types::{Cell, CellRecord, PresenceTag};
 
 // The cell that a presence tag shows.
 fn shown_cell(tag: PresenceTag) -> Cell
@@ -21,39 +18,22 @@ fn shown_cell(tag: PresenceTag) -> Cell
     }
 }
 
-// Restores the cell at an address, before the cells behind it, whose first hole is `first`; returns the first hole
-// from this cell on.
-fn restore_cell(records: &mut [Record], first: u32, at: u32, shown: &[CellRecord]) -> u32
-    requires here { at < length shown.now }
-    requires few { length shown.now ≤ NONE }
-    requires behind { IsRestored records.old (map shown_slot shown.now) (at + 1) first }
-    ensures { IsRestored records.new (map shown_slot shown.now) at result }
+// The record of the cell that a record on a page shows.
+fn restored(shown: CellRecord) -> Record
+    ensures { slot_of result ≡ shown_slot shown }
 {
-    match shown[at as usize] {
-        CellRecord::Free { .. } => {
-            let hole = join_next(records, 1, at + 1, first);
-            records[at as usize] = Record::Free(hole);
-            at
-        }
-        CellRecord::Held { block, tag } => {
-            records[at as usize] = Record::new(block, shown_cell(tag));
-            first
-        }
+    match shown {
+        CellRecord::Free { .. } => Record::Free,
+        CellRecord::Held { block, tag } => Record::new(block, shown_cell(tag)),
     }
 }
 
-/// Restores all cells, and returns the table's first hole.
-pub(crate) fn restore_cells(records: &mut [Record], shown: &[CellRecord]) -> u32
-    requires long { length records.old ≡ length shown.now }
-    requires few { length shown.now ≤ NONE }
-    ensures holes { HasHoles records.new result }
-    ensures slots { slots_of records.new ≡ map shown_slot shown.now }
+/// Restores all cells.
+pub(crate) fn restore_cells(records: &mut [Record], shown: &[CellRecord])
+    requires { length records.old ≡ length shown.now }
+    ensures { slots_of records.new ≡ map shown_slot shown.now }
 {
-    let mut first = NONE;
-    let mut at = shown.len() as u32;
-    while at > 0 {
-        at -= 1;
-        first = restore_cell(records, first, at, shown);
+    for at in 0..shown.len() {
+        records[at] = restored(shown[at]);
     }
-    first
 }

@@ -1,13 +1,14 @@
-//! The table. Its blocks lie at the least place, first fit over holes in order of address, and a hole that comes back is
-//! joined with its neighbours (Knuth, The Art of Computer Programming 1, section 2.5, algorithms A and B).
+//! The table. Its blocks lie at the least place: first fit in order of address (Knuth, The Art of Computer Programming 1,
+//! section 2.5), by a tree over the cells.
 ghost use Rattle.std.specs.Prelude.{◌≡◌, ◌<◌, ◌≤◌, None, false, length, map, replicate, slice_set, IsTrue, IsNone, IsSome, IfSome, IfOk, IfErr};
 ghost use Rattle.im_types.specs.Place.{place, fill, IsLeastFree};
 ghost use Rattle.im_cell.specs.Slots.{slot_at, block_at, cell_at, with_cell, empty_slot, shown_slot, is_releasable, length_at, HasBlocks};
 
-use crate::holes::{any_waiting, find_room, give_back, take_cells};
-use crate::records::{Hole, Record};
+use crate::records::Record;
 use crate::restoring::restore_cells;
 use crate::slots::Slot;
+use crate::summaries::Summary;
+use crate::tree::{any_waiting, fill_cells, find, tree_over};
 use im_types::{Block, Cell, CellRecord, Kind, NONE, Refusal};
 use std::alloc::Global;
 use std::marker::Model;
@@ -17,8 +18,8 @@ use std::marker::Model;
 pub struct CellTable {
     // One for each cell.
     records: Vec<Record>,
-    // The first cell of the first hole, or NONE.
-    first: u32,
+    // A tree of summaries over them.
+    nodes: Vec<Summary>,
 }
 
 impl Model for CellTable {
@@ -31,7 +32,7 @@ impl Model for CellTable {
 
     ghost view = { λ t. slots_of t.records.items };
 
-    ghost invariant = { λ t. IsTable t.records.items t.first };
+    ghost invariant = { λ t. IsTable t.records.items t.nodes.items };
 }
 
 impl CellTable {
@@ -40,45 +41,33 @@ impl CellTable {
         ensures free { IfOk result (λ table. table ≡ replicate cells None) }
         ensures err { IfErr result (λ refusal. refusal ≡ Refusal.NoMemory) }
     {
-        let inner = Record::Free(Hole {
-            length: 0,
-            next: NONE,
-        });
-        let Ok(mut records) = vec![in alloc; inner; cells as usize] else {
+        let Ok(records) = vec![in alloc; Record::Free; cells as usize] else {
             return Err(Refusal::NoMemory);
         };
-        if cells == 0 {
-            return Ok(CellTable {
-                records,
-                first: NONE,
-            });
-        }
-        records[0] = Record::Free(Hole {
-            length: cells,
-            next: NONE,
-        });
-        Ok(CellTable { records, first: 0 })
+        let Ok(nodes) = tree_over(alloc, records.as_slice()) else {
+            return Err(Refusal::NoMemory);
+        };
+        Ok(CellTable { records, nodes })
     }
 
     /// A table with the cells that these records show, in order of address. The holes that records of free cells name
-    /// are not believed: they are threaded anew. `NoMemory` is its only refusal.
+    /// are not believed. `NoMemory` is its only refusal.
     pub fn restore(alloc: Global, records: &[CellRecord]) -> Result<CellTable, Refusal>
         requires few { length records.now ≤ NONE }
         requires blocks { HasBlocks (map shown_slot records.now) }
         ensures shown { IfOk result (λ table. table ≡ map shown_slot records.now) }
         ensures err { IfErr result (λ refusal. refusal ≡ Refusal.NoMemory) }
     {
-        let inner = Record::Free(Hole {
-            length: 0,
-            next: NONE,
-        });
-        let Ok(mut restored) = vec![in alloc; inner; records.len()] else {
+        let Ok(mut restored) = vec![in alloc; Record::Free; records.len()] else {
             return Err(Refusal::NoMemory);
         };
-        let first = restore_cells(restored.as_mut_slice(), records);
+        restore_cells(restored.as_mut_slice(), records);
+        let Ok(nodes) = tree_over(alloc, restored.as_slice()) else {
+            return Err(Refusal::NoMemory);
+        };
         Ok(CellTable {
             records: restored,
-            first,
+            nodes,
         })
     }
 
@@ -131,9 +120,20 @@ impl CellTable {
         ensures made { IfSome result (λ base. self.new ≡ fill self.old base n (empty_slot base n kind)) }
         ensures same { IsNone result → self.new ≡ self.old }
     {
-        let spot = find_room(self.records.as_slice(), self.first, n)?;
-        self.first = take_cells(self.records.as_mut_slice(), self.first, spot, n, kind);
-        Some(spot.at)
+        let base = find(self.records.as_slice(), self.nodes.as_slice(), n)?;
+        let kept = Record::Empty(Block {
+            base,
+            length: n,
+            kind,
+        });
+        fill_cells(
+            self.records.as_mut_slice(),
+            self.nodes.as_mut_slice(),
+            base,
+            n,
+            kept,
+        );
+        Some(base)
     }
 
     /// Gives the cells of the block with this base back. `false`, and nothing changed, where there is no such block
@@ -150,7 +150,13 @@ impl CellTable {
         if block.base != base || any_waiting(self.records.as_slice(), block) {
             return false;
         }
-        self.first = give_back(self.records.as_mut_slice(), self.first, block);
+        fill_cells(
+            self.records.as_mut_slice(),
+            self.nodes.as_mut_slice(),
+            block.base,
+            block.length,
+            Record::Free,
+        );
         true
     }
 }

@@ -1,25 +1,17 @@
-use Rattle.std.proofs.Common.{map, arith, subst}
-use Rattle.std.proofs.lemmas.List.{length-map}
-use Rattle.im_types.specs.declared.TheConstants.{NONE}
+use Rattle.std.proofs.Common.{◌+◌, ◌∷◌, [], ◌++◌, map, take, ap, sym, ◌∙◌, arith}
+use Rattle.std.proofs.lemmas.List.{map-set, take_more_set, take_more, length-map, get_or-map}
+use Rattle.im_types.specs.declared.records.CellRecord.TheVariants.{Free}
 use Rattle.im_cell.specs.Slots.{shown_slot}
-use Rattle.im_cell.specs.Restored.{IsRestored}
-use Rattle.im_cell.proofs.Restored.{IsRestored-none, slots-restored, HasHoles-restored}
+use Rattle.im_cell.specs.Records.{slot_of, slots_of}
 use Rattle.im_cell.proofs.restoring.restore_cells.Goals as goal
 
-pub loop-at-init : goal.loop-at-init
-loop-at-init c =
-    let long = length-map c.args.shown.now shown_slot in
-    record {
-      within = omega arith;
-      behind = subst (λ n. IsRestored c.args.records.now (map shown_slot c.args.shown.now) n NONE) (omega arith) (IsRestored-none c.args.records.now (map shown_slot c.args.shown.now) (omega arith));
-    }
-
-pub returns-clause-holes : goal.returns-clause-holes
-returns-clause-holes c =
-    let long = length-map c.args.shown.now shown_slot in
-    HasHoles-restored c.loop-at.records (map shown_slot c.args.shown.now) c.loop-at.at c.loop-at.first c.loop-at-test.false (omega arith) c.loop-at.invariant.behind
-
-pub returns-clause-slots : goal.returns-clause-slots
-returns-clause-slots c =
-    let long = length-map c.args.shown.now shown_slot in
-    slots-restored c.loop-at.records (map shown_slot c.args.shown.now) c.loop-at.at c.loop-at.first c.loop-at-test.false (omega arith) c.loop-at.invariant.behind
+pub loop-at-preserved : goal.loop-at-preserved
+loop-at-preserved c =
+    let shown = c.args.shown.now in
+    let at = c.loop-at.at in
+    let blank = Free 0 0 in
+    ap (take (at + 1)) (map-set slot_of c.loop-at.records at c.restored.result)
+    ∙ take_more_set (slots_of c.loop-at.records) at (slot_of c.restored.result) (omega (arith, length-map c.loop-at.records slot_of))
+    ∙ ap (λ xs. xs ++ slot_of c.restored.result ∷ []) c.loop-at.invariant
+    ∙ ap (λ x. take at (map shown_slot shown) ++ x ∷ []) (c.restored.ensures ∙ sym (get_or-map shown_slot shown at blank (shown_slot blank) (omega arith)))
+    ∙ sym (take_more (map shown_slot shown) at (shown_slot blank) (omega (arith, length-map shown shown_slot)))

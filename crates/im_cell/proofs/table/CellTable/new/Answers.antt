@@ -1,16 +1,15 @@
-use Rattle.std.proofs.Common.{◌≡◌, replicate, set, subst, ap, ◌∙◌, arith}
-use Rattle.im_types.specs.declared.TheConstants.{NONE}
+use Rattle.std.proofs.Common.{◌≡◌, replicate, ap, ◌∙◌}
 use Rattle.im_cell.specs.declared.records.Record.TheVariants.{Free}
-use Rattle.im_cell.specs.Records.{slots_of, no_hole, IsTable}
-use Rattle.im_cell.proofs.Start.{slots-start, IsTable-start}
+use Rattle.im_cell.specs.Records.{slots_of}
+use Rattle.im_cell.proofs.Blocks.{HasBlocks-free, slots-new}
 use Rattle.im_cell.proofs.table.CellTable.new.Goals as goal
 
-pub invariant_of-result-2 : goal.invariant_of-result-2
-invariant_of-result-2 c =
-    let made : c.in-Ok.records.items ≡ replicate c.args.cells (Free no_hole) = c.in-Ok.ensures.items_if_clones_equal (λ y k. k) in
-    rw made (subst (λ n. IsTable (set (replicate c.args.cells (Free no_hole)) 0 (Free (record { length = n; next = NONE }))) 0) (omega arith) (IsTable-start c.args.cells no_hole (omega arith) (omega arith)))
+pub invariant_of-result : goal.invariant_of-result
+invariant_of-result c =
+    let made : c.in-Ok.records.items ≡ replicate c.args.cells Free = c.in-Ok.ensures.items_if_clones_equal (λ y k. k) in
+    record { tree = rw c.as_slice.ensures.value at c.in-Ok-tree_over.ensures; blocks = rw (made, slots-new c.args.cells) (HasBlocks-free c.args.cells) }
 
 pub returns-clause-free : goal.returns-clause-free
 returns-clause-free c =
-    let made : c.in-Ok.records.items ≡ replicate c.args.cells (Free no_hole) = c.in-Ok.ensures.items_if_clones_equal (λ y k. k) in
-    rw made (ap (λ n. slots_of (set (replicate c.args.cells (Free no_hole)) 0 (Free (record { length = n; next = NONE })))) (omega arith) ∙ slots-start c.args.cells no_hole (omega arith) (omega arith))
+    let made : c.in-Ok.records.items ≡ replicate c.args.cells Free = c.in-Ok.ensures.items_if_clones_equal (λ y k. k) in
+    ap slots_of made ∙ slots-new c.args.cells

@@ -1,0 +1,108 @@
+-- Summaries of parts of a table: how many free cells there are at either end, and in the longest run. A tree of them leads
+-- to the least place. (Own.)
+use Rattle.std.specs.Prelude.{◌≡◌, ℕ, zero, suc, ◌+◌, ◌*◌, ◌/◌, ◌%◌, ◌^◌, ◌<◌, ◌≤◌, ◌==◌, max, List, [], ◌∷◌, length, take, drop, Bool, true, false, Option, None, Some, slice_index_or, if◌then◌else◌}
+use Rattle.im_cell.specs.declared.tree.TheConstants.{PART}
+use Rattle.im_cell.specs.declared.summaries.Summary.{Summary}
+
+module _ {X : Type 0} where
+  -- each cell is free
+  abbrev pub is_whole : List (Option X) → Bool
+  is_whole [] = true
+  is_whole (None ∷ cells) = is_whole cells
+  is_whole (Some x ∷ cells) = false
+
+  -- how many free cells come first
+  abbrev pub front : List (Option X) → ℕ
+  front [] = 0
+  front (None ∷ cells) = suc (front cells)
+  front (Some x ∷ cells) = 0
+
+  -- how many free cells come last
+  abbrev pub back : List (Option X) → ℕ
+  back [] = 0
+  back (None ∷ cells) = if is_whole cells then suc (length cells) else back cells
+  back (Some x ∷ cells) = back cells
+
+  -- how many cells the longest run of free ones has
+  abbrev pub longest : List (Option X) → ℕ
+  longest [] = 0
+  longest (cell ∷ cells) = max (front (cell ∷ cells)) (longest cells)
+
+  -- what a summary looks at of a cell: whether it is free
+  abbrev pub mark : Option X → Option Bool
+  mark None = None
+  mark (Some x) = Some true
+
+-- the summary counts these cells
+pub record Summarises (summary : Summary) (cells : List (Option Bool)) : Type 0 where
+  pub all : summary.length ≡ length cells
+  pub first : summary.front ≡ front cells
+  pub last : summary.back ≡ back cells
+  pub most : summary.longest ≡ longest cells
+
+-- a run at the end of a part, of so many cells, goes on into the next part where it is the whole of its own
+abbrev pub run_on : ℕ → ℕ → ℕ → ℕ
+run_on own whole more = if own == whole then (whole + more) % 2 ^ 32 else own
+
+-- the summary of two parts, one behind the other
+abbrev pub joined : Summary → Summary → Summary
+joined left right = record {
+  length = (left.length + right.length) % 2 ^ 32;
+  front = run_on left.front left.length right.front;
+  back = run_on right.back right.length left.back;
+  longest = max (max left.longest right.longest) ((left.back + right.front) % 2 ^ 32);
+}
+
+-- the summary of no cell
+abbrev pub no_cells : Summary
+no_cells = record { length = 0; front = 0; back = 0; longest = 0 }
+
+-- the summary of one cell
+abbrev pub cell_summary : {X : Type 0} → Option X → Summary
+cell_summary None = record { length = 1; front = 1; back = 1; longest = 1 }
+cell_summary (Some x) = record { length = 1; front = 0; back = 0; longest = 0 }
+
+-- how many free cells end with this one, where so many end before it
+abbrev pub run_at : {X : Type 0} → ℕ → Option X → ℕ
+run_at before None = before + 1
+run_at before (Some x) = 0
+
+-- a node of the tree
+abbrev pub node_at : List Summary → ℕ → Summary
+node_at nodes k = slice_index_or nodes k no_cells
+
+-- a node is the summary of the two below it
+abbrev pub IsJoined : List Summary → ℕ → Type 0
+IsJoined nodes k = node_at nodes k ≡ joined (node_at nodes (2 * k)) (node_at nodes (2 * k + 1))
+
+-- the cells of a leaf; fewer of the last one, none behind it
+unfoldable pub part_at : List (Option Bool) → ℕ → List (Option Bool)
+part_at cells j = take PART (drop (j * PART) cells)
+
+-- how many leaves a tree of this height has
+abbrev pub leaves_at : ℕ → ℕ
+leaves_at zero = 1
+leaves_at (suc height) = 2 * leaves_at height
+
+-- how many leaves a tree of so many nodes has, node 0 being none of it
+abbrev pub leaves_of : List Summary → ℕ
+leaves_of nodes = length nodes / 2
+
+-- each node but the leaves is the summary of the two below it
+abbrev pub HasJoined : List Summary → Type 0
+HasJoined nodes = (k : ℕ) → 0 < k → k < leaves_of nodes → IsJoined nodes k
+
+-- a leaf is the summary of its cells
+abbrev pub IsLeaf : List Summary → List (Option Bool) → ℕ → Type 0
+IsLeaf nodes cells j = Summarises (node_at nodes (leaves_of nodes + j)) (part_at cells j)
+
+-- a tree of summaries over the cells: node 1 is its root, and the nodes below node k are 2 k and 2 k + 1
+pub record IsTree (nodes : List Summary) (cells : List (Option Bool)) : Type 0 where
+  pub height : ℕ
+  pub power : leaves_of nodes ≡ leaves_at height
+  pub even : length nodes ≡ 2 * leaves_of nodes
+  pub inside : length cells ≤ PART * leaves_of nodes
+  pub few : length cells < 2 ^ 32
+  pub small : leaves_of nodes < 2 ^ 32
+  pub leaves : (j : ℕ) → j < leaves_of nodes → IsLeaf nodes cells j
+  pub inner : HasJoined nodes

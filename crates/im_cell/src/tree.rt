@@ -1,0 +1,213 @@
+//! The tree of summaries over a table's cells, 32 to a leaf. The least place of a block is found by going down it, and
+//! where cells change, the nodes above them are made anew: a complete binary tree in one list, its root node 1, the
+//! nodes below node k at 2 k and 2 k + 1. (Summaries of parts that are joined: segment trees; Bentley 1977.)
+ghost use Rattle.std.specs.Prelude.{◌≡◌, ℕ, ◌+◌, ◌*◌, ◌/◌, ◌<◌, ◌≤◌, ◌^◌, length, take, drop, Some, IfOk};
+ghost use Rattle.std.specs.List.{list_any};
+ghost use Rattle.im_types.specs.Place.{place, fill};
+ghost use Rattle.im_cell.specs.Slots.{is_waiting};
+ghost use Rattle.im_cell.specs.Records.{slot_of, slots_of, marks_of};
+ghost use Rattle.im_cell.specs.Summaries.{node_at, part_at, leaves_at, leaves_of, longest, IsJoined, HasJoined, IsLeaf, IsTree};
+
+use crate::records::Record;
+use crate::summaries::{Summary, join, sum_up};
+use im_types::Block;
+use std::alloc::{AllocError, Global};
+
+/// How many cells a leaf has.
+pub(crate) const PART: usize = 32;
+
+// A node.
+fn node(nodes: &[Summary], k: usize) -> Summary
+    requires { k < length nodes.now }
+    ensures { result ≡ node_at nodes.now k }
+{
+    nodes[k]
+}
+
+// The cells of a leaf.
+fn part(records: &[Record], leaf: usize) -> &[Record]
+    requires { leaf < 2 ^ 32 }
+    ensures { marks_of result.now ≡ part_at (marks_of records.now) leaf }
+{
+    let from = (leaf * PART).min(records.len());
+    let to = (from + PART).min(records.len());
+    &records[from..to]
+}
+
+// The base of the least place of a block in a leaf that has one.
+fn find_in_part(records: &[Record], n: u32) -> u32
+    requires few { length records.now < 2 ^ 32 }
+    requires room { n ≤ longest (marks_of records.now) }
+    requires some { 0 < n }
+    ensures { place n (marks_of records.now) ≡ Some result }
+{
+    let mut free = 0;
+    let mut at = 0;
+    while free < n {
+        free = records[at as usize].run(free);
+        at += 1;
+    }
+    at - n
+}
+
+/// The least place of a block of `n` cells.
+pub(crate) fn find(records: &[Record], nodes: &[Summary], n: u32) -> Option<u32>
+    requires tree { IsTree nodes.now (marks_of records.now) }
+    requires some { 0 < n }
+    ensures { result ≡ place n (slots_of records.now) }
+{
+    if node(nodes, 1).longest < n {
+        return None;
+    }
+    let leaves = nodes.len() / 2;
+    let mut k = 1;
+    let mut base = 0;
+    while k < leaves {
+        let left = node(nodes, 2 * k);
+        let right = node(nodes, 2 * k + 1);
+        if left.longest >= n {
+            k = 2 * k;
+        } else if left.back + right.front >= n {
+            return Some(base + (left.length - left.back));
+        } else {
+            base += left.length;
+            k = 2 * k + 1;
+        }
+    }
+    Some(base + find_in_part(part(records, k - leaves), n))
+}
+
+// Sums up the cells of the leaves from `first` to `last`.
+fn renew_leaves(nodes: &mut [Summary], records: &[Record], first: usize, last: usize)
+    requires few { leaves_of nodes.old < 2 ^ 32 }
+    requires order { first ≤ last }
+    requires inside { last < leaves_of nodes.old }
+    ensures leaves { (j : ℕ) → first ≤ j → j ≤ last → IsLeaf nodes.new (marks_of records.now) j }
+    ensures others { (k : ℕ) → (leaves_of nodes.old + first ≤ k → k ≤ leaves_of nodes.old + last → ⊥) →
+        node_at nodes.new k ≡ node_at nodes.old k }
+{
+    let leaves = nodes.len() / 2;
+    for leaf in first..last + 1 {
+        nodes[leaves + leaf] = sum_up(part(records, leaf));
+    }
+}
+
+// Joins the nodes below each of the nodes from `first` to `last`.
+fn join_row(nodes: &mut [Summary], first: usize, last: usize)
+    requires { 2 * last + 1 < length nodes.old }
+    ensures joined { (k : ℕ) → 0 < k → first ≤ k → k ≤ last → IsJoined nodes.new k }
+    ensures others { (k : ℕ) → (first ≤ k → k ≤ last → ⊥) → node_at nodes.new k ≡ node_at nodes.old k }
+{
+    let mut k = last + 1;
+    while k > first {
+        k -= 1;
+        nodes[k] = join(node(nodes, 2 * k), node(nodes, 2 * k + 1));
+    }
+}
+
+// Makes the nodes above those from `first` to `last` anew.
+fn renew_rows(nodes: &mut [Summary], first: usize, last: usize)
+    requires even { 2 * (leaves_of nodes.old) ≡ length nodes.old }
+    requires inside { last < length nodes.old }
+    requires inner { (k : ℕ) → 0 < k → k < leaves_of nodes.old → (first / 2 ≤ k → k ≤ last / 2 → ⊥) →
+        IsJoined nodes.old k }
+    ensures inner { HasJoined nodes.new }
+    ensures leaves { (k : ℕ) → leaves_of nodes.old ≤ k → node_at nodes.new k ≡ node_at nodes.old k }
+{
+    let mut low = first;
+    let mut high = last;
+    while high > 1 {
+        low /= 2;
+        high /= 2;
+        join_row(nodes, low, high);
+    }
+}
+
+// Makes the tree anew over the leaves from `first` to `last`.
+fn renew(nodes: &mut [Summary], records: &[Record], first: usize, last: usize)
+    requires few { leaves_of nodes.old < 2 ^ 32 }
+    requires even { 2 * (leaves_of nodes.old) ≡ length nodes.old }
+    requires order { first ≤ last }
+    requires inside { last < leaves_of nodes.old }
+    requires inner { HasJoined nodes.old }
+    ensures inner { HasJoined nodes.new }
+    ensures leaves { (j : ℕ) → first ≤ j → j ≤ last → IsLeaf nodes.new (marks_of records.now) j }
+    ensures others { (j : ℕ) → (first ≤ j → j ≤ last → ⊥) →
+        node_at nodes.new (leaves_of nodes.old + j) ≡ node_at nodes.old (leaves_of nodes.old + j) }
+{
+    let leaves = nodes.len() / 2;
+    renew_leaves(nodes, records, first, last);
+    renew_rows(nodes, leaves + first, leaves + last);
+}
+
+// How many leaves a tree over so many cells has: a power of two.
+fn leaves_over(cells: usize) -> usize
+    requires { cells < 2 ^ 32 }
+    ensures power { (height : ℕ) × (result ≡ leaves_at height) }
+    ensures inside { cells ≤ PART * result }
+    ensures some { 0 < result }
+    ensures few { result < 2 ^ 32 }
+{
+    let mut leaves = 1;
+    while leaves * PART < cells {
+        leaves *= 2;
+    }
+    leaves
+}
+
+/// The tree over the cells of a table.
+pub(crate) fn tree_over(alloc: Global, records: &[Record]) -> Result<Vec<Summary>, AllocError>
+    requires { length records.now < 2 ^ 32 }
+    ensures { IfOk result (λ nodes. IsTree nodes.items (marks_of records.now)) }
+{
+    let leaves = leaves_over(records.len());
+    let none = Summary {
+        length: 0,
+        front: 0,
+        back: 0,
+        longest: 0,
+    };
+    let mut nodes = vec![in alloc; none; 2 * leaves]?;
+    renew(nodes.as_mut_slice(), records, 0, leaves - 1);
+    Ok(nodes)
+}
+
+// Sets `n` records from `base` on.
+fn fill(records: &mut [Record], base: u32, n: u32, kept: Record)
+    requires { base + n ≤ length records.old }
+    ensures { slots_of records.new ≡ fill (slots_of records.old) base n (slot_of kept) }
+{
+    for i in 0..n {
+        records[base as usize + i as usize] = kept;
+    }
+}
+
+/// Sets `n` records from `base` on, and makes the tree above them anew.
+pub(crate) fn fill_cells(
+    records: &mut [Record],
+    nodes: &mut [Summary],
+    base: u32,
+    n: u32,
+    kept: Record,
+)
+    requires tree { IsTree nodes.old (marks_of records.old) }
+    requires some { 0 < n }
+    requires inside { base + n ≤ length records.old }
+    ensures tree { IsTree nodes.new (marks_of records.new) }
+    ensures slots { slots_of records.new ≡ fill (slots_of records.old) base n (slot_of kept) }
+{
+    fill(records, base, n, kept);
+    let first = base as usize / PART;
+    let last = (base as usize + n as usize - 1) / PART;
+    renew(nodes, records, first, last);
+}
+
+/// Whether somebody waits for a cell of a block.
+pub(crate) fn any_waiting(records: &[Record], block: Block) -> bool
+    requires { block.base + block.length ≤ length records.now }
+    ensures { result ≡ list_any is_waiting (take block.length (drop block.base (slots_of records.now))) }
+{
+    let base = block.base as usize;
+    let end = base + block.length as usize;
+    records[base..end].iter().any(|record| record.is_waiting())
+}
