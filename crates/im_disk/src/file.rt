@@ -25,12 +25,13 @@ const SYNCED: u64 = 4;
 
 /// A file of the operating system.
 ///
-/// What its clauses say of bytes and crashes has honesty as its premise, as on any [`Disk`], and nothing promises that a
-/// real file is honest. Its members are read off the list of its calls with their answers, which clauses alone read, and
-/// off `S`, which says what the file held when it was opened and what its failing calls came to: the file is honest as
-/// long as each answer was one that an honest file with that start could have given. What is proved over any `S: Start`
-/// is proved for each of them, and so for the real one. For the list to be that of the real file, nobody else writes
-/// it, its length stays, and a sync that answers `Ok` has put the bytes down: docs/CRASH.md tells all that is assumed.
+/// What its clauses say of bytes and crashes has honesty as its premise, as on any [`Disk`], and nothing promises that
+/// a real file is honest. Its members are read off the list of its calls with their answers, which clauses alone read,
+/// and off `S`, which says what the file held when it was opened and what its failing calls came to: the file is honest
+/// as long as each answer was one that an honest file with that start could have given. What is proved over any
+/// `S: Start` is proved for each of them, and so for the real one. For the list to be that of the real file, nobody
+/// else writes it, its length stays, and a sync that answers `Ok` has put the bytes down: docs/CRASH.md tells all that
+/// is assumed.
 #[derive(Drop)]
 pub struct FileDisk<S: Start> {
     file: File,
@@ -45,8 +46,8 @@ pub struct FileDisk<S: Start> {
 }
 
 impl<S: Start> FileDisk<S> {
-    /// Makes a file of so many zero bytes at the path, also over one that is there, and puts it and its name on the disk.
-    /// It is locked before a byte is changed, for as long as the disk lives.
+    /// Makes a file of so many zero bytes at the path, also over one that is there, and puts it and its name on the
+    /// disk. It is locked before a byte is changed, for as long as the disk lives.
     ///
     /// `InUse` where another opening has its lock, and `Device` where what is there is no regular file: then nothing is
     /// changed. `Device` where another call of the system fails, and what is at the path may then be any file. That the
@@ -86,8 +87,9 @@ impl<S: Start> FileDisk<S> {
         Ok(over(file, len, start))
     }
 
-    /// Opens the file at the path to read it alone: each write to it fails. Others may read it at the same time. `InUse`
-    /// where one that writes it has its lock, `Device` where it is no regular file or a call of the system fails.
+    /// Opens the file at the path to read it alone: each write to it fails. Others may read it at the same time.
+    /// `InUse` where one that writes it has its lock, `Device` where it is no regular file or a call of the system
+    /// fails.
     pub fn open_to_read<R: Files<File = File>>(
         rt: &R,
         path: &str,

@@ -146,9 +146,11 @@ impl Disk for FuseDisk {
         requires { at + length bytes.now ≤ length self.old.disk.moment.bytes }
         ensures count { self.new ≡ counted self.new.disk self.old }
         ensures passed { fails self.old ≡ false
-            → Answers result (ticked (written at bytes.now self.old.disk.moment) self.old.disk) self.old.disk self.new.disk }
+            → Answers result (ticked (written at bytes.now self.old.disk.moment) self.old.disk)
+            self.old.disk self.new.disk }
         ensures failed { fails self.old ≡ true → IsErr result
-            × Fails (scarred at (length bytes.now) (scar_of self.old.mode) self.old.disk.moment) self.old.disk self.new.disk }
+            × Fails (scarred at (length bytes.now) (scar_of self.old.mode) self.old.disk.moment)
+            self.old.disk self.new.disk }
         ensures failures { Counts result self.old.disk.failures self.new.disk.failures }
         ensures honest { ⟦<FuseDisk as Disk>⟧.honest self.new }
     {
@@ -162,7 +164,8 @@ impl Disk for FuseDisk {
 
     fn sync(&mut self) -> Result<(), DeviceFault>
         ensures count { self.new ≡ counted self.new.disk self.old }
-        ensures passed { fails self.old ≡ false → Answers result (settled_by_sync self.old.disk) self.old.disk self.new.disk }
+        ensures passed { fails self.old ≡ false
+            → Answers result (settled_by_sync self.old.disk) self.old.disk self.new.disk }
         ensures failed { fails self.old ≡ true → IsErr result × Fails self.old.disk.moment self.old.disk self.new.disk }
         ensures failures { Counts result self.old.disk.failures self.new.disk.failures }
         ensures honest { ⟦<FuseDisk as Disk>⟧.honest self.new }

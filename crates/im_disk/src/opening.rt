@@ -1,4 +1,4 @@
-//! How a file of the operating system is made or opened: which files, under which lock, and what is on the disk by then.
+//! How a file of the operating system is made or opened: which files, under which lock, and what is then on the disk.
 ghost use Rattle.std.specs.Prelude.{◌≡◌};
 
 use im_types::Refusal;

@@ -1,5 +1,6 @@
 //! The record of a disk in memory: each call, with what it takes to undo it.
-ghost use Rattle.std.specs.Prelude.{◌≡◌, ◌+◌, ◌-◌, ◌^◌, ◌≤◌, ◌++◌, ◌∷◌, [], length, min, replicate, reverse, OnOk, OnErr};
+ghost use Rattle.std.specs.Prelude.{◌≡◌, ◌+◌, ◌-◌, ◌^◌, ◌≤◌, ◌++◌, ◌∷◌, [], length, min, replicate, reverse};
+ghost use Rattle.std.specs.Prelude.{OnOk, OnErr};
 ghost use Rattle.im_disk.specs.Moment.{Rises, overlaid};
 ghost use Rattle.im_disk.specs.Record.{ranges_of, settled_of, filled, left_by, LieWithin};
 

@@ -2,8 +2,8 @@
 ghost use Rattle.std.specs.Prelude.{ℕ, List, []};
 ghost use Rattle.im_disk.specs.Moment.{Moment};
 
-/// The first moment of a file, as it is opened, and what its failing calls come to. A function over `S: Start` asks nothing
-/// of these members, so it is proved for every such moment and all such outcomes. No code can read them.
+/// The first moment of a file, as it is opened, and what its failing calls come to. A function over `S: Start` asks
+/// nothing of these members, so it is proved for every such moment and all such outcomes. No code can read them.
 ///
 /// One value of a type stands for one opening: [`FileDisk::open`](crate::FileDisk::open) uses it up.
 pub trait Start: Drop {

@@ -1,11 +1,15 @@
 -- The gates of a ring's slots, as they are closed.
-use Rattle.std.specs.Prelude.{◌≡◌, ℕ, ◌+◌, ◌<◌, List, [], length, slice_index}
+use Rattle.std.specs.Prelude.{◌≡◌, ℕ, ◌+◌, ◌*◌, ◌^◌, ◌<◌, List, [], length, slice_index}
 use Rattle.im_types.specs.Journal.{Ring, slot_at}
 use Rattle.im_disk.specs.Moment.{Moment, Left}
 
 -- the byte that closes a gate: any but that of an open one would do
 abbrev pub closed_gate : ℕ
 closed_gate = 0
+
+-- so many slots at this offset: there are some, and each byte of them has a number
+abbrev pub IsRing : ℕ → ℕ → Type 0
+IsRing base slots = (0 < slots) × (base + 64 * slots < 2 ^ 63)
 
 -- the files agree but for the gates of n slots, from the one of sequence number s on
 pub record SameButGates (ring : Ring) (s n : ℕ) (c d : List ℕ) : Type 0 where

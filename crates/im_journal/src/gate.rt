@@ -2,15 +2,15 @@
 ghost use Rattle.std.specs.Prelude.{◌≡◌, ◌+◌, ◌*◌, ◌≤◌, ◌<◌, ◌^◌, length, OnOk};
 ghost use Rattle.im_disk.specs.Moment.{Counts};
 ghost use Rattle.im_disk.specs.Since.{LeavesOnly, CallsBy};
-ghost use Rattle.im_journal.specs.Gates.{MayClose, AreShut};
+ghost use Rattle.im_journal.specs.Gates.{IsRing, MayClose, AreShut};
 ghost use Rattle.im_journal.specs.Holding.{ring_at};
 
 use im_disk::{DeviceFault, Disk};
 use im_types::layout::CLOSED;
 
 /// Closes the gates of so many slots of a ring, from the one of a sequence number on: a write of one byte for each of
-/// them, and a sync. The slots are of commands before the run: such a slot is no command where its gate is open, and may
-/// be taken for room where it is closed.
+/// them, and a sync. The slots are of commands before the run: such a slot is no command where its gate is open, and
+/// may be taken for room where it is closed.
 pub(crate) fn close_gates<D: Disk>(
     disk: &mut D,
     base: usize,
@@ -18,8 +18,7 @@ pub(crate) fn close_gates<D: Disk>(
     from: u64,
     count: u32,
 ) -> Result<(), DeviceFault>
-    requires some { 0 < slots }
-    requires far { base + 64 * slots < 2 ^ 63 }
+    requires ring { IsRing base slots }
     requires last { from + count < 2 ^ 64 }
     requires inside { D.honest disk.old → base + 64 * slots ≤ length (D.now disk.old).bytes }
     ensures leaves { D.honest disk.new

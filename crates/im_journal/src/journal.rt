@@ -75,8 +75,8 @@ impl Journal {
     }
 
     /// Reads the run of commands from a sequence number on, and the room behind it. `from` is the count of the header
-    /// in force, at most [`LAST`], and the file is long enough for the ring. It writes nothing, and reads the ring whole
-    /// by one call of the disk: 64 bytes a slot.
+    /// in force, at most [`LAST`], and the file is long enough for the ring. It writes nothing, and reads the ring
+    /// whole by one call of the disk: 64 bytes a slot.
     ///
     /// `BadRecord` exactly where the file has no such tail: a slot of the run isn't spelled as it should be, or one
     /// from the first open gate behind the run on, up to the run's first slot, has a sequence number that isn't below

@@ -15,7 +15,7 @@ pub returns-in_err-write_at-clause-leaves : goal.returns-in_err-write_at-clause-
 returns-in_err-write_at-clause-leaves g c = λ h1.
     let h = c.write_at.ensures.honest h1 in
     let h0 = c.loop-i.invariant.honest h in
-    torn_leaves g.D.Disk.now g.D.Disk.past (ring_at c.args.base c.args.slots) c.args.«from» c.args.count c.args.disk.now c.loop-i.i c.loop-i-test.true c.requires.some c.loop-i.disk
+    torn_leaves g.D.Disk.now g.D.Disk.past (ring_at c.args.base c.args.slots) c.args.«from» c.args.count c.args.disk.now c.loop-i.i c.loop-i-test.true c.requires.ring.0 c.loop-i.disk
     (c.requires.inside h0) (c.loop-i.invariant.closing h) (closed_gate ∷ []) refl c.write_at.new.self (c.write_at.ensures.moment h1)
 
 pub loop-i-preserved : goal.loop-i-preserved
@@ -25,7 +25,7 @@ loop-i-preserved g c = record {
       let h = c.write_at.ensures.honest h1 in
       let h0 = c.loop-i.invariant.honest h in
       let tick = c.in_ok-write_at.ensures.tick h1 in
-      closing_next g.D.Disk.now g.D.Disk.past (ring_at c.args.base c.args.slots) c.args.«from» c.args.count c.args.disk.now c.loop-i.i c.loop-i-test.true c.requires.some c.loop-i.disk
+      closing_next g.D.Disk.now g.D.Disk.past (ring_at c.args.base c.args.slots) c.args.«from» c.args.count c.args.disk.now c.loop-i.i c.loop-i-test.true c.requires.ring.0 c.loop-i.disk
       (c.requires.inside h0) (c.loop-i.invariant.closing h) (closed_gate ∷ []) refl c.write_at.new.self tick.now (c.write_at.ensures.moment h1) tick.past;
   failures = c.in_ok-write_at.ensures.failures ∙ c.loop-i.invariant.failures;
 }
