@@ -4,7 +4,7 @@ use Rattle.std.proofs.Common.{inl, inr, ⊎_elim, sym, ◌∙◌, ap, subst, ari
 use Rattle.std.proofs.lemmas.Bool.{cases_lt}
 use Rattle.std.proofs.lemmas.List.{ext_get_or}
 use Rattle.im_disk.specs.Moment.{Moment, Outside, Left, LeftSince, Torn, Shaken, MayTick, overlaid, synced}
-use Rattle.im_disk.specs.Since.{Leaves, LeavesNow, SameBut, ReadsOnly}
+use Rattle.im_disk.specs.Since.{Leaves, LeavesNow, LeavesOnly, SameBut, ReadsOnly}
 use Rattle.im_disk.proofs.OverlayLemmas.{length-overlaid, overlaid_outside, overlaid_inside}
 
 none_before : (past : List Moment) (t : ℕ) (c : List ℕ) → length past ≤ t → LeftSince past t c → ⊥
@@ -119,6 +119,13 @@ reads_then old mid new past past_mid past_new first second = record {
 pub leaves_weaker : (old new : Moment) (past past_new : List Moment) (P Q : List ℕ → Type 0) → Leaves old new past past_new P → ((c : List ℕ) → P c → Q c) → Leaves old new past past_new Q
 leaves_weaker old new past past_new P Q leaves weaker = record { later = leaves.later; each = λ t c le left. ⊎_elim (λ earlier. inl earlier) (λ here. inr (weaker c here)) (leaves.each t c le left) }
 
+-- the same of a disk, within the run and at its end
+pub only_weaker : {D : Type 0} (now : D → Moment) (past : D → List Moment) (old new : D) (P Q : List ℕ → Type 0) → LeavesOnly now past old new P → ((c : List ℕ) → P c → Q c) → LeavesOnly now past old new Q
+only_weaker now past old new P Q only weaker = record {
+  within = leaves_weaker (now old) (now new) (past old) (past new) P Q only.within weaker;
+  after = λ c left. weaker c (only.after c left);
+}
+
 -- two runs of calls, one after the other
 pub leaves_then : (old mid new : Moment) (past past_mid past_new : List Moment) (P Q R : List ℕ → Type 0) → Leaves old mid past past_mid P → Leaves mid new past_mid past_new Q → ((c : List ℕ) → P c → R c) → ((c : List ℕ) → Q c → R c) → Leaves old new past past_new R
 leaves_then old mid new past past_mid past_new P Q R first second weaker_p weaker_q = record {
@@ -133,22 +140,10 @@ leaves_then old mid new past past_mid past_new P Q R first second weaker_p weake
 pub leaves_now : (old new : Moment) (past past_new : List Moment) (P : List ℕ → Type 0) → Leaves old new past past_new P → LeavesNow new (λ c. Left old c ⊎ P c)
 leaves_now old new past past_new P leaves c left = ⊎_elim (λ earlier. inl (only_now old past c earlier)) (λ here. inr here) (leaves.each (length past) c (omega arith) (inl (leaves.later, left)))
 
--- what every file left has, it has after a sync, failed or not
-pub leaves_now_sync : (m m' : Moment) (past past' : List Moment) (P : List ℕ → Type 0) → MayTick Shaken m m' past past' → LeavesNow m P → LeavesNow m' P
-leaves_now_sync m m' past past' P tick has c left = has c (left_sync m m' past past' tick c left)
-
 -- after a sync that succeeded, what its one file has
 pub leaves_now_synced : (m m' : Moment) (P : List ℕ → Type 0) → m' ≡ synced m → P m.bytes → LeavesNow m' P
 leaves_now_synced m m' P is has c left = subst P (sym (left_synced m c (subst (λ (x : Moment). Left x c) is left))) has
 
--- what every file left has, it has after a torn write, if P doesn't look at the range
-pub leaves_now_torn : (at n : ℕ) (m m' : Moment) (past past' : List Moment) (P : List ℕ → Type 0) → at + n ≤ length m.bytes → MayTick (Torn at n) m m' past past' → ((c d : List ℕ) → SameBut at n c d → P c → P d) → LeavesNow m P → LeavesNow m' P
-leaves_now_torn at n m m' past past' P fits (inl same) blind has c left = has c (subst (λ (x : Moment). Left x c) same.0 left)
-leaves_now_torn at n m m' past past' P fits (inr tick) blind has c left = let (d, could, but) = left_torn at n m m' fits tick.now c left in blind d c but (has d could)
-
--- files that agree but for a range agree in front of it and behind it
+-- files that agree but for a range agree in front of it
 pub same_before : (at n k : ℕ) (c d : List ℕ) → SameBut at n c d → k ≤ at → take k d ≡ take k c
 same_before at n k c d but le = ext_get_or 0 (take k d) (take k c) (omega (arith, length-take k d, length-take k c, but.size)) (λ i lt. let low : i < k = omega (arith, length-take k d) in get_or-take k d i 0 low ∙ but.same i (inl (omega arith)) ∙ sym (get_or-take k c i 0 low))
-
-pub same_behind : (at n k : ℕ) (c d : List ℕ) → SameBut at n c d → at + n ≤ k → drop k d ≡ drop k c
-same_behind at n k c d but le = ext_get_or 0 (drop k d) (drop k c) (omega (arith, length-drop k d, length-drop k c, but.size)) (λ i lt. get_or-drop k d i 0 ∙ but.same (k + i) (inr (omega arith)) ∙ sym (get_or-drop k c i 0))

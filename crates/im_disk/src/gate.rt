@@ -1,28 +1,47 @@
-//! The smallest protocol over a disk: a body that counts only once a gate is open.
-ghost use Rattle.std.specs.Prelude.{◌≡◌, ◌+◌, ◌≤◌, ◌<◌, length, OnOk};
-ghost use Rattle.im_disk.specs.Moment.{Counts};
-ghost use Rattle.im_disk.specs.Since.{Leaves, LeavesNow};
-ghost use Rattle.im_disk.specs.Gate.{IsShut, IsGuarded, IsOpen};
+//! Bytes behind a gate: they count only once the gate, their first byte, is open.
+ghost use Rattle.std.specs.Prelude.{◌≡◌, ◌+◌, ◌≤◌, ◌<◌, [], ◌∷◌, length, slice_index, OnOk};
+ghost use Rattle.im_types.specs.Bytes.{open_gate};
+ghost use Rattle.im_disk.specs.Moment.{Counts, written, synced};
+ghost use Rattle.im_disk.specs.Since.{LeavesOnly, CallsBy};
+ghost use Rattle.im_disk.specs.Gate.{IsClosed, MayWrite, MayOpen};
 
 use crate::{DeviceFault, Disk};
+use im_types::layout::OPEN;
 
-/// Writes the body behind the gate byte at `at`, syncs, opens the gate by writing 1 there, and syncs. The gate is shut,
-/// 0, in every file that a crash may leave, and the ranges lie inside the file.
+/// Syncs, opens the gate at `at` by writing its byte, and syncs. What stands behind the gate was written before.
 ///
-/// A crash at any moment of it leaves a file whose gate is open only over the whole body, or one that could be left
-/// before. Once it has answered `Ok`, every crash leaves the gate open over the whole body.
-pub fn write_behind_gate<D: Disk>(disk: &mut D, at: usize, body: &[u8]) -> Result<(), DeviceFault>
-    requires below { at < usize.MAX }
-    requires inside { D.honest disk.old → at + 1 + length body.now ≤ length (D.now disk.old).bytes }
-    requires shut { D.honest disk.old → LeavesNow (D.now disk.old) (IsShut at) }
-    ensures leaves { D.honest disk.new → Leaves (D.now disk.old) (D.now disk.new) (D.past disk.old) (D.past disk.new)
-        (IsGuarded at body.now) }
-    ensures open { OnOk result (D.honest disk.new → LeavesNow (D.now disk.new) (IsOpen at body.now)) }
+/// A crash at any moment of it leaves a file that could be left before, or the one that a read gives, but for the byte
+/// of the gate. Once it has answered `Ok`, the gate is open for good, over all that was written.
+pub fn open_gate<D: Disk>(disk: &mut D, at: usize) -> Result<(), DeviceFault>
+    requires inside { D.honest disk.old → at + 1 ≤ length (D.now disk.old).bytes }
+    ensures leaves { D.honest disk.new → LeavesOnly D.now D.past disk.old disk.new (MayOpen at (D.now disk.old)) }
+    ensures opened { OnOk result (D.honest disk.new
+        → D.now disk.new ≡ synced (written at (open_gate ∷ []) (D.now disk.old))) }
+    ensures calls { D.honest disk.new → CallsBy D.past disk.old disk.new 3 result }
     ensures honest { D.honest disk.new → D.honest disk.old }
     ensures failures { Counts result (D.failures disk.old) (D.failures disk.new) }
 {
-    disk.write_at(at + 1, body)?;
-    disk.sync()?;
-    disk.write_at(at, &[1])?;
-    disk.sync()
+    disk.sync()?; // A stop leaves what it could leave before: the gate isn't written yet.
+    disk.write_at(at, &[OPEN])?; // A stop leaves any byte there, and all that is behind it is on the disk.
+    disk.sync() // The same. Once this is done the gate is open for good.
+}
+
+/// Writes bytes, the first of them an open gate, where the gate is closed: those behind it, a sync, the gate, a sync.
+///
+/// A crash at any moment of it leaves a file whose gate is closed, or open over all of the bytes; elsewhere it is one
+/// that could be left before. Once it has answered `Ok`, the bytes are on the disk.
+pub fn write_behind_gate<D: Disk>(disk: &mut D, at: usize, bytes: &[u8]) -> Result<(), DeviceFault>
+    requires below { at < usize.MAX }
+    requires gate { slice_index bytes.now 0 ≡ open_gate }
+    requires closed { D.honest disk.old → IsClosed at (length bytes.now) (D.now disk.old) }
+    ensures leaves { D.honest disk.new
+        → LeavesOnly D.now D.past disk.old disk.new (MayWrite at bytes.now (D.now disk.old)) }
+    ensures written { OnOk result (D.honest disk.new
+        → D.now disk.new ≡ synced (written at bytes.now (D.now disk.old))) }
+    ensures calls { D.honest disk.new → CallsBy D.past disk.old disk.new 4 result }
+    ensures honest { D.honest disk.new → D.honest disk.old }
+    ensures failures { Counts result (D.failures disk.old) (D.failures disk.new) }
+{
+    disk.write_at(at + 1, &bytes[1..])?; // The gate is closed: what a stop leaves behind it doesn't count.
+    open_gate(disk, at)
 }

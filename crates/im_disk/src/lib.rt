@@ -16,7 +16,7 @@ mod start;
 pub use disk::{DeviceFault, Disk};
 pub use file::FileDisk;
 pub use fuse::{FuseDisk, Mode};
-pub use gate::write_behind_gate;
+pub use gate::{open_gate, write_behind_gate};
 pub use memory::{Crash, MemDisk};
 pub use opening::OpenFault;
 pub use start::{Start, Unknown};

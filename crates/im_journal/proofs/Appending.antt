@@ -1,16 +1,17 @@
 -- What a slot that is written, or may be, does to the tail.
-use Rattle.std.proofs.Common.{◌≡◌, ◌≢◌, inl, inr, ⊎_elim, ℕ, ◌+◌, ◌-◌, ◌*◌, ◌<◌, ◌≤◌, ◌==◌, Bool, true, false, List, [], ◌∷◌, ◌++◌, Some, option_map, length, get_or, take, drop, refl, sym, ◌∙◌, ap, subst, arith, length-append, if◌then◌else◌}
+use Rattle.std.proofs.Common.{◌≡◌, ◌≢◌, ◌⊎◌, inl, inr, ⊎_elim, ℕ, ◌+◌, ◌-◌, ◌*◌, ◌<◌, ◌≤◌, ◌==◌, Bool, true, false, List, [], ◌∷◌, ◌++◌, Some, option_map, length, get_or, take, drop, refl, sym, ◌∙◌, ap, subst, arith, length-append, if◌then◌else◌}
 use Rattle.std.proofs.lemmas.Bool.{cases_eq}
 use Rattle.im_types.specs.declared.TheConstants.{LAST}
 use Rattle.im_types.specs.declared.commands.Command.{Command}
 use Rattle.im_types.specs.Bytes.{open_gate}
 use Rattle.im_types.specs.Slot.{slot_body, sequence_of, FitsCommand}
 use Rattle.im_types.specs.Journal.{slot_at, slot, Tail, tail}
-use Rattle.im_disk.specs.Moment.{Moment}
-use Rattle.im_disk.specs.Since.{SameBut, Leaves}
-use Rattle.im_disk.proofs.SinceLemmas.{left_now, leaves_weaker}
-use Rattle.im_journal.specs.Holding.{JournalState, IsJournal, Holds, AllHold, room_after, longer, longer_tail, Appended, MayAppend}
-use Rattle.im_journal.specs.Gates.{IsClosed, Written, MayWrite}
+use Rattle.im_disk.specs.Moment.{Moment, Left, written, synced}
+use Rattle.im_disk.specs.Since.{SameBut, LeavesOnly}
+use Rattle.im_disk.specs.Gate.{IsShut, HasThere, IsClosed, MayWrite}
+use Rattle.im_disk.proofs.SinceLemmas.{left_now, only_weaker}
+use Rattle.im_disk.proofs.GateLemmas.{done_same, done_there, done_kept, done_calm}
+use Rattle.im_journal.specs.Holding.{JournalState, IsJournal, Holds, AllHold, room_after, longer, longer_tail, Appended, MayAppend, Adds}
 use Rattle.im_journal.proofs.Slots.{slot_inside, slot_is, same_slot, away_after}
 use Rattle.im_journal.proofs.Rings.{other_number}
 use Rattle.im_journal.proofs.Tails.{Parts, parts_of, next_closed, tail_kept, tail_added}
@@ -91,69 +92,93 @@ module _ (j : JournalState) (known : IsJournal j) (command : Command) (fits : Fi
         one_more : (n first k l : ℕ) → n ≡ first + k → l ≡ k + 1 → n + 1 ≡ first + l
         one_more n first k l e f = omega arith
 
-  pub closed : IsClosed at m0
-  closed file left = gate_shut file (all file left)
+  pub shut : (c : List ℕ) → Left m0 c → IsShut at c
+  shut c left = gate_shut c (all c left)
 
-  pub may_append : (c : List ℕ) → MayWrite at bytes m0 c → MayAppend j command m0 c
-  may_append c w = record {
-    from = w.from;
-    left = w.left;
-    same = w.same;
-    reads = ⊎_elim (λ shut. inl (kept w.from (all w.from w.left) c w.same shut)) (λ is. inr (added_to w.from (all w.from w.left) c w.same is)) w.bytes;
+  pub may_append : (c : List ℕ) → (from : List ℕ) → Left m0 from → SameBut at 64 from c → IsShut at c ⊎ (take 64 (drop at c) ≡ bytes) → MayAppend j command m0 c
+  may_append c from left same gated = record {
+    from = from;
+    left = left;
+    same = same;
+    reads = ⊎_elim (λ shut. inl (kept from (all from left) c same shut)) (λ is. inr (added_to from (all from left) c same is)) gated;
   }
 
-  pub appended : (c : List ℕ) → Written at bytes m0 c → Appended j command m0 c
-  appended c w = record {
-    from = w.from;
-    left = w.left;
-    same = w.same;
-    slot = slot_is j.ring j.count c bytes w.bytes;
-    reads = added_to w.from (all w.from w.left) c w.same w.bytes;
+  pub appended : (c : List ℕ) → SameBut at 64 m0.bytes c → take 64 (drop at c) ≡ bytes → Appended j command m0 c
+  appended c same is = record {
+    from = m0.bytes;
+    left = left_now m0;
+    same = same;
+    slot = slot_is j.ring j.count c bytes is;
+    reads = added_to m0.bytes (all m0.bytes (left_now m0)) c same is;
   }
 
-  pub holds_longer : (c : List ℕ) → Written at bytes m0 c → Holds (longer j) c
-  holds_longer c w = longer_held w.from (all w.from w.left) c w.same w.bytes
+  pub holds_longer : (c : List ℕ) → SameBut at 64 m0.bytes c → take 64 (drop at c) ≡ bytes → Holds (longer j) c
+  holds_longer c same is = longer_held m0.bytes (all m0.bytes (left_now m0)) c same is
 
 -- a slot is the next command's
-pub record IsNext (j : JournalState) (command : Command) (m0 : Moment) (place : ℕ) (bytes_there : List ℕ) : Type 0 where
+pub record IsNext (j : JournalState) (command : Command) (m0 : Moment) (place : ℕ) (slot_there : List ℕ) : Type 0 where
   pub known : IsJournal j
   pub fits : FitsCommand command
   pub all : AllHold j m0
   pub some : 0 < j.room
   pub is_at : place ≡ slot_at j.ring j.count
-  pub is_bytes : bytes_there ≡ open_gate ∷ slot_body 1 j.count command
+  pub is_slot : slot_there ≡ open_gate ∷ slot_body 1 j.count command
+  pub long : length slot_there ≡ 64
 
 -- `s` is the journal, as its fields show it
-pub next_of : (s j : JournalState) (command : Command) (m0 : Moment) (bytes_there : List ℕ) → s ≡ j → IsJournal s → FitsCommand command → AllHold j m0 → 0 < s.room
-    → bytes_there ≡ open_gate ∷ slot_body 1 s.count command → IsNext j command m0 (slot_at s.ring s.count) bytes_there
-next_of s j command m0 bytes_there is known fits all some is_bytes = record {
+pub next_of : (s j : JournalState) (command : Command) (m0 : Moment) (slot_there : List ℕ) → s ≡ j → IsJournal s → FitsCommand command → AllHold j m0 → 0 < s.room
+    → slot_there ≡ open_gate ∷ slot_body 1 s.count command → length slot_there ≡ 64 → IsNext j command m0 (slot_at s.ring s.count) slot_there
+next_of s j command m0 slot_there is known fits all some is_slot long = record {
   known = subst IsJournal is known;
   fits = fits;
   all = all;
   some = subst (λ (x : JournalState). 0 < x.room) is some;
   is_at = ap (λ (x : JournalState). slot_at x.ring x.count) is;
-  is_bytes = is_bytes ∙ ap (λ (x : JournalState). open_gate ∷ slot_body 1 x.count command) is;
+  is_slot = is_slot ∙ ap (λ (x : JournalState). open_gate ∷ slot_body 1 x.count command) is;
+  long = long;
 }
 
-module _ {j : JournalState} {command : Command} {m0 : Moment} {place : ℕ} {bytes_there : List ℕ} (n : IsNext j command m0 place bytes_there) where
-  may_be : (c : List ℕ) → MayWrite place bytes_there m0 c → MayWrite (slot_at j.ring j.count) (open_gate ∷ slot_body 1 j.count command) m0 c
-  may_be c w = subst (λ (x : ℕ). MayWrite x (open_gate ∷ slot_body 1 j.count command) m0 c) n.is_at (subst (λ (l : List ℕ). MayWrite place l m0 c) n.is_bytes w)
+module _ {j : JournalState} {command : Command} {m0 : Moment} {place : ℕ} {slot_there : List ℕ} (n : IsNext j command m0 place slot_there) where
+  abbrev here : ℕ
+  here = slot_at j.ring j.count
 
-  is_written : (c : List ℕ) → Written place bytes_there m0 c → Written (slot_at j.ring j.count) (open_gate ∷ slot_body 1 j.count command) m0 c
-  is_written c w = subst (λ (x : ℕ). Written x (open_gate ∷ slot_body 1 j.count command) m0 c) n.is_at (subst (λ (l : List ℕ). Written place l m0 c) n.is_bytes w)
+  room_there : place + length slot_there ≤ length m0.bytes
+  room_there = omega (arith, n.is_at, n.long, inside j n.known command n.fits m0 n.all n.some)
 
-  pub is_closed : IsClosed place m0
-  is_closed = subst (λ (x : ℕ). IsClosed x m0) (sym n.is_at) (closed j n.known command n.fits m0 n.all n.some)
+  pub is_closed : IsClosed place (length slot_there) m0
+  is_closed = record {
+    inside = room_there;
+    shut = λ c left. subst (λ (x : ℕ). IsShut x c) (sym n.is_at) (shut j n.known command n.fits m0 n.all n.some c left);
+  }
 
-  pub may : (c : List ℕ) → MayWrite place bytes_there m0 c → MayAppend j command m0 c
-  may c w = may_append j n.known command n.fits m0 n.all n.some c (may_be c w)
+  same_here : (c d : List ℕ) → SameBut place (length slot_there) c d → SameBut here 64 c d
+  same_here c d same = subst (λ (x : ℕ). SameBut x 64 c d) n.is_at (subst (λ (l : ℕ). SameBut place l c d) n.long same)
 
-  pub done : (c : List ℕ) → Written place bytes_there m0 c → Appended j command m0 c
-  done c w = appended j n.known command n.fits m0 n.all n.some c (is_written c w)
+  slot_here : (c : List ℕ) → HasThere place slot_there c → take 64 (drop here c) ≡ open_gate ∷ slot_body 1 j.count command
+  slot_here c there = subst (λ (x : ℕ). take 64 (drop x c) ≡ open_gate ∷ slot_body 1 j.count command) n.is_at
+      (subst (λ (l : ℕ). take l (drop place c) ≡ open_gate ∷ slot_body 1 j.count command) n.long (there ∙ n.is_slot))
 
-  pub holds_next : (next : JournalState) → next ≡ longer j → (c : List ℕ) → Written place bytes_there m0 c → Holds next c
-  holds_next next is c w = subst (λ (x : JournalState). Holds x c) (sym is) (holds_longer j n.known command n.fits m0 n.all n.some c (is_written c w))
+  pub may : (c : List ℕ) → MayWrite place slot_there m0 c → MayAppend j command m0 c
+  may c w = may_append j n.known command n.fits m0 n.all n.some c w.from w.left (same_here w.from c w.same)
+      (⊎_elim (λ shut_there. inl (subst (λ (x : ℕ). IsShut x c) n.is_at shut_there)) (λ there. inr (slot_here c there)) w.gated)
 
-  -- since the start, and now
-  pub may_since : (m : Moment) (past past_new : List Moment) → Leaves m0 m past past_new (MayWrite place bytes_there m0) → Leaves m0 m past past_new (MayAppend j command m0)
-  may_since m past past_new leaves = leaves_weaker m0 m past past_new (MayWrite place bytes_there m0) (MayAppend j command m0) leaves may
+  -- once the slot is written and synced
+  module _ (m1 : Moment) (is : m1 ≡ synced (written place slot_there m0)) where
+    same_in : (c : List ℕ) → Left m1 c → SameBut here 64 m0.bytes c
+    same_in c left = same_here m0.bytes c (done_same place slot_there m0 m1 room_there is c left)
+
+    there_in : (c : List ℕ) → Left m1 c → take 64 (drop here c) ≡ open_gate ∷ slot_body 1 j.count command
+    there_in c left = slot_here c (done_there place slot_there m0 m1 room_there is c left)
+
+    pub adds : (next : JournalState) → next ≡ longer j → Adds j next command m0 m1
+    adds next next_is = record {
+      added = λ c left. appended j n.known command n.fits m0 n.all n.some c (same_in c left) (there_in c left);
+      holds = λ c left. subst (λ (x : JournalState). Holds x c) (sym next_is) (holds_longer j n.known command n.fits m0 n.all n.some c (same_in c left) (there_in c left));
+      kept = same_here m0.bytes m1.bytes (done_kept place slot_there m0 m1 room_there is);
+      calm = done_calm place slot_there m0 m1 room_there is;
+    }
+
+-- since the start, and at the end
+pub append_leaves : {D : Type 0} (now : D → Moment) (past : D → List Moment) (d0 d1 : D) {j : JournalState} {command : Command} {place : ℕ} {slot_there : List ℕ} → IsNext j command (now d0) place slot_there
+    → LeavesOnly now past d0 d1 (MayWrite place slot_there (now d0)) → LeavesOnly now past d0 d1 (MayAppend j command (now d0))
+append_leaves now past d0 d1 {j} {command} {place} {slot_there} n leaves = only_weaker now past d0 d1 (MayWrite place slot_there (now d0)) (MayAppend j command (now d0)) leaves (may n)

@@ -1,5 +1,4 @@
 pub mod Spelling
-pub mod Gating
 pub mod Slots
 pub mod Closing
 pub mod Runs

@@ -1,5 +1,5 @@
 -- A journal some of whose gates behind the known room were written.
-use Rattle.std.proofs.Common.{◌≡◌, ◌≢◌, ⊎_elim, ℕ, ◌+◌, ◌-◌, ◌*◌, ◌<◌, ◌≤◌, ◌==◌, min, false, if◌then◌else◌, List, [], Some, length, get_or, take, drop, sym, ◌∙◌, ap, subst, arith, length-take, length-drop, get_or-take, get_or-drop, eq-eqb}
+use Rattle.std.proofs.Common.{◌≡◌, ◌≢◌, ⊎_elim, ℕ, ◌+◌, ◌-◌, ◌*◌, ◌<◌, ◌≤◌, ◌==◌, min, false, if◌then◌else◌, List, Some, length, get_or, take, drop, sym, ◌∙◌, ap, subst, arith, length-take, length-drop, get_or-take, get_or-drop, eq-eqb}
 use Rattle.std.proofs.lemmas.Bool.{cases_lt, cases_eq}
 use Rattle.std.proofs.lemmas.List.{ext_get_or}
 use Rattle.byteorder.specs.Endian.{little_number}
@@ -9,10 +9,10 @@ use Rattle.im_types.specs.Bytes.{open_gate}
 use Rattle.im_types.specs.Slot.{is_open, sequence_of}
 use Rattle.im_types.specs.Journal.{Ring, slot_at, slot, closed_from, room_of, tail}
 use Rattle.im_disk.specs.Moment.{Moment}
-use Rattle.im_disk.specs.Since.{SameBut, Leaves}
-use Rattle.im_disk.proofs.SinceLemmas.{left_now, left_settled, leaves_weaker}
-use Rattle.im_journal.specs.Holding.{JournalState, IsJournal, Holds, AllHold, to_sweep, with_room, SameRun, MaySweep}
-use Rattle.im_journal.specs.Gates.{closed_gate as shut_gate, SameButGates, MayClose, HasClosed}
+use Rattle.im_disk.specs.Since.{SameBut, LeavesOnly}
+use Rattle.im_disk.proofs.SinceLemmas.{left_now, left_settled, only_weaker}
+use Rattle.im_journal.specs.Holding.{JournalState, IsJournal, Holds, AllHold, to_sweep, with_room, SameRun, MaySweep, Sweeps}
+use Rattle.im_journal.specs.Gates.{closed_gate as shut_gate, SameButGates, MayClose, HasClosed, AreShut}
 use Rattle.im_journal.proofs.Slots.{slot_inside, away, same_slot, closed_gate}
 use Rattle.im_journal.proofs.Tails.{Parts, parts_of}
 use Rattle.im_journal.proofs.Rings.{other_number, closed_at}
@@ -214,15 +214,19 @@ module _ {s j : JournalState} {n : ℕ} {m0 : Moment} (t : IsTurn s j n m0) wher
     run = same_run_there s t.known n t.low t.few w.from c (t.all w.from w.left) w.same;
   })
 
-  pub sweep_leaves : (m : Moment) (past past_new : List Moment) → Leaves m0 m past past_new (MayClose s.ring (s.count + s.room) n m0) → Leaves m0 m past past_new (MaySweep j m0)
-  sweep_leaves m past past_new leaves = leaves_weaker m0 m past past_new (MayClose s.ring (s.count + s.room) n m0) (MaySweep j m0) leaves may_sweep
+  module _ (m : Moment) (shut : AreShut s.ring (s.count + s.room) n m0 m) where
+    held : Holds s m0.bytes
+    held = t.all m0.bytes (left_now m0)
 
-  module _ (bytes : List ℕ) (kept : SameButGates s.ring (s.count + s.room) n m0.bytes bytes) where
-    pub sweep_run : SameRun j m0.bytes bytes
-    sweep_run = subst (λ (x : JournalState). SameRun x m0.bytes bytes) t.is (same_run_there s t.known n t.low t.few m0.bytes bytes (t.all m0.bytes (left_now m0)) kept)
+    -- the journal, as its fields show it once they are swept
+    pub sweeps : Sweeps j (with_room s n) m0 m
+    sweeps = record {
+      holds = λ c left. subst (λ (l : List ℕ). Holds (with_room s n) l) (sym (left_settled m c shut.calm left)) (holds_swept s t.known n t.low t.few m0.bytes m.bytes held shut.kept n (omega arith) shut.closed);
+      run = subst (λ (x : JournalState). SameRun x m0.bytes m.bytes) t.is (same_run_there s t.known n t.low t.few m0.bytes m.bytes held shut.kept);
+      calm = shut.calm;
+    }
 
-    swept_held : HasClosed s.ring (s.count + s.room) n bytes → Holds (with_room s n) bytes
-    swept_held closed = holds_swept s t.known n t.low t.few m0.bytes bytes (t.all m0.bytes (left_now m0)) kept n (omega arith) closed
-
-  pub sweep_holds : (m : Moment) → SameButGates s.ring (s.count + s.room) n m0.bytes m.bytes → HasClosed s.ring (s.count + s.room) n m.bytes → m.ranges ≡ [] → AllHold (with_room s n) m
-  sweep_holds m kept closed calm c left = subst (λ (l : List ℕ). Holds (with_room s n) l) (sym (left_settled m c calm left)) (swept_held m.bytes kept closed)
+-- the same of a disk
+pub sweep_leaves : {D : Type 0} (now : D → Moment) (past : D → List Moment) (d0 d1 : D) {s j : JournalState} {n : ℕ} → IsTurn s j n (now d0)
+    → LeavesOnly now past d0 d1 (MayClose s.ring (s.count + s.room) n (now d0)) → LeavesOnly now past d0 d1 (MaySweep j (now d0))
+sweep_leaves now past d0 d1 {s} {j} {n} t leaves = only_weaker now past d0 d1 (MayClose s.ring (s.count + s.room) n (now d0)) (MaySweep j (now d0)) leaves (may_sweep t)

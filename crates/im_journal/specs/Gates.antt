@@ -1,27 +1,7 @@
--- A slot behind a gate: its bytes count where the gate is open.
-use Rattle.std.specs.Prelude.{◌≡◌, ◌≢◌, ◌⊎◌, ℕ, ◌+◌, ◌<◌, List, length, take, drop, slice_index}
-use Rattle.im_types.specs.Bytes.{open_gate}
+-- The gates of a ring's slots, as they are closed.
+use Rattle.std.specs.Prelude.{◌≡◌, ℕ, ◌+◌, ◌<◌, List, [], length, slice_index}
 use Rattle.im_types.specs.Journal.{Ring, slot_at}
 use Rattle.im_disk.specs.Moment.{Moment, Left}
-use Rattle.im_disk.specs.Since.{SameBut}
-
--- the gate at this offset is closed in each file that a crash at this moment may leave
-abbrev pub IsClosed : ℕ → Moment → Type 0
-IsClosed at m = (file : List ℕ) → Left m file → slice_index file at ≢ open_gate
-
--- the file is one that could be left, but for 64 bytes at this offset, and these are the slot
-pub record Written (at : ℕ) (slot : List ℕ) (m : Moment) (file : List ℕ) : Type 0 where
-  pub from : List ℕ
-  pub left : Left m from
-  pub same : SameBut at 64 from file
-  pub bytes : take 64 (drop at file) ≡ slot
-
--- the same, or their gate is closed
-pub record MayWrite (at : ℕ) (slot : List ℕ) (m : Moment) (file : List ℕ) : Type 0 where
-  pub from : List ℕ
-  pub left : Left m from
-  pub same : SameBut at 64 from file
-  pub bytes : (slice_index file at ≢ open_gate) ⊎ (take 64 (drop at file) ≡ slot)
 
 -- the byte that closes a gate: any but that of an open one would do
 abbrev pub closed_gate : ℕ
@@ -41,3 +21,9 @@ pub record MayClose (ring : Ring) (s n : ℕ) (m : Moment) (file : List ℕ) : T
 -- those gates are closed
 abbrev pub HasClosed : Ring → ℕ → ℕ → List ℕ → Type 0
 HasClosed ring s n file = (k : ℕ) → k < n → slice_index file (slot_at ring (s + k)) ≡ closed_gate
+
+-- Those gates are closed on the disk for good, and its other bytes are as they were.
+pub record AreShut (ring : Ring) (s n : ℕ) (old new : Moment) : Type 0 where
+  pub kept : SameButGates ring s n old.bytes new.bytes
+  pub closed : HasClosed ring s n new.bytes
+  pub calm : new.ranges ≡ []

@@ -1,14 +1,16 @@
 -- A journal over a disk: what its file holds, and what an append leaves.
-use Rattle.std.specs.Prelude.{◌≡◌, ◌≢◌, ◌⊎◌, ℕ, ◌+◌, ◌-◌, ◌*◌, ◌^◌, ◌<◌, ◌≤◌, ◌==◌, List, [], ◌∷◌, ◌++◌, length, slice_index, Some, option_map, if◌then◌else◌}
+use Rattle.std.specs.Prelude.{◌≡◌, ◌≢◌, ◌⊎◌, ℕ, ◌+◌, ◌-◌, ◌*◌, ◌^◌, ◌<◌, ◌≤◌, ◌==◌, min, List, [], ◌∷◌, ◌++◌, length, slice_index, Some, option_map, if◌then◌else◌, ◌↔◌, Result, IsErrOf}
 use Rattle.im_types.specs.declared.TheConstants.{LAST, MIN_SLOTS, MAX_SLOTS}
 use Rattle.im_types.specs.declared.commands.Command.{Command}
+use Rattle.im_types.specs.declared.refusals.Refusal.{Refusal}
+use Rattle.im_types.specs.declared.refusals.Refusal.TheVariants.{JournalFull}
 use Rattle.im_types.specs.declared.sizes.Limits.{Limits}
 use Rattle.im_types.specs.Bytes.{open_gate}
 use Rattle.im_types.specs.Slot.{slot_body, sequence_of}
 use Rattle.im_types.specs.Journal.{Ring, slot_at, slot, Tail, tail}
 use Rattle.im_types.specs.Layout.{layout_in_use, ring_of}
 use Rattle.im_disk.specs.Moment.{Moment, Left}
-use Rattle.im_disk.specs.Since.{SameBut}
+use Rattle.im_disk.specs.Since.{SameBut, LeavesNow}
 
 -- the ring of an image with these limits
 abbrev pub ring_under : Limits → Ring
@@ -83,6 +85,19 @@ pub record Appended (j : JournalState) (command : Command) (m : Moment) (file : 
   pub slot : slot j.ring j.count file ≡ open_gate ∷ slot_body 1 j.count command
   pub reads : tail j.ring j.first file ≡ option_map (longer_tail j.count command) (tail j.ring j.first from)
 
+-- The command is on the disk for good, and the journal that comes next is the tail of each file left; the bytes outside its
+-- slot are as they were.
+pub record Adds (j next : JournalState) (command : Command) (old new : Moment) : Type 0 where
+  pub added : LeavesNow new (Appended j command old)
+  pub holds : AllHold next new
+  pub kept : SameBut (slot_at j.ring j.count) 64 old.bytes new.bytes
+  pub calm : new.ranges ≡ []
+
+-- `JournalFull` is answered exactly where there is no room, and then the disk is as it was.
+pub record IsFullBy {T D : Type 0} (j : JournalState) (old new : D) (result : Result T Refusal) : Type 0 where
+  pub exactly : (IsErrOf result JournalFull) ↔ (j.room ≡ 0)
+  pub untouched : IsErrOf result JournalFull → new ≡ old
+
 -- the same, or its tail is as it was
 pub record MayAppend (j : JournalState) (command : Command) (m : Moment) (file : List ℕ) : Type 0 where
   pub from : List ℕ
@@ -111,6 +126,26 @@ pub record MaySweep (j : JournalState) (m : Moment) (file : List ℕ) : Type 0 w
   pub from : List ℕ
   pub left : Left m from
   pub run : SameRun j from file
+
+-- So many slots became room: as many as there were to be swept, three at most.
+pub record IsSwept (j : JournalState) (n : ℕ) (next : JournalState) : Type 0 where
+  pub turn : n ≡ min 3 (to_sweep j)
+  pub room : next ≡ with_room j n
+
+-- The room is on the disk for good: the journal with it is the tail of each file left, and the run is as it was.
+pub record Sweeps (j next : JournalState) (old new : Moment) : Type 0 where
+  pub holds : AllHold next new
+  pub run : SameRun j old.bytes new.bytes
+  pub calm : new.ranges ≡ []
+
+-- The file's tail from a sequence number on: these commands, and the room of the journal, which holds the file.
+pub record IsTail (ring : Ring) (first : ℕ) (j : JournalState) (commands : List Command) (file : List ℕ) : Type 0 where
+  pub reads : tail ring first file ≡ Some (record { commands = commands; room = j.room })
+  pub holds : Holds j file
+
+-- these are the bytes of so many slots
+abbrev pub AreSlots : ℕ → List ℕ → Type 0
+AreSlots slots bytes = (0 < slots) × (slots < 2 ^ 32) × (length bytes ≡ 64 * slots)
 
 -- the gates of a ring are closed
 abbrev pub AreClosed : Ring → List ℕ → Type 0

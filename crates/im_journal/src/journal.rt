@@ -1,16 +1,19 @@
 //! The journal as its owner sees it: how far its run of commands has come, how a command is added, and how the slots of
 //! commands before the run become room again.
-ghost use Rattle.std.specs.Prelude.{◌≡◌, ◌↔◌, ◌⊎◌, ◌+◌, ◌*◌, ◌-◌, ◌≤◌, ◌<◌, ◌^◌, List, [], ℕ, length, drop, min, Some, None, OnOk, OnErr, IfOk, IfErr, IsErrOf};
-ghost use Rattle.im_types.specs.Journal.{slot_at, tail};
-ghost use Rattle.im_disk.specs.Moment.{Left, Faults};
-ghost use Rattle.im_disk.specs.Since.{SameBut, Leaves, ReadsOnly};
-ghost use Rattle.im_journal.specs.Holding.{ring_under, IsJournal, Holds, AllHold, room_after, to_sweep, with_room, longer, SameRun, MaySweep, Appended, MayAppend, AreClosed};
+ghost use Rattle.std.specs.Prelude.{◌≡◌, ◌⊎◌, ◌+◌, ◌*◌, ◌-◌, ◌≤◌, ◌<◌, List, ℕ, length, drop, min, Some, None};
+ghost use Rattle.std.specs.Prelude.{OnOk, IfOk, MatchResult};
+ghost use Rattle.im_types.specs.Journal.{tail};
+ghost use Rattle.im_disk.specs.Moment.{Faults};
+ghost use Rattle.im_disk.specs.Since.{LeavesOnly, OnlyReads, Calls, CallsBy};
+ghost use Rattle.im_journal.specs.Holding.{ring_under, IsJournal, Holds, AllHold, AreClosed, IsTail};
+ghost use Rattle.im_journal.specs.Holding.{room_after, longer, MayAppend, Adds, IsFullBy};
+ghost use Rattle.im_journal.specs.Holding.{to_sweep, MaySweep, IsSwept, Sweeps};
 
 use crate::bytes::read_bytes;
-use crate::gate::{close_gates, write_slot};
+use crate::gate::close_gates;
 use crate::ring::tail_in;
 use crate::slot::spell;
-use im_disk::Disk;
+use im_disk::{Disk, write_behind_gate};
 use im_types::layout::journal_at;
 use im_types::{Command, LAST, Limits, Refusal};
 use std::alloc::Global;
@@ -71,9 +74,9 @@ impl Journal {
         }
     }
 
-    /// Reads the run of commands from a sequence number on, and the room behind it. `from` is the count of the header in
-    /// force, at most [`LAST`], and the file is long enough for the ring. It writes nothing, and reads the ring whole by
-    /// one call of the disk: 64 bytes a slot.
+    /// Reads the run of commands from a sequence number on, and the room behind it. `from` is the count of the header
+    /// in force, at most [`LAST`], and the file is long enough for the ring. It writes nothing, and reads the ring whole
+    /// by one call of the disk: 64 bytes a slot.
     ///
     /// `BadRecord` exactly where the file has no such tail: a slot of the run isn't spelled as it should be, or one
     /// from the first open gate behind the run on, up to the run's first slot, has a sequence number that isn't below
@@ -88,18 +91,16 @@ impl Journal {
         requires last { from ≤ LAST }
         requires inside { D.honest disk.old
             → (ring_under limits).base + 64 * limits.slots ≤ length (D.now disk.old).bytes }
-        ensures tail { IfOk result (λ r. D.honest disk.new → tail (ring_under limits) from (D.now disk.old).bytes
-            ≡ Some (record { commands = r.1.items; room = r.0.room })) }
+        ensures tail { MatchResult result (λ r. D.honest disk.new
+            → IsTail (ring_under limits) from r.0 r.1.items (D.now disk.old).bytes)
+            (λ e. e ≡ Refusal.BadRecord → D.honest disk.new
+            → tail (ring_under limits) from (D.now disk.old).bytes ≡ None) }
         ensures journal { IfOk result
             (λ r. (r.0.ring ≡ ring_under limits) × (r.0.first ≡ from) × (r.0.count ≡ from + length r.1.items)) }
-        ensures holds { IfOk result (λ r. D.honest disk.new → Holds r.0 (D.now disk.old).bytes) }
-        ensures bad { IsErrOf result Refusal.BadRecord → D.honest disk.new
-            → tail (ring_under limits) from (D.now disk.old).bytes ≡ None }
         ensures faults { Faults (λ e. (e ≡ Refusal.BadRecord) ⊎ (e ≡ Refusal.NoMemory) ⊎ (e ≡ Refusal.Device)) result
             (D.failures disk.old) (D.failures disk.new) }
-        ensures reads { D.honest disk.new
-            → ReadsOnly (D.now disk.old) (D.now disk.new) (D.past disk.old) (D.past disk.new) }
-        ensures calls { OnOk result (D.honest disk.new → length (D.past disk.new) ≡ length (D.past disk.old) + 1) }
+        ensures reads { D.honest disk.new → OnlyReads D.now D.past disk.old disk.new }
+        ensures calls { OnOk result (D.honest disk.new → Calls D.past disk.old disk.new 1) }
         ensures honest { D.honest disk.new → D.honest disk.old }
     {
         let base = journal_at(limits);
@@ -145,8 +146,8 @@ impl Journal {
         self.room // At most all slots.
     }
 
-    /// How many slots are neither of the run nor known to be room: their commands lie before the run, and their gates may
-    /// be open. 0 where the count is the last one that there is.
+    /// How many slots are neither of the run nor known to be room: their commands lie before the run, and their gates
+    /// may be open. 0 where the count is the last one that there is.
     pub fn to_sweep(&self) -> u32
         ensures { result ≡ to_sweep self.now }
     {
@@ -156,8 +157,8 @@ impl Journal {
         self.slots - (self.count - self.first) as u32 - self.room
     }
 
-    /// Begins the run at a later command, once the pages of the header in force hold the effects of those before it. Their
-    /// slots are then to be swept, before they are room. It makes no call of the disk.
+    /// Begins the run at a later command, once the pages of the header in force hold the effects of those before it.
+    /// Their slots are then to be swept, before they are room. It makes no call of the disk.
     pub fn begin_later(&mut self, first: u64)
         requires later { self.old.first ≤ first }
         requires counted { first ≤ self.old.count }
@@ -177,25 +178,15 @@ impl Journal {
     /// then the command is on the disk or not, the journal is as it was, and the image has to be opened again.
     pub fn append<D: Disk>(&mut self, disk: &mut D, command: &Command) -> Result<(), Refusal>
         requires holds { D.honest disk.old → AllHold self.old (D.now disk.old) }
-        // Each file that a crash may leave from the start on has the old run, or the old run and the command.
-        ensures leaves { D.honest disk.new → Leaves (D.now disk.old) (D.now disk.new) (D.past disk.old)
-            (D.past disk.new) (MayAppend self.old command.now (D.now disk.old)) }
-        ensures now { D.honest disk.new → (file : List ℕ) → Left (D.now disk.new) file
-            → MayAppend self.old command.now (D.now disk.old) file }
+        // Each file that a crash may leave, from the start on, has the old run, or the old run and the command.
+        ensures leaves { D.honest disk.new
+            → LeavesOnly D.now D.past disk.old disk.new (MayAppend self.old command.now (D.now disk.old)) }
         // Once it is done, each has the command.
-        ensures added { OnOk result (D.honest disk.new → (file : List ℕ) → Left (D.now disk.new) file
-            → Appended self.old command.now (D.now disk.old) file) }
-        ensures holds { OnOk result (D.honest disk.new → AllHold self.new (D.now disk.new)) }
-        // The bytes elsewhere stay, and all bytes are on the disk.
-        ensures kept { OnOk result (D.honest disk.new → SameBut (slot_at self.old.ring self.old.count) 64
-            (D.now disk.old).bytes (D.now disk.new).bytes) }
-        ensures calm { OnOk result (D.honest disk.new → (D.now disk.new).ranges ≡ []) }
-        ensures calls { OnOk result (D.honest disk.new → length (D.past disk.new) ≡ length (D.past disk.old) + 4) }
-        ensures few { D.honest disk.new → length (D.past disk.new) ≤ length (D.past disk.old) + 4 }
-        ensures longer { OnOk result (self.new ≡ longer self.old) }
-        ensures same { OnErr result (self.new ≡ self.old) }
-        ensures full { (IsErrOf result Refusal.JournalFull) ↔ (self.old.room ≡ 0) }
-        ensures untouched { IsErrOf result Refusal.JournalFull → disk.new ≡ disk.old }
+        ensures added { OnOk result (D.honest disk.new
+            → Adds self.old self.new command.now (D.now disk.old) (D.now disk.new)) }
+        ensures state { MatchResult result (λ _. self.new ≡ longer self.old) (λ _. self.new ≡ self.old) }
+        ensures calls { D.honest disk.new → CallsBy D.past disk.old disk.new 4 result }
+        ensures full { IsFullBy self.old disk.old disk.new result }
         ensures faults { Faults (λ e. (e ≡ Refusal.JournalFull) ⊎ (e ≡ Refusal.Device)) result
             (D.failures disk.old) (D.failures disk.new) }
         ensures honest { D.honest disk.new → D.honest disk.old }
@@ -205,7 +196,8 @@ impl Journal {
         }
         let at = self.base + 64 * ((self.count % self.slots as u64) as usize);
         let slot = spell(command, self.count);
-        if let Err(_) = write_slot(disk, at, &slot) {
+        // A stop leaves the slot closed, or all of it behind an open gate.
+        if let Err(_) = write_behind_gate(disk, at, &slot) {
             return Err(Refusal::Device);
         }
         let room = room_after(self.count, self.room);
@@ -217,32 +209,25 @@ impl Journal {
     /// Closes the gates of the oldest slots that are to be swept, three at most: a write of one byte for each of them,
     /// and a sync. Once it is done, the slots are room. It answers how many there were. It takes no memory.
     ///
-    /// `Device` where a call of the disk failed; then the journal is as it was, and so is each command of the run and the
-    /// known room behind it on the disk.
+    /// `Device` where a call of the disk failed; then the journal is as it was, and so is each command of the run and
+    /// the known room behind it on the disk.
     pub fn sweep_turn<D: Disk>(&mut self, disk: &mut D) -> Result<u32, Refusal>
         requires some { 0 < to_sweep self.old }
         requires holds { D.honest disk.old → AllHold self.old (D.now disk.old) }
-        // Each file that a crash may leave from the start on has the run and the known room.
-        ensures leaves { D.honest disk.new → Leaves (D.now disk.old) (D.now disk.new) (D.past disk.old)
-            (D.past disk.new) (MaySweep self.old (D.now disk.old)) }
-        ensures now { D.honest disk.new → (file : List ℕ) → Left (D.now disk.new) file
-            → MaySweep self.old (D.now disk.old) file }
-        ensures swept { IfOk result (λ n. n ≡ min 3 (to_sweep self.old)) }
-        ensures room { IfOk result (λ n. self.new ≡ with_room self.old n) }
-        ensures same { OnErr result (self.new ≡ self.old) }
+        // Each file that a crash may leave, from the start on, has the run and the known room.
+        ensures leaves { D.honest disk.new
+            → LeavesOnly D.now D.past disk.old disk.new (MaySweep self.old (D.now disk.old)) }
         // Once it is done, the room is on the disk.
-        ensures holds { OnOk result (D.honest disk.new → AllHold self.new (D.now disk.new)) }
-        ensures run { OnOk result (D.honest disk.new
-            → SameRun self.old (D.now disk.old).bytes (D.now disk.new).bytes) }
-        ensures calm { OnOk result (D.honest disk.new → (D.now disk.new).ranges ≡ []) }
-        ensures calls { IfOk result (λ n. D.honest disk.new
-            → length (D.past disk.new) ≡ length (D.past disk.old) + n + 1) }
-        ensures few { D.honest disk.new → length (D.past disk.new) ≤ length (D.past disk.old) + 4 }
+        ensures swept { OnOk result (D.honest disk.new
+            → Sweeps self.old self.new (D.now disk.old) (D.now disk.new)) }
+        ensures room { MatchResult result (λ n. IsSwept self.old n self.new) (λ _. self.new ≡ self.old) }
+        ensures calls { D.honest disk.new → CallsBy D.past disk.old disk.new (min 3 (to_sweep self.old) + 1) result }
         ensures faults { Faults (λ e. e ≡ Refusal.Device) result (D.failures disk.old) (D.failures disk.new) }
         ensures honest { D.honest disk.new → D.honest disk.old }
     {
         let next = self.count + self.room as u64;
         let turn = in_a_turn(self.to_sweep());
+        // Each slot is of a command before the run: nobody reads it, whatever a stop leaves of its gate.
         if let Err(_) = close_gates(disk, self.base, self.slots, next, turn) {
             return Err(Refusal::Device);
         }

@@ -1,9 +1,10 @@
 // The slots of a ring in memory: the run of commands, and what is behind it.
-ghost use Rattle.std.specs.Prelude.{◌≡◌, ◌⊎◌, ◌+◌, ◌*◌, ◌-◌, ◌<◌, ◌≤◌, ◌^◌, true, length, Some, None, IfOk, IfErr, IsErrOf, ◌==◌, if◌then◌else◌};
+ghost use Rattle.std.specs.Prelude.{◌≡◌, ◌⊎◌, ◌+◌, ◌*◌, ◌-◌, ◌<◌, ◌≤◌, ◌^◌, ◌==◌, true, length, if◌then◌else◌};
+ghost use Rattle.std.specs.Prelude.{Some, None, IfOk, IfErr, IsErrOf};
 ghost use Rattle.im_types.specs.Bytes.{open_gate};
 ghost use Rattle.im_types.specs.Slot.{is_open};
 ghost use Rattle.im_types.specs.Journal.{slot, continues, run_from, commands_in, closed_from, are_stale, tail};
-ghost use Rattle.im_journal.specs.Holding.{ring_alone};
+ghost use Rattle.im_journal.specs.Holding.{ring_alone, AreSlots};
 
 use crate::slot::{read, sequence_in};
 use im_types::layout::OPEN;
@@ -33,9 +34,7 @@ fn continues(slot: &[u8; 64], sequence: u64) -> bool
 
 // The commands from a sequence number on, at most once round the ring.
 fn run_in(alloc: Global, ring: &[u8], slots: usize, first: u64) -> Result<Vec<Command>, Refusal>
-    requires some { 0 < slots }
-    requires few { slots < 2 ^ 32 }
-    requires size { length ring.now ≡ 64 * slots }
+    requires slots { AreSlots slots ring.now }
     requires last { first ≤ LAST }
     ensures commands { IfOk result
         (λ v. commands_in (run_from (ring_alone slots) slots first ring.now) ≡ Some v.items) }
@@ -112,9 +111,7 @@ pub(crate) fn tail_in(
     slots: usize,
     first: u64,
 ) -> Result<(Vec<Command>, usize), Refusal>
-    requires some { 0 < slots }
-    requires few { slots < 2 ^ 32 }
-    requires size { length ring.now ≡ 64 * slots }
+    requires slots { AreSlots slots ring.now }
     requires last { first ≤ LAST }
     ensures tail { IfOk result
         (λ r. tail (ring_alone slots) first ring.now ≡ Some (record { commands = r.0.items; room = r.1 })) }

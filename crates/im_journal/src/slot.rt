@@ -1,7 +1,8 @@
 // A command as the 64 bytes of a slot.
 ghost use Rattle.std.specs.Prelude.{◌≡◌, ◌<◌, ◌^◌, ◌∷◌, drop, Some, IfSome};
 ghost use Rattle.im_types.specs.Bytes.{open_gate};
-ghost use Rattle.im_types.specs.Slot.{slot_fields, slot_body, command_of, command_in, sequence_of, read_slot, FitsCommand};
+ghost use Rattle.im_types.specs.Slot.{slot_fields, slot_body, sequence_of, FitsCommand};
+ghost use Rattle.im_types.specs.Slot.{command_of, command_in, read_slot};
 
 use byteorder::{ByteOrder, LittleEndian};
 use im_types::codes::{address_of, op_code, op_of, op_value};

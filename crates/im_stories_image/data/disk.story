@@ -267,7 +267,7 @@ if lost bytes = 01 02
 # A gate stays shut where the write of the body fails
 disk 4 = blank
 fuse stop 0 = so
-gate 0 05 06 = fault
+gate 0 a5 05 06 = fault
 if kept bytes = 00 00 00 00
 if lost bytes = 00 00 00 00
 if 01 bytes = 00 01 01 00
@@ -275,7 +275,7 @@ if 01 bytes = 00 01 01 00
 # A gate stays shut where the sync of the body fails
 disk 4 = blank
 fuse stop 1 = so
-gate 0 05 06 = fault
+gate 0 a5 05 06 = fault
 if kept bytes = 00 05 06 00
 if lost bytes = 00 00 00 00
 if 01 bytes = 00 01 01 00
@@ -283,7 +283,7 @@ if 01 bytes = 00 01 01 00
 # A gate opens or not where its write fails, over the whole body
 disk 4 = blank
 fuse stop 2 = so
-gate 0 05 06 = fault
+gate 0 a5 05 06 = fault
 if kept bytes = 00 05 06 00
 if lost bytes = 00 05 06 00
 if 01 bytes = 01 05 06 00
@@ -291,15 +291,42 @@ if 01 bytes = 01 05 06 00
 # A gate is open or not where its sync fails, over the whole body
 disk 4 = blank
 fuse stop 3 = so
-gate 0 05 06 = fault
-if kept bytes = 01 05 06 00
+gate 0 a5 05 06 = fault
+if kept bytes = a5 05 06 00
 if lost bytes = 00 05 06 00
 if 01 bytes = 01 05 06 00
 
 # A gate that was opened is open over the whole body
 disk 4 = blank
 fuse stop 4 = so
-gate 0 05 06 = ok
-if kept bytes = 01 05 06 00
-if lost bytes = 01 05 06 00
+gate 0 a5 05 06 = ok
+if kept bytes = a5 05 06 00
+if lost bytes = a5 05 06 00
+if 01 bytes = a5 05 06 00
+
+# A gate is opened over all that was written before it
+disk 8 = blank
+write 1 05 06 = ok
+write 5 07 = ok
+open 0 = ok
+if kept bytes = a5 05 06 00 00 07 00 00
+if lost bytes = a5 05 06 00 00 07 00 00
+if 01 bytes = a5 05 06 00 00 07 00 00
+
+# A gate is closed where the sync before it fails, whatever is left behind it
+disk 4 = blank
+write 1 05 06 = ok
+fuse stop 0 = so
+open 0 = fault
+if kept bytes = 00 05 06 00
+if lost bytes = 00 00 00 00
+if 01 bytes = 00 01 01 00
+
+# A gate is open or not where its own sync fails, and what is behind it stays
+disk 4 = blank
+write 1 05 06 = ok
+fuse stop 2 = so
+open 0 = fault
+if kept bytes = a5 05 06 00
+if lost bytes = 00 05 06 00
 if 01 bytes = 01 05 06 00

@@ -5,7 +5,8 @@
 //! fuse stop|once N, fuse scar N BYTE     from now on it passes so many calls, and then fails
 //! read AT N, write AT BYTE.., sync, length
 //! fail write AT N [BYTE], fail sync      a call that fails, and may leave a byte all over its range
-//! gate AT BYTE..                 writes the bytes behind a gate
+//! gate AT a5 BYTE..              writes the bytes, of which the first is an open gate, behind it
+//! open AT                        opens a gate
 //! six calls                      a dot for each that passed, and an x for each that failed
 //! crash KIND                     a crash: kept, lost, or a byte
 //! bytes, calls                   all bytes, with no call and no fuse from then on; how many calls there were
@@ -16,8 +17,9 @@ use crate::bytes::{add_bytes, hex_byte, hex_bytes};
 use crate::place::Place;
 use crate::tries::crash_kind;
 use anyhow::{Result, anyhow};
-use im_disk::{DeviceFault, Disk, MemDisk, Mode, write_behind_gate};
+use im_disk::{DeviceFault, Disk, MemDisk, Mode, open_gate, write_behind_gate};
 use im_story::{add_refusal, number, place};
+use im_types::layout::OPEN;
 use std::alloc::{AllocError, Global};
 
 /// Adds `ok`, or that the call failed.
@@ -116,12 +118,15 @@ fn six_calls(disk: &mut Blind, said: &mut String) -> Result<(), AllocError> {
     said.push(letter(disk.sync().is_err()))
 }
 
-// The bytes behind a gate.
-fn gate(disk: &mut Blind, at: usize, body: &[u8], said: &mut String) -> Result<()> {
+// The bytes behind their gate, the first of them.
+fn gate(disk: &mut Blind, at: usize, bytes: &[u8], said: &mut String) -> Result<()> {
     if at == usize::MAX {
         return Err(anyhow!("that is past the end"));
     }
-    add_passed(said, write_behind_gate(disk, at, body))?;
+    if bytes.is_empty() || bytes[0] != OPEN {
+        return Err(anyhow!("that gate isn't open"));
+    }
+    add_passed(said, write_behind_gate(disk, at, bytes))?;
     Ok(())
 }
 
@@ -168,6 +173,7 @@ pub fn tell_of_disk(
             let bytes = hex_bytes(alloc, rest)?;
             gate(here.disk()?, place(at)?, &bytes, said)?;
         }
+        ["open", at] => add_passed(said, open_gate(here.disk()?, place(at)?))?,
         ["six", "calls"] => six_calls(here.disk()?, said)?,
         ["length"] => length(here.disk()?, said)?,
         ["bytes"] => bytes(here, said)?,

@@ -17,7 +17,7 @@ returns-in-Err-clause-fault g c =
       | inl is ↦ inr (inr (λ h.
           let h0 = c.read_tail.ensures.honest h in
           subst (λ (e : Refusal). Reads layout_in_use (g.D.Disk.now c.args.disk.now).bytes (Err e)) (sym is)
-          (reads-no-tail (g.D.Disk.now c.args.disk.now).bytes (seen c.args.header) c.args.memory (c.requires.good h0) (c.requires.header h0) (c.requires.shown h0) (c.in-Err.ensures.bad (ap (λ (e : Refusal). Err e) is) h))))
+          (reads-no-tail (g.D.Disk.now c.args.disk.now).bytes (seen c.args.header) c.args.memory (c.requires.good h0) (c.requires.header h0) (c.requires.shown h0) (c.in-Err.ensures.tail is h))))
       | inr more ↦ elim more [ inl none ↦ inl none | inr device ↦ inr (inl device) ]
     ]
 
@@ -26,14 +26,14 @@ returns-then-replay-clause-means g c = λ h.
     let h0 = c.read_tail.ensures.honest h in
     let accepted = ap (λ (l : List Command). accept_each c.args.memory l) (sym c.deref.ensures.value) ∙ c.if-replay.ensures.yes refl in
     reads-all (g.D.Disk.now c.args.disk.now).bytes (seen c.args.header) c.args.memory (c.requires.good h0) (c.requires.header h0) (c.requires.shown h0)
-    c.in-Ok.read.1.items c.in-Ok.read.0.room c.in-Ok.read.0.count c.replay.new.memory (c.in-Ok.ensures.tail h) accepted c.in-Ok.ensures.journal.2
+    c.in-Ok.read.1.items c.in-Ok.read.0.room c.in-Ok.read.0.count c.replay.new.memory (c.in-Ok.ensures.tail h).reads accepted c.in-Ok.ensures.journal.2
 
 pub returns-else-replay-clause-fault : goal.returns-else-replay-clause-fault
 returns-else-replay-clause-fault g c = inr (inr (λ h.
     let h0 = c.read_tail.ensures.honest h in
     let un = ap (λ (l : List Command). accept_each c.args.memory l) (sym c.deref.ensures.value) ∙ c.if-replay.ensures.no refl in
     reads-unaccepted (g.D.Disk.now c.args.disk.now).bytes (seen c.args.header) c.args.memory (c.requires.good h0) (c.requires.header h0) (c.requires.shown h0)
-    c.in-Ok.read.1.items c.in-Ok.read.0.room (c.in-Ok.ensures.tail h) un))
+    c.in-Ok.read.1.items c.in-Ok.read.0.room (c.in-Ok.ensures.tail h).reads un))
 
 pub returns-then-replay-clause-cells : goal.returns-then-replay-clause-cells
 returns-then-replay-clause-cells g c =
