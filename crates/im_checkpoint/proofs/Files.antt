@@ -15,7 +15,7 @@ use Rattle.im_journal.proofs.Slots.{slot_inside, same_slot}
 use Rattle.im_journal.proofs.Tails.{tail_elsewhere}
 use Rattle.im_meaning.specs.Images.{other, IsBelow, IsImage}
 use Rattle.im_meaning.proofs.Meanings.{image_reads}
-use Rattle.im_meaning.proofs.Writes.{write_in_other_area, write_behind_closed_gate, write_lower_gate}
+use Rattle.im_meaning.proofs.Writes.{write_in_other_area, write_in_other_header, write_behind_closed_gate, write_lower_gate}
 use Rattle.im_checkpoint.specs.Step.{Step, CheckpointState}
 use Rattle.im_checkpoint.specs.Keeping.{MeansWith, other_area, KeepsStep, Keeps}
 use Rattle.im_checkpoint.proofs.Bytes.{range_byte, range_length, range_outside}
@@ -144,6 +144,11 @@ module _ (c : CheckpointState) (m : Contents) (j : JournalState) (file : List �
     image = image;
     journal = holds_still at n d but (omega (arith, to, place_to c.header.area));
   }
+
+  -- and its gate is closed then
+  pub still_shut : (d : List ℕ) → is_open_header (header_place (other c.header) d) ≡ false → SameBut (4096 * other c.header) 64 file d → Still d
+  still_shut d closed but = still_in_header (4096 * other c.header) 64 d but (omega arith)
+      (write_in_other_header layout_in_use c.header it.shown it.commands it.there file d (4096 * other c.header) 64 it.image but some (omega arith) (omega arith) (inl closed))
 
   pub still_behind_gate : (d : List ℕ) → is_open_header (header_place (other c.header) file) ≡ false → SameBut (4096 * other c.header + 1) 63 file d → Still d
   still_behind_gate d closed but = still_in_header (4096 * other c.header + 1) 63 d but (omega arith)

@@ -15,7 +15,7 @@ joined a b first second = ap (λ (t : Bool). t && b) first ∙ second
 same_number : (m n : ℕ) → (m == n) ≡ true → m ≡ n
 same_number m n is = grind (arith, nat_tests)
 
-same_itself : (m n : ℕ) → m ≡ n → (m == n) ≡ true
+pub same_itself : (m n : ℕ) → m ≡ n → (m == n) ≡ true
 same_itself m n is = grind (arith, nat_tests, is)
 
 least : (m n : ℕ) → nat_le m n ≡ true → m ≤ n

@@ -6,17 +6,19 @@ use Rattle.im_types.specs.Layout.{layout_in_use, page_bytes, area_at, area_bytes
 use Rattle.im_types.specs.Header.{header_place, header_body, is_open_header}
 use Rattle.im_disk.specs.Moment.{Moment, Left, Torn, Shaken, MayTick, overlaid, written, synced}
 use Rattle.im_disk.specs.Since.{Leaves, LeavesNow, SameBut}
-use Rattle.im_disk.proofs.SinceLemmas.{leaves_start, leaves_step, left_sync, left_torn, left_synced, left_settled}
+use Rattle.im_disk.specs.Gate.{IsShut, HasThere, IsClosed, MayWrite}
+use Rattle.im_disk.proofs.SinceLemmas.{leaves_start, leaves_step, left_sync, left_torn, left_settled}
+use Rattle.im_laws.proofs.Tests.{true_false}
 use Rattle.im_journal.specs.Holding.{JournalState, Holds}
 use Rattle.im_meaning.specs.Images.{other}
 use Rattle.im_checkpoint.specs.Step.{Taken, Step, NoCheckpoint, PagesLeft, PagesDone, Synced, CheckpointState, with_left}
 use Rattle.im_checkpoint.specs.Turns.{next_header, begun_at}
-use Rattle.im_checkpoint.specs.Keeping.{MeansWith, Keeps, IsCalm, IsKept}
+use Rattle.im_checkpoint.specs.Keeping.{MeansWith, KeepsStep, Keeps, IsCalm, IsKept}
 use Rattle.im_checkpoint.proofs.Bytes.{same_all, same_back, same_then, same_wider, same_overlaid}
-use Rattle.im_checkpoint.proofs.Headers.{area_from, place_to}
+use Rattle.im_checkpoint.proofs.Headers.{same_itself, area_from, place_to}
 use Rattle.im_checkpoint.proofs.Files.{Still, gate_is, still_means, keeps_at, still_in_area, still_gate, size}
 use Rattle.im_checkpoint.proofs.Pages.{page_length, page_fits, page_kept, closed_kept, shut_kept}
-use Rattle.im_checkpoint.proofs.Takeover.{body_fits, body_torn, gate_fits, gate_torn, in_force_kept}
+use Rattle.im_checkpoint.proofs.Takeover.{shut_torn, whole_there, next_kept}
 
 -- where nothing is in doubt every state is calm
 calm_all : (s : Step) (now : Moment) → now.ranges ≡ [] → IsCalm s now
@@ -171,72 +173,37 @@ module _ (c : CheckpointState) (m : Contents) (j : JournalState) (m0 : Moment) (
             (subst (λ (l : List ℕ). Keeps (record { header = c.header; step = Synced taken }) m j l) (sym bytes_are) (shut_kept c m j m0.bytes kept.read taken is opened))
 
   -- the next header
-  module _ (taken : Taken) (is : c.step ≡ Synced taken) (body : List ℕ) (body_is : body ≡ header_body (next_header c.header taken.count)) (body_size : length body ≡ 63) where
-    calm : m0.ranges ≡ []
-    calm = subst (λ (s : Step). IsCalm s m0) is kept.calm
-
+  module _ (taken : Taken) (is : c.step ≡ Synced taken) where
     only : (d : List ℕ) → Left m0 d → d ≡ m0.bytes
-    only d here = left_settled m0 d calm here
+    only d here = left_settled m0 d (subst (λ (s : Step). IsCalm s m0) is kept.calm) here
 
-    abbrev staged : List ℕ
-    staged = overlaid m0.bytes (4096 * other c.header + 1) body
+    shut_there : IsShut (4096 * other c.header) m0.bytes
+    shut_there opened =
+        let known = subst (λ (s : Step). KeepsStep c.header kept.read.shown kept.read.commands s m0.bytes) is kept.read.step in
+        true_false (sym (same_itself _ _ opened) ∙ sym (gate_is (other c.header) m0.bytes) ∙ known.2)
 
-    module _ (past0 : List Moment) (m1 : Moment) (past1 : List Moment) (tick1 : MayTick (Torn (4096 * other c.header + 1) (length body)) m0 m1 past0 past1) where
-      pub now1 : LeavesNow m1 (MeansWith m j)
-      now1 d here = ⊎_elim
-          (λ nothing. means_left d (subst (λ (x : Moment). Left x d) nothing.0 here))
-          (λ ticked. let from : (e : List ℕ) × Left m0 e × SameBut (4096 * other c.header + 1) (length body) e d =
-          left_torn (4096 * other c.header + 1) (length body) m0 m1 (body_fits c m j m0.bytes kept.read taken is body body_is body_size) ticked.now d here in
-          body_torn c m j m0.bytes kept.read taken is body body_is body_size d (subst (λ (l : List ℕ). SameBut (4096 * other c.header + 1) (length body) l d) (only from.0 from.1) from.2))
-          tick1
+    -- its gate is closed in each file that may be left
+    pub next_closed : IsClosed (4096 * other c.header) 64 m0
+    next_closed = record {
+      inside = omega (arith, place_to c.header.area, size c m j m0.bytes kept.read);
+      shut = λ d here. subst (λ (l : List ℕ). IsShut (4096 * other c.header) l) (sym (only d here)) shut_there;
+    }
 
-      pub leaves1 : Leaves m0 m1 past0 past1 (MeansWith m j)
-      leaves1 = leaves_step m0 m0 m1 past0 past0 past1 P (Torn (4096 * other c.header + 1) (length body)) (leaves_start m0 past0 P) tick1 now1
+    module _ (body : List ℕ) (body_is : body ≡ header_body (next_header c.header taken.count)) (body_size : length body ≡ 63) (bytes : List ℕ) (bytes_are : bytes ≡ open_gate ∷ body) where
+      long : length bytes ≡ 64
+      long = omega (arith, ap length bytes_are, body_size)
 
-      module _ (m2 : Moment) (past2 : List Moment) (tick2 : MayTick Shaken m1 m2 past1 past2) where
-        pub now2 : LeavesNow m2 (MeansWith m j)
-        now2 d here = now1 d (left_sync m1 m2 past1 past2 tick2 d here)
+      pub next_means : (d : List ℕ) → MayWrite (4096 * other c.header) bytes m0 d → MeansWith m j d
+      next_means d may =
+          let but : SameBut (4096 * other c.header) 64 m0.bytes d =
+          subst (λ (l : List ℕ). SameBut (4096 * other c.header) 64 l d) (only may.from may.left) (subst (λ (n : ℕ). SameBut (4096 * other c.header) n may.from d) long may.same) in
+          ⊎_elim
+          (λ shut. shut_torn c m j m0.bytes kept.read taken is body body_is body_size d but shut)
+          (λ there. whole_there c m j m0.bytes kept.read taken is body body_is body_size d but (subst (λ (l : List ℕ). HasThere (4096 * other c.header) l d) bytes_are there))
+          may.gated
 
-        pub leaves2 : Leaves m0 m2 past0 past2 (MeansWith m j)
-        leaves2 = leaves_step m0 m1 m2 past0 past1 past2 P Shaken leaves1 tick2 now2
-
-        module _ (is_written : m1 ≡ written (4096 * other c.header + 1) body m0) (is_synced : m2 ≡ synced m1) (gate : List ℕ) (gate_is_open : gate ≡ open_gate ∷ [])
-            (m3 : Moment) (past3 : List Moment) (tick3 : MayTick (Torn (4096 * other c.header) (length gate)) m2 m3 past2 past3) where
-          bytes2 : m2.bytes ≡ staged
-          bytes2 = ap (λ (x : Moment). x.bytes) is_synced ∙ ap (λ (x : Moment). x.bytes) is_written
-
-          only2 : (d : List ℕ) → Left m2 d → d ≡ staged
-          only2 d here = left_synced m1 d (subst (λ (x : Moment). Left x d) is_synced here) ∙ ap (λ (x : Moment). x.bytes) is_written
-
-          one : length gate ≡ 1
-          one = ap length gate_is_open
-
-          fits2 : 4096 * other c.header + length gate ≤ length m2.bytes
-          fits2 = omega (arith, one, ap length bytes2, gate_fits c m j m0.bytes kept.read taken is body body_is body_size)
-
-          pub now3 : LeavesNow m3 (MeansWith m j)
-          now3 d here = ⊎_elim
-              (λ nothing. now2 d (subst (λ (x : Moment). Left x d) nothing.0 here))
-              (λ ticked. let from : (e : List ℕ) × Left m2 e × SameBut (4096 * other c.header) (length gate) e d = left_torn (4096 * other c.header) (length gate) m2 m3 fits2 ticked.now d here in
-              gate_torn c m j m0.bytes kept.read taken is body body_is body_size d
-              (subst (λ (l : List ℕ). SameBut (4096 * other c.header) 1 l d) (only2 from.0 from.1) (subst (λ (n : ℕ). SameBut (4096 * other c.header) n from.0 d) one from.2)))
-              tick3
-
-          pub leaves3 : Leaves m0 m3 past0 past3 (MeansWith m j)
-          leaves3 = leaves_step m0 m2 m3 past0 past2 past3 P (Torn (4096 * other c.header) (length gate)) leaves2 tick3 now3
-
-          module _ (m4 : Moment) (past4 : List Moment) (tick4 : MayTick Shaken m3 m4 past3 past4) where
-            pub now4 : LeavesNow m4 (MeansWith m j)
-            now4 d here = now3 d (left_sync m3 m4 past3 past4 tick4 d here)
-
-            pub leaves4 : Leaves m0 m4 past0 past4 (MeansWith m j)
-            leaves4 = leaves_step m0 m3 m4 past0 past3 past4 P Shaken leaves3 tick4 now4
-
-            pub in_force_done : ((f : List ℕ) → Holds j f → Holds (begun_at taken.count j) f) → m3 ≡ written (4096 * other c.header) gate m2 → m4 ≡ synced m3
-                → IsKept (record { header = next_header c.header taken.count; step = NoCheckpoint }) m (begun_at taken.count j) m4
-            in_force_done later is_opened is_kept =
-                let bytes_are : m3.bytes ≡ overlaid staged (4096 * other c.header) (open_gate ∷ []) =
-                ap (λ (x : Moment). x.bytes) is_opened ∙ ap (λ (l : List ℕ). overlaid m2.bytes (4096 * other c.header) l) gate_is_open ∙ ap (λ (l : List ℕ). overlaid l (4096 * other c.header) (open_gate ∷ [])) bytes2 in
-                kept_synced (record { header = next_header c.header taken.count; step = NoCheckpoint }) m (begun_at taken.count j) m3 m4 is_kept
-                (subst (λ (l : List ℕ). Keeps (record { header = next_header c.header taken.count; step = NoCheckpoint }) m (begun_at taken.count j) l) (sym bytes_are)
-                (in_force_kept c m j m0.bytes kept.read taken is body body_is body_size later))
+      pub in_force_done : ((f : List ℕ) → Holds j f → Holds (begun_at taken.count j) f) → (m1 : Moment) → m1 ≡ synced (written (4096 * other c.header) bytes m0)
+          → IsKept (record { header = next_header c.header taken.count; step = NoCheckpoint }) m (begun_at taken.count j) m1
+      in_force_done later m1 is_written = kept_synced (record { header = next_header c.header taken.count; step = NoCheckpoint }) m (begun_at taken.count j) (written (4096 * other c.header) bytes m0) m1 is_written
+          (subst (λ (l : List ℕ). Keeps (record { header = next_header c.header taken.count; step = NoCheckpoint }) m (begun_at taken.count j) (overlaid m0.bytes (4096 * other c.header) l)) (sym bytes_are)
+          (next_kept c m j m0.bytes kept.read taken is body body_is body_size later))

@@ -7,8 +7,8 @@ use Rattle.im_types.specs.Layout.{layout_in_use, area_at, area_bytes, area_of, j
 use Rattle.im_types.specs.Header.{header_in, header_place, is_open_header, spells_header}
 use Rattle.im_types.specs.Pages.{Shows}
 use Rattle.im_disk.specs.Moment.{Moment}
-use Rattle.im_disk.specs.Since.{Leaves, SameBut}
-use Rattle.im_disk.proofs.SinceLemmas.{leaves_weaker, left_now, left_settled}
+use Rattle.im_disk.specs.Since.{SameBut}
+use Rattle.im_disk.proofs.SinceLemmas.{left_now, left_settled}
 use Rattle.im_journal.specs.Holding.{JournalState, AllHold, with_room, SameRun, MaySweep}
 use Rattle.im_meaning.specs.Images.{other, IsBelow, InForce, IsImage}
 use Rattle.im_checkpoint.specs.Step.{Step, NoCheckpoint, CheckpointState}
@@ -108,9 +108,6 @@ module _ (c : CheckpointState) (m : Contents) (j : JournalState) (m0 : Moment) (
 
   pub sweep_means : (d : List ℕ) → MaySweep j m0 d → MeansWith m j d
   sweep_means d may = swept_means c m j m0.bytes kept.read d (subst (λ (l : List ℕ). SameRun j l d) (left_settled m0 may.from calm may.left) may.run)
-
-  pub sweep_leaves : (m1 : Moment) (past0 past1 : List Moment) → Leaves m0 m1 past0 past1 (MaySweep j m0) → Leaves m0 m1 past0 past1 (MeansWith m j)
-  sweep_leaves m1 past0 past1 leaves = leaves_weaker m0 m1 past0 past1 (MaySweep j m0) (MeansWith m j) leaves sweep_means
 
   pub sweep_done : (m1 : Moment) (n : ℕ) (k : JournalState) → k ≡ with_room j n → SameRun j m0.bytes m1.bytes → m1.ranges ≡ [] → AllHold k m1 → IsKept c m k m1
   sweep_done m1 n k k_is run none holds = kept_calm c m k m1 none (record {

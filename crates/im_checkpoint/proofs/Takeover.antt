@@ -1,5 +1,6 @@
 -- The next header: behind its closed gate, and in force.
-use Rattle.std.proofs.Common.{◌≡◌, ◌⊎◌, inl, ⊎_elim, ℕ, ◌+◌, ◌-◌, ◌*◌, ◌<◌, ◌≤◌, ◌==◌, true, false, List, [], ◌∷◌, length, get_or, drop, slice_range, Some, refl, sym, ◌∙◌, ap, subst, arith, length-drop}
+use Rattle.std.proofs.Common.{◌≡◌, ◌⊎◌, inl, inr, ⊎_elim, ℕ, suc, ◌+◌, ◌-◌, ◌*◌, ◌<◌, ◌≤◌, ◌==◌, true, false, List, [], ◌∷◌, length, get_or, drop, slice_range, Some, refl, sym, ◌∙◌, ap, subst, arith, length-drop, get_or-take, get_or-drop}
+use Rattle.std.proofs.lemmas.Bool.{cases_lt}
 use Rattle.std.proofs.lemmas.List.{ext_get_or}
 use Rattle.im_types.specs.Bytes.{open_gate}
 use Rattle.im_types.specs.Contents.{Contents}
@@ -9,8 +10,11 @@ use Rattle.im_types.specs.Pages.{Shows}
 use Rattle.im_types.specs.Meaning.{accept_each}
 use Rattle.im_disk.specs.Moment.{overlaid}
 use Rattle.im_disk.specs.Since.{SameBut}
+use Rattle.im_disk.specs.Gate.{IsShut, HasThere}
+use Rattle.im_disk.proofs.GateLemmas.{body_and_gate}
 use Rattle.im_disk.proofs.OverlayLemmas.{overlaid_inside}
 use Rattle.im_journal.specs.Holding.{JournalState, Holds}
+use Rattle.im_journal.proofs.Rings.{other_number}
 use Rattle.im_meaning.specs.Images.{other, IsImage, Follows, IsPrepared}
 use Rattle.im_meaning.proofs.Meanings.{opened_image, one_of_two}
 use Rattle.im_checkpoint.specs.Step.{Taken, Step, NoCheckpoint, Synced, CheckpointState}
@@ -18,7 +22,7 @@ use Rattle.im_checkpoint.specs.Turns.{next_header, begun_at}
 use Rattle.im_checkpoint.specs.Keeping.{MeansWith, IsTaken, other_area, KeepsStep, Keeps}
 use Rattle.im_checkpoint.proofs.Bytes.{same_overlaid, same_wider, same_then, range_byte, range_length}
 use Rattle.im_checkpoint.proofs.Headers.{follows, place_to}
-use Rattle.im_checkpoint.proofs.Files.{Still, accept_later, means_of, gate_is, facts, some, enough, size, still_means, still_behind_gate, holds_still, area_stays}
+use Rattle.im_checkpoint.proofs.Files.{Still, accept_later, means_of, gate_is, facts, some, enough, size, still_means, still_shut, still_behind_gate, holds_still, area_stays}
 
 module _ (c : CheckpointState) (m : Contents) (j : JournalState) (file : List ℕ) (it : Keeps c m j file) (taken : Taken) (is : c.step ≡ Synced taken) (body : List ℕ) (body_is : body ≡ header_body (next_header c.header taken.count)) (body_size : length body ≡ 63) where
   abbrev next : Header
@@ -37,12 +41,8 @@ module _ (c : CheckpointState) (m : Contents) (j : JournalState) (file : List �
   place_fits : 4096 * other c.header + 64 ≤ length file
   place_fits = omega (arith, place_low, size c m j file it)
 
-  pub body_fits : 4096 * other c.header + 1 + length body ≤ length file
+  body_fits : 4096 * other c.header + 1 + length body ≤ length file
   body_fits = omega (arith, place_fits, body_size)
-
-  -- the body is being written, behind a closed gate
-  pub body_torn : (d : List ℕ) → SameBut (4096 * other c.header + 1) (length body) file d → MeansWith m j d
-  body_torn d but = still_means c m j file it d (still_behind_gate c m j file it d known.2 (subst (λ (n : ℕ). SameBut (4096 * other c.header + 1) n file d) body_size but))
 
   -- the body is written
   abbrev staged : List ℕ
@@ -99,17 +99,55 @@ module _ (c : CheckpointState) (m : Contents) (j : JournalState) (file : List �
     either : IsImage layout_in_use c.header it.shown it.commands it.there d ⊎ IsImage layout_in_use next known.0.memory (drop known.0.many it.commands) it.there d
     either = one_of_two layout_in_use c.header next it.shown known.0.memory it.commands it.there known.0.many staged d staged_still.image (some c m j file it) follow prepared but known.0.count known.0.few
 
-    pub gate_torn : MeansWith m j d
+    gate_torn : MeansWith m j d
     gate_torn = ⊎_elim
         (λ image. means_of c.header m j it.shown it.commands it.there d image it.accepts it.count (enough c m j file it))
         (λ image. means_of next m j known.0.memory (drop known.0.many it.commands) it.there d image left_over left_count (enough c m j file it))
         either
 
+  -- the header is being written
+  module _ (d : List ℕ) (but : SameBut (4096 * other c.header) 64 file d) where
+    -- its gate is closed
+    pub shut_torn : IsShut (4096 * other c.header) d → MeansWith m j d
+    shut_torn shut = still_means c m j file it d (still_shut c m j file it d (gate_is (other c.header) d ∙ other_number _ _ shut) but)
+
+    -- all of it stands there
+    module _ (there : HasThere (4096 * other c.header) (open_gate ∷ body) d) where
+      there_byte : (k : ℕ) → k < 64 → get_or d (4096 * other c.header + k) 0 ≡ get_or (open_gate ∷ body) k 0
+      there_byte k low =
+          sym (get_or-drop (4096 * other c.header) d k 0)
+          ∙ sym (get_or-take (length (open_gate ∷ body)) (drop (4096 * other c.header) d) k 0 (omega (arith, low, body_size)))
+          ∙ ap (λ (l : List ℕ). get_or l k 0) there
+
+      body_byte : (i : ℕ) → 4096 * other c.header + 1 ≤ i → i < 4096 * other c.header + 64 → get_or d i 0 ≡ get_or staged i 0
+      body_byte i from to =
+          let back : i ≡ 4096 * other c.header + (i - 4096 * other c.header) = omega (arith, from) in
+          let behind : i - 4096 * other c.header ≡ suc (i - (4096 * other c.header + 1)) = omega (arith, from) in
+          ap (λ (n : ℕ). get_or d n 0) back
+          ∙ there_byte (i - 4096 * other c.header) (omega (arith, from, to))
+          ∙ ap (λ (k : ℕ). get_or (open_gate ∷ body) k 0) behind
+          ∙ sym (overlaid_inside file (4096 * other c.header + 1) body body_fits i from (omega (arith, to, body_size)))
+
+      but_gate : SameBut (4096 * other c.header) 1 staged d
+      but_gate = record {
+        size = but.size ∙ sym staged_but.size;
+        same = λ i out. ⊎_elim
+            (λ (low : i < 4096 * other c.header). but.same i (inl low) ∙ sym (staged_but.same i (inl (omega arith))))
+            (λ (high : 4096 * other c.header + 1 ≤ i). ⊎_elim
+            (λ (inside : i < 4096 * other c.header + 64). body_byte i high inside)
+            (λ (beyond : 4096 * other c.header + 64 ≤ i). but.same i (inr beyond) ∙ sym (staged_but.same i (inr (omega (arith, beyond, body_size)))))
+            (cases_lt i (4096 * other c.header + 64)))
+            out;
+      }
+
+      pub whole_there : MeansWith m j d
+      whole_there = gate_torn d but_gate
+
   -- the gate is open
   abbrev opened_file : List ℕ
   opened_file = overlaid staged (4096 * other c.header) (open_gate ∷ [])
 
-  pub gate_fits : 4096 * other c.header + 1 ≤ length staged
+  gate_fits : 4096 * other c.header + 1 ≤ length staged
   gate_fits = omega (arith, staged_fits)
 
   opened_but : SameBut (4096 * other c.header) 1 staged opened_file
@@ -128,7 +166,7 @@ module _ (c : CheckpointState) (m : Contents) (j : JournalState) (file : List �
       (same_wider (4096 * other c.header + 1) 63 (4096 * other c.header) 64 file staged staged_63 (omega arith) (omega arith))
       (same_wider (4096 * other c.header) 1 (4096 * other c.header) 64 staged opened_file opened_but (omega arith) (omega arith))
 
-  pub in_force_kept : ((f : List ℕ) → Holds j f → Holds (begun_at taken.count j) f) → Keeps (record { header = next; step = NoCheckpoint }) m (begun_at taken.count j) opened_file
+  in_force_kept : ((f : List ℕ) → Holds j f → Holds (begun_at taken.count j) f) → Keeps (record { header = next; step = NoCheckpoint }) m (begun_at taken.count j) opened_file
   in_force_kept later = record {
     shown = known.0.memory;
     commands = drop known.0.many it.commands;
@@ -141,3 +179,7 @@ module _ (c : CheckpointState) (m : Contents) (j : JournalState) (file : List �
     journal = later opened_file (holds_still c m j file it (4096 * other c.header) 64 opened_file opened_place place_low);
     step = tt;
   }
+
+  pub next_kept : ((f : List ℕ) → Holds j f → Holds (begun_at taken.count j) f) → Keeps (record { header = next; step = NoCheckpoint }) m (begun_at taken.count j) (overlaid file (4096 * other c.header) (open_gate ∷ body))
+  next_kept later = subst (λ (l : List ℕ). Keeps (record { header = next; step = NoCheckpoint }) m (begun_at taken.count j) l)
+      (body_and_gate file body (4096 * other c.header) open_gate body_fits) (in_force_kept later)

@@ -1,5 +1,5 @@
 -- What a turn's writes come to, by the fields of a checkpoint.
-use Rattle.std.proofs.Common.{◌≡◌, ◌≢◌, ℕ, ◌+◌, ◌-◌, ◌*◌, ◌<◌, ◌≤◌, ◌==◌, Bool, true, false, List, [], ◌∷◌, length, get_or, take, drop, slice_range, get_or-take, get_or-drop, refl, sym, ◌∙◌, ap, subst, arith, if◌then◌else◌, inl, length-take, length-drop}
+use Rattle.std.proofs.Common.{◌≡◌, ◌≢◌, ℕ, ◌+◌, ◌-◌, ◌*◌, ◌<◌, ◌≤◌, ◌==◌, Bool, true, false, List, [], ◌∷◌, length, get_or, take, drop, slice_range, get_or-take, get_or-drop, refl, sym, ◌∙◌, ap, subst, arith, if◌then◌else◌, inl, length-drop}
 use Rattle.std.specs.List.{Contains}
 use Rattle.std.proofs.lemmas.List.{take_all}
 use Rattle.std.proofs.lemmas.Bool.Decides.{nat_tests}
@@ -11,8 +11,9 @@ use Rattle.im_types.specs.Layout.{layout_in_use, area_at, area_pages, area_bytes
 use Rattle.im_types.specs.Header.{Header, header_place, header_body, is_open_header}
 use Rattle.im_types.specs.Pages.{Shows}
 use Rattle.im_types.specs.Meaning.{accept_each}
-use Rattle.im_disk.specs.Moment.{Moment, Torn, Shaken, MayTick, written, synced}
+use Rattle.im_disk.specs.Moment.{Moment, Torn, MayTick, written, synced}
 use Rattle.im_disk.specs.Since.{Leaves, LeavesNow}
+use Rattle.im_disk.specs.Gate.{IsClosed, MayWrite}
 use Rattle.im_journal.specs.Holding.{JournalState, Holds}
 use Rattle.im_meaning.specs.Images.{other}
 use Rattle.im_checkpoint.specs.declared.checkpoint.Progress.{Progress}
@@ -22,7 +23,7 @@ use Rattle.im_checkpoint.specs.Turns.{next_header, begun_at}
 use Rattle.im_checkpoint.specs.Keeping.{MeansWith, IsKept}
 use Rattle.im_journal.proofs.Rings.{other_number}
 use Rattle.im_checkpoint.proofs.Files.{gate_is}
-use Rattle.im_checkpoint.proofs.Moments.{page_now, page_leaves, page_done, now1, leaves1, now2, leaves2, now3, leaves3, now4, leaves4, in_force_done}
+use Rattle.im_checkpoint.proofs.Moments.{page_now, page_leaves, page_done, next_closed, next_means, in_force_done}
 use Rattle.im_checkpoint.proofs.PageLists.{pages_contain, state_left, page_low}
 
 -- the state once one page more is written
@@ -89,71 +90,34 @@ closed_by k file gate read isnt = gate_is k file
     ∙ other_number (get_or file (4096 * k) 0) open_gate (λ e. isnt (gate_byte k file gate read ∙ e))
 
 -- the next header as it is spelled
-module _ (x : Header) (spelled : List ℕ) (spelled_is : spelled ≡ open_gate ∷ header_body x) (long : length spelled ≡ 64) where
-  body_size : length (take 63 (drop 1 spelled)) ≡ 63
-  body_size = omega (arith, long, length-take 63 (drop 1 spelled), length-drop 1 spelled)
+module _ (x : Header) (spelled : List ℕ) (spelled_is : spelled ≡ open_gate ∷ header_body x) (long : length spelled ≡ 64) (h : Header) (taken : Taken) (is : x ≡ next_header h taken.count)
+    (m : Contents) (j : JournalState) (m0 : Moment) (kept : IsKept (record { header = h; step = Synced taken }) m j m0) where
+  abbrev at_sync : CheckpointState
+  at_sync = record { header = h; step = Synced taken }
 
-  rest_size : length (header_body x) ≡ 63
-  rest_size = omega (arith, long, ap length spelled_is)
+  abbrev body : List ℕ
+  body = header_body (next_header h taken.count)
 
-  body_is : take 63 (drop 1 spelled) ≡ header_body x
-  body_is = ap (λ (l : List ℕ). take 63 (drop 1 l)) spelled_is ∙ take_all 63 (header_body x) (omega (arith, rest_size))
+  area_is : x.area ≡ other h
+  area_is = ap (λ (y : Header). y.area) is
 
-  gate_is_open : take 1 spelled ≡ open_gate ∷ []
-  gate_is_open = ap (λ (l : List ℕ). take 1 l) spelled_is
+  spelled_next : spelled ≡ open_gate ∷ header_body (next_header h taken.count)
+  spelled_next = spelled_is ∙ ap (λ (y : Header). open_gate ∷ header_body y) is
 
-  module _ (h : Header) (taken : Taken) (is : x ≡ next_header h taken.count) (m : Contents) (j : JournalState) (m0 : Moment) (kept : IsKept (record { header = h; step = Synced taken }) m j m0)
-      (past0 : List Moment) (m1 : Moment) (past1 : List Moment) (tick1 : MayTick (Torn (4096 * x.area + 1) (length (take 63 (drop 1 spelled)))) m0 m1 past0 past1) where
-    area_is : x.area ≡ other h
-    area_is = ap (λ (y : Header). y.area) is
+  body_size : length (header_body (next_header h taken.count)) ≡ 63
+  body_size = omega (arith, long, ap length spelled_next)
 
-    now_body : take 63 (drop 1 spelled) ≡ header_body (next_header h taken.count)
-    now_body = body_is ∙ ap header_body is
+  pub opening_means : (d : List ℕ) → MayWrite (4096 * x.area) spelled m0 d → MeansWith m j d
+  opening_means d may = next_means at_sync m j m0 kept taken refl body refl body_size spelled spelled_next d (subst (λ (n : ℕ). MayWrite (4096 * n) spelled m0 d) area_is may)
 
-    abbrev at_sync : CheckpointState
-    at_sync = record { header = h; step = Synced taken }
+  pub opening_done : ((f : List ℕ) → Holds j f → Holds (begun_at taken.count j) f) → (m1 : Moment) → m1 ≡ synced (written (4096 * x.area) spelled m0)
+      → IsKept (record { header = next_header h taken.count; step = NoCheckpoint }) m (begun_at taken.count j) m1
+  opening_done later m1 is_written = in_force_done at_sync m j m0 kept taken refl body refl body_size spelled spelled_next later m1
+      (subst (λ (n : ℕ). m1 ≡ synced (written (4096 * n) spelled m0)) area_is is_written)
 
-    first : MayTick (Torn (4096 * other h + 1) (length (take 63 (drop 1 spelled)))) m0 m1 past0 past1
-    first = subst (λ (n : ℕ). MayTick (Torn (4096 * n + 1) (length (take 63 (drop 1 spelled)))) m0 m1 past0 past1) area_is tick1
-
-    pub opening_now1 : LeavesNow m1 (MeansWith m j)
-    opening_now1 = now1 at_sync m j m0 kept taken refl (take 63 (drop 1 spelled)) now_body body_size past0 m1 past1 first
-
-    pub opening_leaves1 : Leaves m0 m1 past0 past1 (MeansWith m j)
-    opening_leaves1 = leaves1 at_sync m j m0 kept taken refl (take 63 (drop 1 spelled)) now_body body_size past0 m1 past1 first
-
-    module _ (m2 : Moment) (past2 : List Moment) (tick2 : MayTick Shaken m1 m2 past1 past2) where
-      pub opening_now2 : LeavesNow m2 (MeansWith m j)
-      opening_now2 = now2 at_sync m j m0 kept taken refl (take 63 (drop 1 spelled)) now_body body_size past0 m1 past1 first m2 past2 tick2
-
-      pub opening_leaves2 : Leaves m0 m2 past0 past2 (MeansWith m j)
-      opening_leaves2 = leaves2 at_sync m j m0 kept taken refl (take 63 (drop 1 spelled)) now_body body_size past0 m1 past1 first m2 past2 tick2
-
-      module _ (is_written : m1 ≡ written (4096 * x.area + 1) (take 63 (drop 1 spelled)) m0) (is_synced : m2 ≡ synced m1)
-          (m3 : Moment) (past3 : List Moment) (tick3 : MayTick (Torn (4096 * x.area) (length (take 1 spelled))) m2 m3 past2 past3) where
-        first_written : m1 ≡ written (4096 * other h + 1) (take 63 (drop 1 spelled)) m0
-        first_written = subst (λ (n : ℕ). m1 ≡ written (4096 * n + 1) (take 63 (drop 1 spelled)) m0) area_is is_written
-
-        third : MayTick (Torn (4096 * other h) (length (take 1 spelled))) m2 m3 past2 past3
-        third = subst (λ (n : ℕ). MayTick (Torn (4096 * n) (length (take 1 spelled))) m2 m3 past2 past3) area_is tick3
-
-        pub opening_now3 : LeavesNow m3 (MeansWith m j)
-        opening_now3 = now3 at_sync m j m0 kept taken refl (take 63 (drop 1 spelled)) now_body body_size past0 m1 past1 first m2 past2 tick2 first_written is_synced (take 1 spelled) gate_is_open m3 past3 third
-
-        pub opening_leaves3 : Leaves m0 m3 past0 past3 (MeansWith m j)
-        opening_leaves3 = leaves3 at_sync m j m0 kept taken refl (take 63 (drop 1 spelled)) now_body body_size past0 m1 past1 first m2 past2 tick2 first_written is_synced (take 1 spelled) gate_is_open m3 past3 third
-
-        module _ (m4 : Moment) (past4 : List Moment) (tick4 : MayTick Shaken m3 m4 past3 past4) where
-          pub opening_now4 : LeavesNow m4 (MeansWith m j)
-          opening_now4 = now4 at_sync m j m0 kept taken refl (take 63 (drop 1 spelled)) now_body body_size past0 m1 past1 first m2 past2 tick2 first_written is_synced (take 1 spelled) gate_is_open m3 past3 third m4 past4 tick4
-
-          pub opening_leaves4 : Leaves m0 m4 past0 past4 (MeansWith m j)
-          opening_leaves4 = leaves4 at_sync m j m0 kept taken refl (take 63 (drop 1 spelled)) now_body body_size past0 m1 past1 first m2 past2 tick2 first_written is_synced (take 1 spelled) gate_is_open m3 past3 third m4 past4 tick4
-
-          pub opening_done : ((f : List ℕ) → Holds j f → Holds (begun_at taken.count j) f) → m3 ≡ written (4096 * x.area) (take 1 spelled) m2 → m4 ≡ synced m3
-              → IsKept (record { header = next_header h taken.count; step = NoCheckpoint }) m (begun_at taken.count j) m4
-          opening_done later is_opened is_kept = in_force_done at_sync m j m0 kept taken refl (take 63 (drop 1 spelled)) now_body body_size past0 m1 past1 first m2 past2 tick2 first_written is_synced (take 1 spelled) gate_is_open m3 past3 third m4 past4 tick4
-              later (subst (λ (n : ℕ). m3 ≡ written (4096 * n) (take 1 spelled) m2) area_is is_opened) is_kept
+-- where all pages are on the disk, the other header's gate is closed there
+pub other_closed : (h : Header) (taken : Taken) (m : Contents) (j : JournalState) (m0 : Moment) → IsKept (record { header = h; step = Synced taken }) m j m0 → IsClosed (4096 * other h) 64 m0
+other_closed h taken m j m0 kept = next_closed (record { header = h; step = Synced taken }) m j m0 kept taken refl
 
 -- a checkpoint that begins
 pub begun_kept : (h : Header) (m : Contents) (j : JournalState) (now : Moment) (area pages : List ℕ) → IsKept (record { header = h; step = NoCheckpoint }) m j now → j.count ≤ LAST → h.generation < LAST

@@ -21,8 +21,10 @@ ghost use Rattle.im_types.specs.Layout as layout;
 ghost use Rattle.im_types.specs.Layout.{layout_in_use, sizes_of};
 ghost use Rattle.im_types.specs.Pages.{Shows};
 ghost use Rattle.im_disk.specs.Moment.{Moment, Faults};
+ghost use Rattle.im_disk.specs.Gate.{IsClosed};
 ghost use Rattle.im_disk.specs.Since.{CallsAtMost};
 ghost use Rattle.im_journal.specs.Holding.{JournalState, AllHold, to_sweep, with_room};
+ghost use Rattle.im_meaning.specs.Images.{other};
 ghost use Rattle.im_image.specs.Headers.{seen};
 ghost use Rattle.im_checkpoint.specs.Step.{Taken, NoCheckpoint, PagesLeft, CheckpointState, all_pages, pages_from};
 ghost use Rattle.im_checkpoint.specs.Step.{IsPagesLeft, IsPagesDone, IsSynced};
@@ -221,7 +223,7 @@ impl Checkpoint {
         journal: &mut Journal,
     ) -> Result<TurnDone, Refusal>
         requires ready { IsReady self.old journal.old }
-        requires inside { D.honest disk.old → 8192 ≤ length (D.now disk.old).bytes }
+        requires closed { D.honest disk.old → IsClosed (4096 * other self.old.header) 64 (D.now disk.old) }
         ensures turned { IfOk result (λ answer. (m : Contents)
             → Turned self.old journal.old m answer self.new journal.new) }
         ensures same { OnErr result ((self.new ≡ self.old) × (journal.new ≡ journal.old)) }

@@ -1,16 +1,17 @@
 //! What a checkpoint's turns write in the place of the header that isn't in force.
-ghost use Rattle.std.specs.Prelude.{◌≡◌, ◌+◌, ◌<◌, ◌≤◌, List, ℕ, length, OnOk};
+ghost use Rattle.std.specs.Prelude.{◌≡◌, ◌+◌, ◌*◌, ◌<◌, ◌≤◌, List, ℕ, length, OnOk};
 ghost use Rattle.im_types.specs.Contents.{Contents};
 ghost use Rattle.im_types.specs.Header as definition;
 ghost use Rattle.im_disk.specs.Moment.{Counts};
-ghost use Rattle.im_disk.specs.Since.{LeavesWithin, LeavesNow, CallsAtMost};
+ghost use Rattle.im_disk.specs.Gate.{IsClosed};
+ghost use Rattle.im_disk.specs.Since.{LeavesWithin, LeavesNow, LeavesOnly, CallsAtMost};
 ghost use Rattle.im_journal.specs.Holding.{JournalState, Holds};
 ghost use Rattle.im_image.specs.Headers.{seen};
 ghost use Rattle.im_checkpoint.specs.Step.{Taken, NoCheckpoint, PagesDone, Synced};
 ghost use Rattle.im_checkpoint.specs.Turns.{next_header, begun_at};
 ghost use Rattle.im_checkpoint.specs.Keeping.{MeansWith, IsKept};
 
-use im_disk::{DeviceFault, Disk};
+use im_disk::{DeviceFault, Disk, write_behind_gate};
 use im_image::Header;
 use im_types::LAST;
 use im_types::layout::{CLOSED, OPEN, PAGE};
@@ -62,15 +63,11 @@ pub(crate) fn close_other<D: Disk>(disk: &mut D, header: &Header) -> Result<(), 
 /// Writes the next header behind its closed gate, and then opens the gate.
 pub(crate) fn open_next<D: Disk>(disk: &mut D, next: &Header) -> Result<(), DeviceFault>
     requires area { next.now.area ≤ 1 }
-    requires inside { D.honest disk.old → 8192 ≤ length (D.now disk.old).bytes }
+    requires closed { D.honest disk.old → IsClosed (4096 * next.now.area) 64 (D.now disk.old) }
     ensures leaves { D.honest disk.new → (h : definition.Header) (taken : Taken) (m : Contents) (j : JournalState)
         → seen next.now ≡ next_header h taken.count
         → IsKept (record { header = h; step = Synced taken }) m j (D.now disk.old)
-        → LeavesWithin D.now D.past disk.old disk.new (MeansWith m j) }
-    ensures now { D.honest disk.new → (h : definition.Header) (taken : Taken) (m : Contents) (j : JournalState)
-        → seen next.now ≡ next_header h taken.count
-        → IsKept (record { header = h; step = Synced taken }) m j (D.now disk.old)
-        → LeavesNow (D.now disk.new) (MeansWith m j) }
+        → LeavesOnly D.now D.past disk.old disk.new (MeansWith m j) }
     ensures kept { OnOk result (D.honest disk.new
         → (h : definition.Header) (taken : Taken) (m : Contents) (j : JournalState)
         → seen next.now ≡ next_header h taken.count
@@ -83,9 +80,7 @@ pub(crate) fn open_next<D: Disk>(disk: &mut D, next: &Header) -> Result<(), Devi
     ensures failures { Counts result (D.failures disk.old) (D.failures disk.new) }
 {
     let bytes = next.spell();
-    let at = PAGE * next.area as usize;
-    disk.write_at(at + 1, &bytes[1..])?; // The gate is closed on the disk: nobody reads what a stop leaves behind it.
-    disk.sync()?; // The same, until the header is on the disk, as its pages are already.
-    disk.write_at(at, &bytes[..1])?; // A stop leaves the old header in force, or the new one, which means the same.
-    disk.sync() // The same. Once this is done the new header is in force for good.
+    // The pages are on the disk, and the gate is closed there: a stop leaves the old header in force, or the new one,
+    // which means the same. Once this is done the new header is in force for good.
+    write_behind_gate(disk, PAGE * next.area as usize, &bytes)
 }

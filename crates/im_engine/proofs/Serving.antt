@@ -91,9 +91,12 @@ refused_acceptance m command refusal r is e = judged_refused (is_accepted m comm
 abbrev calls_where : Bool → ℕ
 calls_where accepted = if accepted then 4 else 0
 
-pub calls_always : {D T E : Type 0} (past : D → List Moment) (old new : D) (n : ℕ) (r : Result T E) → Calls past old new n → CallsBy past old new n r
+calls_always : {D T E : Type 0} (past : D → List Moment) (old new : D) (n : ℕ) (r : Result T E) → Calls past old new n → CallsBy past old new n r
 calls_always past old new n (Ok x) is = is
 calls_always past old new n (Err e) is = omega (arith, is)
+
+pub calls_after : {D T E U V : Type 0} (past : D → List Moment) (old new : D) (n : ℕ) (first : Result T E) (x : T) (r : Result U V) → first ≡ Ok x → CallsBy past old new n first → CallsBy past old new n r
+calls_after {D} {T} {E} past old new n first x r is calls = calls_always past old new n r (subst (λ (a : Result T E). CallsBy past old new n a) is calls)
 
 pub calls_accepted : {D T E : Type 0} (past : D → List Moment) (old new : D) (m : Contents) (command : Command) (r : Result T E) → is_accepted m command ≡ true → CallsBy past old new 4 r
     → CallsBy past old new (calls_for m command) r

@@ -15,11 +15,11 @@ ghost use Rattle.im_engine.specs.State.{MeansState};
 
 use crate::engine::Engine;
 use im_checkpoint::Checkpoint;
-use im_disk::{DeviceFault, Disk};
+use im_disk::{DeviceFault, Disk, open_gate};
 use im_image::{Header, VERSION, new_image};
 use im_journal::Journal;
 use im_memory::Memory;
-use im_types::layout::{OPEN, image_length};
+use im_types::layout::image_length;
 use im_types::{Limits, Refusal};
 use std::alloc::Global;
 
@@ -46,10 +46,7 @@ fn write_image<D: Disk>(disk: &mut D, image: &[u8]) -> Result<(), DeviceFault>
     ensures failures { Counts result (D.failures disk.old) (D.failures disk.new) }
 {
     disk.write_at(0, image)?; // Its gate is closed: a stop leaves no image, or what is left of an old one.
-    disk.sync()?; // The same, until the whole of the new one is on the disk.
-    disk.write_at(0, &[OPEN])?; // A stop leaves the gate closed, or open before the whole of the image.
-    disk.sync()?; // The same. Once this is done the gate is open for good.
-    Ok(())
+    open_gate(disk, 0) // The same; then the gate closed, or open before the whole of the image, which is on the disk.
 }
 
 // Makes a new image of a file: the memory that it means, and no checkpoint yet.

@@ -1,21 +1,20 @@
-use Rattle.im_checkpoint.proofs.Sweeping.{sweep_means, sweep_leaves, sweep_done}
+use Rattle.im_disk.proofs.SinceLemmas.{only_weaker}
+use Rattle.im_journal.specs.Holding.{MaySweep}
+use Rattle.im_checkpoint.specs.Keeping.{MeansWith}
+use Rattle.im_checkpoint.proofs.Sweeping.{sweep_means, sweep_done}
 use Rattle.im_checkpoint.proofs.checkpoint.sweep.Goals as goal
 
 pub returns-in-Ok-clause-keeps : goal.returns-in-Ok-clause-keeps
 returns-in-Ok-clause-keeps g c = λ h s m is kept. record {
-  leaves = record {
-    within = sweep_leaves s m c.args.journal.now (g.D.Disk.now c.args.disk.now) is kept (g.D.Disk.now c.sweep_turn.new.disk) (g.D.Disk.past c.args.disk.now) (g.D.Disk.past c.sweep_turn.new.disk) (c.sweep_turn.ensures.leaves h).within;
-    after = λ file left. sweep_means s m c.args.journal.now (g.D.Disk.now c.args.disk.now) is kept file ((c.sweep_turn.ensures.leaves h).after file left);
-  };
-  kept = sweep_done s m c.args.journal.now (g.D.Disk.now c.args.disk.now) is kept (g.D.Disk.now c.sweep_turn.new.disk) _ c.sweep_turn.new.self c.in-Ok.ensures.room
-      (c.in-Ok.ensures.run h) (c.in-Ok.ensures.calm h) (c.in-Ok.ensures.holds h);
+  leaves = only_weaker g.D.Disk.now g.D.Disk.past c.args.disk.now c.sweep_turn.new.disk (MaySweep c.args.journal.now (g.D.Disk.now c.args.disk.now)) (MeansWith m c.args.journal.now) (c.sweep_turn.ensures.leaves h)
+      (sweep_means s m c.args.journal.now (g.D.Disk.now c.args.disk.now) is kept);
+  kept = sweep_done s m c.args.journal.now (g.D.Disk.now c.args.disk.now) is kept (g.D.Disk.now c.sweep_turn.new.disk) _ c.sweep_turn.new.self c.in-Ok.ensures.room.room
+      (c.in-Ok.ensures.swept h).run (c.in-Ok.ensures.swept h).calm (c.in-Ok.ensures.swept h).holds;
 }
 
 pub returns-in-Err-clause-keeps : goal.returns-in-Err-clause-keeps
 returns-in-Err-clause-keeps g c = λ h s m is kept. record {
-  leaves = record {
-    within = sweep_leaves s m c.args.journal.now (g.D.Disk.now c.args.disk.now) is kept (g.D.Disk.now c.sweep_turn.new.disk) (g.D.Disk.past c.args.disk.now) (g.D.Disk.past c.sweep_turn.new.disk) (c.sweep_turn.ensures.leaves h).within;
-    after = λ file left. sweep_means s m c.args.journal.now (g.D.Disk.now c.args.disk.now) is kept file ((c.sweep_turn.ensures.leaves h).after file left);
-  };
+  leaves = only_weaker g.D.Disk.now g.D.Disk.past c.args.disk.now c.sweep_turn.new.disk (MaySweep c.args.journal.now (g.D.Disk.now c.args.disk.now)) (MeansWith m c.args.journal.now) (c.sweep_turn.ensures.leaves h)
+      (sweep_means s m c.args.journal.now (g.D.Disk.now c.args.disk.now) is kept);
   kept = tt;
 }

@@ -1,8 +1,12 @@
-use Rattle.std.proofs.Common.{drop, sym, ◌∙◌, ap, subst}
+use Rattle.std.proofs.Common.{rules, ◌*◌, drop, sym, ◌∙◌, ap, subst}
+use Rattle.im_disk.specs.Gate.{IsClosed}
+use Rattle.im_meaning.specs.Images.{other}
 use Rattle.im_image.specs.Headers.{seen}
 use Rattle.im_checkpoint.specs.declared.checkpoint.Progress.{Progress}
 use Rattle.im_checkpoint.specs.Step.{CheckpointState, step_of, IsPagesLeft, IsPagesDone, IsSynced}
+use Rattle.im_checkpoint.specs.Keeping.{IsKept}
 use Rattle.im_checkpoint.proofs.PageLists.{state_left, state_done, state_synced}
+use Rattle.im_checkpoint.proofs.Turning.{other_closed}
 use Rattle.im_checkpoint.proofs.Fitting.{once_more, comes_rest, comes_page, comes_synced, comes_in_force}
 use Rattle.im_checkpoint.proofs.checkpoint.Checkpoint.turn.Goals as goal
 
@@ -34,6 +38,15 @@ returns-in-PagesDone-clause-turned g c =
 
 pub returns-in-PagesDone-clause-keeps : goal.returns-in-PagesDone-clause-keeps
 returns-in-PagesDone-clause-keeps g c = λ h. c.sync_pages.ensures.keeps h c.args.memory.now c.args.journal.now (c.requires.kept (c.sync_pages.ensures.honest h))
+
+pub put_in_force-requires-clause-closed : goal.put_in_force-requires-clause-closed
+put_in_force-requires-clause-closed g c = λ h.
+    let e = c.self.inside in
+    let is : IsSynced c.args.self.now.step = search rules in
+    let state = state_synced c.args.self.now (seen e.header) e.progress (record { count = e.count; area = e.area.items }) e.pages.items e.written c.self.view_is is in
+    subst (λ (s : CheckpointState). IsClosed (4096 * other s.header) 64 (g.D.Disk.now c.args.disk.now)) (sym state)
+    (other_closed (seen e.header) (record { count = e.count; area = e.area.items }) c.args.memory.now c.args.journal.now (g.D.Disk.now c.args.disk.now)
+    (subst (λ (s : CheckpointState). IsKept s c.args.memory.now c.args.journal.now (g.D.Disk.now c.args.disk.now)) state (c.requires.kept h)))
 
 pub returns-in-Synced-clause-turned : goal.returns-in-Synced-clause-turned
 returns-in-Synced-clause-turned g c =

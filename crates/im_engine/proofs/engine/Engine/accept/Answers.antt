@@ -1,11 +1,11 @@
 use Rattle.std.proofs.Common.{◌≡◌, true, false, inl, ◌∙◌, ap, subst}
 use Rattle.im_disk.specs.Since.{LeavesNow, LeavesOnly, CallsBy}
-use Rattle.im_disk.proofs.SinceLemmas.{leaves_start, leaves_weaker}
+use Rattle.im_disk.proofs.SinceLemmas.{leaves_start, only_weaker}
 use Rattle.im_types.specs.Step.{is_accepted}
 use Rattle.im_journal.specs.Holding.{MayAppend}
 use Rattle.im_engine.specs.State.{EngineState, MeansState, MeansEither}
 use Rattle.im_engine.proofs.Keeping.{all_mean, all_hold, may_append_means}
-use Rattle.im_engine.proofs.Serving.{fits_longer, kept_with_it, calls_always}
+use Rattle.im_engine.proofs.Serving.{fits_longer, kept_with_it, calls_after}
 use Rattle.im_engine.proofs.engine.Engine.accept.Goals as goal
 
 pub returns-then-room-eq0-clause-leaves : goal.returns-then-room-eq0-clause-leaves
@@ -35,10 +35,8 @@ returns-in-Err-clause-leaves g c = λ h.
     let alive : e.failed ≡ false = ap (λ (s : EngineState g.row.D.Denot). s.failed) c.self.view_is ∙ c.requires.alive in
     let accepted : is_accepted e.memory c.args.command.now ≡ true = ap (λ (s : EngineState g.row.D.Denot). is_accepted s.memory c.args.command.now) c.self.view_is ∙ c.requires.accepted in
     let means = may_append_means e.checkpoint e.memory e.journal (g.D.Disk.now e.disk) (c.self.invariant.1 (c.append.ensures.honest h) alive) c.args.command.now accepted in
-    subst (λ (s : EngineState g.row.D.Denot). LeavesOnly g.D.Disk.now g.D.Disk.past s.disk c.append.new.disk (MeansEither s c.args.command.now)) c.self.view_is (record {
-      within = leaves_weaker (g.D.Disk.now e.disk) (g.D.Disk.now c.append.new.disk) (g.D.Disk.past e.disk) (g.D.Disk.past c.append.new.disk) (MayAppend e.journal c.args.command.now (g.D.Disk.now e.disk)) _ (c.append.ensures.leaves h).within means;
-      after = λ file left. means file ((c.append.ensures.leaves h).after file left);
-    })
+    subst (λ (s : EngineState g.row.D.Denot). LeavesOnly g.D.Disk.now g.D.Disk.past s.disk c.append.new.disk (MeansEither s c.args.command.now)) c.self.view_is
+    (only_weaker g.D.Disk.now g.D.Disk.past e.disk c.append.new.disk (MayAppend e.journal c.args.command.now (g.D.Disk.now e.disk)) _ (c.append.ensures.leaves h) means)
 
 pub invariant_of-self-2 : goal.invariant_of-self-2
 invariant_of-self-2 g c =
@@ -56,15 +54,13 @@ returns-clause-leaves g c = λ h.
     let alive : e.failed ≡ false = ap (λ (s : EngineState g.row.D.Denot). s.failed) c.self.view_is ∙ c.requires.alive in
     let accepted : is_accepted e.memory c.args.command.now ≡ true = ap (λ (s : EngineState g.row.D.Denot). is_accepted s.memory c.args.command.now) c.self.view_is ∙ c.requires.accepted in
     let means = may_append_means e.checkpoint e.memory e.journal (g.D.Disk.now e.disk) (c.self.invariant.1 (c.append.ensures.honest h) alive) c.args.command.now accepted in
-    subst (λ (s : EngineState g.row.D.Denot). LeavesOnly g.D.Disk.now g.D.Disk.past s.disk c.append.new.disk (MeansEither s c.args.command.now)) c.self.view_is (record {
-      within = leaves_weaker (g.D.Disk.now e.disk) (g.D.Disk.now c.append.new.disk) (g.D.Disk.past e.disk) (g.D.Disk.past c.append.new.disk) (MayAppend e.journal c.args.command.now (g.D.Disk.now e.disk)) _ (c.append.ensures.leaves h).within means;
-      after = λ file left. means file ((c.append.ensures.leaves h).after file left);
-    })
+    subst (λ (s : EngineState g.row.D.Denot). LeavesOnly g.D.Disk.now g.D.Disk.past s.disk c.append.new.disk (MeansEither s c.args.command.now)) c.self.view_is
+    (only_weaker g.D.Disk.now g.D.Disk.past e.disk c.append.new.disk (MayAppend e.journal c.args.command.now (g.D.Disk.now e.disk)) _ (c.append.ensures.leaves h) means)
 
 pub returns-clause-calls : goal.returns-clause-calls
 returns-clause-calls g c = λ h.
     subst (λ (s : EngineState g.row.D.Denot). CallsBy g.D.Disk.past s.disk c.append.new.disk 4 c.step.result) c.self.view_is
-    (calls_always g.D.Disk.past c.self.inside.disk c.append.new.disk 4 c.step.result (c.in_default.ensures.calls h))
+    (calls_after g.D.Disk.past c.self.inside.disk c.append.new.disk 4 c.append.result _ c.step.result c.in_default.is (c.append.ensures.calls h))
 
 pub returns-clause-means : goal.returns-clause-means
 returns-clause-means g c = λ h f.
