@@ -4,7 +4,7 @@ use Rattle.std.proofs.Math.Nat.{mul-suc}
 use Rattle.std.proofs.lemmas.List.{length-append, length-replicate, append_assoc, take_at, drop_at, drop-drop}
 use Rattle.im_types.specs.declared.TheConstants.{NONE}
 use Rattle.im_types.specs.declared.operations.Kept.{Kept}
-use Rattle.im_types.specs.Contents.{Held, new_window, empty_contents}
+use Rattle.im_types.specs.Contents.{Held, Window, Contents, new_window, empty_contents}
 use Rattle.im_types.specs.Memory.{IsMemory}
 use Rattle.im_types.specs.Bytes.{zeros}
 use Rattle.im_types.specs.Layout.{Sizes, layout_in_use, page_bytes, cell_pages, node_pages, session_pages, area_bytes, node_count, cell_record_bytes, node_record_bytes, session_record_bytes, cell_part, node_part, session_part, record_at}
@@ -97,8 +97,12 @@ cell_row s = new_row (cell_pages s) cell_record_bytes (cell_bytes new_cell) s.ce
 abbrev node_row : Sizes → List ℕ
 node_row s = new_row (node_pages layout_in_use s) node_record_bytes (node_bytes new_node) (node_count layout_in_use s)
 
-abbrev session_row : Sizes → List ℕ
-session_row s = new_row (session_pages layout_in_use s) (session_record_bytes layout_in_use) (session_bytes layout_in_use new_window) s.elements
+abbrev window_row : Window → Sizes → List ℕ
+window_row w s = new_row (session_pages layout_in_use s) (session_record_bytes layout_in_use) (session_bytes layout_in_use w) s.elements
+
+-- the pages of a new area, but that each element has this window
+abbrev pub area_with : Window → Sizes → List ℕ
+area_with w s = cell_row s ++ node_row s ++ window_row w s
 
 length-cells : (s : Sizes) → length (cell_row s) ≡ 4096 * cell_pages s
 length-cells s = length-row (cell_pages s) 32 s.cells (cell_bytes new_cell) refl (cells_fit s.cells)
@@ -106,29 +110,31 @@ length-cells s = length-row (cell_pages s) 32 s.cells (cell_bytes new_cell) refl
 length-nodes : (s : Sizes) → length (node_row s) ≡ 4096 * node_pages layout_in_use s
 length-nodes s = length-row (node_pages layout_in_use s) 16 (node_count layout_in_use s) (node_bytes new_node) refl (nodes_fit (node_count layout_in_use s))
 
-length-sessions : (s : Sizes) → length (session_row s) ≡ 4096 * session_pages layout_in_use s
+length-sessions : (s : Sizes) → length (window_row new_window s) ≡ 4096 * session_pages layout_in_use s
 length-sessions s = length-row (session_pages layout_in_use s) 1024 s.elements (session_bytes layout_in_use new_window) refl (sessions_fit s.elements)
 
 pub length-area : (s : Sizes) → length (new_area s) ≡ area_bytes layout_in_use s
-length-area s = omega (arith, length-append (cell_row s ++ node_row s) (session_row s), length-append (cell_row s) (node_row s), length-cells s, length-nodes s, length-sessions s)
+length-area s = omega (arith, length-append (cell_row s ++ node_row s) (window_row new_window s), length-append (cell_row s) (node_row s), length-cells s, length-nodes s, length-sessions s)
 
--- the parts of a new area
-cell_part-new : (s : Sizes) → cell_part s (new_area s) ≡ cell_row s
-cell_part-new s = ap (λ (l : List ℕ). take (4096 * cell_pages s) l) (append_assoc (cell_row s) (node_row s) (session_row s)) ∙ take_at (cell_row s) (node_row s ++ session_row s) (4096 * cell_pages s) (length-cells s)
+-- the parts of such an area
+cell_part-with : (w : Window) (s : Sizes) → cell_part s (area_with w s) ≡ cell_row s
+cell_part-with w s =
+    ap (λ (l : List ℕ). take (4096 * cell_pages s) l) (append_assoc (cell_row s) (node_row s) (window_row w s)) ∙ take_at (cell_row s) (node_row s ++ window_row w s) (4096 * cell_pages s) (length-cells s)
 
-node_part-new : (s : Sizes) → node_part layout_in_use s (new_area s) ≡ node_row s
-node_part-new s =
-    ap (λ (l : List ℕ). take (4096 * node_pages layout_in_use s) (drop (4096 * cell_pages s) l)) (append_assoc (cell_row s) (node_row s) (session_row s))
-    ∙ ap (λ (l : List ℕ). take (4096 * node_pages layout_in_use s) l) (drop_at (cell_row s) (node_row s ++ session_row s) (4096 * cell_pages s) (length-cells s))
-    ∙ take_at (node_row s) (session_row s) (4096 * node_pages layout_in_use s) (length-nodes s)
+node_part-with : (w : Window) (s : Sizes) → node_part layout_in_use s (area_with w s) ≡ node_row s
+node_part-with w s =
+    ap (λ (l : List ℕ). take (4096 * node_pages layout_in_use s) (drop (4096 * cell_pages s) l)) (append_assoc (cell_row s) (node_row s) (window_row w s))
+    ∙ ap (λ (l : List ℕ). take (4096 * node_pages layout_in_use s) l) (drop_at (cell_row s) (node_row s ++ window_row w s) (4096 * cell_pages s) (length-cells s))
+    ∙ take_at (node_row s) (window_row w s) (4096 * node_pages layout_in_use s) (length-nodes s)
 
-session_part-new : (s : Sizes) → session_part layout_in_use s (new_area s) ≡ session_row s
-session_part-new s = drop_at (cell_row s ++ node_row s) (session_row s) (4096 * (cell_pages s + node_pages layout_in_use s)) (omega (arith, length-append (cell_row s) (node_row s), length-cells s, length-nodes s))
+session_part-with : (w : Window) (s : Sizes) → session_part layout_in_use s (area_with w s) ≡ window_row w s
+session_part-with w s =
+    drop_at (cell_row s ++ node_row s) (window_row w s) (4096 * (cell_pages s + node_pages layout_in_use s)) (omega (arith, length-append (cell_row s) (node_row s), length-cells s, length-nodes s))
 
-unfoldable pub new_records : Sizes → Records
-new_records s = record { cells = replicate s.cells new_cell; nodes = replicate (node_count layout_in_use s) new_node; windows = replicate s.elements new_window }
+unfoldable pub records_with : Window → Sizes → Records
+records_with w s = record { cells = replicate s.cells new_cell; nodes = replicate (node_count layout_in_use s) new_node; windows = replicate s.elements w }
 
-no_kept : (i : ℕ) (k : Kept) → slice_get [] i ≡ Some k → ⊥
+pub no_kept : (i : ℕ) (k : Kept) → slice_get [] i ≡ Some k → ⊥
 no_kept i k e = none_some k e
   where
     none_some : (k : Kept) → None ≡ Some k → ⊥
@@ -137,15 +143,15 @@ no_kept i k e = none_some k e
 pub new_window_fits : FitsWindow layout_in_use new_window
 new_window_fits = record { base_from = omega arith; base_to = omega arith; few = omega arith; numbers = omega arith; fields = λ i k e. absurd (no_kept i k e) }
 
-pub new_area_spelled : (s : Sizes) → SpellsArea layout_in_use s (new_area s) (new_records s)
-unfolding new_records
-new_area_spelled s = record {
-  cells = subst (λ (l : List ℕ). IsRow cell_record_bytes cell_bytes (FitsCell s.cells (node_count layout_in_use s)) (FreeCell 0 NONE) s.cells l (replicate s.cells new_cell)) (sym (cell_part-new s))
+pub area_spelled : (w : Window) (s : Sizes) → length (session_bytes layout_in_use w) ≡ 1024 → FitsWindow layout_in_use w → SpellsArea layout_in_use s (area_with w s) (records_with w s)
+unfolding records_with
+area_spelled w s long fits = record {
+  cells = subst (λ (l : List ℕ). IsRow cell_record_bytes cell_bytes (FitsCell s.cells (node_count layout_in_use s)) (FreeCell 0 NONE) s.cells l (replicate s.cells new_cell)) (sym (cell_part-with w s))
       (is_new_row (cell_pages s) 32 s.cells cell_bytes (FitsCell s.cells (node_count layout_in_use s)) (FreeCell 0 NONE) new_cell refl (none_yet s.cells, inl refl));
-  nodes = subst (λ (l : List ℕ). IsRow node_record_bytes node_bytes (FitsNode (node_count layout_in_use s)) (FreeNode NONE) (node_count layout_in_use s) l (replicate (node_count layout_in_use s) new_node)) (sym (node_part-new s))
+  nodes = subst (λ (l : List ℕ). IsRow node_record_bytes node_bytes (FitsNode (node_count layout_in_use s)) (FreeNode NONE) (node_count layout_in_use s) l (replicate (node_count layout_in_use s) new_node)) (sym (node_part-with w s))
       (is_new_row (node_pages layout_in_use s) 16 (node_count layout_in_use s) node_bytes (FitsNode (node_count layout_in_use s)) (FreeNode NONE) new_node refl (inl refl));
-  sessions = subst (λ (l : List ℕ). IsRow (session_record_bytes layout_in_use) (session_bytes layout_in_use) (FitsWindow layout_in_use) new_window s.elements l (replicate s.elements new_window)) (sym (session_part-new s))
-      (is_new_row (session_pages layout_in_use s) 1024 s.elements (session_bytes layout_in_use) (FitsWindow layout_in_use) new_window new_window refl new_window_fits);
+  sessions = subst (λ (l : List ℕ). IsRow (session_record_bytes layout_in_use) (session_bytes layout_in_use) (FitsWindow layout_in_use) new_window s.elements l (replicate s.elements w)) (sym (session_part-with w s))
+      (is_new_row (session_pages layout_in_use s) 1024 s.elements (session_bytes layout_in_use) (FitsWindow layout_in_use) new_window w long fits);
 }
   where
     none_yet : (n : ℕ) → 0 ≤ n
@@ -164,9 +170,13 @@ no_cells : (n : ℕ) → replicate n None ≡ cells_shown (replicate n new_cell)
 no_cells zero = refl
 no_cells (suc n) = ap (λ (l : List (Option Held)). None ∷ l) (no_cells n)
 
-pub new_records_show : (s : Sizes) → IsMemory s.cells s.elements (empty_contents s.cells s.elements) → ShowsRecords s (new_records s) (empty_contents s.cells s.elements)
-unfolding new_records empty_contents
-new_records_show s memory = record {
+-- a memory with no block, in which each element has this window
+unfoldable pub contents_with : Window → Sizes → Contents
+contents_with w s = record { cells = replicate s.cells None; windows = replicate s.elements w }
+
+pub records_show : (w : Window) (s : Sizes) → IsMemory s.cells s.elements (contents_with w s) → ShowsRecords s (records_with w s) (contents_with w s)
+unfolding records_with contents_with
+records_show w s memory = record {
   lists = replicate s.cells [];
   chained = record {
     chains = replicate s.cells [];
@@ -178,5 +188,15 @@ new_records_show s memory = record {
   memory = memory;
 }
 
+empty_is : (s : Sizes) → contents_with new_window s ≡ empty_contents s.cells s.elements
+unfolding contents_with empty_contents
+empty_is s = refl
+
 pub new_area_shows : (s : Sizes) → IsMemory s.cells s.elements (empty_contents s.cells s.elements) → Shows layout_in_use s (new_area s) (empty_contents s.cells s.elements)
-new_area_shows s memory = record { records = new_records s; spelled = new_area_spelled s; shown = new_records_show s memory }
+new_area_shows s memory =
+    subst (λ (m : Contents). Shows layout_in_use s (new_area s) m) (empty_is s)
+    (record {
+      records = records_with new_window s;
+      spelled = area_spelled new_window s refl new_window_fits;
+      shown = records_show new_window s (subst (λ (m : Contents). IsMemory s.cells s.elements m) (sym (empty_is s)) memory);
+    })

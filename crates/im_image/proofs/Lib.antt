@@ -7,3 +7,4 @@ pub mod OpenArea
 pub mod Restored
 pub mod Encoding
 pub mod Outcomes
+pub mod Counterexamples

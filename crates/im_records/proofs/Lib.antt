@@ -6,3 +6,4 @@ pub mod Pieces
 pub mod Unique
 pub mod Joining
 pub mod Places
+pub mod Counterexamples
