@@ -1,7 +1,8 @@
 //! Lists of waiters, all in one table of nodes.
 #![tactic(auto)]
 
-ghost use Rattle.std.specs.Prelude.{◌≡◌, ◌+◌, ◌∷◌, ◌++◌, ◌<◌, ◌↔◌, [], ℕ, length, drop, slice_get, IsTrue, IfOk, IfNone, IsOkUnless, replicate, false};
+ghost use Rattle.std.specs.Prelude.{◌≡◌, ◌+◌, ◌∷◌, ◌++◌, ◌<◌, ◌↔◌, [], ℕ, length, drop, slice_get, IsTrue, IfOk};
+ghost use Rattle.std.specs.Prelude.{IfNone, IsOkUnless, replicate, false};
 ghost use Rattle.std.specs.List.{sum_by};
 ghost use Rattle.im_types.specs.Records.{IsLink, FitsNode};
 ghost use Rattle.im_arena.specs.Lists.{list_at, with_list, link_of, free, IsThreaded};
@@ -160,7 +161,8 @@ impl Arena {
     pub fn push_back(&mut self, list: u32, waiter: Waiter) -> bool
         requires { list < length self.old.held.lists }
         ensures room { IsTrue result ↔ 0 < free self.old.held }
-        ensures pushed { IsTrue result → self.new.held ≡ with_list self.old.held list (list_at self.old.held list ++ waiter ∷ []) }
+        ensures pushed { IsTrue result
+            → self.new.held ≡ with_list self.old.held list (list_at self.old.held list ++ waiter ∷ []) }
         ensures full { result ≡ false → self.new ≡ self.old }
     {
         let free = self.lists as usize;

@@ -2,7 +2,8 @@
 ghost use Rattle.std.specs.Prelude.{◌≡◌, ◌≢◌, ℕ, ◌+◌, ◌<◌, length, nat_lt};
 ghost use Rattle.im_types.specs.Records.{IsLink, FitsNode};
 ghost use Rattle.im_arena.specs.Lists.{link_of};
-ghost use Rattle.im_arena.specs.Table.{Sound, Attached, Detached, Transferred, count_of, spans_of, used_node, free_node, waiter_in, record_of, ends_of, empty_row, full_row};
+ghost use Rattle.im_arena.specs.Table.{Sound, Attached, Detached, Transferred, count_of, spans_of, used_node};
+ghost use Rattle.im_arena.specs.Table.{free_node, waiter_in, record_of, ends_of, empty_row, full_row};
 
 use im_types::{NONE, NodeRecord, Waiter};
 

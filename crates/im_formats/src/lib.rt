@@ -1,5 +1,5 @@
-//! Laws of the bytes of an image: what a header, a cell, a waiter node and a kept entry are spelled as reads back as what
-//! it was, and nothing else reads so.
+//! Laws of the bytes of an image: what a header, a cell, a waiter node and a kept entry are spelled as reads back as
+//! what it was, and nothing else reads so.
 //!
 //! Each law is the contract of a function that does nothing. The spellings are `im_types`' definitions.
 #![tactic(auto)]
@@ -11,7 +11,8 @@ ghost use Rattle.im_types.specs.Layout.{Layout, layout_1};
 ghost use Rattle.im_types.specs.Header.{Header, header_body, header_in, is_header, spells_header};
 ghost use Rattle.im_types.specs.declared.records.CellRecord.{CellRecord};
 ghost use Rattle.im_types.specs.declared.records.NodeRecord.{NodeRecord};
-ghost use Rattle.im_types.specs.Records.{cell_bytes, node_bytes, place_bytes, session_bytes, FitsCell, FitsNode, FitsPlace, FitsWindow};
+ghost use Rattle.im_types.specs.Records.{cell_bytes, node_bytes, place_bytes, session_bytes, FitsCell, FitsNode};
+ghost use Rattle.im_types.specs.Records.{FitsPlace, FitsWindow};
 ghost use Rattle.im_formats.specs.Fitting.{FitsHeader};
 ghost use Rattle.im_formats.specs.Reading.{read_cell, read_node, read_place};
 
@@ -22,12 +23,14 @@ pub fn headers_read_back()
 
 /// A header that can stand in an area spells one.
 pub fn headers_are_taken()
-    ensures { (l : Layout) (area gate : ℕ) (h : Header) → FitsHeader h → is_header l area h ≡ true → spells_header l area (gate ∷ header_body h) ≡ true }
+    ensures { (l : Layout) (area gate : ℕ) (h : Header) → FitsHeader h → is_header l area h ≡ true
+        → spells_header l area (gate ∷ header_body h) ≡ true }
 {}
 
 /// Bytes that spell the header of an area are the spelling of their fields.
 pub fn headers_read_nothing_else()
-    ensures { (l : Layout) (area : ℕ) (bytes : List ℕ) → spells_header l area bytes ≡ true → slice_range bytes 1 64 ≡ header_body (header_in bytes) }
+    ensures { (l : Layout) (area : ℕ) (bytes : List ℕ) → spells_header l area bytes ≡ true
+        → slice_range bytes 1 64 ≡ header_body (header_in bytes) }
 {}
 
 /// A place of a session record reads back as what it was spelled from.
@@ -42,7 +45,8 @@ pub fn places_read_nothing_else()
 
 /// The record of a cell reads back as what it was spelled from.
 pub fn cells_read_back()
-    ensures { (cells nodes : ℕ) (cell : CellRecord) → cells < 2 ^ 32 → nodes ≤ 2 ^ 32 → FitsCell cells nodes cell → read_cell (cell_bytes cell) ≡ Some cell }
+    ensures { (cells nodes : ℕ) (cell : CellRecord) → cells < 2 ^ 32 → nodes ≤ 2 ^ 32 → FitsCell cells nodes cell
+        → read_cell (cell_bytes cell) ≡ Some cell }
 {}
 
 /// Bytes that read as the record of a cell are its spelling.
@@ -52,7 +56,8 @@ pub fn cells_read_nothing_else()
 
 /// A waiter node reads back as what it was spelled from.
 pub fn nodes_read_back()
-    ensures { (nodes : ℕ) (node : NodeRecord) → nodes ≤ 2 ^ 32 → FitsNode nodes node → read_node (node_bytes node) ≡ Some node }
+    ensures { (nodes : ℕ) (node : NodeRecord) → nodes ≤ 2 ^ 32 → FitsNode nodes node
+        → read_node (node_bytes node) ≡ Some node }
 {}
 
 /// Bytes that read as a waiter node are its spelling.
@@ -62,5 +67,6 @@ pub fn nodes_read_nothing_else()
 
 /// A session record is spelled by one window alone.
 pub fn sessions_are_spelled_by_one_window()
-    ensures { (w v : Window) → FitsWindow layout_1 w → FitsWindow layout_1 v → session_bytes layout_1 w ≡ session_bytes layout_1 v → w ≡ v }
+    ensures { (w v : Window) → FitsWindow layout_1 w → FitsWindow layout_1 v
+        → session_bytes layout_1 w ≡ session_bytes layout_1 v → w ≡ v }
 {}

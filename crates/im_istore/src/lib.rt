@@ -5,7 +5,8 @@
 //! say what a call does to them by the definitions of `im_types`.
 #![tactic(auto)]
 
-ghost use Rattle.std.specs.Prelude.{◌≡◌, ◌≢◌, ◌<◌, ◌++◌, [], List, Option, length, drop, slice_get, IfNone, ◌+◌, ◌≤◌, vec_len, vec_capacity};
+ghost use Rattle.std.specs.Prelude.{◌≡◌, ◌≢◌, ◌<◌, ◌++◌, [], List, Option, length, drop, slice_get, IfNone, ◌+◌, ◌≤◌};
+ghost use Rattle.std.specs.Prelude.{vec_len, vec_capacity};
 ghost use Rattle.im_types.specs.declared.operations.Op.TheVariants.{Fetch, Store};
 ghost use Rattle.im_types.specs.declared.operations.Reply.TheVariants.{Stored};
 ghost use Rattle.im_types.specs.declared.operations.Entry.TheVariants.{Answered};
@@ -72,15 +73,18 @@ pub fn store(table: &mut CellTable, arena: &Arena, a: u32, value: u64) -> Reply
 
     // Whoever asks.
     ensures reply { (who : Waiter) → Answered result ≡ (act (cells_of table.old arena.now) who (Store a value)).entry }
-    ensures cells { (who : Waiter) → cells_of table.new arena.now ≡ (act (cells_of table.old arena.now) who (Store a value)).cells }
+    ensures cells { (who : Waiter)
+        → cells_of table.new arena.now ≡ (act (cells_of table.old arena.now) who (Store a value)).cells }
 
     // The readers are those on the list, and until they are off it the cell has no need of it.
     ensures readers { (who : Waiter) → result ≡ Stored
-        → (act (cells_of table.old arena.now) who (Store a value)).resumed ≡ replies_to (list_at arena.now.held a) value }
+        → (act (cells_of table.old arena.now) who (Store a value)).resumed
+        ≡ replies_to (list_at arena.now.held a) value }
     ensures draining { result ≡ Stored → AgreeBut a table.new arena.now }
 
     // Any other answer is the whole of it.
-    ensures nobody { (who : Waiter) → result ≢ Stored → (act (cells_of table.old arena.now) who (Store a value)).resumed ≡ [] }
+    ensures nobody { (who : Waiter) → result ≢ Stored
+        → (act (cells_of table.old arena.now) who (Store a value)).resumed ≡ [] }
     ensures agree { result ≢ Stored → Agree table.new arena.now }
 {
     let cell = match look(table, a, Kind::I) {
@@ -109,7 +113,8 @@ pub fn next_reader(arena: &mut Arena, a: u32) -> Option<Waiter>
     ensures none { IfNone result (arena.new ≡ arena.old) }
 
     // Of each table whose full cell this is.
-    ensures cells { (slots : List (Option Slot)) → AgreeBut a slots arena.old → cells_of slots arena.new ≡ cells_of slots arena.old }
+    ensures cells { (slots : List (Option Slot)) → AgreeBut a slots arena.old
+        → cells_of slots arena.new ≡ cells_of slots arena.old }
     ensures draining { (slots : List (Option Slot)) → AgreeBut a slots arena.old → AgreeBut a slots arena.new }
     ensures whole { (slots : List (Option Slot)) → AgreeBut a slots arena.old → IfNone result (Agree slots arena.new) }
 {
@@ -125,7 +130,8 @@ pub fn drain(arena: &mut Arena, a: u32, readers: &mut Vec<Waiter>)
     ensures rest { arena.new.held ≡ with_list arena.old.held a [] }
 
     // Of each table whose full cell this is.
-    ensures cells { (slots : List (Option Slot)) → AgreeBut a slots arena.old → cells_of slots arena.new ≡ cells_of slots arena.old }
+    ensures cells { (slots : List (Option Slot)) → AgreeBut a slots arena.old
+        → cells_of slots arena.new ≡ cells_of slots arena.old }
     ensures whole { (slots : List (Option Slot)) → AgreeBut a slots arena.old → Agree slots arena.new }
 {
     while let Some(reader) = next_reader(arena, a) {
@@ -149,7 +155,8 @@ pub fn store_and_drain(
 
     // Whoever asks.
     ensures entry { (who : Waiter) → Answered result ≡ (act (cells_of table.old arena.old) who (Store a value)).entry }
-    ensures cells { (who : Waiter) → cells_of table.new arena.new ≡ (act (cells_of table.old arena.old) who (Store a value)).cells }
+    ensures cells { (who : Waiter)
+        → cells_of table.new arena.new ≡ (act (cells_of table.old arena.old) who (Store a value)).cells }
     ensures resumed { (who : Waiter) → let resumed = (act (cells_of table.old arena.old) who (Store a value)).resumed in
         readers.new.items ≡ readers.old.items ++ askers_of resumed }
     ensures values { (who : Waiter) → let resumed = (act (cells_of table.old arena.old) who (Store a value)).resumed in

@@ -32,8 +32,8 @@ pub fn blocks_are_apart()
         → first ≡ second }
 {}
 
-/// A new request for a block that is told a base is given the least one that is free, and from there on the cells of the
-/// new block, all empty. One that is told that there is no space meets a memory where no base is free.
+/// A new request for a block that is told a base is given the least one that is free, and from there on the cells of
+/// the new block, all empty. One that is told that there is no space meets a memory where no base is free.
 pub fn allocation_takes_the_least_place()
     ensures least { (m : Contents) (r : Request) (kind : Kind) (n base : ℕ)
         → IsServed m r (Alloc kind n) (Answered (Base base)) → IsLeastFree m.cells n base }

@@ -5,8 +5,8 @@ ghost use Rattle.im_types.specs.Contents.{Contents, held_at, HasBlocks};
 ghost use Rattle.im_laws.specs.Cells.{MayChange};
 ghost use Rattle.im_laws.specs.Requests.{after_request};
 
-/// A request leaves each cell that its operation isn't about: an allocation all cells that are in a block, a release all
-/// cells of other blocks, and the others all cells but the one at their address.
+/// A request leaves each cell that its operation isn't about: an allocation all cells that are in a block, a release
+/// all cells of other blocks, and the others all cells but the one at their address.
 pub fn other_cells_stay()
     ensures { (m : Contents) (r : Request) (b : ℕ) → HasBlocks m.cells
         → ¬ (MayChange r.op m.cells b)

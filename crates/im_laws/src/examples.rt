@@ -7,7 +7,10 @@ ghost use Rattle.im_types.specs.Contents.{Empty, Full, Clashed, held_at, waiters
 ghost use Rattle.im_types.specs.Run.{accepted};
 ghost use Rattle.im_types.specs.Trace.{IsLegal, end_of};
 ghost use Rattle.im_laws.specs.Traces.{commands_of};
-ghost use Rattle.im_laws.specs.Examples.{sixteen_cells, one_cell, waiter, three_readers, one_store, second_store, three_takers, second_put, edges, least_hole, waiting_block, sent_again, full_window, least_memory, fetches, takes_and_puts, two_lives, in_lives, lawful, unsaid};
+ghost use Rattle.im_laws.specs.Examples.{sixteen_cells, one_cell, waiter, three_readers, one_store, second_store};
+ghost use Rattle.im_laws.specs.Examples.{three_takers, second_put, edges, least_hole, waiting_block, sent_again};
+ghost use Rattle.im_laws.specs.Examples.{full_window, least_memory, fetches, takes_and_puts, two_lives, in_lives};
+ghost use Rattle.im_laws.specs.Examples.{lawful, unsaid};
 
 /// Three readers wait in the order of their arrival, and one store answers all of them.
 pub fn readers_wait_for_one_store()
@@ -74,8 +77,8 @@ pub fn least_memory_serves()
     ensures { IsLegal one_cell least_memory }
 {}
 
-/// The value law, worked: the fetch that came before the store and the one that came after it have its value, and the one
-/// after the second store is a clash.
+/// The value law, worked: the fetch that came before the store and the one that came after it have its value, and the
+/// one after the second store is a clash.
 pub fn fetches_have_the_first_value()
     ensures legal { IsLegal sixteen_cells fetches }
     ensures law { in_lives sixteen_cells (commands_of fetches) 0

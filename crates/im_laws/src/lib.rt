@@ -1,5 +1,5 @@
-//! Laws of the memory, over its definitions alone. Each function here does nothing, and its contract is a law: it holds of
-//! every memory, every command and every list of commands, and says what a user of a memory can count on, whatever
+//! Laws of the memory, over its definitions alone. Each function here does nothing, and its contract is a law: it holds
+//! of every memory, every command and every list of commands, and says what a user of a memory can count on, whatever
 //! program keeps it.
 #![tactic(auto)]
 

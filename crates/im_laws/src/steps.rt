@@ -24,8 +24,8 @@ pub fn accepted_where_changed()
         → IsOk (step m command).answer }
 {}
 
-/// The acceptance of a command, asked before it is put: the refusal that it would meet, and else whether it would change
-/// the memory.
+/// The acceptance of a command, asked before it is put: the refusal that it would meet, and else whether it would
+/// change the memory.
 pub fn acceptance_tells()
     ensures refused { (m : Contents) (command : Command) (refusal : Refusal)
         → (acceptance m command ≡ Err refusal) ↔ ((step m command).answer ≡ Err refusal) }

@@ -6,14 +6,16 @@ ghost use Rattle.im_types.specs.declared.commands.Request.{Request};
 ghost use Rattle.im_types.specs.declared.commands.Command.{Command};
 ghost use Rattle.im_types.specs.declared.commands.Command.TheVariants.{Request as Asks, Confirm};
 ghost use Rattle.im_types.specs.declared.commands.Outcome.TheVariants.{Confirmed};
-ghost use Rattle.im_types.specs.declared.refusals.Refusal.TheVariants.{Gap, Forgotten, WindowFull, NoElement, NotAnswered};
+ghost use Rattle.im_types.specs.declared.refusals.Refusal.TheVariants.{Gap, Forgotten, WindowFull, NoElement};
+ghost use Rattle.im_types.specs.declared.refusals.Refusal.TheVariants.{NotAnswered};
 ghost use Rattle.im_types.specs.declared.TheConstants.{WINDOW, LAST};
 ghost use Rattle.im_types.specs.Contents.{Window, Contents, kept_for};
 ghost use Rattle.im_types.specs.Window.{is_waiting, ask, bounds};
 ghost use Rattle.im_types.specs.Step.{asker, step, is_accepted};
 ghost use Rattle.im_types.specs.Run.{after};
 ghost use Rattle.im_types.specs.Agreement.{drops};
-ghost use Rattle.im_laws.specs.Windows.{IsForgotten, AreNoLess, TakesNextNumber, MovesBase, IsNextRequest, IsConfirmable};
+ghost use Rattle.im_laws.specs.Windows.{IsForgotten, AreNoLess, TakesNextNumber, MovesBase, IsNextRequest};
+ghost use Rattle.im_laws.specs.Windows.{IsConfirmable};
 ghost use Rattle.im_laws.specs.Entries.{IsRefused};
 
 /// A request that is accepted takes its element's next number, and moves no other bound of a window.
@@ -34,9 +36,9 @@ pub fn bounds_never_fall()
         → AreNoLess base next (bounds (after m commands).windows element) }
 {}
 
-/// The bounds of a window say how a request is met whose number isn't kept: it is accepted exactly where it has the next
-/// number, none past the last, and the window has room. Past the next number or the last it is a gap, and at the next one
-/// of a full window it is refused as such. Each refusal changes nothing.
+/// The bounds of a window say how a request is met whose number isn't kept: it is accepted exactly where it has the
+/// next number, none past the last, and the window has room. Past the next number or the last it is a gap, and at the
+/// next one of a full window it is refused as such. Each refusal changes nothing.
 pub fn requests_are_judged_by_bounds()
     ensures accepted { (m : Contents) (r : Request)
         → IsTrue (is_accepted m (Asks r)) ↔ IsNextRequest m.windows r }
@@ -52,8 +54,8 @@ pub fn requests_are_judged_by_bounds()
     // A law has no steps.
 }
 
-/// A confirmation is answered exactly where its number isn't past the next one and no entry below it waits. It drops the
-/// entries below that number, and leaves all others and all cells.
+/// A confirmation is answered exactly where its number isn't past the next one and no entry below it waits. It drops
+/// the entries below that number, and leaves all others and all cells.
 pub fn confirmations_drop_what_is_answered()
     ensures confirmed { (m : Contents) (element upto : ℕ)
         → ((step m (Confirm element upto)).answer ≡ Ok Confirmed)
@@ -75,8 +77,8 @@ pub fn confirmations_drop_what_is_answered()
         → IsTrue (is_waiting k) → (step m (Confirm element upto)).answer ≡ Err NotAnswered }
 {}
 
-/// Who asks for an entry is told what is kept, exactly within the bounds of the window; below them that it is forgotten,
-/// and past them that it is a gap.
+/// Who asks for an entry is told what is kept, exactly within the bounds of the window; below them that it is
+/// forgotten, and past them that it is a gap.
 pub fn entries_are_kept_within_bounds()
     ensures below { (windows : List Window) (who : Waiter) (base next : ℕ)
         → bounds windows who.element ≡ Ok (base, next) → who.number < base

@@ -71,7 +71,6 @@ header_low (suc (suc k)) le = absurd (omega (arith, le))
 -- L1: what is written in the area that isn't in force
 module _ (l : Layout) (h : Header) (shown : Contents) (commands : List Command) (room : ℕ) (c d : List ℕ) (at n : ℕ)
     (it : IsImage l h shown commands room c) (but : SameBut at n c d) where
-
   headers_stay : 8192 ≤ at → InForce l h d
   headers_stay far =
       let f : InForce l h c = it.in_force in

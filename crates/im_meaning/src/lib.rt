@@ -1,11 +1,12 @@
 //! Laws of images: what may be written to a file that leaves the image that it is, and what gives it another header.
 //!
-//! A checkpoint writes pages where nobody reads, closes an old header's gate, writes a new header behind it, and opens the
-//! gate; and it closes the gates of slots whose commands the pages hold. Each law here is about one such write, torn or
-//! whole, and is the contract of a function that does nothing.
+//! A checkpoint writes pages where nobody reads, closes an old header's gate, writes a new header behind it, and opens
+//! the gate; and it closes the gates of slots whose commands the pages hold. Each law here is about one such write,
+//! torn or whole, and is the contract of a function that does nothing.
 #![tactic(auto)]
 
-ghost use Rattle.std.specs.Prelude.{◌≡◌, ◌⊎◌, ℕ, ◌+◌, ◌*◌, ◌-◌, ◌<◌, ◌≤◌, List, length, drop, false, true, Some, Ok, slice_range};
+ghost use Rattle.std.specs.Prelude.{◌≡◌, ◌⊎◌, ℕ, ◌+◌, ◌*◌, ◌-◌, ◌<◌, ◌≤◌, List, length, drop, false, true, Some, Ok};
+ghost use Rattle.std.specs.Prelude.{slice_range};
 ghost use Rattle.im_types.specs.declared.commands.Command.{Command};
 ghost use Rattle.im_types.specs.Contents.{Contents};
 ghost use Rattle.im_types.specs.declared.TheConstants.{LAST};
@@ -20,8 +21,10 @@ ghost use Rattle.im_meaning.specs.Rings.{HasStaleRest};
 
 /// An image reads as the memory that its pages show, after the commands of its journal.
 pub fn images_are_read()
-    ensures { (l : Layout) (h : Header) (shown m : Contents) (commands : List Command) (room : ℕ) (c : List ℕ) → IsImage l h shown commands room c
-        → accept_each shown commands ≡ Some m → Reads l c (Ok (record { contents = m; count = h.count + length commands; room = room })) }
+    ensures { (l : Layout) (h : Header) (shown m : Contents) (commands : List Command) (room : ℕ) (c : List ℕ)
+        → IsImage l h shown commands room c
+        → accept_each shown commands ≡ Some m
+        → Reads l c (Ok (record { contents = m; count = h.count + length commands; room = room })) }
 {}
 
 /// What reads as a memory is an image.
@@ -31,21 +34,26 @@ pub fn what_is_read_is_an_image()
 
 /// Nothing that is written in the area that isn't in force changes the image.
 pub fn other_area_is_not_read()
-    ensures { (l : Layout) (h : Header) (shown : Contents) (commands : List Command) (room : ℕ) (c d : List ℕ) (at n : ℕ) → IsImage l h shown commands room c
-        → SameBut at n c d → 0 < h.sizes.slots → area_at l h.sizes (other h) ≤ at → at + n ≤ area_at l h.sizes (other h) + area_bytes l h.sizes
+    ensures { (l : Layout) (h : Header) (shown : Contents) (commands : List Command) (room : ℕ) (c d : List ℕ)
+        (at n : ℕ) → IsImage l h shown commands room c
+        → SameBut at n c d → 0 < h.sizes.slots → area_at l h.sizes (other h) ≤ at
+        → at + n ≤ area_at l h.sizes (other h) + area_bytes l h.sizes
         → IsImage l h shown commands room d }
 {}
 
 /// Nothing that is written behind the closed gate of the other header changes the image.
 pub fn closed_headers_are_not_read()
-    ensures { (l : Layout) (h : Header) (shown : Contents) (commands : List Command) (room : ℕ) (c d : List ℕ) (at n : ℕ) → IsImage l h shown commands room c
-        → SameBut at n c d → 0 < h.sizes.slots → 4096 * other h + 1 ≤ at → at + n ≤ 4096 * other h + 64 → is_open_header (header_place (other h) c) ≡ false
+    ensures { (l : Layout) (h : Header) (shown : Contents) (commands : List Command) (room : ℕ) (c d : List ℕ)
+        (at n : ℕ) → IsImage l h shown commands room c
+        → SameBut at n c d → 0 < h.sizes.slots → 4096 * other h + 1 ≤ at → at + n ≤ 4096 * other h + 64
+        → is_open_header (header_place (other h) c) ≡ false
         → IsImage l h shown commands room d }
 {}
 
 /// Whatever becomes of the gate of a header of a lower generation, the image stays.
 pub fn lower_gates_may_be_anything()
-    ensures { (l : Layout) (h : Header) (shown : Contents) (commands : List Command) (room : ℕ) (c d : List ℕ) → IsImage l h shown commands room c
+    ensures { (l : Layout) (h : Header) (shown : Contents) (commands : List Command) (room : ℕ) (c d : List ℕ)
+        → IsImage l h shown commands room c
         → SameBut (4096 * other h) 1 c d → 0 < h.sizes.slots → generation_in (header_place (other h) c) < h.generation
         → IsImage l h shown commands room d }
 {
@@ -55,7 +63,8 @@ pub fn lower_gates_may_be_anything()
 /// A header that is prepared is not in force while its gate is closed, and once it is open it is. The commands that its
 /// area holds are no longer those of the journal.
 pub fn next_header_takes_over()
-    ensures { (l : Layout) (h next : Header) (shown after : Contents) (commands : List Command) (room k : ℕ) (c d : List ℕ) → IsImage l h shown commands room c
+    ensures { (l : Layout) (h next : Header) (shown after : Contents) (commands : List Command) (room k : ℕ)
+        (c d : List ℕ) → IsImage l h shown commands room c
         → 0 < h.sizes.slots → Follows l h next → IsPrepared l h next after c → SameBut (4096 * other h) 1 c d
         → next.count ≡ h.count + k → k ≤ length commands
         → IsImage l h shown commands room d ⊎ IsImage l next after (drop k commands) room d }
@@ -63,7 +72,8 @@ pub fn next_header_takes_over()
 
 /// Once the prepared header's gate is open, it is the one in force.
 pub fn open_header_is_in_force()
-    ensures { (l : Layout) (h next : Header) (shown after : Contents) (commands : List Command) (room k : ℕ) (c d : List ℕ) → IsImage l h shown commands room c
+    ensures { (l : Layout) (h next : Header) (shown after : Contents) (commands : List Command) (room k : ℕ)
+        (c d : List ℕ) → IsImage l h shown commands room c
         → 0 < h.sizes.slots → Follows l h next → IsPrepared l h next after c → SameBut (4096 * other h) 1 c d
         → next.count ≡ h.count + k → k ≤ length commands → is_open_header (header_place (other h) d) ≡ true
         → IsImage l next after (drop k commands) room d }
@@ -71,21 +81,27 @@ pub fn open_header_is_in_force()
 
 /// The tail of a journal from a later command on is what is left of the commands, with the same room.
 pub fn tails_may_begin_later()
-    ensures { (r : Ring) (first k : ℕ) (c : List ℕ) (commands : List Command) (room : ℕ) → tail r first c ≡ Some (record { commands = commands; room = room })
+    ensures { (r : Ring) (first k : ℕ) (c : List ℕ) (commands : List Command) (room : ℕ)
+        → tail r first c ≡ Some (record { commands = commands; room = room })
         → k ≤ length commands → tail r (first + k) c ≡ Some (record { commands = drop k commands; room = room }) }
 {}
 
 /// The tail of a journal keeps its commands, and the room that is known, where each slot of the run stays, the gates of
 /// the known room are closed, and each slot behind them has a sequence number below the run's first one.
 pub fn stale_gates_may_be_closed()
-    ensures tail { (r : Ring) (first : ℕ) (c d : List ℕ) (commands : List Command) (room known : ℕ) → tail r first c ≡ Some (record { commands = commands; room = room })
-        → HasStaleRest r first (length commands) known c d → tail r first d ≡ Some (record { commands = commands; room = room_of r first (length commands) d }) }
-    ensures room { (r : Ring) (first : ℕ) (c d : List ℕ) (commands : List Command) (room known : ℕ) → tail r first c ≡ Some (record { commands = commands; room = room })
+    ensures tail { (r : Ring) (first : ℕ) (c d : List ℕ) (commands : List Command) (room known : ℕ)
+        → tail r first c ≡ Some (record { commands = commands; room = room })
+        → HasStaleRest r first (length commands) known c d
+        → tail r first d ≡ Some (record { commands = commands; room = room_of r first (length commands) d }) }
+    ensures room { (r : Ring) (first : ℕ) (c d : List ℕ) (commands : List Command) (room known : ℕ)
+        → tail r first c ≡ Some (record { commands = commands; room = room })
         → HasStaleRest r first (length commands) known c d → known ≤ behind r first (length commands) d }
 {}
 
 /// Behind its room a tail has stale slots alone.
 pub fn slots_behind_the_room_are_stale()
-    ensures { (r : Ring) (first : ℕ) (c : List ℕ) (commands : List Command) (room : ℕ) → tail r first c ≡ Some (record { commands = commands; room = room })
-        → first + length commands < LAST → (k : ℕ) → room ≤ k → k < r.slots - length commands → sequence_of (slot r (first + length commands + k) c) < first }
+    ensures { (r : Ring) (first : ℕ) (c : List ℕ) (commands : List Command) (room : ℕ)
+        → tail r first c ≡ Some (record { commands = commands; room = room })
+        → first + length commands < LAST → (k : ℕ) → room ≤ k → k < r.slots - length commands
+        → sequence_of (slot r (first + length commands + k) c) < first }
 {}

@@ -49,7 +49,8 @@ fn told(entry: Entry) -> Acted
 // A store: its readers stay on the list of the cell, until `resume` answers them.
 fn store(table: &mut CellTable, arena: &Arena, a: u32, value: u64) -> Acted
     requires { Agree table.old arena.now }
-    ensures { let cells = cells_of table.old arena.now in HasActed table.new arena.now result (at_cell I (store value) cells a (held_at cells a)) }
+    ensures { let cells = cells_of table.old arena.now in HasActed table.new arena.now result
+        (at_cell I (store value) cells a (held_at cells a)) }
 {
     let reply = im_istore::store(table, arena, a, value);
     match reply {
@@ -64,7 +65,8 @@ fn store(table: &mut CellTable, arena: &Arena, a: u32, value: u64) -> Acted
 // A put: its taker is off the list of the cell.
 fn put(table: &mut CellTable, arena: &mut Arena, a: u32, value: u64) -> Acted
     requires { Agree table.old arena.old }
-    ensures acted { let cells = cells_of table.old arena.old in HasActed table.new arena.new result (at_cell M (put value) cells a (held_at cells a)) }
+    ensures acted { let cells = cells_of table.old arena.old in HasActed table.new arena.new result
+        (at_cell M (put value) cells a (held_at cells a)) }
     ensures nodes { arena.new.held.nodes ≡ arena.old.held.nodes }
 {
     let (reply, taker) = im_mstore::put(table, arena, a, value);
@@ -94,7 +96,8 @@ fn allocate(table: &mut CellTable, arena: &Arena, kind: Kind, n: u32) -> Acted
 // The end of a block.
 fn release(table: &mut CellTable, arena: &Arena, a: u32) -> Acted
     requires { Agree table.old arena.now }
-    ensures { let cells = cells_of table.old arena.now in HasActed table.new arena.now result (release_block cells a (block_with_base a (held_at cells a))) }
+    ensures { let cells = cells_of table.old arena.now in HasActed table.new arena.now result
+        (release_block cells a (block_with_base a (held_at cells a))) }
 {
     let Some(block) = table.block_of(a) else {
         return told(Entry::Answered(Reply::NoBlock));
@@ -135,7 +138,8 @@ fn drain(sessions: &mut Sessions, arena: &mut Arena, a: u32, value: u64)
     ensures nodes { arena.new.held.nodes ≡ arena.old.held.nodes }
 
     // Of each table whose full cell this is.
-    ensures cells { (slots : List (Option Slot)) → AgreeBut a slots arena.old → cells_of slots arena.new ≡ cells_of slots arena.old }
+    ensures cells { (slots : List (Option Slot)) → AgreeBut a slots arena.old
+        → cells_of slots arena.new ≡ cells_of slots arena.old }
     ensures agree { (slots : List (Option Slot)) → AgreeBut a slots arena.old → Agree slots arena.new }
 {
     while let Some(reader) = next_reader(arena, a) {
@@ -151,7 +155,8 @@ pub fn resume(sessions: &mut Sessions, arena: &mut Arena, resumed: Resumed)
     ensures nodes { arena.new.held.nodes ≡ arena.old.held.nodes }
 
     // Of each table that the operation may have left.
-    ensures cells { (slots : List (Option Slot)) → AgreeFor resumed slots arena.old → cells_of slots arena.new ≡ cells_of slots arena.old }
+    ensures cells { (slots : List (Option Slot)) → AgreeFor resumed slots arena.old
+        → cells_of slots arena.new ≡ cells_of slots arena.old }
     ensures agree { (slots : List (Option Slot)) → AgreeFor resumed slots arena.old → Agree slots arena.new }
 {
     match resumed {

@@ -22,7 +22,8 @@ use im_arena::{Arena, Waiters};
 use im_cell::CellTable;
 use im_sessions::Sessions;
 use im_types::{
-    Block, Cell, Command, Entry, Judged, Kept, Limits, MAX_CELLS, MAX_ELEMENTS, Outcome, Refusal, Request, Waiter, WINDOW,
+    Block, Cell, Command, Entry, Judged, Kept, Limits, MAX_CELLS, MAX_ELEMENTS, Outcome, Refusal,
+    Request, WINDOW, Waiter,
 };
 use std::alloc::Global;
 use std::marker::Model;
@@ -59,9 +60,11 @@ fn serve(
 ) -> Entry
     requires memory { MakesMemory table.old arena.old sessions.old }
     requires fresh { judge sessions.old request.now ≡ Ok Fresh }
-    ensures answer { let m = contents_of table.old arena.old sessions.old in result ≡ (act m.cells (asker request.now) request.now.op).entry }
+    ensures answer { let m = contents_of table.old arena.old sessions.old in result
+        ≡ (act m.cells (asker request.now) request.now.op).entry }
     ensures contents { let m = contents_of table.old arena.old sessions.old in
-        contents_of table.new arena.new sessions.new ≡ (serve m request.now (act m.cells (asker request.now) request.now.op)).contents }
+        contents_of table.new arena.new sessions.new
+        ≡ (serve m request.now (act m.cells (asker request.now) request.now.op)).contents }
     ensures memory { MakesMemory table.new arena.new sessions.new }
 {
     let who = Waiter {
@@ -75,8 +78,8 @@ fn serve(
 }
 
 impl Memory {
-    /// A memory of these sizes, with no block and no entry. All memory that it will ever need is taken here; refused with
-    /// `NoMemory` where there isn't enough.
+    /// A memory of these sizes, with no block and no entry. All memory that it will ever need is taken here; refused
+    /// with `NoMemory` where there isn't enough.
     pub fn new(alloc: Global, limits: Limits) -> Result<Self, Refusal>
         ensures empty { IfOk result (λ m. m ≡ empty_contents limits.cells limits.elements) }
         ensures memory { IfOk result (λ m. IsMemory limits.cells limits.elements m) }
@@ -116,9 +119,11 @@ impl Memory {
 
         // After any commands from the empty memory on, and then this one, the laws of whole histories hold.
         ensures values { let empty = empty_contents (length self.old.cells) (length self.old.windows) in
-            (commands : List Command) → self.old ≡ after empty commands → ValueLaw empty (commands ++ command.now ∷ []) }
+            (commands : List Command) → self.old ≡ after empty commands
+            → ValueLaw empty (commands ++ command.now ∷ []) }
         ensures matching { let empty = empty_contents (length self.old.cells) (length self.old.windows) in
-            (commands : List Command) → self.old ≡ after empty commands → MatchingLaw empty (commands ++ command.now ∷ []) }
+            (commands : List Command) → self.old ≡ after empty commands
+            → MatchingLaw empty (commands ++ command.now ∷ []) }
     {
         match command {
             Command::Request(request) => self.request(request),
@@ -157,8 +162,8 @@ impl Memory {
         }
     }
 
-    /// Whether [`Memory::step`] would accept this command, which it does where the command changes the memory, or why it
-    /// would be refused.
+    /// Whether [`Memory::step`] would accept this command, which it does where the command changes the memory, or why
+    /// it would be refused.
     pub fn judge(&self, command: &Command) -> Result<bool, Refusal>
         ensures { result ≡ acceptance self.now command.now }
     {
@@ -172,8 +177,8 @@ impl Memory {
         }
     }
 
-    /// The entry that is kept under an element's number: refused with `NoElement`, with `Forgotten` below the window, and
-    /// with `Gap` where the number isn't used yet.
+    /// The entry that is kept under an element's number: refused with `NoElement`, with `Forgotten` below the window,
+    /// and with `Gap` where the number isn't used yet.
     pub fn collect(&self, element: u16, number: u64) -> Result<Entry, Refusal>
         ensures { result ≡ ask self.now.windows (record { element = element; number = number }) }
     {
@@ -244,7 +249,8 @@ impl Memory {
 
     /// The records of the memory as it is now, for the pages of an image.
     pub fn records(&self) -> MemoryRecords<'_>
-        ensures shows { (s : Sizes) → s.cells ≡ length self.now.cells → s.elements ≡ length self.now.windows → ShowsRecords s result self.now }
+        ensures shows { (s : Sizes) → s.cells ≡ length self.now.cells → s.elements ≡ length self.now.windows
+            → ShowsRecords s result self.now }
         ensures cells { length result.cells ≡ length self.now.cells }
         ensures nodes { length result.nodes ≡ WINDOW * length self.now.windows }
         ensures windows { result.windows ≡ self.now.windows }

@@ -1,5 +1,6 @@
 //! A memory from what the pages of an image show of it.
-ghost use Rattle.std.specs.Prelude.{◌≡◌, ◌+◌, ◌*◌, ◌<◌, ◌≤◌, [], length, replicate, slice_index_or, slice_set, IfOk, IfErr};
+ghost use Rattle.std.specs.Prelude.{◌≡◌, ◌+◌, ◌*◌, ◌<◌, ◌≤◌, [], length, replicate, slice_index_or, slice_set, IfOk};
+ghost use Rattle.std.specs.Prelude.{IfErr};
 ghost use Rattle.std.specs.List.{sum_by};
 ghost use Rattle.im_types.specs.declared.TheConstants.{WINDOW};
 ghost use Rattle.im_types.specs.Contents.{new_window};
@@ -55,7 +56,11 @@ impl<'a> Restoring<'a> {
         cells: &'a [CellRecord],
     ) -> Result<Restoring<'a>, Refusal>
         requires { length cells.now ≡ limits.cells }
-        ensures parts { IfOk result (λ r. r ≡ record { cells = cells.now; lists = replicate limits.cells []; windows = replicate limits.elements new_window }) }
+        ensures parts { IfOk result (λ r. r ≡ record {
+          cells = cells.now;
+          lists = replicate limits.cells [];
+          windows = replicate limits.elements new_window;
+        }) }
         ensures only { IfErr result (λ refusal. refusal ≡ Refusal.NoMemory) }
     {
         let nodes = WINDOW as u32 * limits.elements as u32;
@@ -86,7 +91,10 @@ impl<'a> Restoring<'a> {
     pub fn put_window(&mut self, element: u16, base: u64, kept: &[Kept])
         requires element { element < length self.old.windows }
         requires window { IsWindow (record { base = base; kept = kept.now }) }
-        ensures { self.new ≡ record self.old { windows = slice_set self.old.windows element (record { base = base; kept = kept.now }) } }
+        ensures { self.new ≡ record self.old {
+          windows = slice_set self.old.windows element
+              (record { base = base; kept = kept.now });
+        } }
     {
         self.sessions.restore(element, base, kept);
     }

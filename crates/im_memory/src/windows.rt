@@ -20,7 +20,8 @@ fn waits(sessions: &Sessions, element: u16, number: u64) -> bool
 
 // Whether an entry below a number waits.
 fn any_waits(sessions: &Sessions, element: u16, base: u64, upto: u64) -> bool
-    ensures { (w : Window) → slice_get sessions.now element ≡ Some w → w.base ≡ base → result ≡ list_any is_waiting (take (upto - base) w.kept) }
+    ensures { (w : Window) → slice_get sessions.now element ≡ Some w → w.base ≡ base
+        → result ≡ list_any is_waiting (take (upto - base) w.kept) }
 {
     for number in base..upto {
         if waits(sessions, element, number) {
@@ -32,7 +33,8 @@ fn any_waits(sessions: &Sessions, element: u16, base: u64, upto: u64) -> bool
 
 /// Whether a confirmation would drop an entry, or why it would be refused.
 pub fn judge_confirm(sessions: &Sessions, element: u16, upto: u64) -> Result<bool, Refusal>
-    ensures { let windows = sessions.now in result ≡ forgets upto (slice_index_or windows element new_window) (confirm_window upto (slice_get windows element)) }
+    ensures { let windows = sessions.now in result
+        ≡ forgets upto (slice_index_or windows element new_window) (confirm_window upto (slice_get windows element)) }
 {
     let (base, next) = match sessions.window(element) {
         Ok(bounds) => bounds,

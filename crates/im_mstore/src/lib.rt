@@ -1,8 +1,8 @@
 //! Take and put, on the cells of a table whose waiters stand on the lists of an arena (M cells: Barth, Nikhil, Arvind,
 //! 1991). The list of a cell's waiters has the cell's address for its number.
 //!
-//! Stands on `im_istore`, for what cells and lists stand for, when they agree, and the checks before an access. Contracts
-//! say what a call does to the cells by the definitions of `im_types`.
+//! Stands on `im_istore`, for what cells and lists stand for, when they agree, and the checks before an access.
+//! Contracts say what a call does to the cells by the definitions of `im_types`.
 #![tactic(auto)]
 
 ghost use Rattle.std.specs.Prelude.{◌≡◌, ◌<◌, ◌∷◌, [], length, MatchOption};
@@ -71,7 +71,8 @@ pub fn put(table: &mut CellTable, arena: &mut Arena, a: u32, value: u64) -> (Rep
 
     // Whoever asks.
     ensures reply { (who : Waiter) → Answered result.0 ≡ (act (cells_of table.old arena.old) who (Put a value)).entry }
-    ensures cells { (who : Waiter) → cells_of table.new arena.new ≡ (act (cells_of table.old arena.old) who (Put a value)).cells }
+    ensures cells { (who : Waiter)
+        → cells_of table.new arena.new ≡ (act (cells_of table.old arena.old) who (Put a value)).cells }
     ensures taker { (who : Waiter) → let resumed = (act (cells_of table.old arena.old) who (Put a value)).resumed in
         MatchOption result.1 (resumed ≡ []) (λ taker. resumed ≡ replies_to (taker ∷ []) value) }
 

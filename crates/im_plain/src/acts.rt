@@ -1,7 +1,8 @@
 //! What an operation does to the cells.
 ghost use Rattle.std.specs.Prelude.{◌≡◌, ℕ, ◌+◌, ◌<◌, ◌≤◌, length, List, take, drop, vec_len, vec_capacity};
 ghost use Rattle.std.specs.List.{list_any};
-ghost use Rattle.im_types.specs.Act.{act, allocate, release_block, block_with_base, at_cell, fetch, store, take_from, put, has_waiter, is_waiting_cell};
+ghost use Rattle.im_types.specs.Act.{act, allocate, release_block, block_with_base, at_cell, fetch, store, take_from};
+ghost use Rattle.im_types.specs.Act.{put, has_waiter, is_waiting_cell};
 ghost use Rattle.im_types.specs.declared.operations.Waiter.{Waiter};
 ghost use Rattle.im_types.specs.Contents.{held_at, HasBlocks};
 ghost use Rattle.im_plain.specs.Waiting.{waiting_at};
@@ -144,7 +145,8 @@ fn access_at(
 ) -> Acted
     requires fits { Fits slots.old queue.old.items }
     requires room { vec_len queue.old < vec_capacity queue.old }
-    ensures acted { let cells = joined slots.old queue.old.items in HasActed slots.new queue.new.items result (at_cell kind (access_of who op) cells a (held_at cells a)) }
+    ensures acted { let cells = joined slots.old queue.old.items in HasActed slots.new queue.new.items result
+        (at_cell kind (access_of who op) cells a (held_at cells a)) }
     ensures room { vec_capacity queue.old ≤ vec_capacity queue.new }
 {
     let Some(slot) = slot_at(slots, a) else {
@@ -230,7 +232,8 @@ fn release(slots: &mut [Option<Slot>], queue: &[Deferred], a: u32) -> Acted
     requires fits { Fits slots.old queue.now }
     requires blocks { HasBlocks (joined slots.old queue.now) }
     requires few { length slots.old ≤ MAX_CELLS }
-    ensures { let cells = joined slots.old queue.now in HasActed slots.new queue.now result (release_block cells a (block_with_base a (held_at cells a))) }
+    ensures { let cells = joined slots.old queue.now in HasActed slots.new queue.now result
+        (release_block cells a (block_with_base a (held_at cells a))) }
 {
     let Some(slot) = slot_at(slots, a) else {
         return tells(Reply::NoBlock);

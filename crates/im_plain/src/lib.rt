@@ -1,4 +1,5 @@
-//! A memory kept plainly: slow, with no links and no bytes. What each of its functions does is what the definitions say.
+//! A memory kept plainly: slow, with no links and no bytes. What each of its functions does is what the definitions
+//! say.
 #![tactic(auto)]
 
 mod acts;

@@ -1,5 +1,6 @@
 //! A memory, and one command on it.
-ghost use Rattle.std.specs.Prelude.{◌≡◌, ◌≤◌, List, length, vec_capacity, IfOk, IfErr, OnErr, Ok, None, replicate, slice_get};
+ghost use Rattle.std.specs.Prelude.{◌≡◌, ◌≤◌, List, length, vec_capacity, IfOk, IfErr, OnErr, Ok, None, replicate};
+ghost use Rattle.std.specs.Prelude.{slice_get};
 ghost use Rattle.im_types.specs.declared.commands.Judged.TheVariants.{Fresh};
 ghost use Rattle.im_types.specs.Contents.{empty_contents, new_window, held_at, block_at, waiters_at, kept_for};
 ghost use Rattle.im_types.specs.Window.{judge, ask, bounds};
@@ -17,7 +18,8 @@ use crate::windows::{
     KeptWindow, ask, bounds, confirm, judge, judge_confirm, kept_for, note, resume,
 };
 use im_types::{
-    Block, Cell, Command, Entry, Judged, Kept, Limits, MAX_CELLS, MAX_ELEMENTS, Outcome, Refusal, Request, Waiter, WINDOW,
+    Block, Cell, Command, Entry, Judged, Kept, Limits, MAX_CELLS, MAX_ELEMENTS, Outcome, Refusal,
+    Request, WINDOW, Waiter,
 };
 use std::alloc::{AllocError, Global};
 use std::marker::Model;
@@ -52,9 +54,11 @@ fn serve(
 ) -> Entry
     requires memory { MakesMemory slots.old queue.old.items (vec_capacity queue.old) windows.old }
     requires fresh { judge windows.old request.now ≡ Ok Fresh }
-    ensures answer { let m = contents_of slots.old queue.old.items windows.old in result ≡ (act m.cells (asker request.now) request.now.op).entry }
+    ensures answer { let m = contents_of slots.old queue.old.items windows.old in result
+        ≡ (act m.cells (asker request.now) request.now.op).entry }
     ensures contents { let m = contents_of slots.old queue.old.items windows.old in
-        contents_of slots.new queue.new.items windows.new ≡ (serve m request.now (act m.cells (asker request.now) request.now.op)).contents }
+        contents_of slots.new queue.new.items windows.new
+        ≡ (serve m request.now (act m.cells (asker request.now) request.now.op)).contents }
     ensures memory { MakesMemory slots.new queue.new.items (vec_capacity queue.new) windows.new }
 {
     let who = Waiter {
@@ -68,8 +72,8 @@ fn serve(
 }
 
 impl PlainMemory {
-    /// A memory of these sizes, with no block and no entry. All memory that it will ever need is taken here; refused with
-    /// `NoMemory` where there isn't enough.
+    /// A memory of these sizes, with no block and no entry. All memory that it will ever need is taken here; refused
+    /// with `NoMemory` where there isn't enough.
     pub fn new(alloc: Global, limits: Limits) -> Result<Self, Refusal>
         ensures empty { IfOk result (λ m. m ≡ empty_contents limits.cells limits.elements) }
         ensures memory { IfOk result (λ m. IsMemory limits.cells limits.elements m) }
@@ -164,8 +168,8 @@ impl PlainMemory {
         }
     }
 
-    /// The entry that is kept under an element's number: refused with `NoElement`, with `Forgotten` below the window, and
-    /// with `Gap` where the number isn't used yet.
+    /// The entry that is kept under an element's number: refused with `NoElement`, with `Forgotten` below the window,
+    /// and with `Gap` where the number isn't used yet.
     pub fn collect(&self, element: u16, number: u64) -> Result<Entry, Refusal>
         ensures { result ≡ ask self.now.windows (record { element = element; number = number }) }
     {

@@ -1,5 +1,6 @@
 //! All requests that wait, in their order of arrival.
-ghost use Rattle.std.specs.Prelude.{◌≡◌, ◌+◌, ◌<◌, ◌≤◌, ◌++◌, ◌∷◌, [], List, length, slice_get, slice_index_or, vec_len, vec_capacity, Some, None, IfSome};
+ghost use Rattle.std.specs.Prelude.{◌≡◌, ◌+◌, ◌<◌, ◌≤◌, ◌++◌, ◌∷◌, [], List, length, slice_get, slice_index_or};
+ghost use Rattle.std.specs.Prelude.{vec_len, vec_capacity, Some, None, IfSome};
 ghost use Rattle.std.specs.Option.{IfNone};
 ghost use Rattle.std.specs.List.{remove};
 ghost use Rattle.im_plain.specs.declared.queue.Deferred.{Deferred};
@@ -58,7 +59,8 @@ pub fn park(queue: &mut Vec<Deferred>, a: u32, waiter: Waiter, entry: Entry)
 fn first_at(queue: &[Deferred], a: u32) -> Option<usize>
     ensures none { IfNone result ((waiting_at a queue.now ≡ []) × (without 1 a queue.now ≡ queue.now)) }
     ensures within { IfSome result (λ i. i < length queue.now) }
-    ensures first { IfSome result (λ i. (d : Deferred) → slice_get (waiting_at a queue.now) 0 ≡ Some (slice_index_or queue.now i d).waiter) }
+    ensures first { IfSome result (λ i. (d : Deferred)
+        → slice_get (waiting_at a queue.now) 0 ≡ Some (slice_index_or queue.now i d).waiter) }
     ensures rest { IfSome result (λ i. without 1 a queue.now ≡ remove queue.now i) }
 {
     for i in 0..queue.len() {

@@ -1,8 +1,11 @@
 //! The windows of kept replies, by element.
-ghost use Rattle.std.specs.Prelude.{◌≡◌, ◌-◌, ◌<◌, ◌≤◌, ◌^◌, List, ◌++◌, length, OnOk, OnErr, IfOk, IfErr, MatchResult, Some, Ok, Err, take, drop, slice_get, slice_set, slice_index_or, vec_len, vec_capacity};
+ghost use Rattle.std.specs.Prelude.{◌≡◌, ◌-◌, ◌<◌, ◌≤◌, ◌^◌, List, ◌++◌, length, OnOk, OnErr, IfOk, IfErr, MatchResult};
+ghost use Rattle.std.specs.Prelude.{Some, Ok, Err, take, drop, slice_get, slice_set, slice_index_or, vec_len};
+ghost use Rattle.std.specs.Prelude.{vec_capacity};
 ghost use Rattle.std.specs.List.{list_any};
 ghost use Rattle.im_types.specs.Contents.{Window, new_window, kept_under, kept_for};
-ghost use Rattle.im_types.specs.Window.{next_number, judge_window, judge, confirm_window, ask_window, ask, bounds_of, bounds, note_in, note, answer_in, answer, answer_each, is_waiting};
+ghost use Rattle.im_types.specs.Window.{next_number, judge_window, judge, confirm_window, ask_window, ask, bounds_of};
+ghost use Rattle.im_types.specs.Window.{bounds, note_in, note, answer_in, answer, answer_each, is_waiting};
 ghost use Rattle.im_plain.specs.Waiting.{waiting_at, without, replies_to};
 ghost use Rattle.im_plain.specs.Confirming.{confirmed, forgets};
 
@@ -125,7 +128,8 @@ impl KeptWindow {
     fn count_below(&self, upto: u64) -> Result<usize, Refusal>
         ensures count { IfOk result (λ count. count ≡ upto - self.now.base) }
         ensures within { IfOk result (λ count. count ≤ length self.now.kept) }
-        ensures window { MatchResult result (λ _. confirm_window upto (Some self.now) ≡ Ok (confirmed upto self.now)) (λ refusal. confirm_window upto (Some self.now) ≡ Err refusal) }
+        ensures window { MatchResult result (λ _. confirm_window upto (Some self.now) ≡ Ok (confirmed upto self.now))
+            (λ refusal. confirm_window upto (Some self.now) ≡ Err refusal) }
     {
         let count = upto.saturating_sub(self.base);
         if count > self.kept.len() as u64 {
@@ -147,7 +151,8 @@ impl KeptWindow {
 
     /// Drops the entries below a number, if each of them is answered.
     pub fn confirm(&mut self, upto: u64) -> Result<(), Refusal>
-        ensures { MatchResult result (λ _. confirm_window upto (Some self.old) ≡ Ok self.new) (λ refusal. (confirm_window upto (Some self.old) ≡ Err refusal) × (self.new ≡ self.old)) }
+        ensures { MatchResult result (λ _. confirm_window upto (Some self.old) ≡ Ok self.new)
+            (λ refusal. (confirm_window upto (Some self.old) ≡ Err refusal) × (self.new ≡ self.old)) }
     {
         let count = self.count_below(upto)?;
         drop_front(&mut self.kept, count);
@@ -225,7 +230,8 @@ pub fn bounds(windows: &[KeptWindow], element: u16) -> Result<(u64, u64), Refusa
 
 /// Whether a confirmation would drop an entry, or why it would be refused.
 pub fn judge_confirm(windows: &[KeptWindow], element: u16, upto: u64) -> Result<bool, Refusal>
-    ensures { let windows = windows.now in result ≡ forgets upto (slice_index_or windows element new_window) (confirm_window upto (slice_get windows element)) }
+    ensures { let windows = windows.now in result
+        ≡ forgets upto (slice_index_or windows element new_window) (confirm_window upto (slice_get windows element)) }
 {
     let at = element as usize;
     if at >= windows.len() {
@@ -260,8 +266,10 @@ pub fn answer(windows: &mut [KeptWindow], who: Waiter, reply: Reply)
 
 /// Drops an element's entries below a number, if each of them is answered.
 pub fn confirm(windows: &mut [KeptWindow], element: u16, upto: u64) -> Result<(), Refusal>
-    ensures ok { OnOk result ((w : Window) × (confirm_window upto (slice_get windows.old element) ≡ Ok w) × (windows.new ≡ slice_set windows.old element w)) }
-    ensures err { IfErr result (λ refusal. (confirm_window upto (slice_get windows.old element) ≡ Err refusal) × (windows.new ≡ windows.old)) }
+    ensures ok { OnOk result ((w : Window) × (confirm_window upto (slice_get windows.old element) ≡ Ok w)
+        × (windows.new ≡ slice_set windows.old element w)) }
+    ensures err { IfErr result (λ refusal. (confirm_window upto (slice_get windows.old element) ≡ Err refusal)
+        × (windows.new ≡ windows.old)) }
 {
     let at = element as usize;
     if at >= windows.len() {
@@ -279,7 +287,8 @@ pub fn resume(
     count: usize,
     value: u64,
 )
-    ensures windows { windows.new ≡ answer_each windows.old (replies_to (take count (waiting_at a queue.old.items)) value) }
+    ensures windows { windows.new ≡ answer_each windows.old
+        (replies_to (take count (waiting_at a queue.old.items)) value) }
     ensures queue { queue.new.items ≡ without count a queue.old.items }
     ensures room { vec_capacity queue.old ≤ vec_capacity queue.new }
 {

@@ -30,7 +30,8 @@ pub fn recover(
     events: &[Event],
     crash: Crash,
 ) -> Result<Recovered, Refusal>
-    ensures recovers { IfOk result (λ r. engine.failed ≡ false → Recovers engine.memory engine.count events.now r.answers.items r.engine.memory r.engine.count) }
+    ensures recovers { IfOk result (λ r. engine.failed ≡ false
+        → Recovers engine.memory engine.count events.now r.answers.items r.engine.memory r.engine.count) }
     ensures works { IfOk result (λ r. r.engine.failed ≡ false) }
     ensures refused { IfErr result (λ e. engine.failed ≡ false → (e ≡ NoMemory) ⊎ (e ≡ Device)) }
 {
@@ -60,7 +61,8 @@ pub fn recover_from_format(
     events: &[Event],
     crash: Crash,
 ) -> Result<Recovered, Refusal>
-    ensures recovers { IfOk result (λ r. Recovers (empty_contents limits.cells limits.elements) 0 events.now r.answers.items r.engine.memory r.engine.count) }
+    ensures recovers { IfOk result (λ r. Recovers (empty_contents limits.cells limits.elements) 0
+        events.now r.answers.items r.engine.memory r.engine.count) }
     ensures works { IfOk result (λ r. r.engine.failed ≡ false) }
     ensures refused { IfErr result (λ e. (e ≡ NoMemory) ⊎ (e ≡ Device) ⊎ (e ≡ WrongLength)) }
 {
@@ -70,8 +72,8 @@ pub fn recover_from_format(
     }
 }
 
-/// The same of an engine that an image was opened with, as after an earlier crash: so any number of crashes is covered. Its image
-/// is opened again, on a disk that fails in this mode after so many calls, those of the opening included.
+/// The same of an engine that an image was opened with, as after an earlier crash: so any number of crashes is covered.
+/// Its image is opened again, on a disk that fails in this mode after so many calls, those of the opening included.
 ///
 /// `Device` where the opening was stopped: [`reopen`] says what is there then.
 pub fn recover_again(
@@ -82,7 +84,8 @@ pub fn recover_again(
     events: &[Event],
     crash: Crash,
 ) -> Result<Recovered, Refusal>
-    ensures recovers { IfOk result (λ r. engine.failed ≡ false → Recovers engine.memory engine.count events.now r.answers.items r.engine.memory r.engine.count) }
+    ensures recovers { IfOk result (λ r. engine.failed ≡ false
+        → Recovers engine.memory engine.count events.now r.answers.items r.engine.memory r.engine.count) }
     ensures works { IfOk result (λ r. r.engine.failed ≡ false) }
     ensures refused { IfErr result (λ e. engine.failed ≡ false → (e ≡ NoMemory) ⊎ (e ≡ Device)) }
 {
@@ -108,7 +111,8 @@ fn open_crashed(alloc: Global, disk: MemDisk, crash: Crash) -> Result<Engine<Mem
     ensures works { IfOk result (λ e. e.failed ≡ false) }
     ensures left { IfOk result (λ e. Left disk.moment e.disk.moment.bytes) }
     ensures means { IfOk result (λ e. MeansState e e.disk.moment.bytes) }
-    ensures refused { IfErr result (λ e. (e ≡ NoMemory) ⊎ (e ≡ Device) ⊎ ((file : List ℕ) × Left disk.moment file × IsFirstFault e file)) }
+    ensures refused { IfErr result (λ e. (e ≡ NoMemory) ⊎ (e ≡ Device)
+        ⊎ ((file : List ℕ) × Left disk.moment file × IsFirstFault e file)) }
 {
     match Engine::open(alloc, disk.crash(crash)) {
         Ok(engine) => Ok(engine),
@@ -116,8 +120,8 @@ fn open_crashed(alloc: Global, disk: MemDisk, crash: Crash) -> Result<Engine<Mem
     }
 }
 
-/// Opens an engine's image again on a disk that fails in this mode after so many calls, so that the opening may be stopped at each
-/// of its calls; crashes the disk, and opens what is left: the memory and the count are as they were.
+/// Opens an engine's image again on a disk that fails in this mode after so many calls, so that the opening may be
+/// stopped at each of its calls; crashes the disk, and opens what is left: the memory and the count are as they were.
 pub fn reopen(
     alloc: Global,
     engine: Engine<MemDisk>,

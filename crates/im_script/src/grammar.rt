@@ -3,7 +3,8 @@ ghost use Rattle.std.specs.Prelude.{◌≡◌, ◌==◌, ◌≤◌, IfOk, codes,
 ghost use Rattle.std.specs.List.{before_first, list_all, position, position_or_len};
 ghost use Rattle.std.specs.Option.{option_and_then, option_map};
 ghost use Rattle.std.specs.Str.{bytes_eq};
-ghost use Rattle.im_script.specs.Grammar.{digit_after, is_name, is_name_byte, kind_of, number_up_to, offset_of, place_of, place_past, texts, words_of};
+ghost use Rattle.im_script.specs.Grammar.{digit_after, is_name, is_name_byte, kind_of, number_up_to, offset_of};
+ghost use Rattle.im_script.specs.Grammar.{place_of, place_past, texts, words_of};
 
 use crate::places::Place;
 use crate::{MAX_NAME, MAX_OFFSET};
@@ -44,8 +45,8 @@ pub fn read_number(text: &[u8], most: u64) -> Option<u64>
     if number <= most { Some(number) } else { None }
 }
 
-/// The number that a text writes in decimal digits, from 0 to 4,294,967,295; zeros may stand before it. `None` where the
-/// text is empty or has a byte that is no digit, or where the number is greater.
+/// The number that a text writes in decimal digits, from 0 to 4,294,967,295; zeros may stand before it. `None` where
+/// the text is empty or has a byte that is no digit, or where the number is greater.
 pub fn read_u32(text: &[u8]) -> Option<u32>
     ensures { result ≡ number_up_to u32.MAX text.now }
 {

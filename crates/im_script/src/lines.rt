@@ -2,7 +2,8 @@
 ghost use Rattle.std.specs.Prelude.{◌≡◌};
 ghost use Rattle.std.specs.Option.{option_map};
 ghost use Rattle.im_script.specs.Grammar.{texts};
-ghost use Rattle.im_script.specs.Lines.{action_of, action_past, block_of, named_block, part_number, plain_action, starts_setup, valued_action};
+ghost use Rattle.im_script.specs.Lines.{action_of, action_past, block_of, named_block, part_number, plain_action};
+ghost use Rattle.im_script.specs.Lines.{starts_setup, valued_action};
 
 use crate::grammar::{can_name, find_name, read_kind, read_number, read_place, read_u32};
 use crate::places::{Action, Place};

@@ -65,7 +65,8 @@ pub struct Reader<'a> {
 
 impl<'a> Reader<'a> {
     ghost use Rattle.im_script.specs.Grammar.{texts};
-    ghost use Rattle.im_script.specs.Script.{Follows, asked, begun_part, begun_setup, counted, draft_of, line_after, named, new_draft};
+    ghost use Rattle.im_script.specs.Script.{Follows, asked, begun_part, begun_setup, counted, draft_of, line_after};
+    ghost use Rattle.im_script.specs.Script.{named, new_draft};
 
     /// Nothing was read.
     fn new(alloc: Global) -> Reader<'a>

@@ -4,7 +4,8 @@ ghost use Rattle.std.specs.Prelude.{◌≡◌, [], ◌+◌, ◌-◌, ◌<◌, �
 ghost use Rattle.std.specs.List.{list_any};
 ghost use Rattle.im_types.specs.Contents.{new_window, kept_under};
 ghost use Rattle.im_types.specs.Memory.{IsWindow};
-ghost use Rattle.im_types.specs.Window.{judge_window, confirm_window, ask_window, note_in, answer_in, is_waiting, next_number, same_op};
+ghost use Rattle.im_types.specs.Window.{judge_window, confirm_window, ask_window, note_in, answer_in, is_waiting};
+ghost use Rattle.im_types.specs.Window.{next_number, same_op};
 ghost use Rattle.im_sessions.specs.Places.{place_of};
 
 use crate::place::Place;

@@ -1,7 +1,8 @@
 //! Where things stand in an image, in bytes from the file's start: two header places, two areas of pages, the journal.
 //!
 //! This is the layout in use, `layout_in_use` of `specs/Layout.antt`, and no other file computes with its sizes. A page
-//! of an area has records of one kind: cells come first, then waiter nodes, then sessions, and no record crosses a page.
+//! of an area has records of one kind: cells come first, then waiter nodes, then sessions, and no record crosses a
+//! page.
 ghost use Rattle.std.specs.Prelude.{◌≡◌, ◌*◌, ◌≤◌};
 ghost use Rattle.im_types.specs.Layout as layout;
 ghost use Rattle.im_types.specs.Layout.{layout_in_use, sizes_of};
