@@ -1,8 +1,8 @@
 -- Pages that are made record by record, and the area that they make.
-use Rattle.std.proofs.Common.{◌≡◌, ◌≢◌, ◌⊎◌, inl, inr, ⊎_elim, ℕ, zero, suc, ◌+◌, ◌-◌, ◌*◌, ◌/◌, ◌%◌, ◌<◌, ◌≤◌, List, ◌++◌, ◌∷◌, [], length, take, get_or, Some, None, Ok, Err, refl, sym, ap, subst, ◌∙◌, arith}
+use Rattle.std.proofs.Common.{◌≡◌, ◌≢◌, ⊎_elim, ℕ, zero, suc, ◌+◌, ◌-◌, ◌*◌, ◌/◌, ◌%◌, ◌<◌, ◌≤◌, List, ◌++◌, ◌∷◌, [], length, take, get_or, Some, None, Ok, Err, refl, sym, ap, subst, ◌∙◌, arith}
 use Rattle.std.specs.Prelude.{Option, slice_get, slice_index_or}
-use Rattle.std.proofs.lemmas.Bool.{cases_lt, cases_order}
-use Rattle.std.proofs.lemmas.List.{take_more, take_all, length-take}
+use Rattle.std.proofs.lemmas.Bool.{cases_lt}
+use Rattle.std.proofs.lemmas.List.{take_more, take_all}
 use Rattle.std.proofs.lemmas.Option.{slice_get-get_or, slice_get_past, get_or_from_slice_get}
 use Rattle.im_types.specs.declared.TheConstants.{NONE, WINDOW}
 use Rattle.im_types.specs.declared.refusals.Refusal.{Refusal}
@@ -10,7 +10,6 @@ use Rattle.im_types.specs.declared.operations.Kept.{Kept}
 use Rattle.im_types.specs.Contents.{Window, Contents, new_window, kept_for}
 use Rattle.im_types.specs.Window.{next_number, bounds_of, bounds}
 use Rattle.im_types.specs.Layout.{Sizes, layout_in_use, area_bytes, area_pages, cell_pages, node_pages, session_pages, node_count, record_at}
-use Rattle.im_types.specs.Memory.{IsWindow}
 use Rattle.im_types.specs.declared.records.CellRecord.TheVariants.{Free as FreeCell}
 use Rattle.im_types.specs.declared.records.NodeRecord.TheVariants.{Free as FreeNode}
 use Rattle.im_types.specs.Records.{FitsCell, FitsNode, FitsWindow}
@@ -19,7 +18,7 @@ use Rattle.im_laws.proofs.WindowLemmas.{kept_under-from, kept_for-here}
 use Rattle.im_records.specs.Paging.{bytes_or_zeros, ArePages, FitRecords, joined}
 use Rattle.im_records.specs.Placed.{placed}
 use Rattle.im_records.proofs.Joining.{joined_is_area, area_of_pages}
-use Rattle.im_records.proofs.Places.{here_is, others_are}
+use Rattle.im_records.proofs.Places.{here_is, others_are, apart}
 use Rattle.im_image.specs.Encoding.{Spells, SpellsCells, SpellsNodes, SpellsSessions, IsAreaPage, AreCounted}
 
 -- records that are put on a page one by one
@@ -28,9 +27,6 @@ module _ {X : Type 0} (size per : ℕ) (spelled : X → List ℕ) (Fits : X → 
   pub record Spelled (page : List ℕ) (n : ℕ) : Type 0 where
     pub each : (k : ℕ) → k < n → record_at size page k ≡ bytes_or_zeros size spelled (slice_get row (per * i + k))
     pub fits : (k : ℕ) → k < n → per * i + k < length row → Fits (slice_index_or row (per * i + k) none)
-
-  pub spelled-none : (page : List ℕ) → Spelled page 0
-  spelled-none page = record { each = λ k lt. absurd (omega arith); fits = λ k lt. absurd (omega arith) }
 
   pub spelled-more : (old new : List ℕ) (n : ℕ) → n < per → Spelled old n → record_at size new n ≡ bytes_or_zeros size spelled (slice_get row (per * i + n))
       → ((k : ℕ) → k < per → k ≢ n → record_at size new k ≡ record_at size old k) → (per * i + n < length row → Fits (slice_index_or row (per * i + n) none)) → Spelled new (n + 1)
@@ -138,16 +134,10 @@ module _ (windows : List Window) (element base next : ℕ) (has : HasBounds wind
       with_base : List Kept → Window
       with_base kept = record { base = base; kept = kept }
 
-  pub entries-few : (number : ℕ) → base ≤ number → number < next → IsWindow own → length (entries_to number).kept < 16
-  entries-few number from to is = omega (arith, has.next_is, is.few, length-take (number - base) own.kept)
-
   pub entries-all : (number : ℕ) → next ≤ number → entries_to number ≡ own
   entries-all number past =
       let kept : take (number - base) own.kept ≡ own.kept = take_all (number - base) own.kept (omega (arith, has.next_is)) in
       λ i. record { base = has.base_is i; kept = kept i }
-
-pub own-window : (windows : List Window) (element : ℕ) → ((e : ℕ) (w : Window) → slice_get windows e ≡ Some w → IsWindow w) → element < length windows → IsWindow (get_or windows element new_window)
-own-window windows element within inside = within element (get_or windows element new_window) (slice_get-get_or windows element new_window inside)
 
 -- the records of a memory are as many as its sizes say
 pub counted : (s : Sizes) (m : Contents) (r : Records) → length m.cells ≡ s.cells → length m.windows ≡ s.elements → length r.cells ≡ length m.cells → length r.nodes ≡ WINDOW * length m.windows
@@ -226,18 +216,10 @@ area-shows s r m area count shows long pages =
     record { records = r; spelled = area_of_pages s r (they-fit s r page count pages) area long (are-pages s r page count pages); shown = shows }
 
 -- a page more of an area
-pages_apart : (k place : ℕ) → k ≢ place → (4096 * k + 4096 ≤ 4096 * place) ⊎ (4096 * place + 4096 ≤ 4096 * k)
-pages_apart k place ne = by (cases_order k place)
-  where
-    by : (k ≡ place) ⊎ ((k < place) ⊎ (place < k)) → (4096 * k + 4096 ≤ 4096 * place) ⊎ (4096 * place + 4096 ≤ 4096 * k)
-    by (inl e) = absurd (ne e)
-    by (inr (inl lt)) = inl (omega arith)
-    by (inr (inr lt)) = inr (omega arith)
-
 pub one-page-more : (s : Sizes) (r : Records) (old new page : List ℕ) (n : ℕ) → length page ≡ 4096 → 4096 * n + 4096 ≤ length old → new ≡ placed (4096 * n) page old → IsAreaPage s r n page
     → ((i : ℕ) → i < n → IsAreaPage s r i (record_at 4096 old i)) → (i : ℕ) → i < n + 1 → IsAreaPage s r i (record_at 4096 new i)
 one-page-more s r old new page n long room put here before i lt = ⊎_elim
-    (λ (less : i < n). subst (IsAreaPage s r i) (sym (others_are 4096 n i page old new long room (pages_apart i n (λ e. omega arith)) put)) (before i less))
+    (λ (less : i < n). subst (IsAreaPage s r i) (sym (others_are 4096 n i page old new long room (apart 4096 i n (λ e. omega arith)) put)) (before i less))
     (λ (from : n ≤ i).
     let same : n ≡ i = omega arith in
     let is : IsAreaPage s r n (record_at 4096 new n) = subst (IsAreaPage s r n) (sym (here_is 4096 n page old new long room put)) here in

@@ -18,9 +18,6 @@ use Rattle.im_formats.proofs.Headers.{header_in-spelled, spells_header-spelled}
 use Rattle.im_image.specs.Fresh.{new_header, new_area, new_image}
 use Rattle.im_image.proofs.FreshArea.{length-area, length-zeros, new_area_shows}
 
-abbrev sized : ℕ → ℕ → ℕ → Sizes
-sized cells elements slots = record { cells = cells; elements = elements; slots = slots }
-
 abbrev first : Sizes → List ℕ
 first s = 0xA5 ∷ header_body (new_header s)
 

@@ -1,9 +1,9 @@
 -- What the area of a header in force shows.
-use Rattle.std.proofs.Common.{◌≡◌, ℕ, ◌+◌, ◌-◌, List, length, take, drop, ◌==◌, nat_lt, Bool, true, false, Option, None, Some, if◌then◌else◌, refl, sym, ap, subst, ◌∙◌, arith}
+use Rattle.std.proofs.Common.{◌≡◌, ℕ, List, length, ◌==◌, nat_lt, Bool, true, false, Option, None, Some, if◌then◌else◌, refl, sym, ap, subst, ◌∙◌, arith}
 use Rattle.im_types.specs.declared.refusals.Refusal.{Refusal}
 use Rattle.im_types.specs.declared.refusals.Refusal.TheVariants.{WrongLength}
 use Rattle.im_types.specs.Contents.{Contents}
-use Rattle.im_types.specs.Layout.{Sizes, layout_in_use, area_at, area_bytes, area_of, image_length}
+use Rattle.im_types.specs.Layout.{layout_in_use, area_of, image_length}
 use Rattle.im_types.specs.Header.{Header, header_of, header_fault, header_place, place_fault, or_else}
 use Rattle.im_types.specs.Pages.{Shows}
 use Rattle.im_types.specs.Meaning.{IsShown}
@@ -11,13 +11,6 @@ use Rattle.std.proofs.lemmas.Bool.Decides.{nat_tests}
 
 eq_true : (m n : ℕ) → (m == n) ≡ true → m ≡ n
 eq_true m n is = grind (arith, nat_tests)
-
-less : (a b : ℕ) → (a + b) - a ≡ b
-less a b = omega arith
-
--- the area that is read is the one of the header in force
-pub area_read : (s : Sizes) (number : ℕ) (file : List ℕ) → take (area_bytes layout_in_use s) (drop (area_at layout_in_use s number) file) ≡ area_of layout_in_use s number file
-area_read s number file = ap (λ (k : ℕ). take k (drop (area_at layout_in_use s number) file)) (sym (less (area_at layout_in_use s number) (area_bytes layout_in_use s)))
 
 -- what a file shows, the area of its header in force shows
 pub shown-in : (h : Header) (file area : List ℕ) (m : Contents) → h ≡ header_of file → area ≡ area_of layout_in_use h.sizes h.area file → IsShown layout_in_use file m → Shows layout_in_use h.sizes area m

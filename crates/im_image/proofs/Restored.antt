@@ -1,11 +1,10 @@
 -- A memory that is put together from the records of an area.
-use Rattle.std.proofs.Common.{◌≡◌, ⊎_elim, ℕ, zero, suc, ◌+◌, ◌*◌, ◌<◌, ◌≤◌, List, [], length, take, set, get_or, replicate, refl, sym, ap, ◌∙◌, subst, arith, length-set}
+use Rattle.std.proofs.Common.{◌≡◌, ⊎_elim, ℕ, ◌+◌, ◌*◌, ◌<◌, ◌≤◌, List, [], length, take, set, get_or, sym, ap, ◌∙◌, subst, arith, length-set}
 use Rattle.std.specs.Prelude.{Err, IsErrOf}
 use Rattle.std.specs.List.{sum_by}
 use Rattle.std.proofs.lemmas.Bool.{cases_lt}
-use Rattle.std.proofs.lemmas.List.{get_or-set_same, get_or-set_other, length-replicate, ext_get_or}
-use Rattle.std.proofs.lemmas.List.Sums.{sum_by-set, sum_by_more, sum_by-take-le}
-use Rattle.std.proofs.lemmas.List.Folds.{sum_by-replicate}
+use Rattle.std.proofs.lemmas.List.{get_or-set_same, get_or-set_other, ext_get_or}
+use Rattle.std.proofs.lemmas.List.Sums.{sum_by-set, sum_by_more}
 use Rattle.im_types.specs.declared.TheConstants.{WINDOW, NONE}
 use Rattle.im_types.specs.declared.refusals.Refusal.{Refusal}
 use Rattle.im_types.specs.declared.operations.Waiter.{Waiter}
@@ -56,21 +55,6 @@ pub record ListsPut (lists now : List (List Waiter)) (i : ℕ) : Type 0 where
   pub rest : (a : ℕ) → i ≤ a → get_or now a [] ≡ []
   pub sum : sum_by length now ≡ sum_by length (take i lists)
 
-empty-at : (n a : ℕ) → get_or (replicate n nobody) a nobody ≡ nobody
-empty-at zero a = refl
-empty-at (suc n) zero = refl
-empty-at (suc n) (suc a) = empty-at n a
-
-pub lists-none : (lists : List (List Waiter)) (n : ℕ) → length lists ≡ n → ListsPut lists (replicate n nobody) 0
-lists-none lists n is = record {
-  begun = record { many = length-replicate n nobody ∙ sym is; first = λ a lt. absurd (omega arith) };
-  rest = λ a from. empty-at n a;
-  sum = sum_by-replicate length n nobody ∙ times_none n;
-}
-  where
-    times_none : (n : ℕ) → n * 0 ≡ 0
-    times_none n = omega arith
-
 pub lists-more : (lists now : List (List Waiter)) (i : ℕ) → i < length lists → ListsPut lists now i → ListsPut lists (set now i (get_or lists i [])) (i + 1)
 lists-more lists now i inside put = record {
   begun = begun-more nobody lists now i inside put.begun;
@@ -79,9 +63,6 @@ lists-more lists now i inside put = record {
       let now_sum : sum_by length (set now i (get_or lists i [])) + length (get_or now i nobody) ≡ sum_by length now + length (get_or lists i nobody) = sum_by-set length now i (get_or lists i []) [] (omega (arith, put.begun.many)) in
       omega (arith, now_sum, put.sum, ap length (put.rest i (omega arith)), sum_by_more length lists i nobody inside);
 }
-
-pub lists-room : (lists now : List (List Waiter)) (i most : ℕ) → i < length lists → ListsPut lists now i → sum_by length lists ≤ most → sum_by length now + length (get_or lists i nobody) ≤ most
-lists-room lists now i most inside put fits = omega (arith, put.sum, sum_by_more length lists i nobody inside, sum_by-take-le length lists (i + 1))
 
 -- parts with the same of each kind are the same
 pub parts-same : (p q : Parts) → p.cells ≡ q.cells → p.lists ≡ q.lists → p.windows ≡ q.windows → p ≡ q

@@ -2,7 +2,7 @@
 use Rattle.std.specs.Prelude.{◌≡◌, ℕ, ◌+◌, ◌*◌, ◌<◌, List, length, slice_index_or}
 use Rattle.im_types.specs.declared.TheConstants.{NONE}
 use Rattle.im_types.specs.Contents.{new_window}
-use Rattle.im_types.specs.Layout.{Sizes, layout_in_use, cell_pages, node_pages, session_pages, node_count}
+use Rattle.im_types.specs.Layout.{Sizes, layout_in_use, cell_record_bytes, node_record_bytes, session_record_bytes, on_a_page, cell_pages, node_pages, session_pages, node_count}
 use Rattle.im_types.specs.declared.records.CellRecord.TheVariants.{Free as FreeCell}
 use Rattle.im_types.specs.declared.records.NodeRecord.TheVariants.{Free as FreeNode}
 use Rattle.im_types.specs.Records.{cell_bytes, node_bytes, session_bytes, FitsCell, FitsNode, FitsWindow}
@@ -16,15 +16,15 @@ pub record Spells {X : Type 0} (size per : ℕ) (spelled : X → List ℕ) (Fits
 
 -- page i of the cells
 abbrev pub SpellsCells : Sizes → Records → ℕ → List ℕ → Type 0
-SpellsCells s r i page = Spells 32 128 cell_bytes (FitsCell s.cells (node_count layout_in_use s)) (FreeCell 0 NONE) r.cells i page
+SpellsCells s r i page = Spells cell_record_bytes (on_a_page cell_record_bytes) cell_bytes (FitsCell s.cells (node_count layout_in_use s)) (FreeCell 0 NONE) r.cells i page
 
 -- page i of the waiter nodes
 abbrev pub SpellsNodes : Sizes → Records → ℕ → List ℕ → Type 0
-SpellsNodes s r i page = Spells 16 256 node_bytes (FitsNode (node_count layout_in_use s)) (FreeNode NONE) r.nodes i page
+SpellsNodes s r i page = Spells node_record_bytes (on_a_page node_record_bytes) node_bytes (FitsNode (node_count layout_in_use s)) (FreeNode NONE) r.nodes i page
 
 -- page i of the sessions
 abbrev pub SpellsSessions : Records → ℕ → List ℕ → Type 0
-SpellsSessions r i page = Spells 1024 4 (session_bytes layout_in_use) (FitsWindow layout_in_use) new_window r.windows i page
+SpellsSessions r i page = Spells (session_record_bytes layout_in_use) (on_a_page (session_record_bytes layout_in_use)) (session_bytes layout_in_use) (FitsWindow layout_in_use) new_window r.windows i page
 
 -- page i of an area, which has first the pages of cells, then those of waiter nodes, then those of sessions
 pub record IsAreaPage (s : Sizes) (r : Records) (i : ℕ) (page : List ℕ) : Type 0 where

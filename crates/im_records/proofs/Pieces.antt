@@ -1,6 +1,7 @@
 -- Records of a page are records of the part that the page is of.
-use Rattle.std.proofs.Common.{◌≡◌, ℕ, zero, suc, ◌+◌, ◌-◌, ◌*◌, ◌/◌, ◌%◌, ◌<◌, ◌≤◌, List, [], ◌∷◌, ◌++◌, length, take, drop, refl, sym, ap, ◌∙◌, arith}
-use Rattle.std.proofs.Math.Nat.{mul-zero, mul-suc, mul-sub}
+use Rattle.std.proofs.Common.{◌≡◌, ◌⊎◌, inl, inr, ℕ, zero, suc, ◌+◌, ◌-◌, ◌*◌, ◌/◌, ◌%◌, ◌<◌, ◌≤◌, List, [], ◌∷◌, ◌++◌, length, take, drop, refl, sym, ap, ◌∙◌, arith}
+use Rattle.std.proofs.Math.Nat.{mul-zero, mul-suc, mul-sub, mul-le-mul_left, div-add-mod, mod-lt}
+use Rattle.std.proofs.lemmas.Bool.{cases_lt}
 use Rattle.std.proofs.lemmas.List.{drop-take, take-take, drop-drop, take-append-drop, length-drop, replicate-append-replicate}
 use Rattle.im_types.specs.Bytes.{zeros}
 use Rattle.im_types.specs.Layout.{record_at}
@@ -21,30 +22,29 @@ piece n page m at k i part size room is =
     ∙ ap (λ (b : List ℕ). take n b) (drop-drop (n * k) (page * i) part)
     ∙ ap (λ (a : ℕ). take n (drop a part)) (sym is)
 
-cell_of_page : (i k : ℕ) (part : List ℕ) → k < 128 → record_at 32 (record_at 4096 part i) k ≡ record_at 32 part (128 * i + k)
-cell_of_page i k part lt = record_is 32 k (record_at 4096 part i) ∙ piece 32 4096 (4096 - 32 * k) (32 * (128 * i + k)) k i part (omega arith) (omega arith) (omega arith) ∙ sym (record_is 32 (128 * i + k) part)
+-- record k of page i, of pages with so many records of a size
+of_page : (size per i k : ℕ) (part : List ℕ) → k < per → record_at size (record_at (size * per) part i) k ≡ record_at size part (per * i + k)
+of_page size per i k part lt =
+    record_is size k (record_at (size * per) part i)
+    ∙ piece size (size * per) (size * per - size * k) (size * (per * i + k)) k i part (omega (arith, inside)) (omega (arith, inside)) (at size per i k)
+    ∙ sym (record_is size (per * i + k) part)
+  where
+    inside : size * k + size ≤ size * per
+    inside = omega (arith, mul-suc size k, mul-le-mul_left {m = suc k} {n = per} size lt)
 
-node_of_page : (i k : ℕ) (part : List ℕ) → k < 256 → record_at 16 (record_at 4096 part i) k ≡ record_at 16 part (256 * i + k)
-node_of_page i k part lt = record_is 16 k (record_at 4096 part i) ∙ piece 16 4096 (4096 - 16 * k) (16 * (256 * i + k)) k i part (omega arith) (omega arith) (omega arith) ∙ sym (record_is 16 (256 * i + k) part)
-
-session_of_page : (i k : ℕ) (part : List ℕ) → k < 4 → record_at 1024 (record_at 4096 part i) k ≡ record_at 1024 part (4 * i + k)
-session_of_page i k part lt = record_is 1024 k (record_at 4096 part i) ∙ piece 1024 4096 (4096 - 1024 * k) (1024 * (4 * i + k)) k i part (omega arith) (omega arith) (omega arith) ∙ sym (record_is 1024 (4 * i + k) part)
+    at : (size per i k : ℕ) → size * (per * i + k) ≡ size * per * i + size * k
+    at size per i k = grind arith
 
 -- what stands at each place of each page stands at each place of the part
-pub cells_of_pages : (n : ℕ) (part : List ℕ) (f : ℕ → List ℕ) → ((i k : ℕ) → i < n → k < 128 → record_at 32 (record_at 4096 part i) k ≡ f (128 * i + k)) → (j : ℕ) → j < 128 * n → record_at 32 part j ≡ f j
-cells_of_pages n part f has j lt =
-    let at : 128 * (j / 128) + j % 128 ≡ j = omega arith in
-    ap (λ (m : ℕ). record_at 32 part m) (sym at) ∙ sym (cell_of_page (j / 128) (j % 128) part (omega arith)) ∙ has (j / 128) (j % 128) (omega arith) (omega arith) ∙ ap f at
-
-pub nodes_of_pages : (n : ℕ) (part : List ℕ) (f : ℕ → List ℕ) → ((i k : ℕ) → i < n → k < 256 → record_at 16 (record_at 4096 part i) k ≡ f (256 * i + k)) → (j : ℕ) → j < 256 * n → record_at 16 part j ≡ f j
-nodes_of_pages n part f has j lt =
-    let at : 256 * (j / 256) + j % 256 ≡ j = omega arith in
-    ap (λ (m : ℕ). record_at 16 part m) (sym at) ∙ sym (node_of_page (j / 256) (j % 256) part (omega arith)) ∙ has (j / 256) (j % 256) (omega arith) (omega arith) ∙ ap f at
-
-pub sessions_of_pages : (n : ℕ) (part : List ℕ) (f : ℕ → List ℕ) → ((i k : ℕ) → i < n → k < 4 → record_at 1024 (record_at 4096 part i) k ≡ f (4 * i + k)) → (j : ℕ) → j < 4 * n → record_at 1024 part j ≡ f j
-sessions_of_pages n part f has j lt =
-    let at : 4 * (j / 4) + j % 4 ≡ j = omega arith in
-    ap (λ (m : ℕ). record_at 1024 part m) (sym at) ∙ sym (session_of_page (j / 4) (j % 4) part (omega arith)) ∙ has (j / 4) (j % 4) (omega arith) (omega arith) ∙ ap f at
+pub of_pages : (size per n : ℕ) (part : List ℕ) (f : ℕ → List ℕ) → 0 < per → ((i k : ℕ) → i < n → k < per → record_at size (record_at (size * per) part i) k ≡ f (per * i + k)) → (j : ℕ) → j < per * n → record_at size part j ≡ f j
+of_pages size per n part f some has j lt =
+    let at : per * (j / per) + j % per ≡ j = div-add-mod j per in
+    let below : j % per < per = mod-lt j some in
+    ap (λ (m : ℕ). record_at size part m) (sym at) ∙ sym (of_page size per (j / per) (j % per) part below) ∙ has (j / per) (j % per) (page_below at (cases_lt (j / per) n)) below ∙ ap f at
+  where
+    page_below : per * (j / per) + j % per ≡ j → (j / per < n) ⊎ (n ≤ j / per) → j / per < n
+    page_below at (inl less) = less
+    page_below at (inr more) = absurd (omega (arith, at, lt, mul-le-mul_left {m = n} {n = j / per} per more))
 
 -- a record behind others
 record_behind : (size m j : ℕ) (bytes : List ℕ) → record_at size (drop (size * m) bytes) j ≡ record_at size bytes (m + j)

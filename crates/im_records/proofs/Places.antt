@@ -1,5 +1,6 @@
 -- A record put at its place, and what stands at other places.
-use Rattle.std.proofs.Common.{◌≡◌, ◌≢◌, ◌⊎◌, inl, inr, ℕ, ◌+◌, ◌-◌, ◌*◌, ◌<◌, ◌≤◌, List, ◌++◌, length, take, drop, sym, ap, ◌∙◌, arith}
+use Rattle.std.proofs.Common.{◌≡◌, ◌≢◌, ◌⊎◌, inl, inr, ℕ, suc, ◌+◌, ◌-◌, ◌*◌, ◌<◌, ◌≤◌, List, ◌++◌, length, take, drop, sym, ap, ◌∙◌, arith}
+use Rattle.std.proofs.Math.Nat.{mul-suc, mul-le-mul_left}
 use Rattle.std.proofs.lemmas.Bool.{cases_order}
 use Rattle.std.proofs.lemmas.List.{append_assoc, drop-take, take-take, drop-drop, length-append, length-take-le, take_at, drop_at}
 use Rattle.im_types.specs.Layout.{record_at}
@@ -61,26 +62,14 @@ others_are size place k part bytes after long room apart put =
     ∙ put_other size (size * place) part bytes long room (size * k) apart
     ∙ sym (record_is size k bytes)
 
-pub cells_apart : (k place : ℕ) → k ≢ place → (32 * k + 32 ≤ 32 * place) ⊎ (32 * place + 32 ≤ 32 * k)
-cells_apart k place ne = by (cases_order k place)
+-- records of a size at two places lie apart
+pub apart : (size k place : ℕ) → k ≢ place → (size * k + size ≤ size * place) ⊎ (size * place + size ≤ size * k)
+apart size k place ne = by (cases_order k place)
   where
-    by : (k ≡ place) ⊎ ((k < place) ⊎ (place < k)) → (32 * k + 32 ≤ 32 * place) ⊎ (32 * place + 32 ≤ 32 * k)
-    by (inl e) = absurd (ne e)
-    by (inr (inl lt)) = inl (omega arith)
-    by (inr (inr lt)) = inr (omega arith)
+    before : (a b : ℕ) → a < b → size * a + size ≤ size * b
+    before a b lt = omega (arith, mul-suc size a, mul-le-mul_left {m = suc a} {n = b} size lt)
 
-pub nodes_apart : (k place : ℕ) → k ≢ place → (16 * k + 16 ≤ 16 * place) ⊎ (16 * place + 16 ≤ 16 * k)
-nodes_apart k place ne = by (cases_order k place)
-  where
-    by : (k ≡ place) ⊎ ((k < place) ⊎ (place < k)) → (16 * k + 16 ≤ 16 * place) ⊎ (16 * place + 16 ≤ 16 * k)
+    by : (k ≡ place) ⊎ ((k < place) ⊎ (place < k)) → (size * k + size ≤ size * place) ⊎ (size * place + size ≤ size * k)
     by (inl e) = absurd (ne e)
-    by (inr (inl lt)) = inl (omega arith)
-    by (inr (inr lt)) = inr (omega arith)
-
-pub sessions_apart : (k place : ℕ) → k ≢ place → (1024 * k + 1024 ≤ 1024 * place) ⊎ (1024 * place + 1024 ≤ 1024 * k)
-sessions_apart k place ne = by (cases_order k place)
-  where
-    by : (k ≡ place) ⊎ ((k < place) ⊎ (place < k)) → (1024 * k + 1024 ≤ 1024 * place) ⊎ (1024 * place + 1024 ≤ 1024 * k)
-    by (inl e) = absurd (ne e)
-    by (inr (inl lt)) = inl (omega arith)
-    by (inr (inr lt)) = inr (omega arith)
+    by (inr (inl lt)) = inl (before k place lt)
+    by (inr (inr lt)) = inr (before place k lt)

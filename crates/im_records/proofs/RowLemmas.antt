@@ -1,9 +1,7 @@
 -- Rows of records: one more, and none other.
-use Rattle.std.proofs.Common.{◌≡◌, ℕ, ◌+◌, ◌<◌, List, [], ◌∷◌, ◌++◌, length, drop, ◌*◌, get_or, sym, ◌∙◌, subst, arith, below_more}
+use Rattle.std.proofs.Common.{◌≡◌, ℕ, ◌+◌, ◌<◌, List, [], ◌∷◌, ◌++◌, length, get_or, sym, ◌∙◌, subst, arith, below_more}
 use Rattle.std.proofs.lemmas.List.{length-append, get_or_append_left, get_or_at}
-use Rattle.im_types.specs.Bytes.{zeros}
 use Rattle.im_types.specs.Layout.{record_at}
-use Rattle.im_types.specs.Pages.{IsRow}
 use Rattle.im_records.specs.Rows.{Spells, BeginWith}
 
 module _ {X : Type 0} (size : ℕ) (spelled : X → List ℕ) (Fits : X → Type 0) (none : X) where
@@ -24,10 +22,3 @@ module _ {X : Type 0} (size : ℕ) (spelled : X → List ℕ) (Fits : X → Type
 
       new : get_or (row ++ x ∷ []) i none ≡ x
       new = get_or_at row x [] none i begin.many
-
-  -- a row, where zeros stand behind its records
-  pub row_of : (count : ℕ) (bytes : List ℕ) (row : List X) → BeginWith size spelled Fits none count bytes row → drop (size * count) bytes ≡ zeros (length (drop (size * count) bytes)) → IsRow size spelled Fits none count bytes row
-  row_of count bytes row begin rest = record { many = begin.many; each = λ i lt. (begin.each i lt).is; fits = λ i lt. (begin.each i lt).fits; rest = rest }
-
-  pub begins : (count : ℕ) (bytes : List ℕ) (row : List X) → IsRow size spelled Fits none count bytes row → BeginWith size spelled Fits none count bytes row
-  begins count bytes row is = record { many = is.many; each = λ i lt. record { is = is.each i lt; fits = is.fits i lt } }
