@@ -5,7 +5,7 @@ use im_cell::CellTable;
 use im_types::{Kind, MAX_CELLS, Refusal};
 use std::alloc::Global;
 
-const BLOCKS: u32 = 256;
+const HOLES: u32 = 32_767;
 
 fn place_each(table: &mut CellTable, cells: u32, count: u32) -> u64
     requires { 0 < cells }
@@ -28,14 +28,11 @@ fn release_each(table: &mut CellTable, first: u32, step: u32, count: u32) -> u64
     sum
 }
 
-// A table that begins with so many holes of one cell, each before a block of one cell; the rest is one hole.
-fn with_holes(alloc: Global, holes: u32) -> Result<CellTable, Refusal> {
+// A table of as many holes of one cell as there can be, each before a block of one cell, and behind them one of two.
+fn with_holes(alloc: Global) -> Result<CellTable, Refusal> {
     let mut table = CellTable::new(alloc, MAX_CELLS)?;
-    let _ = place_each(&mut table, 1, holes.wrapping_mul(2));
-    // From the last one down, so that no release passes a hole.
-    for hole in (0..holes).rev() {
-        let _ = table.release(hole.wrapping_mul(2));
-    }
+    let _ = place_each(&mut table, 1, HOLES.wrapping_mul(2));
+    let _ = release_each(&mut table, 0, 2, HOLES);
     Ok(table)
 }
 
@@ -46,16 +43,21 @@ pub fn fill_and_release(alloc: Global, count: u32) -> Result<u64, Refusal> {
     Ok(sum.wrapping_add(release_each(&mut table, 0, 1, count)))
 }
 
-/// Makes blocks behind so many holes that are too small for them.
-pub fn place(alloc: Global, holes: u32, count: u32) -> Result<u64, Refusal> {
-    let mut table = with_holes(alloc, holes)?;
-    Ok(place_each(&mut table, 2, count))
+/// Makes a block in the last hole, the only one with room for it, and releases it, so many times.
+pub fn place_and_release(alloc: Global, count: u32) -> Result<u64, Refusal> {
+    let mut table = with_holes(alloc)?;
+    let mut sum = 0u64;
+    for _ in 0..count {
+        if let Some(base) = table.place(Kind::I, 2) {
+            sum = sum.wrapping_add(base as u64);
+            sum = sum.wrapping_add(table.release(base) as u64);
+        }
+    }
+    Ok(sum)
 }
 
-/// Releases blocks behind so many holes.
-pub fn release(alloc: Global, holes: u32, count: u32) -> Result<u64, Refusal> {
-    let mut table = with_holes(alloc, holes)?;
-    let _ = place_each(&mut table, 2, BLOCKS);
-    let first = holes.wrapping_mul(2);
-    Ok(release_each(&mut table, first, 2, count))
+/// Releases so many blocks, each between two holes.
+pub fn release(alloc: Global, count: u32) -> Result<u64, Refusal> {
+    let mut table = with_holes(alloc)?;
+    Ok(release_each(&mut table, 1, 2, count))
 }

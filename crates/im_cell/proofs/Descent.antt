@@ -7,7 +7,7 @@ use Rattle.im_types.specs.Place.{place}
 use Rattle.im_cell.specs.declared.tree.TheConstants.{PART}
 use Rattle.im_cell.specs.declared.summaries.Summary.{Summary}
 use Rattle.im_cell.specs.Summaries.{back, longest, Summarises, node_at, part_at, leaves_at, leaves_of, IsTree}
-use Rattle.im_cell.proofs.Splits.{first, across, second, place-none, longest-append, back-few, front-few}
+use Rattle.im_cell.proofs.Splits.{first, across, second, place-none, option_map-zero, longest-append, back-few, front-few}
 use Rattle.im_cell.proofs.Sums.{Summarises-joined}
 
 -- the first node, of those that so many rows down are below a node
@@ -112,10 +112,6 @@ pub record ReachesAt (leaves : ℕ) (cells : List (Option Bool)) (n k base heigh
 pub record Reaches (leaves : ℕ) (cells : List (Option Bool)) (n k base : ℕ) : Type 0 where
   pub height : ℕ
   pub there : ReachesAt leaves cells n k base height
-
-option_map-zero : (o : Option ℕ) → o ≡ option_map (λ m. 0 + m) o
-option_map-zero None = refl
-option_map-zero (Some m) = ap (λ j. Some j) (let e : m ≡ 0 + m = omega arith in e)
 
 option_map-add : (o : Option ℕ) (a b c : ℕ) → a + b ≡ c → option_map (λ m. a + m) (option_map (λ m. b + m) o) ≡ option_map (λ m. c + m) o
 option_map-add None a b c e = refl

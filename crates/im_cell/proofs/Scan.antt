@@ -1,22 +1,14 @@
 -- Cells that are looked at one after the other.
-use Rattle.std.proofs.Common.{◌≡◌, ℕ, ◌+◌, ◌-◌, ◌/◌, ◌<◌, ◌≤◌, ◌^◌, List, [], ◌∷◌, ◌++◌, length, take, drop, get_or, set, Bool, Option, None, Some, inl, inr, refl, sym, ap, ◌∙◌, subst, arith, length-set}
-use Rattle.std.proofs.lemmas.Bool.{cases_lt, cases_eq}
-use Rattle.std.proofs.lemmas.List.{take_more, take_all, take-append-drop, length-take, length-map, get_or-map, get_or-set_same, get_or-set_other}
+use Rattle.std.proofs.Common.{◌≢◌, suc, ◌≡◌, ℕ, ◌+◌, ◌-◌, ◌<◌, ◌≤◌, List, [], ◌∷◌, ◌++◌, length, take, drop, get_or, Bool, Option, None, Some, inl, inr, refl, sym, ap, ◌∙◌, subst, arith}
+use Rattle.std.proofs.lemmas.Bool.{cases_lt}
+use Rattle.std.specs.Prelude.{max}
+use Rattle.std.proofs.lemmas.List.{drop_more, take_more, take_all, take-append-drop, length-take, length-map, get_or-map}
 use Rattle.im_types.specs.Place.{place}
 use Rattle.im_cell.specs.declared.records.Record.{Record}
 use Rattle.im_cell.specs.declared.summaries.Summary.{Summary}
 use Rattle.im_cell.specs.Records.{slot_of, slots_of, marks_of}
-use Rattle.im_cell.specs.Summaries.{back, longest, mark, run_at, joined, cell_summary, no_cells, node_at, part_at, leaves_of, Summarises, IsLeaf}
-use Rattle.im_cell.proofs.Splits.{first, across, back-whole, back-part, back-few, longest-append}
-use Rattle.im_cell.proofs.Sums.{Summarises-joined, Summarises-cell}
-
--- one cell more
-pub Summarises-more : {X : Type 0} (cells : List (Option Bool)) (i : ℕ) (cell : Option X) (summary : Summary) → i < length cells → length cells < 2 ^ 32 → get_or cells i None ≡ mark cell
-    → Summarises summary (take i cells) → Summarises (joined summary (cell_summary cell)) (take (i + 1) cells)
-Summarises-more cells i cell summary less few is s =
-    let e : take (i + 1) cells ≡ take i cells ++ mark cell ∷ [] = take_more cells i None less ∙ ap (λ m. take i cells ++ m ∷ []) is in
-    subst (λ xs. Summarises (joined summary (cell_summary cell)) xs) (sym e)
-    (Summarises-joined summary (cell_summary cell) (take i cells) (mark cell ∷ []) s (Summarises-cell cell) (omega (arith, length-take i cells)))
+use Rattle.im_cell.specs.Summaries.{front, back, longest, mark, run_at, node_at, leaves_of, Summarises, IsLeaf}
+use Rattle.im_cell.proofs.Splits.{first, across, back-whole, back-part, back-few, back-longest, longest-append}
 
 -- the marks of records
 pub length-marks : (records : List Record) → length (marks_of records) ≡ length records
@@ -26,11 +18,82 @@ mark-at : (records : List Record) (i : ℕ) (d : Record) → i < length records 
 mark-at records i d less =
     get_or-map mark (slots_of records) i (slot_of d) None (omega (arith, length-map records slot_of)) ∙ ap mark (get_or-map slot_of records i d (slot_of d) less)
 
-pub sum-more : (records : List Record) (i : ℕ) (d : Record) (summary one both : Summary) → i < length records → length records < 2 ^ 32 → one ≡ cell_summary (slot_of (get_or records i d)) → both ≡ joined summary one
-    → Summarises summary (take i (marks_of records)) → Summarises both (take (i + 1) (marks_of records))
-sum-more records i d summary one both less few is join s =
-    subst (λ r. Summarises r (take (i + 1) (marks_of records))) (sym (join ∙ ap (joined summary) is))
-    (Summarises-more (marks_of records) i (slot_of (get_or records i d)) summary (omega (arith, length-marks records)) (omega (arith, length-marks records)) (mark-at records i d less) s)
+-- the free cells that end at an address, and the longest run up to it
+pub record Runs (cells : List (Option Bool)) (run most i : ℕ) : Type 0 where
+  pub own : run ≡ back (take i cells)
+  pub most_is : most ≡ longest (take i cells)
+  pub few : run ≤ i
+
+Runs-next : {X : Type 0} (cells : List (Option Bool)) (run most i : ℕ) (cell : Option X) → i < length cells → get_or cells i None ≡ mark cell → Runs cells run most i
+    → Runs cells (run_at run cell) (max (run_at run cell) most) (i + 1)
+Runs-next cells run most i None less is r =
+    let xs : List (Option Bool) = take i cells in
+    let e : take (i + 1) cells ≡ xs ++ None ∷ [] = take_more cells i None less ∙ ap (λ m. xs ++ m ∷ []) is in
+    let b = back-whole xs (None ∷ []) refl in
+    let l = longest-append xs (None ∷ []) in
+    let lb = ap back e in
+    let ll = ap longest e in
+    let own = r.own in
+    let few = r.few in
+    let most_is = r.most_is in
+    record { own = omega arith; most_is = omega arith; few = omega arith }
+Runs-next cells run most i (Some x) less is r =
+    let xs : List (Option Bool) = take i cells in
+    let e : take (i + 1) cells ≡ xs ++ mark (Some x) ∷ [] = take_more cells i None less ∙ ap (λ m. xs ++ m ∷ []) is in
+    let b = back-part xs (mark (Some x) ∷ []) (omega arith) in
+    let l = longest-append xs (mark (Some x) ∷ []) in
+    let under = back-longest xs in
+    let lb = ap back e in
+    let ll = ap longest e in
+    let own = r.own in
+    let most_is = r.most_is in
+    record { own = omega arith; most_is = omega arith; few = omega arith }
+
+pub runs-more : (records : List Record) (i : ℕ) (d : Record) (run most next further : ℕ) → i < length records → next ≡ run_at run (slot_of (get_or records i d)) → further ≡ max next most
+    → Runs (marks_of records) run most i → Runs (marks_of records) next further (i + 1)
+runs-more records i d run most next further less is join r =
+    subst (λ m. Runs (marks_of records) next m (i + 1)) (sym join)
+    (subst (λ n. Runs (marks_of records) n (max n most) (i + 1)) (sym is)
+    (Runs-next (marks_of records) run most i (slot_of (get_or records i d)) (omega (arith, length-marks records)) (mark-at records i d less) r))
+
+pub Summarises-runs : (records : List Record) (run most i : ℕ) (summary : Summary) → length records ≤ i → summary.length ≡ length records → summary.front ≡ front (marks_of records)
+    → summary.back ≡ run → summary.longest ≡ most → Runs (marks_of records) run most i → Summarises summary (marks_of records)
+Summarises-runs records run most i summary past long first last longest_is r =
+    let all = take_all i (marks_of records) (omega (arith, length-marks records)) in
+    record {
+      all = omega (arith, length-marks records);
+      first = first;
+      last = last ∙ r.own ∙ ap back all;
+      most = longest_is ∙ r.most_is ∙ ap longest all;
+    }
+
+-- so many cells come first that are free, or more
+abbrev pub IsFreeUpto : List (Option Bool) → ℕ → Type 0
+IsFreeUpto cells i = front cells ≡ i + front (drop i cells)
+
+front-held : {X : Type 0} (cell : Option X) (xs : List (Option Bool)) → run_at 0 cell ≡ 0 → front (mark cell ∷ xs) ≡ 0
+front-held None xs e = absurd (omega arith)
+front-held (Some x) xs e = refl
+
+front-free : {X : Type 0} (cell : Option X) (xs : List (Option Bool)) → run_at 0 cell ≢ 0 → front (mark cell ∷ xs) ≡ suc (front xs)
+front-free None xs ne = refl
+front-free (Some x) xs ne = absurd (ne refl)
+
+next-mark : (records : List Record) (i : ℕ) (d : Record) → i < length records → front (drop i (marks_of records)) ≡ front (mark (slot_of (get_or records i d)) ∷ drop (i + 1) (marks_of records))
+next-mark records i d less =
+    ap front (drop_more (marks_of records) i None (omega (arith, length-marks records)) ∙ ap (λ m. m ∷ drop (i + 1) (marks_of records)) (mark-at records i d less))
+
+pub front-ends : (records : List Record) (i : ℕ) (d : Record) (run : ℕ) → i < length records → run ≡ run_at 0 (slot_of (get_or records i d)) → run ≡ 0 → IsFreeUpto (marks_of records) i
+    → front (marks_of records) ≡ i
+front-ends records i d run less is held upto =
+    let h = next-mark records i d less ∙ front-held (slot_of (get_or records i d)) (drop (i + 1) (marks_of records)) (sym is ∙ held) in
+    omega arith
+
+pub front-more : (records : List Record) (i : ℕ) (d : Record) (run : ℕ) → i < length records → run ≡ run_at 0 (slot_of (get_or records i d)) → run ≢ 0 → IsFreeUpto (marks_of records) i
+    → IsFreeUpto (marks_of records) (i + 1)
+front-more records i d run less is free upto =
+    let h = next-mark records i d less ∙ front-free (slot_of (get_or records i d)) (drop (i + 1) (marks_of records)) (λ e. free (is ∙ e)) in
+    omega arith
 
 -- so many free cells end at an address, up to which no block has its place, or where the first one ends
 pub record Scans (cells : List (Option Bool)) (n free at : ℕ) : Type 0 where
@@ -39,9 +102,6 @@ pub record Scans (cells : List (Option Bool)) (n free at : ℕ) : Type 0 where
   pub upto : free ≤ n
   pub room : free < n → longest (take at cells) < n
   pub found : free ≡ n → place n cells ≡ Some (at - n)
-
-pub Scans-start : (cells : List (Option Bool)) (n : ℕ) → 0 < n → Scans cells n 0 0
-Scans-start cells n some = record { within = omega arith; own = refl; upto = omega arith; room = λ less. some; found = λ e. absurd (omega arith) }
 
 pub Scans-inside : (cells : List (Option Bool)) (n free at : ℕ) → free < n → n ≤ longest cells → Scans cells n free at → at < length cells
 Scans-inside cells n free at less room s = elim (cases_lt at (length cells)) [
@@ -95,28 +155,3 @@ scan-more records n free at d next some less room is s =
 pub record LeavesFrom (old new : List Summary) (cells : List (Option Bool)) (first upto : ℕ) : Type 0 where
   pub over : (j : ℕ) → first ≤ j → j < upto → IsLeaf new cells j
   pub others : (k : ℕ) → (leaves_of old + first ≤ k → k < leaves_of old + upto → ⊥) → node_at new k ≡ node_at old k
-
-pub LeavesFrom-none : (nodes : List Summary) (cells : List (Option Bool)) (first : ℕ) → LeavesFrom nodes nodes cells first first
-LeavesFrom-none nodes cells first = record { over = λ j low high. absurd (omega arith); others = λ k out. refl }
-
-pub LeavesFrom-next : (old new : List Summary) (cells : List (Option Bool)) (first upto at : ℕ) (v : Summary) → length new ≡ length old → first ≤ upto → at ≡ leaves_of old + upto → at < length new
-    → Summarises v (part_at cells upto) → LeavesFrom old new cells first upto → LeavesFrom old (set new at v) cells first (upto + 1)
-LeavesFrom-next old new cells first upto at v same from place inside sum l = record {
-  over = λ j low high. elim (cases_eq j upto) [
-    | inl e ↦
-        let here : leaves_of (set new at v) + j ≡ at = omega (arith, half2) in
-        subst (λ i. Summarises (node_at (set new at v) i) (part_at cells j)) (sym here)
-        (subst (λ s. Summarises s (part_at cells j)) (sym (get_or-set_same new at v no_cells inside)) (subst (λ i. Summarises v (part_at cells i)) (sym e) sum))
-    | inr ne ↦
-        let there : leaves_of new + j ≡ leaves_of (set new at v) + j = omega (arith, half2, half) in
-        subst (λ i. Summarises (node_at (set new at v) i) (part_at cells j)) there
-        (subst (λ s. Summarises s (part_at cells j)) (sym (get_or-set_other new at (leaves_of new + j) v no_cells (λ d. omega (arith, half)))) (l.over j low (omega arith)))
-  ];
-  others = λ k out. get_or-set_other new at k v no_cells (λ d. out (omega arith) (omega arith)) ∙ l.others k (λ low high. out low (omega arith));
-}
-  where
-    half : leaves_of new ≡ leaves_of old
-    half = ap (λ n. n / 2) same
-
-    half2 : leaves_of (set new at v) ≡ leaves_of old
-    half2 = ap (λ n. n / 2) (length-set new at v) ∙ half

@@ -10,7 +10,7 @@ option_map-twice : (o : Option ℕ) (k : ℕ) → option_map suc (option_map (λ
 option_map-twice None k = refl
 option_map-twice (Some m) k = ap (λ j. Some j) (let e : suc (k + m) ≡ suc k + m = omega arith in e)
 
-option_map-zero : (o : Option ℕ) → o ≡ option_map (λ m. 0 + m) o
+pub option_map-zero : (o : Option ℕ) → o ≡ option_map (λ m. 0 + m) o
 option_map-zero None = refl
 option_map-zero (Some m) = ap (λ j. Some j) (let e : m ≡ 0 + m = omega arith in e)
 

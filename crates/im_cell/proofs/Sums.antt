@@ -1,9 +1,9 @@
 -- Summaries of two parts, and of one cell more.
-use Rattle.std.proofs.Common.{◌≡◌, ⊎_elim, ℕ, ◌+◌, ◌^◌, ◌<◌, List, [], ◌∷◌, ◌++◌, length, Bool, Option, None, Some, refl, sym, ◌∙◌, arith}
+use Rattle.std.proofs.Common.{◌≡◌, ⊎_elim, ℕ, ◌+◌, ◌^◌, ◌<◌, List, ◌++◌, length, Bool, Option, sym, ◌∙◌, arith}
 use Rattle.std.proofs.lemmas.Bool.Decides.{nat_tests}
 use Rattle.std.proofs.lemmas.List.{length-append}
 use Rattle.im_cell.specs.declared.summaries.Summary.{Summary}
-use Rattle.im_cell.specs.Summaries.{front, back, mark, run_on, joined, cell_summary, Summarises}
+use Rattle.im_cell.specs.Summaries.{front, back, run_on, joined, Summarises}
 use Rattle.im_cell.proofs.Splits.{front-few, back-few, ends, front-whole, front-part, back-whole, back-part, longest-append}
 
 -- a run at an end, by cases
@@ -38,8 +38,3 @@ Summarises-joined left right xs ys l r fits =
           (ends ys);
       most = let m = longest-append xs ys in omega (arith, l.most, r.most, l.last, r.first);
     }
-
--- the summary of one cell
-pub Summarises-cell : {X : Type 0} (cell : Option X) → Summarises (cell_summary cell) (mark cell ∷ [])
-Summarises-cell None = record { all = refl; first = refl; last = refl; most = refl }
-Summarises-cell (Some x) = record { all = refl; first = refl; last = refl; most = refl }

@@ -57,11 +57,6 @@ joined left right = record {
 abbrev pub no_cells : Summary
 no_cells = record { length = 0; front = 0; back = 0; longest = 0 }
 
--- the summary of one cell
-abbrev pub cell_summary : {X : Type 0} → Option X → Summary
-cell_summary None = record { length = 1; front = 1; back = 1; longest = 1 }
-cell_summary (Some x) = record { length = 1; front = 0; back = 0; longest = 0 }
-
 -- how many free cells end with this one, where so many end before it
 abbrev pub run_at : {X : Type 0} → ℕ → Option X → ℕ
 run_at before None = before + 1

@@ -2,10 +2,9 @@
 ghost use Rattle.std.specs.Prelude.{◌≡◌, ◌+◌, ◌<◌, ◌^◌, Some};
 ghost use Rattle.im_cell.specs.Slots.{is_waiting};
 ghost use Rattle.im_cell.specs.Records.{slot_of};
-ghost use Rattle.im_cell.specs.Summaries.{cell_summary, run_at};
+ghost use Rattle.im_cell.specs.Summaries.{run_at};
 
 use crate::slots::Slot;
-use crate::summaries::Summary;
 use im_types::{Block, Cell};
 
 /// What is kept for a cell.
@@ -50,26 +49,6 @@ impl Record {
             Record::Free => return None,
         };
         Some(Slot { block, cell })
-    }
-
-    /// The summary of this cell alone.
-    pub(crate) fn summary(self) -> Summary
-        ensures { result ≡ cell_summary (slot_of self) }
-    {
-        match self {
-            Record::Free => Summary {
-                length: 1,
-                front: 1,
-                back: 1,
-                longest: 1,
-            },
-            _ => Summary {
-                length: 1,
-                front: 0,
-                back: 0,
-                longest: 0,
-            },
-        }
     }
 
     /// How many free cells end with this one, where so many end before it.

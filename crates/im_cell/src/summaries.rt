@@ -1,7 +1,7 @@
 //! Summaries of parts of a table: its free cells at either end, and in the longest run.
 ghost use Rattle.std.specs.Prelude.{◌≡◌, ◌<◌, ◌^◌, map, length};
 ghost use Rattle.im_cell.specs.Records.{marks_of};
-ghost use Rattle.im_cell.specs.Summaries.{Summarises, run_on, joined};
+ghost use Rattle.im_cell.specs.Summaries.{front, Summarises, run_on, joined};
 
 use crate::records::Record;
 
@@ -41,19 +41,36 @@ pub(crate) fn join(left: Summary, right: Summary) -> Summary
     }
 }
 
+// How many free cells come first.
+fn free_first(records: &[Record]) -> u32
+    requires { length records.now < 2 ^ 32 }
+    ensures { result ≡ front (marks_of records.now) }
+{
+    let mut free = 0;
+    for record in records {
+        if record.run(0) == 0 {
+            return free;
+        }
+        free += 1;
+    }
+    free
+}
+
 /// The summary of cells in a row.
 pub(crate) fn sum_up(records: &[Record]) -> Summary
     requires { length records.now < 2 ^ 32 }
     ensures { Summarises result (marks_of records.now) }
 {
-    let mut summary = Summary {
-        length: 0,
-        front: 0,
-        back: 0,
-        longest: 0,
-    };
+    let mut run = 0;
+    let mut longest = 0;
     for record in records {
-        summary = join(summary, record.summary());
+        run = record.run(run);
+        longest = run.max(longest);
     }
-    summary
+    Summary {
+        length: records.len() as u32,
+        front: free_first(records),
+        back: run,
+        longest,
+    }
 }

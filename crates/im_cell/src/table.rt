@@ -1,8 +1,10 @@
-//! The table. Its blocks lie at the least place: first fit in order of address (Knuth, The Art of Computer Programming 1,
-//! section 2.5), by a tree over the cells.
-ghost use Rattle.std.specs.Prelude.{◌≡◌, ◌<◌, ◌≤◌, None, false, length, map, replicate, slice_set, IsTrue, IsNone, IsSome, IfSome, IfOk, IfErr};
+//! The table. Its blocks lie at the least place: first fit in order of address (Knuth, The Art of Computer
+//! Programming 1, section 2.5), by a tree over the cells.
+ghost use Rattle.std.specs.Prelude.{◌≡◌, ◌<◌, ◌≤◌, None, false, length, map, replicate, slice_set};
+ghost use Rattle.std.specs.Prelude.{IsTrue, IsNone, IsSome, IfSome, IfOk, IfErr};
 ghost use Rattle.im_types.specs.Place.{place, fill, IsLeastFree};
-ghost use Rattle.im_cell.specs.Slots.{slot_at, block_at, cell_at, with_cell, empty_slot, shown_slot, is_releasable, length_at, HasBlocks};
+ghost use Rattle.im_cell.specs.Slots.{slot_at, block_at, cell_at, with_cell, empty_slot, shown_slot};
+ghost use Rattle.im_cell.specs.Slots.{is_releasable, length_at, HasBlocks};
 
 use crate::records::Record;
 use crate::restoring::restore_cells;

@@ -1,12 +1,14 @@
-//! The tree of summaries over a table's cells, 32 to a leaf. The least place of a block is found by going down it, and
+//! The tree of summaries over a table's cells, 16 to a leaf. The least place of a block is found by going down it, and
 //! where cells change, the nodes above them are made anew: a complete binary tree in one list, its root node 1, the
-//! nodes below node k at 2 k and 2 k + 1. (Summaries of parts that are joined: segment trees; Bentley 1977.)
-ghost use Rattle.std.specs.Prelude.{◌≡◌, ℕ, ◌+◌, ◌*◌, ◌/◌, ◌<◌, ◌≤◌, ◌^◌, length, take, drop, Some, IfOk};
+//! nodes below node k at 2 k and 2 k + 1.
+ghost use Rattle.std.specs.Prelude.{◌≡◌, ℕ, false, slice_set, ◌+◌, ◌*◌, ◌/◌};
+ghost use Rattle.std.specs.Prelude.{◌<◌, ◌≤◌, ◌^◌, length, take, drop, Some, IfOk};
 ghost use Rattle.std.specs.List.{list_any};
 ghost use Rattle.im_types.specs.Place.{place, fill};
 ghost use Rattle.im_cell.specs.Slots.{is_waiting};
 ghost use Rattle.im_cell.specs.Records.{slot_of, slots_of, marks_of};
-ghost use Rattle.im_cell.specs.Summaries.{node_at, part_at, leaves_at, leaves_of, longest, IsJoined, HasJoined, IsLeaf, IsTree};
+ghost use Rattle.im_cell.specs.Summaries.{joined, node_at, part_at, leaves_at, leaves_of};
+ghost use Rattle.im_cell.specs.Summaries.{longest, IsJoined, HasJoined, IsLeaf, IsTree};
 
 use crate::records::Record;
 use crate::summaries::{Summary, join, sum_up};
@@ -14,7 +16,7 @@ use im_types::Block;
 use std::alloc::{AllocError, Global};
 
 /// How many cells a leaf has.
-pub(crate) const PART: usize = 32;
+pub(crate) const PART: usize = 16;
 
 // A node.
 fn node(nodes: &[Summary], k: usize) -> Summary
@@ -92,20 +94,36 @@ fn renew_leaves(nodes: &mut [Summary], records: &[Record], first: usize, last: u
     }
 }
 
-// Joins the nodes below each of the nodes from `first` to `last`.
-fn join_row(nodes: &mut [Summary], first: usize, last: usize)
+// Joins the nodes below a node; whether that changed it.
+fn join_node(nodes: &mut [Summary], k: usize) -> bool
+    requires { 2 * k + 1 < length nodes.old }
+    ensures joined { nodes.new ≡
+        slice_set nodes.old k (joined (node_at nodes.old (2 * k)) (node_at nodes.old (2 * k + 1))) }
+    ensures same { result ≡ false → node_at nodes.new k ≡ node_at nodes.old k }
+{
+    let old = node(nodes, k);
+    let new = join(node(nodes, 2 * k), node(nodes, 2 * k + 1));
+    nodes[k] = new;
+    new != old
+}
+
+// Joins the nodes below each of the nodes from `first` to `last`; whether that changed any.
+fn join_row(nodes: &mut [Summary], first: usize, last: usize) -> bool
     requires { 2 * last + 1 < length nodes.old }
     ensures joined { (k : ℕ) → 0 < k → first ≤ k → k ≤ last → IsJoined nodes.new k }
     ensures others { (k : ℕ) → (first ≤ k → k ≤ last → ⊥) → node_at nodes.new k ≡ node_at nodes.old k }
+    ensures same { result ≡ false → (k : ℕ) → node_at nodes.new k ≡ node_at nodes.old k }
 {
+    let mut changed = false;
     let mut k = last + 1;
     while k > first {
         k -= 1;
-        nodes[k] = join(node(nodes, 2 * k), node(nodes, 2 * k + 1));
+        changed |= join_node(nodes, k);
     }
+    changed
 }
 
-// Makes the nodes above those from `first` to `last` anew.
+// Makes the nodes above those from `first` to `last` anew, up to a row that stays as it was.
 fn renew_rows(nodes: &mut [Summary], first: usize, last: usize)
     requires even { 2 * (leaves_of nodes.old) ≡ length nodes.old }
     requires inside { last < length nodes.old }
@@ -119,7 +137,9 @@ fn renew_rows(nodes: &mut [Summary], first: usize, last: usize)
     while high > 1 {
         low /= 2;
         high /= 2;
-        join_row(nodes, low, high);
+        if !join_row(nodes, low, high) {
+            return;
+        }
     }
 }
 

@@ -1,6 +1,11 @@
-use Rattle.im_cell.proofs.Scan.{sum-more}
+use Rattle.std.proofs.Common.{refl}
+use Rattle.im_cell.proofs.Scan.{runs-more, Summarises-runs}
 use Rattle.im_cell.proofs.summaries.sum_up.Goals as goal
 
 pub loop-record-preserved : goal.loop-record-preserved
 loop-record-preserved c =
-    sum-more c.args.records.now c.loop-record.record-index _ c.loop-record.summary c.summary.result c.join-summary.result c.loop-record-test.true c.requires c.summary.ensures c.join-summary.ensures c.loop-record.invariant
+    runs-more c.args.records.now c.loop-record.record-index _ c.loop-record.run c.loop-record.longest c.run-run.result c.max-longest.result c.loop-record-test.true c.run-run.ensures c.max-longest.ensures
+    c.loop-record.invariant
+
+pub returns : goal.returns
+returns c = Summarises-runs c.args.records.now c.loop-record.run c.loop-record.longest c.loop-record.record-index _ c.loop-record-test.false refl c.free_first.ensures refl refl c.loop-record.invariant

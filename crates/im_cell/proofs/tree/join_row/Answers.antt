@@ -1,15 +1,15 @@
-use Rattle.std.proofs.Common.{◌-◌, ◌*◌, ap, ◌∙◌, arith}
-use Rattle.im_cell.specs.Summaries.{joined, node_at}
-use Rattle.im_cell.proofs.Nodes.{JoinsFrom-next}
+use Rattle.std.proofs.Common.{◌-◌, refl, sym, subst, arith}
+use Rattle.im_cell.proofs.Nodes.{JoinsFrom, JoinsFrom-next, row-same}
 use Rattle.im_cell.proofs.tree.join_row.Goals as goal
 
 pub loop-k-preserved : goal.loop-k-preserved
 loop-k-preserved c = record {
   within = omega arith;
   above = λ low. omega arith;
-  joins = JoinsFrom-next c.args.nodes.now c.loop-k.nodes (c.loop-k.k - 1) c.loop-k.k c.args.last c.join.result (omega arith) c.loop-k.invariant.within (omega arith)
-      (c.join.ensures ∙ ap (λ l. joined l c.node-in-loop-k.result) c.node.ensures ∙ ap (joined (node_at c.loop-k.nodes (2 * (c.loop-k.k - 1)))) c.node-in-loop-k.ensures)
-      c.loop-k.invariant.joins;
+  joins = subst (λ nodes. JoinsFrom c.args.nodes.now nodes (c.loop-k.k - 1) c.args.last) (sym c.join_node-changed.ensures.joined)
+      (JoinsFrom-next c.args.nodes.now c.loop-k.nodes (c.loop-k.k - 1) c.loop-k.k c.args.last _ (omega arith) c.loop-k.invariant.within (omega arith) refl c.loop-k.invariant.joins);
+  same = λ e. row-same c.args.nodes.now c.loop-k.nodes c.join_node-changed.new.nodes (c.loop-k.k - 1) _ c.loop-k.changed c.join_node-changed.result e c.join_node-changed.ensures.joined c.join_node-changed.ensures.same
+      c.loop-k.invariant.same;
 }
 
 pub returns-clause-others : goal.returns-clause-others
