@@ -1,10 +1,10 @@
 use Rattle.std.proofs.Common.{sym, subst}
-use Rattle.im_disk.specs.Since.{Leaves}
+use Rattle.im_disk.specs.Since.{LeavesWithin}
 use Rattle.im_engine.specs.declared.run.Event.{Event}
 use Rattle.im_engine.specs.Run.{MeansBy}
 use Rattle.im_engine.proofs.engine.Engine.take.Goals as goal
 
 pub returns-in-Command-clause-leaves : goal.returns-in-Command-clause-leaves
 returns-in-Command-clause-leaves g c = λ h f.
-    subst (λ (event : Event). Leaves (g.D.Disk.now c.args.self.now.disk) (g.D.Disk.now c.serve.new.self.disk) (g.D.Disk.past c.args.self.now.disk) (g.D.Disk.past c.serve.new.self.disk) (MeansBy c.args.self.now event)) (sym c.in-Command.is)
+    subst (λ (event : Event). LeavesWithin g.D.Disk.now g.D.Disk.past c.args.self.now.disk c.serve.new.self.disk (MeansBy c.args.self.now event)) (sym c.in-Command.is)
     (c.serve.ensures.leaves h f)
