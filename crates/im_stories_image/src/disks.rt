@@ -6,7 +6,7 @@
 //! read AT N, write AT BYTE.., sync, length
 //! fail write AT N [BYTE], fail sync      a call that fails, and may leave a byte all over its range
 //! gate AT a5 BYTE..              writes the bytes, of which the first is an open gate, behind it
-//! open AT                        opens a gate
+//! gate AT                        opens a gate
 //! six calls                      a dot for each that passed, and an x for each that failed
 //! crash KIND                     a crash: kept, lost, or a byte
 //! bytes, calls                   all bytes, with no call and no fuse from then on; how many calls there were
@@ -169,11 +169,11 @@ pub fn tell_of_disk(
             add_passed(said, here.disk()?.write_at(place(at)?, &bytes))?;
         }
         ["sync"] => add_passed(said, here.disk()?.sync())?,
+        ["gate", at] => add_passed(said, open_gate(here.disk()?, place(at)?))?,
         ["gate", at, rest @ ..] => {
             let bytes = hex_bytes(alloc, rest)?;
             gate(here.disk()?, place(at)?, &bytes, said)?;
         }
-        ["open", at] => add_passed(said, open_gate(here.disk()?, place(at)?))?,
         ["six", "calls"] => six_calls(here.disk()?, said)?,
         ["length"] => length(here.disk()?, said)?,
         ["bytes"] => bytes(here, said)?,
