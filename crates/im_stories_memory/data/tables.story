@@ -37,6 +37,34 @@ release 32768 from 65534 down = 32768 blocks
 release 32768 from 1 up = 32768 blocks
 place m 65536 = 0
 
+# A long block goes into a hole that is just long enough, and long holes that meet are one
+table 100 cells = made
+place i 40 = 0
+place i 40 = 40
+place i 20 = 80
+place i 1 = none
+release 40 = true
+-- The hole from 40 to 79.
+place i 41 = none
+place i 40 = 40
+release 0 = true
+release 40 = true
+-- The hole from 0 to 79.
+place m 80 = 0
+place i 1 = none
+
+# Of single cells far apart the least is taken, and two that meet have room for two
+table 100 cells = made
+fill 100 = 100 blocks
+release 97 = true
+release 63 = true
+release 64 = true
+release 15 = true
+place i 2 = 63
+place i 1 = 15
+place i 1 = 97
+place i 1 = none
+
 # Thrown calls do to a table what they do to plain slots
 -- After each call every address shows the same in both, those past the last cell too.
 table 24 cells = made
