@@ -12,8 +12,10 @@ use std::alloc::Global;
 
 /// Adds the report of the image on a disk.
 fn tell<D: Disk>(alloc: Global, disk: &mut D, out: &mut String) -> Result<(), Refusal>
-    ensures told { OnOk result (D.honest disk.new → Tells (D.now disk.old).bytes (string_bytes out.old) (string_bytes out.new)) }
-    ensures reads { D.honest disk.new → ReadsOnly (D.now disk.old) (D.now disk.new) (D.past disk.old) (D.past disk.new) }
+    ensures told { OnOk result (D.honest disk.new →
+        Tells (D.now disk.old).bytes (string_bytes out.old) (string_bytes out.new)) }
+    ensures reads { D.honest disk.new →
+        ReadsOnly (D.now disk.old) (D.now disk.new) (D.past disk.old) (D.past disk.new) }
     ensures honest { D.honest disk.new → D.honest disk.old }
 {
     let report = match inspect(alloc, disk) {
@@ -26,8 +28,8 @@ fn tell<D: Disk>(alloc: Global, disk: &mut D, out: &mut String) -> Result<(), Re
     }
 }
 
-/// Tells what the image on a disk means, and gives the disk back. It only reads, the bytes as they are now. The report is
-/// added to `out`, or at last the line `refused N NAME`:
+/// Tells what the image on a disk means, and gives the disk back. It only reads, the bytes as they are now. The report
+/// is added to `out`, or at last the line `refused N NAME`:
 ///
 /// - `version V`, `limits CELLS ELEMENTS SLOTS`, `header H generation G area H count C` of the header in force, and
 ///   `journal J room R`: how many commands stand behind it, and the room for more;
@@ -36,12 +38,13 @@ fn tell<D: Disk>(alloc: Global, disk: &mut D, out: &mut String) -> Result<(), Re
 /// - `element K base B kept N` for each element that has asked anything, by their numbers, each followed by
 ///   `entry K.N OPERATION -> REPLY` for each request that it keeps, by theirs.
 ///
-/// The status is 0, or 1 where something was refused: the image's first fault, as [`inspect`] tells it; `Device` where a
-/// call of the disk failed; `NoMemory` where `alloc`, or `out`, refused the room, and then `out` may have a part of the
-/// report.
+/// The status is 0, or 1 where something was refused: the image's first fault, as [`inspect`] tells it; `Device` where
+/// a call of the disk failed; `NoMemory` where `alloc`, or `out`, refused the room, and then `out` may have a part of
+/// the report.
 pub fn inspect_on<D: Disk>(alloc: Global, mut disk: D, out: &mut String) -> (u8, D)
     ensures status { result.0 ≤ 1 }
-    ensures told { D.honest result.1 → result.0 ≡ 0 → Tells (D.now disk).bytes (string_bytes out.old) (string_bytes out.new) }
+    ensures told { D.honest result.1 → result.0 ≡ 0 →
+        Tells (D.now disk).bytes (string_bytes out.old) (string_bytes out.new) }
     ensures reads { D.honest result.1 → ReadsOnly (D.now disk) (D.now result.1) (D.past disk) (D.past result.1) }
     ensures honest { D.honest result.1 → D.honest disk }
 {

@@ -1,5 +1,5 @@
-//! What the program is asked by the words of its command line, and the work that it does: it serves scripts, and tells what
-//! an image means.
+//! What the program is asked by the words of its command line, and the work that it does: it serves scripts, and tells
+//! what an image means.
 #![tactic(auto)]
 
 mod inspecting;
@@ -12,4 +12,4 @@ mod work;
 pub use inspecting::inspect_on;
 pub use serial::serial_on;
 pub use words::{DEFAULT_CELLS, DEFAULT_ELEMENTS, DEFAULT_SLOTS, WordFault, Work, read_words};
-pub use work::{act, refuse};
+pub use work::{act, format_file, inspect_file, refuse, serve_file};

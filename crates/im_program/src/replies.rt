@@ -63,7 +63,8 @@ pub fn add_entry(out: &mut String, entry: Entry) -> Result<(), AllocError>
 
 /// Adds the line `K.N REPLY` of a request that was served.
 pub fn add_line(out: &mut String, element: u16, number: u64, entry: Entry) -> Result<(), AllocError>
-    ensures { OnOk result (string_bytes out.new ≡ string_bytes out.old ++ decimal element ++ codes "." ++ decimal number ++ codes " " ++ entry_text entry ++ line_feed) }
+    ensures { OnOk result (string_bytes out.new ≡ string_bytes out.old
+        ++ decimal element ++ codes "." ++ decimal number ++ codes " " ++ entry_text entry ++ line_feed) }
 {
     write!(out, "{element}.{number} ")?;
     add_entry(out, entry)?;
@@ -72,7 +73,8 @@ pub fn add_line(out: &mut String, element: u16, number: u64, entry: Entry) -> Re
 
 /// Adds the line `K.N now REPLY` of a request that had to wait.
 pub fn add_now(out: &mut String, element: u16, number: u64, entry: Entry) -> Result<(), AllocError>
-    ensures { OnOk result (string_bytes out.new ≡ string_bytes out.old ++ decimal element ++ codes "." ++ decimal number ++ codes " now " ++ entry_text entry ++ line_feed) }
+    ensures { OnOk result (string_bytes out.new ≡ string_bytes out.old
+        ++ decimal element ++ codes "." ++ decimal number ++ codes " now " ++ entry_text entry ++ line_feed) }
 {
     write!(out, "{element}.{number} now ")?;
     add_entry(out, entry)?;

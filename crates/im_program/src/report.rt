@@ -3,8 +3,10 @@ ghost use Rattle.std.specs.Prelude.{◌≡◌, ◌++◌, ◌==◌, ◌&&◌, OnO
 ghost use Rattle.im_types.specs.Contents.{Window, held_at, kept_for, waiters_at};
 ghost use Rattle.im_types.specs.Window.{next_number};
 ghost use Rattle.im_image.specs.Headers.{seen};
-ghost use Rattle.im_types.specs.Presences.{presence_in};
-ghost use Rattle.im_program.specs.Report.{block_line, blocks_text, cell_line, cells_text, element_line, elements_text, entries_text, entry_line, header_line, journal_line, limits_line, report_text, version_line, waiter_text, waiters_text, window_text};
+ghost use Rattle.im_memory.specs.Presences.{presence_in};
+ghost use Rattle.im_program.specs.Report.{block_line, blocks_text, cell_line, cells_text, element_line, elements_text};
+ghost use Rattle.im_program.specs.Report.{entries_text, entry_line, header_line, journal_line, limits_line};
+ghost use Rattle.im_program.specs.Report.{report_text, version_line, waiter_text, waiters_text, window_text};
 
 use crate::replies::{add_entry, add_op, kind_text};
 use im_image::{Header, Report};
@@ -89,7 +91,8 @@ fn add_waiter(out: &mut String, waiter: Waiter) -> Result<(), AllocError>
 
 /// Adds those that wait at a cell, in their order.
 fn add_waiters(out: &mut String, memory: &Memory, a: u32) -> Result<(), AllocError>
-    ensures { OnOk result (string_bytes out.new ≡ string_bytes out.old ++ waiters_text (waiters_at memory.now.cells a)) }
+    ensures { OnOk result (string_bytes out.new ≡ string_bytes out.old
+        ++ waiters_text (waiters_at memory.now.cells a)) }
 {
     for waiter in memory.waiters(a) {
         add_waiter(out, waiter)?;
@@ -99,7 +102,8 @@ fn add_waiters(out: &mut String, memory: &Memory, a: u32) -> Result<(), AllocErr
 
 /// Adds the line of a cell that is waited for.
 fn add_waiting(out: &mut String, memory: &Memory, a: u32) -> Result<(), AllocError>
-    ensures { OnOk result (string_bytes out.new ≡ string_bytes out.old ++ cell_line a (Some Cell.Waiting) (waiters_at memory.now.cells a)) }
+    ensures { OnOk result (string_bytes out.new ≡ string_bytes out.old
+        ++ cell_line a (Some Cell.Waiting) (waiters_at memory.now.cells a)) }
 {
     write!(out, "cell {a} waiting")?;
     add_waiters(out, memory, a)?;
@@ -108,7 +112,8 @@ fn add_waiting(out: &mut String, memory: &Memory, a: u32) -> Result<(), AllocErr
 
 /// Adds the line of a cell, where it isn't empty.
 fn add_cell(out: &mut String, memory: &Memory, a: u32) -> Result<(), AllocError>
-    ensures { OnOk result (string_bytes out.new ≡ string_bytes out.old ++ cell_line a (presence_in (held_at memory.now.cells a)) (waiters_at memory.now.cells a)) }
+    ensures { OnOk result (string_bytes out.new ≡ string_bytes out.old
+        ++ cell_line a (presence_in (held_at memory.now.cells a)) (waiters_at memory.now.cells a)) }
 {
     match memory.cell(a) {
         None | Some(Cell::Empty) => Ok(()),
@@ -180,7 +185,8 @@ fn add_bounds(out: &mut String, element: u16, base: u64, kept: u64) -> Result<()
 
 /// Adds the lines of an element, where it has asked anything yet.
 fn add_element(out: &mut String, memory: &Memory, element: u16) -> Result<(), AllocError>
-    ensures { OnOk result (string_bytes out.new ≡ string_bytes out.old ++ window_text element (slice_get memory.now.windows element)) }
+    ensures { OnOk result (string_bytes out.new ≡ string_bytes out.old
+        ++ window_text element (slice_get memory.now.windows element)) }
 {
     let Ok((base, next)) = memory.window(element) else {
         return Ok(());
@@ -205,7 +211,8 @@ fn add_elements(out: &mut String, memory: &Memory) -> Result<(), AllocError>
 
 /// Adds the report of an image.
 pub fn add_report(out: &mut String, report: &Report) -> Result<(), AllocError>
-    ensures { OnOk result (string_bytes out.new ≡ string_bytes out.old ++ report_text (seen report.now.header) report.now.run report.now.room report.now.memory) }
+    ensures { OnOk result (string_bytes out.new ≡ string_bytes out.old
+        ++ report_text (seen report.now.header) report.now.run report.now.room report.now.memory) }
 {
     add_version(out, &report.header)?;
     add_limits(out, &report.header)?;

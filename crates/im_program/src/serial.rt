@@ -21,8 +21,8 @@ struct Waited {
     entry: Entry,
 }
 
-// As many turns as two checkpoints take at the largest sizes, each with its beginning, its pages, its sync, its header and
-// a sweep. The rest of one that is under way and a whole one end with room, or with nothing left to do.
+// As many turns as two checkpoints take at the largest sizes, each with its beginning, its pages, its sync, its header
+// and a sweep. The rest of one that is under way and a whole one end with room, or with nothing left to do.
 const MOST_TURNS: usize = 2 * (MOST_AREA_PAGES + 4);
 
 /// An engine that serves a script.
@@ -201,19 +201,22 @@ pub fn end(done: Result<(), Refusal>, out: &mut String) -> u8
 
 /// Serves a script on the image of a disk, and gives the disk back. The text that it prints is added to `out`: the line
 /// `K.N REPLY` for each request, in order, K being its element and N its number, then `K.N now REPLY` for each that had
-/// to wait, with its entry as last kept, and at last `refused N NAME` where something was refused. That ends the script.
-/// Before a request of an element whose window is full, its entries before the first that still waits are confirmed.
+/// to wait, with its entry as last kept, and at last `refused N NAME` where something was refused. That ends the
+/// script. Before a request of an element whose window is full, its entries before the first that still waits are
+/// confirmed.
 /// Before each request and each confirmation turns of a checkpoint are taken while there is no room for a command.
 ///
-/// The status is 0, or 1 where something was refused: the image, at opening; a request; `BadScript` where a block of the
-/// setup can't be made; `NoMemory` where `alloc`, or `out`, refused the room for what is kept of the script.
+/// The status is 0, or 1 where something was refused: the image, at opening; a request; `BadScript` where a block of
+/// the setup can't be made; `NoMemory` where `alloc`, or `out`, refused the room for what is kept of the script.
 ///
-/// Where the image isn't opened, a crash leaves nothing that it couldn't leave before. From the opening on, a crash leaves
-/// the memory after a beginning of the accepted commands that were put on the image, and at the end after all of them,
-/// or after all but the last where a call of the disk failed. Where the status is 0, it leaves the memory after all of them.
+/// Where the image isn't opened, a crash leaves nothing that it couldn't leave before. From the opening on, a crash
+/// leaves the memory after a beginning of the accepted commands that were put on the image, and at the end after all of
+/// them, or after all but the last where a call of the disk failed. Where the status is 0, it leaves the memory after
+/// all of them.
 pub fn serial_on<D: Disk>(alloc: Global, disk: D, script: &Script, out: &mut String) -> (u8, D)
     ensures status { result.0 ≤ 1 }
-    ensures served { D.honest result.1 → NotOpened D.now D.past disk result.1 result.0 ⊎ Served D.now D.past D.failures disk result.1 result.0 }
+    ensures served { D.honest result.1 → NotOpened D.now D.past disk result.1 result.0
+        ⊎ Served D.now D.past D.failures disk result.1 result.0 }
     ensures honest { D.honest result.1 → D.honest disk }
 {
     match Engine::open(alloc, disk) {

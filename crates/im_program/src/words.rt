@@ -4,7 +4,9 @@ ghost use Rattle.std.specs.Option.{option_map};
 ghost use Rattle.clap.specs.Words.{app_of, fault_of, found_of, kind_of, rows_of, rule_of, subcommand_rows_of, takes};
 ghost use Rattle.clap.specs.declared.builder.command.Command.TheViews.{out-Command};
 ghost use Rattle.im_script.specs.Grammar.{texts};
-ghost use Rattle.im_program.specs.Words.{asked, format_app, format_task, imem_app, inspect_app, inspect_task, number_in, option_rule, path_in, path_rule, serial_app, serial_task, task_in, task_of};
+ghost use Rattle.im_program.specs.Words.{asked, format_app, format_task, imem_app, inspect_app, inspect_task};
+ghost use Rattle.im_program.specs.Words.{number_in, option_rule, path_in, path_rule, serial_app, serial_task};
+ghost use Rattle.im_program.specs.Words.{task_in, task_of};
 
 use clap::error::ErrorKind;
 use clap::{Arg, ArgMatches, Command, Error};
@@ -316,7 +318,8 @@ fn bad_number(alloc: Global) -> WordFault {
 pub fn read_words<'a>(alloc: Global, words: &'a [&'a str]) -> Result<Work<'a>, WordFault>
     ensures work { IfOk result (λ work. asked (texts words.entry.now) ≡ Some (task_of work)) }
     ensures sound { IsOk result → fault_of imem_app (texts words.entry.now) ≡ [] }
-    ensures taken { IfErr result (λ fault. takes imem_app (texts words.entry.now) ≡ true → IsSome (asked (texts words.entry.now)) → fault ≡ WordFault.NoMemory) }
+    ensures taken { IfErr result (λ fault. takes imem_app (texts words.entry.now) ≡ true →
+        IsSome (asked (texts words.entry.now)) → fault ≡ WordFault.NoMemory) }
 {
     let command = match imem_command(alloc) {
         Ok(command) => command,

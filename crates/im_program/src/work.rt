@@ -1,11 +1,14 @@
 //! The work that the program is asked for.
-ghost use Rattle.std.specs.Prelude.{◌≡◌, ◌↔◌, ◌≤◌, [], IsOk, IfOk, IfErr, string_bytes};
+ghost use Rattle.std.specs.Prelude.{◌≡◌, ◌⊎◌, ◌↔◌, ◌≤◌, [], IsOk, IfOk, IfErr, IfSome, IfNone, string_bytes};
+ghost use Rattle.im_types.specs.declared.refusals.Refusal.TheVariants.{BadScript, Device, NoMemory, WrongLength};
 ghost use Rattle.im_types.specs.Layout.{sizes_of};
 ghost use Rattle.im_types.specs.Sizes.{AreLimits};
 ghost use Rattle.im_disk.specs.Since.{LeavesNow, ReadsOnly};
 ghost use Rattle.im_image.specs.Fresh.{new_image};
 ghost use Rattle.im_program.specs.Inspecting.{Tells};
 ghost use Rattle.im_program.specs.Serving.{ServedFrom};
+ghost use Rattle.im_program.specs.Words.{demonstration, task_of};
+ghost use Rattle.im_program.specs.Working.{DoneOn};
 
 use crate::inspecting::inspect_on;
 use crate::serial::{end, serial_on};
@@ -51,9 +54,15 @@ fn refusal_of<R: Eprint>(rt: &R, image: &str, fault: OpenFault) -> Refusal
     Refusal::from(fault)
 }
 
-/// Makes an image of a file, and gives the disk back: the file is made, or an older one's bytes are lost. As long as the
-/// file was honest, each file that a crash may leave is the new image, byte for byte.
-fn format_file<R: Files<File = File> + AllocGlobal + Eprint, S: Start>(
+/// Makes an image of a file, and gives its disk back: the file is made, or an older one's bytes are lost. As long as
+/// the file was honest, each file that a crash may leave is the new image, byte for byte.
+///
+/// Refused are, with nothing changed: `Device` where another opening has the file's lock, which a line on standard
+/// error says too, or where what is at the path is no regular file. `Device` where another call of the system fails,
+/// and what [`Engine::format`] refuses: then the file may hold no image, and an older one is lost.
+///
+/// That an image is ever made is no clause: none knows what a folder holds.
+pub fn format_file<R: Files<File = File> + AllocGlobal + Eprint, S: Start>(
     rt: &R,
     image: &str,
     limits: Limits,
@@ -61,6 +70,7 @@ fn format_file<R: Files<File = File> + AllocGlobal + Eprint, S: Start>(
 ) -> Result<FileDisk<S>, Refusal>
     ensures made { IfOk result (λ disk. ⟦<FileDisk<S> as Disk>⟧.honest disk →
         LeavesNow (⟦<FileDisk<S> as Disk>⟧.now disk) (λ file. file ≡ new_image 0xA5 (sizes_of limits))) }
+    ensures refused { IfErr result (λ refusal. (refusal ≡ WrongLength) ⊎ (refusal ≡ NoMemory) ⊎ (refusal ≡ Device)) }
 {
     let disk = match FileDisk::create(rt, image, image_length(limits), start) {
         Ok(disk) => disk,
@@ -68,12 +78,14 @@ fn format_file<R: Files<File = File> + AllocGlobal + Eprint, S: Start>(
     };
     match Engine::format(rt.alloc(), disk, limits) {
         Ok(engine) => Ok(engine.close()),
-        Err((refusal, _)) => Err(refusal),
+        Err((refusal, _)) => Err(refusal), // The file is made, and holds no image or a torn one.
     }
 }
 
 /// Reads the script of a file. `BadScript` where the file can't be read.
-fn read_file<R: Files<File = File> + AllocGlobal>(rt: &R, script: &str) -> Result<Script, Refusal> {
+fn read_file<R: Files<File = File> + AllocGlobal>(rt: &R, script: &str) -> Result<Script, Refusal>
+    ensures { IfErr result (λ refusal. (refusal ≡ BadScript) ⊎ (refusal ≡ NoMemory)) }
+{
     match fs::read(rt, script) {
         Ok(text) => read_script(rt.alloc(), text.as_slice()),
         Err(error) => Err(if error.kind() == io::ErrorKind::OutOfMemory {
@@ -84,11 +96,19 @@ fn read_file<R: Files<File = File> + AllocGlobal>(rt: &R, script: &str) -> Resul
     }
 }
 
-/// Serves the script of a file on the image of another, and gives the disk back. The script is read first.
+/// Serves the script of a file on the image of another, and gives the image's disk back, with the status and the lines
+/// of [`serial_on`]. The script is read first.
 ///
 /// Whatever the image held when it was opened (`S`): as long as the file was honest, a crash at any moment since then
 /// leaves what [`serial_on`] says.
-fn serve_file<R: Files<File = File> + AllocGlobal + Eprint, S: Start>(
+///
+/// Refused are, with nothing printed and the image as it was: `BadScript` for a script that can't be read or isn't in
+/// the grammar, and `NoMemory` for one that there is no room for; `Device` for an image that can't be opened: it is no
+/// regular file, another opening has its lock, which a line on standard error says too, or a call of the system fails.
+/// What [`serial_on`] refuses is its status and its last line.
+///
+/// That an image is ever opened is no clause: none knows what a folder holds.
+pub fn serve_file<R: Files<File = File> + AllocGlobal + Eprint, S: Start>(
     rt: &R,
     image: &str,
     script: &str,
@@ -97,20 +117,32 @@ fn serve_file<R: Files<File = File> + AllocGlobal + Eprint, S: Start>(
 ) -> Result<(u8, FileDisk<S>), Refusal>
     ensures status { IfOk result (λ r. r.0 ≤ 1) }
     ensures served { IfOk result (λ r. ⟦<FileDisk<S> as Disk>⟧.honest r.1 →
-        ServedFrom ⟦<FileDisk<S> as Disk>⟧.now ⟦<FileDisk<S> as Disk>⟧.past ⟦<FileDisk<S> as Disk>⟧.failures S.first r.1 r.0) }
+        ServedFrom ⟦<FileDisk<S> as Disk>⟧.now ⟦<FileDisk<S> as Disk>⟧.past ⟦<FileDisk<S> as Disk>⟧.failures
+        S.first r.1 r.0) }
+    ensures refused { IfErr result (λ refusal. (refusal ≡ BadScript) ⊎ (refusal ≡ NoMemory) ⊎ (refusal ≡ Device)) }
+    ensures same { IfErr result (λ _. out.new ≡ out.old) }
 {
-    let script = read_file(rt, script)?;
+    let script = match read_file(rt, script) {
+        Ok(script) => script,
+        Err(refusal) => return Err(refusal),
+    };
     match FileDisk::open(rt, image, start) {
         Ok(disk) => Ok(serial_on(rt.alloc(), disk, &script, out)),
         Err(fault) => Err(refusal_of(rt, image, fault)),
     }
 }
 
-/// Tells what the image of a file means, and gives the disk back.
+/// Tells what the image of a file means, and gives its disk back, with the status and the lines of [`inspect_on`].
 ///
 /// Whatever the image held when it was opened (`S`): where the file was honest and the status is 0, the report of those
 /// bytes is added to `out`; and a crash leaves nothing that it couldn't leave then.
-fn inspect_file<R: Files<File = File> + AllocGlobal + Eprint, S: Start>(
+///
+/// Refused is, with nothing printed and the image as it was, `Device` for an image that can't be opened: it is no
+/// regular file, an opening that writes has its lock, which a line on standard error says too, or a call of the system
+/// fails. What [`inspect_on`] refuses is its status and its last line.
+///
+/// That an image is ever opened is no clause: none knows what a folder holds.
+pub fn inspect_file<R: Files<File = File> + AllocGlobal + Eprint, S: Start>(
     rt: &R,
     image: &str,
     out: &mut String,
@@ -121,6 +153,8 @@ fn inspect_file<R: Files<File = File> + AllocGlobal + Eprint, S: Start>(
         Tells S.first.bytes (string_bytes out.old) (string_bytes out.new)) }
     ensures reads { IfOk result (λ r. ⟦<FileDisk<S> as Disk>⟧.honest r.1 →
         ReadsOnly S.first (⟦<FileDisk<S> as Disk>⟧.now r.1) [] (⟦<FileDisk<S> as Disk>⟧.past r.1)) }
+    ensures refused { IfErr result (λ refusal. refusal ≡ Device) }
+    ensures same { IfErr result (λ _. out.new ≡ out.old) }
 {
     match FileDisk::open_to_read(rt, image, start) {
         Ok(disk) => Ok(inspect_on(rt.alloc(), disk, out)),
@@ -150,17 +184,6 @@ fn demonstrate(alloc: Global, out: &mut String) -> Result<u8, Refusal>
     Ok(status)
 }
 
-/// The status of work, where a refusal is still to be printed.
-fn status_of(done: Result<u8, Refusal>, out: &mut String) -> u8
-    ensures done { IfOk done (λ status. result ≡ status) }
-    ensures refused { IfErr done (λ _. result ≡ 1) }
-{
-    match done {
-        Ok(status) => status,
-        Err(refusal) => end(Err(refusal), out),
-    }
-}
-
 /// Makes the image that the words ask for. `BadLimits` where a number is out of its range; then no file is made.
 fn format_image<R: Files<File = File> + AllocGlobal + Eprint, S: Start>(
     rt: &R,
@@ -169,46 +192,82 @@ fn format_image<R: Files<File = File> + AllocGlobal + Eprint, S: Start>(
     elements: u32,
     slots: u32,
     start: S,
-) -> Result<u8, Refusal>
-    ensures done { IfOk result (λ status. (status ≡ 0) × AreLimits cells elements slots) }
+) -> Result<FileDisk<S>, Refusal>
+    ensures limits { IfOk result (λ _. AreLimits cells elements slots) }
+    ensures made { IfOk result (λ disk. ⟦<FileDisk<S> as Disk>⟧.honest disk →
+        LeavesNow (⟦<FileDisk<S> as Disk>⟧.now disk)
+        (λ file. file ≡ new_image 0xA5 (record { cells = cells; elements = elements; slots = slots }))) }
 {
-    let limits = limits_of(cells, elements, slots)?;
-    format_file(rt, image, limits, start)?;
-    Ok(0)
+    let limits = match limits_of(cells, elements, slots) {
+        Ok(limits) => limits,
+        Err(refusal) => return Err(refusal),
+    };
+    format_file(rt, image, limits, start)
 }
 
-/// Does the work, and answers the status that the program ends with: 0, or 1 where something was refused. What it prints
-/// is added to `out`, a refusal as its last line `refused N NAME`.
-///
-/// Refused are: `BadLimits` for an image with a number out of its range, and then no file is made; `BadScript` for a
-/// script that can't be read, and then the image isn't opened; `Device` for an image that can't be made or opened;
-/// what [`Engine::format`], [`serial_on`] and [`inspect_on`] refuse. Where another program has the image, a line on
-/// standard error says so.
-///
-/// `start` stands for what the image holds when it is opened. It is used up, and no code reads it: the clauses of
-/// `format_file`, `serve_file` and `inspect_file` are proved for every `S`.
-pub fn act<R: Files<File = File> + AllocGlobal + Eprint, S: Start>(
+/// Does the work. The status, and the disk of the file that was opened for it, if one was.
+fn do_work<R: Files<File = File> + AllocGlobal + Eprint, S: Start>(
     rt: &R,
     work: &Work,
     out: &mut String,
     start: S,
-) -> u8
-    ensures status { result ≤ 1 }
+) -> Result<(u8, Option<FileDisk<S>>), Refusal>
+    ensures status { IfOk result (λ r. r.0 ≤ 1) }
+    ensures done { IfOk result (λ r. IfSome r.1 (λ disk. ⟦<FileDisk<S> as Disk>⟧.honest disk →
+        DoneOn ⟦<FileDisk<S> as Disk>⟧.now ⟦<FileDisk<S> as Disk>⟧.past ⟦<FileDisk<S> as Disk>⟧.failures S.first
+        (task_of work.now) (string_bytes out.old) (string_bytes out.new) r.0 disk)) }
+    ensures none { IfOk result (λ r. IfNone r.1 (task_of work.now ≡ demonstration)) }
 {
-    let done = match *work {
-        Work::Demonstration => demonstrate(rt.alloc(), out),
+    match *work {
+        Work::Demonstration => match demonstrate(rt.alloc(), out) {
+            Ok(status) => Ok((status, None)),
+            Err(refusal) => Err(refusal),
+        },
         Work::Format {
             image,
             cells,
             elements,
             slots,
-        } => format_image(rt, image, cells, elements, slots, start),
-        Work::Serial { image, script } => {
-            serve_file(rt, image, script, out, start).map(|(status, _)| status)
-        }
-        Work::Inspect { image } => inspect_file(rt, image, out, start).map(|(status, _)| status),
-    };
-    status_of(done, out)
+        } => match format_image(rt, image, cells, elements, slots, start) {
+            Ok(disk) => Ok((0, Some(disk))),
+            Err(refusal) => Err(refusal),
+        },
+        Work::Serial { image, script } => match serve_file(rt, image, script, out, start) {
+            Ok((status, disk)) => Ok((status, Some(disk))),
+            Err(refusal) => Err(refusal),
+        },
+        Work::Inspect { image } => match inspect_file(rt, image, out, start) {
+            Ok((status, disk)) => Ok((status, Some(disk))),
+            Err(refusal) => Err(refusal),
+        },
+    }
+}
+
+/// Does the work, and answers the status that the program ends with: 0, or 1 where something was refused; and the disk
+/// of the image, where its file was made or opened. What it prints is added to `out`, a refusal as its last line
+/// `refused N NAME`.
+///
+/// Refused are: `BadLimits` for an image with a number out of its range, and then no file is made; and what
+/// [`format_file`], [`serve_file`] and [`inspect_file`] refuse. Where there is a disk, its status and what was printed
+/// are those of the one that was called; where there is none, the status is 1, but for the demonstration.
+///
+/// `start` stands for what the image holds when it is opened. It is used up, and no code reads it.
+pub fn act<R: Files<File = File> + AllocGlobal + Eprint, S: Start>(
+    rt: &R,
+    work: &Work,
+    out: &mut String,
+    start: S,
+) -> (u8, Option<FileDisk<S>>)
+    ensures status { result.0 ≤ 1 }
+    ensures done { IfSome result.1 (λ disk. ⟦<FileDisk<S> as Disk>⟧.honest disk →
+        DoneOn ⟦<FileDisk<S> as Disk>⟧.now ⟦<FileDisk<S> as Disk>⟧.past ⟦<FileDisk<S> as Disk>⟧.failures S.first
+        (task_of work.now) (string_bytes out.old) (string_bytes out.new) result.0 disk) }
+    ensures none { IfNone result.1 ((task_of work.now ≡ demonstration) ⊎ (result.0 ≡ 1)) }
+{
+    match do_work(rt, work, out, start) {
+        Ok(done) => done,
+        Err(refusal) => (end(Err(refusal), out), None),
+    }
 }
 
 /// Prints a refusal, and answers its status, 1.

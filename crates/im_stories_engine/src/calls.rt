@@ -38,7 +38,8 @@ fn serve_all(engines: &mut Engines, times: u64, first: Command, said: &mut Strin
     crate::texts::add_answers(said, engines.answers.as_slice())
 }
 
-/// Serves the command that the words name, or so many of them under numbers that follow one another: `16 times 1.1 fetch 0`.
+/// Serves the command that the words name, or so many of them under numbers that follow one another:
+/// `16 times 1.1 fetch 0`.
 pub fn tell(engines: &mut Engines, words: &[&str], said: &mut String) -> Result<bool> {
     match words {
         [times, "times", rest @ ..] => {

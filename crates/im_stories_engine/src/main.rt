@@ -1,11 +1,12 @@
-//! Stories of the engine: what is formatted, served, turned, stopped, crashed and opened again, what is damaged, and random
-//! walks beside the plain memory.
+//! Stories of the engine: what is formatted, served, turned, stopped, crashed and opened again, what is damaged, and
+//! random walks beside the plain memory.
 //!
-//! Beside the commands, and `count`, `room`, `failed`, `window`, `collect`, `cell` and `waiting` of the engine, its words are:
+//! Beside the commands, and `count`, `room`, `failed`, `window`, `collect`, `cell` and `waiting` of the engine, its
+//! words are:
 //!
 //! ```text
-//! fuse 11 stop = set              the disk of the next format or opening passes 11 calls, and then stops; or fails once, or
-//!                                 once with a byte all over what was to be written, scar:a5
+//! fuse 11 stop = set              the disk of the next format or opening passes 11 calls, and then stops; or fails
+//!                                 once, or once with a byte all over what was to be written, scar:a5
 //! format 4096 16 256 = formatted  a new image of so many cells, elements and slots; or in a file of so many bytes
 //! 16 times 1.1 fetch 0 = 16 nocell    sixteen requests, 1.1 to 1.16
 //! turns 3 = began, page 0 to 1; room 3x0
@@ -19,7 +20,8 @@
 //! open = opened
 //! with 16:05 = count 5 room 256   what the opening of a copy comes to in which this byte stands
 //! each 0 to 3 as 00 ff = ..       the same for each of these bytes at each of these places
-//! in each serve stop kept = ..    a stop in each call of each serve, a crash, and all is sent again; `stops` has the others
+//! in each serve stop kept = ..    a stop in each call of each serve, a crash, and all is sent again; `stops` has the
+//!                                 others
 //! ```
 #![tactic(auto)]
 

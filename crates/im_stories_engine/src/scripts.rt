@@ -1,4 +1,5 @@
-//! What a story has told so far of an image: the commands that were accepted, and what each was answered, at first and later.
+//! What a story has told so far of an image: the commands that were accepted, and what each was answered, at first and
+//! later.
 
 use anyhow::{Result, anyhow};
 use im_disk::Disk;
@@ -124,8 +125,9 @@ impl Script {
         Ok(())
     }
 
-    /// Serves the whole script, of which so many commands have acted. Each answer is as it was told.
-    pub fn is_answered<D: Disk>(&self, engine: &mut Engine<D>, count: u64) -> Result<()> {
+    /// Serves the whole script, of which so many commands have acted. Each answer is as it was told, and each command
+    /// has acted once.
+    pub fn is_told_again<D: Disk>(&self, engine: &mut Engine<D>, count: u64) -> Result<()> {
         for first in self.accepted.iter() {
             let answer = engine.serve(&first.command);
             if answer != self.answer_after(first, count) {
@@ -133,15 +135,25 @@ impl Script {
                 return Err(anyhow!("command {place} isn't answered as it was told"));
             }
         }
-        if engine.count() != self.count || engine.room() != self.room {
-            let (count, room) = (engine.count(), engine.room());
-            return Err(anyhow!("the count is {count}, and the room {room}"));
+        if engine.count() != self.count {
+            let count = engine.count();
+            return Err(anyhow!("the count is {count}"));
         }
         self.is_kept(engine, self.count)
     }
 
-    /// Serves the script to an engine whose disk fails in the command behind the first `served` ones: they are answered as
-    /// they were told, it is answered `Device`, and all behind it `Failed`.
+    /// The same, with the room that the story told.
+    pub fn is_answered<D: Disk>(&self, engine: &mut Engine<D>, count: u64) -> Result<()> {
+        self.is_told_again(engine, count)?;
+        if engine.room() != self.room {
+            let room = engine.room();
+            return Err(anyhow!("the room is {room}"));
+        }
+        Ok(())
+    }
+
+    /// Serves the script to an engine whose disk fails in the command behind the first `served` ones: they are answered
+    /// as they were told, it is answered `Device`, and all behind it `Failed`.
     pub fn is_cut_short<D: Disk>(&self, engine: &mut Engine<D>, served: u64) -> Result<()> {
         for first in self.accepted.iter() {
             let expected = if first.count <= served {
@@ -158,7 +170,8 @@ impl Script {
         self.is_over(engine, served)
     }
 
-    // Sees that an engine has failed with so many commands: not even a repeat is answered, nor what no memory would take.
+    // Sees that an engine has failed with so many commands: not even a repeat is answered, nor what no memory would
+    // take.
     fn is_over<D: Disk>(&self, engine: &mut Engine<D>, served: u64) -> Result<()> {
         for first in self.accepted.iter() {
             if engine.serve(&first.command) != Err(Refusal::Failed) {

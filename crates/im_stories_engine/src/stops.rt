@@ -1,6 +1,7 @@
 //! Stops and faults of the disk at each call there is, and what is found once the image is opened again.
 //!
-//! Each looks at every case, and tells how many commands were found in each, or the first thing that isn't as it must be.
+//! Each looks at every case, and tells how many commands were found in each, or the first thing that isn't as it must
+//! be.
 
 use crate::alike::are_alike;
 use crate::disks::{copy, crash, formatted, mode, opened, steady};
@@ -59,7 +60,8 @@ fn stopped(alloc: Global, disk: MemDisk, passes: u64, mode: Mode) -> Result<Opti
     }
 }
 
-// Takes turns until the disk stops, and then each answers `Failed`. Whether it does stop before they have nothing to do.
+// Takes turns until the disk stops, and then each answers `Failed`. Whether it does stop before they have nothing to
+// do.
 fn do_turns_stop<D: Disk>(engine: &mut Engine<D>) -> Result<bool> {
     for _ in 0..1_000 {
         match engine.turn() {
@@ -73,7 +75,8 @@ fn do_turns_stop<D: Disk>(engine: &mut Engine<D>) -> Result<bool> {
 }
 
 impl Sweep<'_> {
-    // An engine that has served the script as far as its disk let it: the format makes four calls, and each command four.
+    // An engine that has served the script as far as its disk let it: the format makes four calls, and each command
+    // four.
     fn cut_short(&self, served: u64, call: u64, mode: Mode) -> Result<Engine<FuseDisk>> {
         let passes = served
             .saturating_mul(4)
@@ -97,8 +100,8 @@ impl Sweep<'_> {
         Ok(engine)
     }
 
-    // Sees that what was opened has a beginning of the script, and that all of it acts once when it is sent again. How many
-    // commands it had.
+    // Sees that what was opened has a beginning of the script, and that all of it acts once when it is sent again. How
+    // many commands it had.
     fn sent_again<D: Disk>(&self, engine: &mut Engine<D>) -> Result<u64> {
         let found = engine.count();
         self.script.is_kept(engine, found)?;
@@ -166,22 +169,23 @@ impl Sweep<'_> {
         Err(anyhow!("the calls don't end"))
     }
 
-    // Sees that an engine has the whole script. How many commands it has.
-    fn count_of_all<D: Disk>(&self, engine: &Engine<D>) -> Result<u64> {
+    // Sees that an engine has the whole script, of which nothing acts when it is sent again. How many commands it has.
+    fn count_of_all<D: Disk>(&self, engine: &mut Engine<D>) -> Result<u64> {
         self.script.is_kept(engine, self.script.count)?;
+        self.script.is_told_again(engine, self.script.count)?;
         are_alike(engine.memory(), self.plain, self.script.limits)?;
         Ok(engine.count())
     }
 
-    // Takes turns until they are stopped, with a crash behind that, and opens. How many commands are found, or none where
-    // the turns weren't stopped.
+    // Takes turns until they are stopped, with a crash behind that, and opens. How many commands are found, or none
+    // where the turns weren't stopped.
     fn found_after_turns(&self, engine: Engine<FuseDisk>, way: Way) -> Result<Option<u64>> {
         let mut engine = engine;
         if !do_turns_stop(&mut engine)? {
             return Ok(None);
         }
-        let engine = after_crash(self.alloc, engine.close(), way.crash)?;
-        Ok(Some(self.count_of_all(&engine)?))
+        let mut engine = after_crash(self.alloc, engine.close(), way.crash)?;
+        Ok(Some(self.count_of_all(&mut engine)?))
     }
 
     // Stops at each call of the turns behind the script, and tells how many commands an opening finds.
@@ -197,14 +201,14 @@ impl Sweep<'_> {
         Err(anyhow!("the calls don't end"))
     }
 
-    // Opens a disk that passes so many calls, and takes turns, until it stops. How many commands are found behind a crash,
-    // or none where it didn't stop.
+    // Opens a disk that passes so many calls, and takes turns, until it stops. How many commands are found behind a
+    // crash, or none where it didn't stop.
     fn found_on(&self, disk: MemDisk, passes: u64, way: Way) -> Result<Option<u64>> {
         match Engine::open(self.alloc, FuseDisk::new(disk, passes, way.mode)) {
             Ok(engine) => self.found_after_turns(engine, way),
             Err((Refusal::Device, disk)) => {
-                let engine = after_crash(self.alloc, disk, way.crash)?;
-                Ok(Some(self.count_of_all(&engine)?))
+                let mut engine = after_crash(self.alloc, disk, way.crash)?;
+                Ok(Some(self.count_of_all(&mut engine)?))
             }
             Err((refusal, _)) => Err(anyhow!("an opening is refused: {refusal}")),
         }
@@ -280,9 +284,9 @@ fn tell_each(
     }
 }
 
-/// Whether the words are `in each serve`, `opening`, `reopening`, `turn` or `call`, how the disk fails at each call of that,
-/// and what the crashes behind it leave. All but `call` is of an image that the commands of the story so far are put to;
-/// `call` is of the closed file.
+/// Whether the words are `in each serve`, `opening`, `reopening`, `turn` or `call`, how the disk fails at each call of
+/// that, and what the crashes behind it leave. All but `call` is of an image that the commands of the story so far are
+/// put to; `call` is of the closed file.
 pub fn tell(engines: &Engines, alloc: Global, words: &[&str], said: &mut String) -> Result<bool> {
     let ["in", "each", of, how, crashes @ ..] = words else {
         return Ok(false);

@@ -70,8 +70,8 @@ impl Walk {
         }
     }
 
-    // A command of this asker: one in five confirms. Element 0 asks for nothing that may wait, so that there is always one
-    // that goes on.
+    // A command of this asker: one in five confirms. Element 0 asks for nothing that may wait, so that there is always
+    // one that goes on.
     fn asked(&mut self, asker: Asker, cells: u32) -> Command {
         if self.below(5) == 0 {
             let upto = asker.base.saturating_add(self.below(18));
@@ -92,8 +92,8 @@ impl Walk {
         })
     }
 
-    /// A command for a memory of four elements, of one of these or of one more. One in two requests under a number that is
-    /// kept asks for what was asked for before.
+    /// A command for a memory of four elements, of one of these or of one more. One in two requests under a number that
+    /// is kept asks for what was asked for before.
     pub fn command(&mut self, plain: &PlainMemory, cells: u32) -> Command {
         let element = self.below(5) as u16;
         let (base, next) = plain.window(element).unwrap_or((1, 1));

@@ -1,5 +1,5 @@
-//! Random walks: the fast memory beside the plain one, and an engine that is stopped again and again, with the plain memory
-//! beside it, which has what was answered.
+//! Random walks: the fast memory beside the plain one, and an engine that is stopped again and again, with the plain
+//! memory beside it, which has what was answered.
 
 use crate::alike::are_alike;
 use crate::disks::limits;
@@ -176,7 +176,8 @@ fn are_enough(accepted: u64, least: u64) -> Result<()> {
     Ok(())
 }
 
-/// Whether the words are `walk` or `wander`: so many commands or stops, a seed, and how many commands are to be accepted.
+/// Whether the words are `walk` or `wander`: so many commands or stops, a seed, and how many commands are to be
+/// accepted.
 pub fn tell(alloc: Global, words: &[&str], said: &mut String) -> Result<bool> {
     match words {
         ["walk", commands, "from", seed, "over", least] => {

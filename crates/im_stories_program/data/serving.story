@@ -189,6 +189,30 @@ printed 1 = 1.1 waiting
 printed 2 = 1.1 now waiting
 printed 3 = refused 8 Device
 
+# A sync that fails ends the script, and what was answered is there at the next opening
+disk 327680 = 327680 bytes
+format 4096 16 256 = formatted
+read setup / alloc x i 1 / element 1 / fetch x / element 2 / store x 9 / = 1 blocks, 2 parts, 2 requests
+-- Four calls for each of the first two requests; the tenth is the sync behind the body of the third. Those behind it would pass.
+serve but for call 10 past the opening = 1
+printed = 4 lines
+printed 0 = 0.1 base 0
+printed 1 = 1.1 waiting
+printed 2 = 1.1 now waiting
+printed 3 = refused 8 Device
+count = 2
+-- The sync behind the gate fails: the request is not answered, and found, as the gate was written.
+read element 2 / store 0 9 / = 0 blocks, 1 parts, 1 requests
+serve but for call 4 past the opening = 1
+printed = 1 lines
+printed 0 = refused 8 Device
+count = 3
+read element 1 / fetch 0 / = 0 blocks, 1 parts, 1 requests
+serve = 0
+printed = 1 lines
+printed 0 = 1.2 value 9
+count = 4
+
 # A disk without an image is refused
 disk 327680 = 327680 bytes
 read element 1 / fetch 0 / = 0 blocks, 1 parts, 1 requests

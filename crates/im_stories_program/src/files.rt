@@ -16,7 +16,7 @@ fn run(desk: &mut Desk, words: &[&str], said: &mut String) -> Result<()> {
         return Err(anyhow!("the words ask for no work"));
     };
     let mut out = String::new(alloc);
-    let status = act(desk.rt, &work, &mut out, Unknown);
+    let (status, _disk) = act(desk.rt, &work, &mut out, Unknown);
     desk.printed.set(out);
     Ok(write!(said, "{status}")?)
 }

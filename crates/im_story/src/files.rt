@@ -17,8 +17,8 @@ fn walk_file<S: Scene>(rt: &HostRuntime, file: &str, scene: &mut S) -> Result<bo
     Ok(walked.wrong == 0)
 }
 
-/// Walks the stories of each file that the command line names, and prints a line for each file. The status to end with: 1
-/// where a call answered something else, a line is no call, a story has none, or no file is named.
+/// Walks the stories of each file that the command line names, and prints a line for each file. The status to end with:
+/// 1 where a call answered something else, a line is no call, a story has none, or no file is named.
 pub fn walk_files<S: Scene>(rt: &HostRuntime, scene: &mut S) -> Result<u8> {
     let words = env::args(rt)?.collect::<Vec<String>>(rt.alloc())?;
     let mut status = 0;

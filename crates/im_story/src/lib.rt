@@ -8,9 +8,10 @@
 //! collect 1.1 = value 42
 //! ```
 //!
-//! A line `# ..` begins a story and says what happens in it; a line `-- ..` is a remark; each other line that isn't blank is
-//! a call and its answer, with ` = ` between them. What the calls are is the [`Scene`]'s to say. It stands on `im_types`
-//! and `anyhow`, and is used by the crates that tell stories. It promises nothing but that it ends: a story is a test.
+//! A line `# ..` begins a story and says what happens in it; a line `-- ..` is a remark; each other line that isn't
+//! blank is a call and its answer, with ` = ` between them. What the calls are is the [`Scene`]'s to say. It stands on
+//! `im_types` and `anyhow`, and is used by the crates that tell stories. It promises nothing but that it ends: a story
+//! is a test.
 #![tactic(auto)]
 
 mod files;

@@ -26,7 +26,10 @@ fn run(rt: &HostRuntime, words: &[&str], out: &mut String) -> u8
     ensures { result ≤ 2 }
 {
     match read_words(rt.alloc(), words) {
-        Ok(work) => act(rt, &work, out, Unknown),
+        Ok(work) => {
+            let (status, _disk) = act(rt, &work, out, Unknown);
+            status
+        }
         Err(WordFault::NoMemory) => refuse(Refusal::NoMemory, out),
         Err(WordFault::Bad(error)) => {
             let printed = error.print(rt);

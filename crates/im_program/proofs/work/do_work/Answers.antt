@@ -1,0 +1,6 @@
+use Rattle.std.proofs.Common.{refl}
+use Rattle.im_program.proofs.work.do_work.Goals as goal
+
+pub returns-in-Ok-format_image-clause-done : goal.returns-in-Ok-format_image-clause-done
+returns-in-Ok-format_image-clause-done g c = λ honest.
+    rw c.in-Format.is (refl, c.in-Ok-format_image.ensures.limits, c.in-Ok-format_image.ensures.made honest)
