@@ -1,5 +1,5 @@
-//! Workloads over the structures of the memory, to count what a call costs: `im_bench WORKLOAD COUNT` makes a workload's call
-//! COUNT times and prints a line with its checksum. What a call costs is the difference of two counts.
+//! Workloads over the structures of the memory, to count what a call costs: `im_bench WORKLOAD COUNT` makes a
+//! workload's call COUNT times and prints a line with its checksum. What a call costs is the difference of two counts.
 #![tactic(auto)]
 
 mod blocks;

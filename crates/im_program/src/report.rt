@@ -3,7 +3,7 @@ ghost use Rattle.std.specs.Prelude.{◌≡◌, ◌++◌, ◌==◌, ◌&&◌, OnO
 ghost use Rattle.im_types.specs.Contents.{Window, held_at, kept_for, waiters_at};
 ghost use Rattle.im_types.specs.Window.{next_number};
 ghost use Rattle.im_image.specs.Headers.{seen};
-ghost use Rattle.im_memory.specs.Presences.{presence_in};
+ghost use Rattle.im_types.specs.Presences.{presence_in};
 ghost use Rattle.im_program.specs.Report.{block_line, blocks_text, cell_line, cells_text, element_line, elements_text};
 ghost use Rattle.im_program.specs.Report.{entries_text, entry_line, header_line, journal_line, limits_line};
 ghost use Rattle.im_program.specs.Report.{report_text, version_line, waiter_text, waiters_text, window_text};

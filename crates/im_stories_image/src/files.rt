@@ -23,7 +23,8 @@ use std::fs;
 pub struct Opened {
     disk: FileDisk<Unknown>,
     size: usize,
-    ghost whole: { ⟦<FileDisk<Unknown> as Disk>⟧.honest disk → size ≡ length (⟦<FileDisk<Unknown> as Disk>⟧.now disk).bytes },
+    ghost whole: { ⟦<FileDisk<Unknown> as Disk>⟧.honest disk
+        → size ≡ length (⟦<FileDisk<Unknown> as Disk>⟧.now disk).bytes },
 }
 
 impl Opened {
