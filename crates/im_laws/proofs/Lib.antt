@@ -20,6 +20,8 @@ pub mod ResumeLemmas
 pub mod AllocateLemmas
 pub mod CellLemmas
 pub mod RefusalLemmas
+pub mod RefusedSteps
+pub mod WaitingCounts
 pub mod Instances
 mod Counterexamples
 mod Plans

@@ -2,7 +2,6 @@ pub mod CellsLemmas
 pub mod PresenceLemmas
 pub mod ActLemmas
 pub mod AnswerLemmas
-pub mod KeepsMemory
 pub mod ConfirmLemmas
 pub mod RoomLemmas
 pub mod MakesLemmas

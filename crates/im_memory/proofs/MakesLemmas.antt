@@ -24,7 +24,7 @@ use Rattle.im_memory.specs.Resuming.{replies_of, AreAwaited, HasActed}
 use Rattle.im_memory.specs.MakesMemory.{contents_of, MakesMemory}
 use Rattle.im_memory.proofs.AnswerLemmas.{act-ready}
 use Rattle.im_memory.proofs.CellsLemmas.{length-cells}
-use Rattle.im_memory.proofs.KeepsMemory.{step-keeps_memory, empty-is_memory}
+use Rattle.im_laws.proofs.MemoryLemmas.{step-memory, empty-memory}
 
 -- the counts of a memory are those of its table and windows
 own-IsMemory : (cells elements : ℕ) (slots : List (Option Slot)) (arena : Shown) (windows : List Window)
@@ -78,7 +78,7 @@ module _ (slots : List (Option Slot)) (arena : Shown) (windows : List Window) (m
       pub makes-served : Agree slots' arena'' → arena''.held.nodes ≡ arena.held.nodes → MakesMemory slots' arena'' windows'
       makes-served agree nodes =
           stays slots' arena'' windows' agree
-          (subst (IsMemory (length slots) (length windows)) (ap (λ j. (step_request was r j).contents) fresh ∙ sym served-contents) (step-keeps_memory (length slots) (length windows) was (Asks r) makes.memory))
+          (subst (IsMemory (length slots) (length windows)) (ap (λ j. (step_request was r j).contents) fresh ∙ sym served-contents) (step-memory (length slots) (length windows) was (Asks r) makes.memory))
           nodes
 
   -- after a confirmation, or one that was refused
@@ -98,7 +98,7 @@ module _ (slots : List (Option Slot)) (arena : Shown) (windows : List Window) (m
     pub makes-confirmed : MakesMemory slots arena windows'
     makes-confirmed =
         stays slots arena windows' makes.agree
-        (subst (IsMemory (length slots) (length windows)) (sym confirmed-contents) (step-keeps_memory (length slots) (length windows) was (Confirm element upto) makes.memory))
+        (subst (IsMemory (length slots) (length windows)) (sym confirmed-contents) (step-memory (length slots) (length windows) was (Confirm element upto) makes.memory))
         refl
 
 -- nothing in any block, and nobody waits
@@ -119,7 +119,7 @@ module _ (cells elements : ℕ) (arena : Shown) (lists : arena.held.lists ≡ re
       let e = length-replicate elements new_window in
       record {
         agree = Agree-start cells arena lists;
-        memory = own-IsMemory cells elements (replicate cells None) arena (replicate elements new_window) (subst (IsMemory cells elements) (sym contents_of-empty) (empty-is_memory cells elements));
+        memory = own-IsMemory cells elements (replicate cells None) arena (replicate elements new_window) (subst (IsMemory cells elements) (sym contents_of-empty) (empty-memory cells elements));
         some_cell = omega arith;
         few_cells = omega arith;
         few_elements = omega arith;

@@ -4,6 +4,5 @@ pub mod JoinedLemmas
 pub mod ActLemmas
 pub mod WindowLemmas
 pub mod ResumeLemmas
-pub mod KeepsMemory
 pub mod RoomLemmas
 pub mod MakesLemmas

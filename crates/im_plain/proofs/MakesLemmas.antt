@@ -21,7 +21,7 @@ use Rattle.im_plain.specs.Joined.{joined_from, joined, Fits}
 use Rattle.im_plain.specs.Served.{HasActed}
 use Rattle.im_plain.specs.MakesMemory.{contents_of, MakesMemory}
 use Rattle.im_plain.proofs.JoinedLemmas.{length-joined}
-use Rattle.im_plain.proofs.KeepsMemory.{step-keeps_memory, empty-is_memory}
+use Rattle.im_laws.proofs.MemoryLemmas.{step-memory, empty-memory}
 
 -- the counts of a memory are those of its slots and windows
 own-IsMemory : (cells elements : ℕ) (slots : List (Option Slot)) (queue : List Deferred) (windows : List Window)
@@ -71,7 +71,7 @@ module _ (slots : List (Option Slot)) (queue : List Deferred) (capacity : ℕ) (
     pub makes-served : judge windows r ≡ Ok Fresh → (capacity' : ℕ) → capacity ≤ capacity' → MakesMemory slots' queue' capacity' windows'
     makes-served fresh capacity' more =
         makes-after slots' queue' capacity' windows' (subst (Fits slots') (sym left) has.fits)
-        (subst (IsMemory (length slots) (length windows)) (ap (λ j. (step_request was r j).contents) fresh ∙ sym served-contents) (step-keeps_memory (length slots) (length windows) was (Asks r) makes.memory))
+        (subst (IsMemory (length slots) (length windows)) (ap (λ j. (step_request was r j).contents) fresh ∙ sym served-contents) (step-memory (length slots) (length windows) was (Asks r) makes.memory))
         more
 
   -- after a confirmation, or one that was refused
@@ -91,13 +91,13 @@ module _ (slots : List (Option Slot)) (queue : List Deferred) (capacity : ℕ) (
     pub makes-confirmed : MakesMemory slots queue capacity windows'
     makes-confirmed =
         makes-after slots queue capacity windows' makes.fits
-        (subst (IsMemory (length slots) (length windows)) (sym confirmed-contents) (step-keeps_memory (length slots) (length windows) was (Confirm element upto) makes.memory))
+        (subst (IsMemory (length slots) (length windows)) (sym confirmed-contents) (step-memory (length slots) (length windows) was (Confirm element upto) makes.memory))
         (omega arith)
 
     -- the windows, written back behind a slice of all of them
     pub confirmed-written : (count : ℕ) (rest : List Window) → length windows ≡ count → take count (windows' ++ rest) ≡ windows'
     confirmed-written count rest all =
-        let same : length windows' ≡ length windows = ap (λ (m : Contents). length m.windows) confirmed-contents ∙ (step-keeps_memory (length slots) (length windows) was (Confirm element upto) makes.memory).window_count in
+        let same : length windows' ≡ length windows = ap (λ (m : Contents). length m.windows) confirmed-contents ∙ (step-memory (length slots) (length windows) was (Confirm element upto) makes.memory).window_count in
         take-append-le count windows' rest (omega arith) ∙ ap (λ n. take n windows') (sym all ∙ sym same) ∙ take-length windows'
 
 -- nothing in any block, and nobody waits
@@ -115,7 +115,7 @@ makes-empty cells elements capacity few_cells few_elements room =
     let e = length-replicate elements new_window in
     record {
       fits = λ a closed. refl;
-      memory = own-IsMemory cells elements (replicate cells None) [] (replicate elements new_window) (subst (IsMemory cells elements) (sym (contents_of-empty cells elements)) (empty-is_memory cells elements));
+      memory = own-IsMemory cells elements (replicate cells None) [] (replicate elements new_window) (subst (IsMemory cells elements) (sym (contents_of-empty cells elements)) (empty-memory cells elements));
       few_cells = omega arith;
       few_elements = omega arith;
       room = omega arith;

@@ -1,5 +1,5 @@
 use Rattle.std.proofs.Common.{arith}
-use Rattle.im_memory.proofs.KeepsMemory.{empty-is_memory}
+use Rattle.im_laws.proofs.MemoryLemmas.{empty-memory}
 use Rattle.im_memory.proofs.MakesLemmas.{makes-empty, contents_of-empty}
 use Rattle.im_memory.proofs.memory.Memory.new.Goals as goal
 
@@ -16,4 +16,4 @@ returns-clause-empty c =
 pub returns-clause-memory : goal.returns-clause-memory
 returns-clause-memory c =
     let limits = c.args.limits in
-    rw (c.in-Ok.ensures.free, c.in-Ok-new-2.ensures.ok, contents_of-empty limits.cells limits.elements c.in-Ok-new.arena c.in-Ok-new.ensures.empty) (empty-is_memory limits.cells limits.elements)
+    rw (c.in-Ok.ensures.free, c.in-Ok-new-2.ensures.ok, contents_of-empty limits.cells limits.elements c.in-Ok-new.arena c.in-Ok-new.ensures.empty) (empty-memory limits.cells limits.elements)

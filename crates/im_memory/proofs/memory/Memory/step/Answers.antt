@@ -6,15 +6,17 @@ use Rattle.im_types.specs.Step.{step}
 use Rattle.im_types.specs.Agreement.{KeepsEntries}
 use Rattle.im_types.specs.Memory.{IsMemory}
 use Rattle.im_histories.proofs.Laws.{every_value_law, every_matching_law}
-use Rattle.im_memory.proofs.KeepsMemory.{step-keeps_memory, step-keeps_entries, step-refused}
+use Rattle.im_laws.proofs.MemoryLemmas.{step-memory}
+use Rattle.im_laws.proofs.RunAgrees.{step-keeps}
+use Rattle.im_laws.proofs.RefusedSteps.{step-refused}
 use Rattle.im_memory.proofs.memory.Memory.step.Goals as goal
 
 module _ (m next : Contents) (command known : Command) (is : command ≡ known) (steps : next ≡ (step m known).contents) (memory : IsMemory (length m.cells) (length m.windows) m) where
   stays : IsMemory (length m.cells) (length m.windows) next
-  stays = subst (IsMemory (length m.cells) (length m.windows)) (sym steps) (step-keeps_memory (length m.cells) (length m.windows) m known memory)
+  stays = subst (IsMemory (length m.cells) (length m.windows)) (sym steps) (step-memory (length m.cells) (length m.windows) m known memory)
 
   keeps : KeepsEntries m command next
-  keeps = subst (KeepsEntries m command) (sym (steps ∙ ap (λ k. (step m k).contents) (sym is))) (step-keeps_entries m command memory.agrees)
+  keeps = subst (KeepsEntries m command) (sym (steps ∙ ap (λ k. (step m k).contents) (sym is))) (step-keeps m command memory.agrees)
 
 pub returns-in-Request-clause-memory : goal.returns-in-Request-clause-memory
 returns-in-Request-clause-memory c =

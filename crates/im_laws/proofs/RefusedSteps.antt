@@ -1,5 +1,5 @@
--- A step keeps a memory a memory, and what is kept there, and all of it where it is refused; the empty memory is one.
-use Rattle.std.proofs.Common.{◌≡◌, ℕ, Ok, Err, refl, sym, ◌∙◌, subst}
+-- A refused step changes nothing.
+use Rattle.std.proofs.Common.{◌≡◌, Ok, Err, refl, sym, ◌∙◌, subst}
 use Rattle.std.specs.Prelude.{Result, OnErr, slice_get}
 use Rattle.im_types.specs.declared.commands.Command.{Command}
 use Rattle.im_types.specs.declared.commands.Command.TheVariants.{Request as Asks, Confirm}
@@ -7,24 +7,10 @@ use Rattle.im_types.specs.declared.commands.Judged.{Judged}
 use Rattle.im_types.specs.declared.commands.Judged.TheVariants.{Fresh, Repeat}
 use Rattle.im_types.specs.declared.commands.Outcome.{Outcome}
 use Rattle.im_types.specs.declared.refusals.Refusal.{Refusal}
-use Rattle.im_types.specs.Contents.{Window, Contents, empty_contents}
+use Rattle.im_types.specs.Contents.{Window, Contents}
 use Rattle.im_types.specs.Window.{judge, confirm_window}
 use Rattle.im_types.specs.Step.{step, step_request, step_confirm}
-use Rattle.im_types.specs.Agreement.{WaitingAgrees, KeepsEntries}
-use Rattle.im_types.specs.Memory.{IsMemory}
-use Rattle.im_laws.proofs.MemoryLemmas.{empty-memory, step-memory}
-use Rattle.im_laws.proofs.RunAgrees.{step-keeps}
 
-pub step-keeps_memory : (cells elements : ℕ) (m : Contents) (command : Command) → IsMemory cells elements m → IsMemory cells elements (step m command).contents
-step-keeps_memory = step-memory
-
-pub step-keeps_entries : (m : Contents) (command : Command) → WaitingAgrees m → KeepsEntries m command (step m command).contents
-step-keeps_entries = step-keeps
-
-pub empty-is_memory : (cells elements : ℕ) → IsMemory cells elements (empty_contents cells elements)
-empty-is_memory = empty-memory
-
--- a refused command changes nothing
 stays_refused : (m : Contents) (command : Command) → OnErr (step m command).answer ((step m command).contents ≡ m)
 stays_refused m (Asks r) = by_judged (judge m.windows r)
   where
