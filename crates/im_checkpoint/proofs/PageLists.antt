@@ -4,8 +4,8 @@ use Rattle.std.specs.List.{Contains}
 use Rattle.std.proofs.lemmas.List.{take-append-le, take_all}
 use Rattle.im_types.specs.Layout.{layout_in_use, area_pages}
 use Rattle.im_types.specs.Header.{Header}
-use Rattle.im_checkpoint.specs.declared.checkpoint.Progress.{Progress}
-use Rattle.im_checkpoint.specs.declared.checkpoint.Progress.TheVariants.{NoCheckpoint as None_yet, PagesLeft as Some_left, PagesDone as All_written, Synced as On_disk}
+use Rattle.im_checkpoint.specs.declared.checkpoint.Step.{Step as Mark}
+use Rattle.im_checkpoint.specs.declared.checkpoint.Step.TheVariants.{NoCheckpoint as None_yet, PagesLeft as Some_left, PagesDone as All_written, Synced as On_disk}
 use Rattle.im_checkpoint.specs.Step.{Taken, NoCheckpoint, PagesLeft, PagesDone, Synced, CheckpointState, pages_from, step_of, IsPagesLeft, IsPagesDone, IsSynced, IsCheckpoint}
 
 pub pages_push : (n from : ℕ) → pages_from (n + 1) from ≡ pages_from n from ++ (from + n) ∷ []
@@ -44,42 +44,42 @@ rest_is (x ∷ l) (suc k) low =
     rest_is l k (omega (arith, low)) ∙ ap (λ (n : ℕ). get_or l k 0 ∷ drop n (x ∷ l)) more
 
 -- the state that a checkpoint's fields stand for
-module _ (s : CheckpointState) (h : Header) (p : Progress) (taken : Taken) (pages : List ℕ) (written : ℕ) (view : (let x : CheckpointState = record { header = h; step = step_of p taken (drop written pages) } in x) ≡ s) where
+module _ (s : CheckpointState) (h : Header) (p : Mark) (taken : Taken) (pages : List ℕ) (written : ℕ) (view : (let x : CheckpointState = record { header = h; step = step_of p taken (drop written pages) } in x) ≡ s) where
   step_is : s.step ≡ step_of p taken (drop written pages)
   step_is = sym (ap (λ (x : CheckpointState). x.step) view)
 
-  pub progress_left : IsPagesLeft s.step → p ≡ Some_left
-  progress_left is = by_progress p (subst IsPagesLeft step_is is)
+  pub mark_left : IsPagesLeft s.step → p ≡ Some_left
+  mark_left is = by_mark p (subst IsPagesLeft step_is is)
     where
-      by_progress : (q : Progress) → IsPagesLeft (step_of q taken (drop written pages)) → q ≡ Some_left
-      by_progress None_yet it = absurd it
-      by_progress Some_left it = refl
-      by_progress All_written it = absurd it
-      by_progress On_disk it = absurd it
+      by_mark : (q : Mark) → IsPagesLeft (step_of q taken (drop written pages)) → q ≡ Some_left
+      by_mark None_yet it = absurd it
+      by_mark Some_left it = refl
+      by_mark All_written it = absurd it
+      by_mark On_disk it = absurd it
 
-  pub progress_done : IsPagesDone s.step → p ≡ All_written
-  progress_done is = by_progress p (subst IsPagesDone step_is is)
+  pub mark_done : IsPagesDone s.step → p ≡ All_written
+  mark_done is = by_mark p (subst IsPagesDone step_is is)
     where
-      by_progress : (q : Progress) → IsPagesDone (step_of q taken (drop written pages)) → q ≡ All_written
-      by_progress None_yet it = absurd it
-      by_progress Some_left it = absurd it
-      by_progress All_written it = refl
-      by_progress On_disk it = absurd it
+      by_mark : (q : Mark) → IsPagesDone (step_of q taken (drop written pages)) → q ≡ All_written
+      by_mark None_yet it = absurd it
+      by_mark Some_left it = absurd it
+      by_mark All_written it = refl
+      by_mark On_disk it = absurd it
 
-  pub progress_synced : IsSynced s.step → p ≡ On_disk
-  progress_synced is = by_progress p (subst IsSynced step_is is)
+  pub mark_synced : IsSynced s.step → p ≡ On_disk
+  mark_synced is = by_mark p (subst IsSynced step_is is)
     where
-      by_progress : (q : Progress) → IsSynced (step_of q taken (drop written pages)) → q ≡ On_disk
-      by_progress None_yet it = absurd it
-      by_progress Some_left it = absurd it
-      by_progress All_written it = absurd it
-      by_progress On_disk it = refl
+      by_mark : (q : Mark) → IsSynced (step_of q taken (drop written pages)) → q ≡ On_disk
+      by_mark None_yet it = absurd it
+      by_mark Some_left it = absurd it
+      by_mark All_written it = absurd it
+      by_mark On_disk it = refl
 
   pub state_done : IsPagesDone s.step → s ≡ record { header = h; step = PagesDone taken }
-  state_done is = sym view ∙ ap (λ (q : Progress). (let x : CheckpointState = record { header = h; step = step_of q taken (drop written pages) } in x)) (progress_done is)
+  state_done is = sym view ∙ ap (λ (q : Mark). (let x : CheckpointState = record { header = h; step = step_of q taken (drop written pages) } in x)) (mark_done is)
 
   pub state_synced : IsSynced s.step → s ≡ record { header = h; step = Synced taken }
-  state_synced is = sym view ∙ ap (λ (q : Progress). (let x : CheckpointState = record { header = h; step = step_of q taken (drop written pages) } in x)) (progress_synced is)
+  state_synced is = sym view ∙ ap (λ (q : Mark). (let x : CheckpointState = record { header = h; step = step_of q taken (drop written pages) } in x)) (mark_synced is)
 
   pub state_idle : s.step ≡ NoCheckpoint → s ≡ record { header = h; step = NoCheckpoint }
   state_idle is =
@@ -89,10 +89,10 @@ module _ (s : CheckpointState) (h : Header) (p : Progress) (taken : Taken) (page
   -- pages are left
   module _ (known : IsCheckpoint h p pages written taken.area) (is : IsPagesLeft s.step) where
     some : written < length pages
-    some = known.some (progress_left is)
+    some = known.some (mark_left is)
 
     pub state_left : s ≡ record { header = h; step = PagesLeft taken (get_or pages written 0 ∷ drop (written + 1) pages) }
-    state_left = sym view ∙ ap (λ (q : Progress). (let x : CheckpointState = record { header = h; step = step_of q taken (drop written pages) } in x)) (progress_left is)
+    state_left = sym view ∙ ap (λ (q : Mark). (let x : CheckpointState = record { header = h; step = step_of q taken (drop written pages) } in x)) (mark_left is)
         ∙ ap (λ (l : List ℕ). (let x : CheckpointState = record { header = h; step = PagesLeft taken l } in x)) (rest_is pages written some)
 
     many : length pages ≡ area_pages layout_in_use h.sizes

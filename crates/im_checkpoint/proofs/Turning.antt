@@ -16,8 +16,8 @@ use Rattle.im_disk.specs.Since.{Leaves, LeavesNow}
 use Rattle.im_disk.specs.Gate.{IsClosed, MayWrite}
 use Rattle.im_journal.specs.Holding.{JournalState, Holds}
 use Rattle.im_meaning.specs.Images.{other}
-use Rattle.im_checkpoint.specs.declared.checkpoint.Progress.{Progress}
-use Rattle.im_checkpoint.specs.declared.checkpoint.Progress.TheVariants.{PagesLeft as Some_left, PagesDone as All_written}
+use Rattle.im_checkpoint.specs.declared.checkpoint.Step.{Step as Mark}
+use Rattle.im_checkpoint.specs.declared.checkpoint.Step.TheVariants.{PagesLeft as Some_left, PagesDone as All_written}
 use Rattle.im_checkpoint.specs.Step.{Taken, Step, NoCheckpoint, PagesLeft, Synced, CheckpointState, with_left, all_pages, step_of, IsPagesLeft, IsCheckpoint}
 use Rattle.im_checkpoint.specs.Turns.{next_header, begun_at}
 use Rattle.im_checkpoint.specs.Keeping.{MeansWith, IsKept}
@@ -27,18 +27,18 @@ use Rattle.im_checkpoint.proofs.Moments.{page_now, page_leaves, page_done, next_
 use Rattle.im_checkpoint.proofs.PageLists.{pages_contain, state_left, page_low}
 
 -- the state once one page more is written
-step_after : (taken : Taken) (l : List ℕ) (k n : ℕ) (q : Progress) → length l ≡ n - k → k ≤ n → q ≡ (if k == n then All_written else Some_left) → with_left taken l ≡ step_of q taken l
+step_after : (taken : Taken) (l : List ℕ) (k n : ℕ) (q : Mark) → length l ≡ n - k → k ≤ n → q ≡ (if k == n then All_written else Some_left) → with_left taken l ≡ step_of q taken l
 step_after taken [] k n q size low is =
     let all : (k == n) ≡ true = grind (arith, nat_tests, size) in
-    sym (ap (λ (p : Progress). step_of p taken []) (is ∙ ap (λ (b : Bool). if b then All_written else Some_left) all))
+    sym (ap (λ (p : Mark). step_of p taken []) (is ∙ ap (λ (b : Bool). if b then All_written else Some_left) all))
 step_after taken (page ∷ l) k n q size low is =
     let some : (k == n) ≡ false = grind (arith, nat_tests, size) in
-    sym (ap (λ (p : Progress). step_of p taken (page ∷ l)) (is ∙ ap (λ (b : Bool). if b then All_written else Some_left) some))
+    sym (ap (λ (p : Mark). step_of p taken (page ∷ l)) (is ∙ ap (λ (b : Bool). if b then All_written else Some_left) some))
 
-abbrev state : Header → Progress → Taken → List ℕ → CheckpointState
+abbrev state : Header → Mark → Taken → List ℕ → CheckpointState
 state h p taken left = record { header = h; step = step_of p taken left }
 
-module _ (s : CheckpointState) (h : Header) (p : Progress) (taken : Taken) (pages : List ℕ) (done : ℕ) (view : state h p taken (drop done pages) ≡ s) (known : IsCheckpoint h p pages done taken.area) (is : IsPagesLeft s.step)
+module _ (s : CheckpointState) (h : Header) (p : Mark) (taken : Taken) (pages : List ℕ) (done : ℕ) (view : state h p taken (drop done pages) ≡ s) (known : IsCheckpoint h p pages done taken.area) (is : IsPagesLeft s.step)
     (page : ℕ) (page_is : page ≡ get_or pages done 0) (bytes : List ℕ) (bytes_are : bytes ≡ slice_range taken.area (4096 * page) (4096 * page + 4096)) (start : ℕ) (start_is : start ≡ area_at layout_in_use h.sizes (1 - h.area))
     (m : Contents) (j : JournalState) (m0 : Moment) (kept : IsKept s m j m0) (past0 : List Moment) (m1 : Moment) (past1 : List Moment) (tick : MayTick (Torn (start + 4096 * page) (length bytes)) m0 m1 past0 past1) where
   abbrev before : CheckpointState
@@ -65,7 +65,7 @@ module _ (s : CheckpointState) (h : Header) (p : Progress) (taken : Taken) (page
   pub wrote_leaves : Leaves m0 m1 past0 past1 (MeansWith m j)
   wrote_leaves = page_leaves before m j m0 kept_before taken (get_or pages done 0) left refl few bytes bytes_of (start + 4096 * page) at_is past0 m1 past1 tick
 
-  pub wrote_kept : m1 ≡ written (start + 4096 * page) bytes m0 → (q : Progress) (many : ℕ) → many ≡ length pages → q ≡ (if done + 1 == many then All_written else Some_left) → done + 1 ≤ length pages
+  pub wrote_kept : m1 ≡ written (start + 4096 * page) bytes m0 → (q : Mark) (many : ℕ) → many ≡ length pages → q ≡ (if done + 1 == many then All_written else Some_left) → done + 1 ≤ length pages
       → IsKept (state h q taken (drop (done + 1) pages)) m j m1
   wrote_kept is_written q many all q_is low =
       let size : length left ≡ many - (done + 1) = omega (arith, all, length-drop (done + 1) pages) in

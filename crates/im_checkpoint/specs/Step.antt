@@ -3,8 +3,8 @@ use Rattle.std.specs.Prelude.{◌≡◌, ℕ, zero, suc, ◌+◌, ◌<◌, ◌�
 use Rattle.im_types.specs.declared.TheConstants.{LAST}
 use Rattle.im_types.specs.Layout.{Sizes, layout_in_use, area_pages, area_bytes}
 use Rattle.im_types.specs.Header.{Header}
-use Rattle.im_checkpoint.specs.declared.checkpoint.Progress.{Progress}
-use Rattle.im_checkpoint.specs.declared.checkpoint.Progress.TheVariants.{NoCheckpoint as None_yet, PagesLeft as Some_left, PagesDone as All_written, Synced as On_disk}
+use Rattle.im_checkpoint.specs.declared.checkpoint.Step.{Step as Mark}
+use Rattle.im_checkpoint.specs.declared.checkpoint.Step.TheVariants.{NoCheckpoint as None_yet, PagesLeft as Some_left, PagesDone as All_written, Synced as On_disk}
 
 -- what was taken of a memory: the count of its commands, and an area that shows it
 pub record Taken : Type 0 where
@@ -52,7 +52,7 @@ turns_left (PagesDone taken) = 2
 turns_left (Synced taken) = 1
 
 -- the state that a checkpoint's fields stand for
-abbrev pub step_of : Progress → Taken → List ℕ → Step
+abbrev pub step_of : Mark → Taken → List ℕ → Step
 step_of None_yet taken left = NoCheckpoint
 step_of Some_left taken left = PagesLeft taken left
 step_of All_written taken left = PagesDone taken
@@ -80,16 +80,16 @@ IsSynced (PagesDone taken) = ⊥
 IsSynced (Synced taken) = Unit {0}
 
 -- a checkpoint under way leads to a generation that there may be
-abbrev pub HasNext : Header → Progress → Type 0
+abbrev pub HasNext : Header → Mark → Type 0
 HasNext h None_yet = Unit {0}
 HasNext h Some_left = h.generation < LAST
 HasNext h All_written = h.generation < LAST
 HasNext h On_disk = h.generation < LAST
 
 -- the fields of a checkpoint: its area is one of two, its list has all pages, some of which are left where it says so, and the space is that of an area
-pub record IsCheckpoint (h : Header) (progress : Progress) (pages : List ℕ) (written : ℕ) (area : List ℕ) : Type 0 where
+pub record IsCheckpoint (h : Header) (mark : Mark) (pages : List ℕ) (written : ℕ) (area : List ℕ) : Type 0 where
   pub number : h.area ≤ 1
   pub all : pages ≡ all_pages h.sizes
-  pub some : progress ≡ Some_left → written < length pages
+  pub some : mark ≡ Some_left → written < length pages
   pub size : length area ≡ area_bytes layout_in_use h.sizes
-  pub later : HasNext h progress
+  pub later : HasNext h mark

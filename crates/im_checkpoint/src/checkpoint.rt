@@ -60,7 +60,7 @@ pub enum TurnDone {
 
 // How far a checkpoint has come.
 #[derive(Clone, Copy, Debug, PartialEq, Eq)]
-enum Progress {
+enum Step {
     NoCheckpoint,
     PagesLeft,
     PagesDone,
@@ -73,7 +73,7 @@ enum Progress {
 #[derive(Drop)]
 pub struct Checkpoint {
     header: Header,
-    progress: Progress,
+    step: Step,
     pages: Vec<u32>,
     written: usize,
     count: u64,
@@ -89,10 +89,10 @@ impl Model for Checkpoint {
 
     ghost view = { λ c. record {
       header = seen c.header;
-      step = step_of c.progress (record { count = c.count; area = c.area.items }) (drop c.written c.pages.items);
+      step = step_of c.step (record { count = c.count; area = c.area.items }) (drop c.written c.pages.items);
     } };
 
-    ghost invariant = { λ c. IsCheckpoint (seen c.header) c.progress c.pages.items c.written c.area.items };
+    ghost invariant = { λ c. IsCheckpoint (seen c.header) c.step c.pages.items c.written c.area.items };
 }
 
 // All pages of an area.
@@ -107,13 +107,13 @@ fn all_pages(alloc: Global, limits: Limits) -> Result<Vec<u32>, AllocError>
 }
 
 // How far a checkpoint has come once so many of its pages are written.
-fn progress_after(written: usize, pages: usize) -> Progress
-    ensures { result ≡ (if written == pages then Progress.PagesDone else Progress.PagesLeft) }
+fn step_after(written: usize, pages: usize) -> Step
+    ensures { result ≡ (if written == pages then Step.PagesDone else Step.PagesLeft) }
 {
     if written == pages {
-        Progress::PagesDone
+        Step::PagesDone
     } else {
-        Progress::PagesLeft
+        Step::PagesLeft
     }
 }
 
@@ -154,7 +154,7 @@ impl Checkpoint {
         };
         Ok(Checkpoint {
             header: *header,
-            progress: Progress::NoCheckpoint,
+            step: Step::NoCheckpoint,
             pages,
             written: 0,
             count: 0,
@@ -191,7 +191,7 @@ impl Checkpoint {
             return Err(Refusal::Device);
         }
         self.written += 1;
-        self.progress = progress_after(self.written, self.pages.len());
+        self.step = step_after(self.written, self.pages.len());
         Ok(TurnDone::Page(page))
     }
 
@@ -212,7 +212,7 @@ impl Checkpoint {
         if let Err(_) = close_other(disk, &self.header) {
             return Err(Refusal::Device);
         }
-        self.progress = Progress::Synced;
+        self.step = Step::Synced;
         Ok(TurnDone::Synced)
     }
 
@@ -240,7 +240,7 @@ impl Checkpoint {
         }
         journal.begin_later(self.count);
         self.header = next;
-        self.progress = Progress::NoCheckpoint;
+        self.step = Step::NoCheckpoint;
         Ok(TurnDone::InForce)
     }
 
@@ -257,7 +257,7 @@ impl Checkpoint {
         encode(memory, self.header.limits, &mut self.area);
         self.count = journal.count();
         self.written = 0;
-        self.progress = Progress::PagesLeft;
+        self.step = Step::PagesLeft;
     }
 
     // Whether there are commands since the header's count, and there may be a later generation.
@@ -319,11 +319,11 @@ impl Checkpoint {
         ensures honest { D.honest disk.new → D.honest disk.old }
         ensures faults { Faults (λ e. e ≡ Device) result (D.failures disk.old) (D.failures disk.new) }
     {
-        match self.progress {
-            Progress::NoCheckpoint => self.rest(disk, memory, journal),
-            Progress::PagesLeft => self.write_page(disk),
-            Progress::PagesDone => self.sync_pages(disk),
-            Progress::Synced => self.put_in_force(disk, journal),
+        match self.step {
+            Step::NoCheckpoint => self.rest(disk, memory, journal),
+            Step::PagesLeft => self.write_page(disk),
+            Step::PagesDone => self.sync_pages(disk),
+            Step::Synced => self.put_in_force(disk, journal),
         }
     }
 }

@@ -29,7 +29,7 @@ returns-clause-kept c = λ now kept.
     let e = c.self.inside in
     let size : length c.encode.new.area ≡ length e.area.items = omega (arith, c.encode.auto.area, c.deref_mut.ensures.len, e.area.ok.0) in
     let whole = written_whole e.area.len c.encode.new.area e.area.items size (omega (arith, e.area.ok.0)) in
-    let is = state_idle c.args.self.now (seen e.header) e.progress (record { count = e.count; area = e.area.items }) e.pages.items e.written c.self.view_is c.requires.step in
+    let is = state_idle c.args.self.now (seen e.header) e.step (record { count = e.count; area = e.area.items }) e.pages.items e.written c.self.view_is c.requires.step in
     let before = subst (λ (s : CheckpointState). IsKept s c.args.memory.now c.args.journal.now now) is kept in
     let later : e.header.generation < LAST = subst (λ (s : CheckpointState). s.header.generation < LAST) (sym c.self.view_is) c.requires.later in
     subst (λ (n : ℕ). IsKept (record { header = seen e.header; step = PagesLeft (record { count = n; area = take e.area.len (c.encode.new.area ++ drop (length c.encode.new.area) e.area.items) }) e.pages.items }) c.args.memory.now c.args.journal.now now) (sym c.count-self-inside.ensures.count)

@@ -11,7 +11,7 @@ use Rattle.im_checkpoint.proofs.checkpoint.Checkpoint.put_in_force.Goals as goal
 pub returns-in-Err-clause-keeps : goal.returns-in-Err-clause-keeps
 returns-in-Err-clause-keeps g c = λ h m kept.
     let e = c.self.inside in
-    let is = state_synced c.args.self.now (seen e.header) e.progress (record { count = e.count; area = e.area.items }) e.pages.items e.written c.self.view_is c.requires.ready.step in
+    let is = state_synced c.args.self.now (seen e.header) e.step (record { count = e.count; area = e.area.items }) e.pages.items e.written c.self.view_is c.requires.ready.step in
     let before = subst (λ (s : CheckpointState). IsKept s m c.args.journal.now (g.D.Disk.now c.args.disk.now)) is kept in
     record {
       leaves = c.open_next.ensures.leaves h (seen e.header) (record { count = e.count; area = e.area.items }) m c.args.journal.now c.next_header-next.ensures.next before;
@@ -21,7 +21,7 @@ returns-in-Err-clause-keeps g c = λ h m kept.
 pub returns-clause-keeps : goal.returns-clause-keeps
 returns-clause-keeps g c = λ h m kept.
     let e = c.self.inside in
-    let is = state_synced c.args.self.now (seen e.header) e.progress (record { count = e.count; area = e.area.items }) e.pages.items e.written c.self.view_is c.requires.ready.step in
+    let is = state_synced c.args.self.now (seen e.header) e.step (record { count = e.count; area = e.area.items }) e.pages.items e.written c.self.view_is c.requires.ready.step in
     let before = subst (λ (s : CheckpointState). IsKept s m c.args.journal.now (g.D.Disk.now c.args.disk.now)) is kept in
     let later : (file : List ℕ) → Holds c.args.journal.now file → Holds (begun_at e.count c.args.journal.now) file = λ file held. subst (λ (k : JournalState). Holds k file) c.begin_later.ensures.state (c.begin_later.ensures.holds file held) in
     record {

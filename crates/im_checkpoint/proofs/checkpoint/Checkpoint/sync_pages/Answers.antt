@@ -8,7 +8,7 @@ use Rattle.im_checkpoint.proofs.checkpoint.Checkpoint.sync_pages.Goals as goal
 pub returns-in-Err-clause-keeps : goal.returns-in-Err-clause-keeps
 returns-in-Err-clause-keeps g c = λ h m j kept.
     let e = c.self.inside in
-    let is = state_done c.args.self.now (seen e.header) e.progress (record { count = e.count; area = e.area.items }) e.pages.items e.written c.self.view_is c.requires.step in
+    let is = state_done c.args.self.now (seen e.header) e.step (record { count = e.count; area = e.area.items }) e.pages.items e.written c.self.view_is c.requires.step in
     let before = subst (λ (s : CheckpointState). IsKept s m j (g.D.Disk.now c.args.disk.now)) is kept in
     record {
       leaves = record {
@@ -21,7 +21,7 @@ returns-in-Err-clause-keeps g c = λ h m j kept.
 pub returns-clause-keeps : goal.returns-clause-keeps
 returns-clause-keeps g c = λ h m j kept.
     let e = c.self.inside in
-    let is = state_done c.args.self.now (seen e.header) e.progress (record { count = e.count; area = e.area.items }) e.pages.items e.written c.self.view_is c.requires.step in
+    let is = state_done c.args.self.now (seen e.header) e.step (record { count = e.count; area = e.area.items }) e.pages.items e.written c.self.view_is c.requires.step in
     let before = subst (λ (s : CheckpointState). IsKept s m j (g.D.Disk.now c.args.disk.now)) is kept in
     record {
       leaves = record {
