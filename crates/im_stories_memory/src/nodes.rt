@@ -70,8 +70,8 @@ fn ends(memory: &Memory, a: u32) -> Option<(u32, u32)> {
     }
 }
 
-/// Adds those that the nodes of a cell's list hold, from the first on. The last of them has to be the one that the cell's
-/// record names, and to lead to none.
+/// Adds those that the nodes of a cell's list hold, from the first on. The last of them has to be the one that the
+/// cell's record names, and to lead to none.
 pub fn add_nodes(said: &mut String, memory: &Memory, a: u32) -> Result<()> {
     let Some((first, last)) = ends(memory, a) else {
         return Err(anyhow!("nobody waits"));

@@ -130,8 +130,8 @@ fn agrees(table: &CellTable, slots: &[Option<Slot>]) -> bool {
     true
 }
 
-/// So many thrown calls on a new table, which is restored after each fourth where it is asked for: how many of them agree
-/// with plain slots, up to the first that does not.
+/// So many thrown calls on a new table, which is restored after each fourth where it is asked for: how many of them
+/// agree with plain slots, up to the first that does not.
 pub fn walk(
     alloc: Global,
     table: &mut CellTable,

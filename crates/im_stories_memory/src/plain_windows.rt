@@ -189,8 +189,8 @@ fn restored(alloc: Global, windows: &[PlainWindow]) -> Result<Sessions> {
     Ok(sessions)
 }
 
-/// So many thrown calls on three new windows, which are restored after one in ten where it is asked for: how many of them
-/// agree with plain windows, up to the first that does not.
+/// So many thrown calls on three new windows, which are restored after one in ten where it is asked for: how many of
+/// them agree with plain windows, up to the first that does not.
 pub fn walk(
     alloc: Global,
     sessions: &mut Sessions,
