@@ -6,8 +6,8 @@ place i 1 = 0
 1.2 fetch 0 = waiting
 cell 0 = waiting in block 0 of 1 i
 free = 0
--- The readers leave the cell's list one by one, and their nodes are free again.
-store 0 7 = stored for 1.1 2.1 1.2
+-- The readers leave the cell's list one by one, then there is none, and their nodes are free again.
+store 0 7 = stored for 1.1 2.1 1.2, then none
 cell 0 = full 7 in block 0 of 1 i
 lists = 4
 waiting 0 = 0

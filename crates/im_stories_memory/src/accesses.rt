@@ -61,8 +61,8 @@ fn release(table: &mut CellTable, arena: &Arena, base: u32) -> bool
     table.release(base)
 }
 
-// Takes the readers of a cell that a store made full, one after the other.
-fn resume(arena: &mut Arena, a: u32, readers: &mut Vec<Waiter>)
+// Takes the readers of a cell that a store made full, one after the other, and asks once more when none is left.
+fn resume(arena: &mut Arena, a: u32, readers: &mut Vec<Waiter>) -> Option<Waiter>
     requires { a < length arena.old.held.lists }
     ensures { (slots : List (Option Slot)) → AgreeBut a slots arena.old → Agree slots arena.new }
 {
@@ -71,6 +71,7 @@ fn resume(arena: &mut Arena, a: u32, readers: &mut Vec<Waiter>)
             readers.push_reserved(reader);
         }
     }
+    next_reader(arena, a)
 }
 
 impl Accesses {
@@ -114,27 +115,35 @@ impl Accesses {
         put(&mut self.table, &mut self.arena, a, value)
     }
 
-    /// Writes an I cell, and takes its readers off their list: one by one, or with the store.
-    pub fn store(
-        &mut self,
-        alloc: Global,
-        a: u32,
-        value: u64,
-        at_once: bool,
-    ) -> Result<(Reply, Vec<Waiter>)> {
+    /// Writes an I cell, and takes its readers off their list with the store.
+    pub fn store(&mut self, alloc: Global, a: u32, value: u64) -> Result<(Reply, Vec<Waiter>)> {
         if a >= self.arena.list_count() {
             return Err(anyhow!("no cell {a}"));
         }
         let mut readers = Vec::with_capacity(alloc, self.arena.len(a) as usize)?;
-        if at_once {
-            let reply = store_and_drain(&mut self.table, &mut self.arena, a, value, &mut readers);
-            return Ok((reply, readers));
-        }
-        let reply = store(&mut self.table, &self.arena, a, value);
-        if let Reply::Stored = reply {
-            resume(&mut self.arena, a, &mut readers);
-        }
+        let reply = store_and_drain(&mut self.table, &mut self.arena, a, value, &mut readers);
         Ok((reply, readers))
+    }
+
+    /// Writes an I cell, and takes its readers off their list one by one; and who comes behind the last of them.
+    pub fn store_first(
+        &mut self,
+        alloc: Global,
+        a: u32,
+        value: u64,
+    ) -> Result<(Reply, Vec<Waiter>, Option<Waiter>)> {
+        if a >= self.arena.list_count() {
+            return Err(anyhow!("no cell {a}"));
+        }
+        let mut readers = Vec::with_capacity(alloc, self.arena.len(a) as usize)?;
+        let reply = store(&mut self.table, &self.arena, a, value);
+        match reply {
+            Reply::Stored => {
+                let next = resume(&mut self.arena, a, &mut readers);
+                Ok((reply, readers, next))
+            }
+            _ => Ok((reply, readers, None)),
+        }
     }
 
     /// What a cell holds.
@@ -182,8 +191,20 @@ fn add_put(said: &mut String, answer: (Reply, Option<Waiter>)) -> Result<()> {
     }
 }
 
-fn add_stored(said: &mut String, answer: (Reply, Vec<Waiter>)) -> Result<()> {
+fn add_drained(said: &mut String, answer: (Reply, Vec<Waiter>)) -> Result<()> {
     add_written(said, answer.0, answer.1.as_slice())
+}
+
+// The same, and who comes behind the last reader.
+fn add_stored(said: &mut String, answer: (Reply, Vec<Waiter>, Option<Waiter>)) -> Result<()> {
+    let (reply, readers, next) = answer;
+    add_written(said, reply, readers.as_slice())?;
+    match next {
+        Some(who) => write!(said, ", then {}.{}", who.element, who.number)?,
+        None if reply == Reply::Stored => said.push_str(", then none")?,
+        None => {}
+    }
+    Ok(())
 }
 
 fn add_looked(said: &mut String, looked: Result<Cell, Reply>) -> Result<()> {
@@ -206,14 +227,11 @@ pub fn tell(
         ["store", a, value] => {
             add_stored(
                 said,
-                accesses.store(alloc, address(a)?, number(value)?, false)?,
+                accesses.store_first(alloc, address(a)?, number(value)?)?,
             )
         }
         ["store", a, value, "drained"] => {
-            add_stored(
-                said,
-                accesses.store(alloc, address(a)?, number(value)?, true)?,
-            )
+            add_drained(said, accesses.store(alloc, address(a)?, number(value)?)?)
         }
         ["put", a, value] => add_put(said, accesses.put(address(a)?, number(value)?)),
         _ => tell_state(alloc, accesses, words, said),

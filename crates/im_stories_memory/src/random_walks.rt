@@ -15,7 +15,7 @@ fn store(
     a: u32,
     value: u64,
 ) -> Result<bool> {
-    let (reply, readers) = accesses.store(alloc, a, value, true)?;
+    let (reply, readers) = accesses.store(alloc, a, value)?;
     let mut agrees = reply == cell.write(Kind::I, value);
     for reader in readers {
         agrees = agrees && Some(reader) == cell.waiters.pop_front();
