@@ -5,3 +5,4 @@ pub mod Start
 pub mod Threads
 pub mod Walks
 pub mod Room
+pub mod Frames

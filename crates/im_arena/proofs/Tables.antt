@@ -325,4 +325,9 @@ module _ (nodes : List Node) (rows : List Row) (sound : Sound nodes (spans_of no
         (moved.front ∙ ap (λ (s : Span). waiter_of nodes s.first ∷ row_at nodes2 moved_spans from) (span_at nodes rows from in_from));
     back = ap (λ ss. row_at nodes2 ss to) spans2-are ∙ moved.back;
     others = λ b lt nf nt. ap (λ ss. row_at nodes2 ss b) spans2-are ∙ moved.others b (omega (arith, size)) nf nt;
+    giver = giver;
+    taker = taker;
+    detached = detached;
+    attached = attached;
+    rows_are = refl;
   }

@@ -23,13 +23,13 @@ ends_of-none r e = rw (eq-eqb r.first NONE e) refl
 ends_of-some : (r : Row) → r.first ≢ NONE → ends_of r ≡ Some (record { first = r.first; last = r.last })
 ends_of-some r ne = rw (eqb-no r.first NONE ne) refl
 
-first_in-ends_of : (r : Row) → first_in (ends_of r) ≡ r.first
+pub first_in-ends_of : (r : Row) → first_in (ends_of r) ≡ r.first
 first_in-ends_of r = elim (cases_eq r.first NONE) [
   | inl e ↦ ap first_in (ends_of-none r e) ∙ sym e
   | inr ne ↦ ap first_in (ends_of-some r ne)
 ]
 
-last_in-ends_of : (r : Row) → (r.first ≡ NONE → r.last ≡ NONE) → last_in (ends_of r) ≡ r.last
+pub last_in-ends_of : (r : Row) → (r.first ≡ NONE → r.last ≡ NONE) → last_in (ends_of r) ≡ r.last
 last_in-ends_of r none = elim (cases_eq r.first NONE) [
   | inl e ↦ ap last_in (ends_of-none r e) ∙ sym (none e)
   | inr ne ↦ ap last_in (ends_of-some r ne)
@@ -67,15 +67,15 @@ module _ (nodes : List Node) (rows : List Row) (lists free_nodes : ℕ) (arena :
   used_record : (n : ℕ) → n < length nodes → used_of nodes n ≡ true → slice_get (map record_of nodes) n ≡ Some (ListNode (next_of nodes n) (waiter_of nodes n))
   used_record n lt used = record_at n lt ∙ ap (λ u. Some (record_if u (get_or nodes n blank_node))) used
 
-  used_next : (n : ℕ) → n < length nodes → used_of nodes n ≡ true → next_in links n ≡ next_of nodes n
+  pub used_next : (n : ℕ) → n < length nodes → used_of nodes n ≡ true → next_in links n ≡ next_of nodes n
   used_next n lt used =
       ap link_of (get_or-map record_of nodes n blank_node free_record lt ∙ ap (λ u. record_if u (get_or nodes n blank_node)) used)
 
-  row_span : (a : ℕ) → a < lists → get_or spans a blank_span ≡ span_of nodes (get_or rows a blank_row)
+  pub row_span : (a : ℕ) → a < lists → get_or spans a blank_span ≡ span_of nodes (get_or rows a blank_row)
   row_span a lt = span_at nodes rows a (omega (arith, arena.size))
 
   -- a list has no first node where it is empty, and there alone
-  empty_first : (a : ℕ) → a < lists → (get_or rows a blank_row).first ≡ NONE → count_of spans a ≡ 0
+  pub empty_first : (a : ℕ) → a < lists → (get_or rows a blank_row).first ≡ NONE → count_of spans a ≡ 0
   empty_first a lt none = elim (cases_eq (count_of spans a) 0) [
     | inl empty ↦ empty
     | inr some ↦ absurd (omega (arith, ap (λ (s : Span). s.first) (row_span a lt), first_within nodes spans arena.sound a (omega (arith, size)) (omega arith), arena.sound.chains.few))
@@ -84,13 +84,13 @@ module _ (nodes : List Node) (rows : List Row) (lists free_nodes : ℕ) (arena :
   first_empty : (a : ℕ) → a < lists → count_of spans a ≡ 0 → (get_or rows a blank_row).first ≡ NONE
   first_empty a lt empty = ap (λ (s : Span). s.first) (sym (row_span a lt)) ∙ arena.sound.chains.no_first a (omega (arith, size)) empty
 
-  ends_is : (a : ℕ) → a < lists → ends_at links a ≡ ends_of (get_or rows a blank_row)
+  pub ends_is : (a : ℕ) → a < lists → ends_at links a ≡ ends_of (get_or rows a blank_row)
   ends_is a lt = get_or-take lists (map ends_of rows) a None lt ∙ get_or-map ends_of rows a blank_row None (omega (arith, arena.size))
 
-  first_is : (a : ℕ) → a < lists → first_in (ends_at links a) ≡ first_of spans a
+  pub first_is : (a : ℕ) → a < lists → first_in (ends_at links a) ≡ first_of spans a
   first_is a lt = ap first_in (ends_is a lt) ∙ first_in-ends_of (get_or rows a blank_row) ∙ ap (λ (s : Span). s.first) (sym (row_span a lt))
 
-  last_is : (a : ℕ) → a < lists → last_in (ends_at links a) ≡ last_of spans a
+  pub last_is : (a : ℕ) → a < lists → last_in (ends_at links a) ≡ last_of spans a
   last_is a lt =
       let last : last_of spans a ≡ (get_or rows a blank_row).last = ap (λ (s : Span). s.last) (row_span a lt) in
       ap last_in (ends_is a lt)
@@ -99,14 +99,14 @@ module _ (nodes : List Node) (rows : List Row) (lists free_nodes : ℕ) (arena :
   list_is : (a : ℕ) → a < lists → list_at (shown nodes rows lists).held a ≡ row_at nodes spans a
   list_is a lt = list_at-held nodes spans lists a lt (omega (arith, size))
 
-  length_is : (a : ℕ) → a < lists → length (list_at (shown nodes rows lists).held a) ≡ count_of spans a
+  pub length_is : (a : ℕ) → a < lists → length (list_at (shown nodes rows lists).held a) ≡ count_of spans a
   length_is a lt = ap length (list_is a lt) ∙ length-along (waiter_of nodes) next (first_of spans a) (count_of spans a)
 
   -- each node of a list is in use
-  used_at : (a i : ℕ) → a < lists → i < count_of spans a → used_of nodes (place_from next (first_of spans a) i) ≡ true
+  pub used_at : (a i : ℕ) → a < lists → i < count_of spans a → used_of nodes (place_from next (first_of spans a) i) ≡ true
   used_at a i al il = arena.sound.chains.marked a i (omega (arith, size)) il ∙ lt-ltb (a + 1) (length spans) (omega (arith, size))
 
-  within : (a i : ℕ) → a < lists → i < count_of spans a → place_from next (first_of spans a) i < length nodes
+  pub within : (a i : ℕ) → a < lists → i < count_of spans a → place_from next (first_of spans a) i < length nodes
   within a i al il = arena.sound.chains.within a i (omega (arith, size)) il
 
   node_is : (a i : ℕ) → a < lists → i < count_of spans a → node_at links a i ≡ place_from next (first_of spans a) i

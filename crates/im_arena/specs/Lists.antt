@@ -1,6 +1,6 @@
 -- What contracts see of an arena: the waiters on its lists, and, for who shows the table of nodes, how the nodes are
 -- linked. (Own.)
-use Rattle.std.specs.Prelude.{◌≡◌, ◌≢◌, ◌↔◌, ℕ, ◌-◌, ◌<◌, List, [], ◌∷◌, length, Option, None, Some, slice_get, slice_set, slice_index_or}
+use Rattle.std.specs.Prelude.{◌≡◌, ◌≢◌, ◌↔◌, ℕ, ◌+◌, ◌-◌, ◌<◌, List, [], ◌∷◌, length, Option, None, Some, slice_get, slice_set, slice_index_or}
 use Rattle.std.specs.List.{sum_by}
 use Rattle.im_types.specs.declared.TheConstants.{NONE}
 use Rattle.im_types.specs.declared.operations.Waiter.{Waiter}
@@ -14,10 +14,12 @@ pub record Lists : Type 0 where
   pub nodes : ℕ
   pub lists : List (List Waiter)
 
--- the record of each node, and the ends of each list (None: of an empty one)
+-- the record of each node, the ends of each list (None: of an empty one), and the node that the next waiter takes
+-- (NONE: no node is free)
 pub record Links : Type 0 where
   pub records : List NodeRecord
   pub ends : List (Option Ends)
+  pub spare : ℕ
 
 -- an arena as contracts see it: the waiters of its lists, and the links that lead through them
 pub record Shown : Type 0 where
@@ -87,3 +89,17 @@ pub record IsThreaded (shown : Shown) : Type 0 where
   pub unreached : (n : ℕ) → n < shown.held.nodes
       → ((a i : ℕ) → a < length shown.held.lists → i < length (list_at shown.held a) → node_at shown.links a i ≢ n)
       → slice_get shown.links.records n ≡ Some free_record
+
+-- what a new waiter on a list leaves: the records of all nodes but the one that it takes and, where somebody waits
+-- already, the last one before it, which now links to it; and the ends of all other lists
+pub record IsPushed (list : ℕ) (old new : Shown) : Type 0 where
+  pub records : (n : ℕ) → n ≢ old.links.spare → (list_at old.held list ≢ [] → n ≢ last_in (ends_at old.links list))
+      → slice_get new.links.records n ≡ slice_get old.links.records n
+  pub ends : (b : ℕ) → b ≢ list → slice_get new.links.ends b ≡ slice_get old.links.ends b
+
+-- what the first waiter of a list leaves as it goes: the records of all nodes but its own, and the ends of all other
+-- lists; its list goes on with the nodes behind that one
+pub record IsPopped (list : ℕ) (old new : Shown) : Type 0 where
+  pub records : (n : ℕ) → n ≢ first_in (ends_at old.links list) → slice_get new.links.records n ≡ slice_get old.links.records n
+  pub ends : (b : ℕ) → b ≢ list → slice_get new.links.ends b ≡ slice_get old.links.ends b
+  pub rest : (i : ℕ) → i + 1 < length (list_at old.held list) → node_at new.links list i ≡ node_at old.links list (i + 1)

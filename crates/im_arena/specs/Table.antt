@@ -135,6 +135,13 @@ pub record Transferred (nodes nodes2 : List Node) (rows rows2 : List Row) (from 
   pub front : row_at nodes (spans_of nodes rows) from ≡ result ∷ row_at nodes2 (spans_of nodes2 rows2) from
   pub back : row_at nodes2 (spans_of nodes2 rows2) to ≡ row_at nodes (spans_of nodes rows) to ++ waiter_in content ∷ []
   pub others : (b : ℕ) → b < length rows → b ≢ from → b ≢ to → row_at nodes2 (spans_of nodes2 rows2) b ≡ row_at nodes (spans_of nodes rows) b
+  -- the two rows as they are now, and the one node of another row that may have changed
+  pub giver : Row
+  pub taker : Row
+  pub detached : Detached (slice_index_or rows from blank_row).last (next_of nodes (slice_index_or rows from blank_row).first) giver
+  pub attached : Attached (slice_set nodes (slice_index_or rows from blank_row).first content) nodes2
+      (slice_index_or rows to blank_row).first (slice_index_or rows to blank_row).last (slice_index_or rows from blank_row).first taker
+  pub rows_are : rows2 ≡ slice_set (slice_set rows from giver) to taker
 
 -- what callers see: the spans but for the last, which is that of the free nodes
 abbrev pub held : List Node → List Span → ℕ → Lists
@@ -144,7 +151,7 @@ held nodes spans lists = record { nodes = length nodes; lists = take lists (map 
 abbrev pub shown : List Node → List Row → ℕ → Shown
 shown nodes rows lists = record {
   held = held nodes (spans_of nodes rows) lists;
-  links = record { records = map record_of nodes; ends = take lists (map ends_of rows) };
+  links = record { records = map record_of nodes; ends = take lists (map ends_of rows); spare = (slice_index_or rows lists blank_row).first };
 }
 
 -- the rows that callers see come first, and the one of the free nodes last; so many nodes are free

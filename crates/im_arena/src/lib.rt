@@ -2,10 +2,11 @@
 #![tactic(auto)]
 
 ghost use Rattle.std.specs.Prelude.{◌≡◌, ◌+◌, ◌∷◌, ◌++◌, ◌<◌, ◌↔◌, [], ℕ, length, drop, slice_get, IsTrue, IfOk};
-ghost use Rattle.std.specs.Prelude.{IfNone, IsOkUnless, replicate, false};
+ghost use Rattle.std.specs.Prelude.{IfNone, IfSome, IsOkUnless, replicate, false};
 ghost use Rattle.std.specs.List.{sum_by};
 ghost use Rattle.im_types.specs.Records.{IsLink, FitsNode};
-ghost use Rattle.im_arena.specs.Lists.{list_at, with_list, link_of, free, IsThreaded};
+ghost use Rattle.im_arena.specs.Lists.{list_at, with_list, link_of, free, IsThreaded, last_in, ends_at};
+ghost use Rattle.im_arena.specs.Lists.{IsPushed, IsPopped};
 ghost use Rattle.im_arena.specs.Table.{AreFree, start_rows};
 ghost use Rattle.im_types.specs.declared.refusals.Refusal.TheVariants.{NoMemory};
 
@@ -163,6 +164,7 @@ impl Arena {
         ensures room { IsTrue result ↔ 0 < free self.old.held }
         ensures pushed { IsTrue result
             → self.new.held ≡ with_list self.old.held list (list_at self.old.held list ++ waiter ∷ []) }
+        ensures links { IsTrue result → IsPushed list self.old self.new }
         ensures full { result ≡ false → self.new ≡ self.old }
     {
         let free = self.lists as usize;
@@ -185,6 +187,7 @@ impl Arena {
         requires { list < length self.old.held.lists }
         ensures first { result ≡ slice_get (list_at self.old.held list) 0 }
         ensures rest { self.new.held ≡ with_list self.old.held list (drop 1 (list_at self.old.held list)) }
+        ensures links { IfSome result (λ _. IsPopped list self.old self.new) }
         ensures none { IfNone result (self.new ≡ self.old) }
     {
         let free = self.lists as usize;
@@ -209,6 +212,26 @@ impl Arena {
         ensures threaded { IsThreaded self.now }
     {
         self.rows[list as usize].ends()
+    }
+
+    /// The node that the next waiter takes; [`NONE`] where no node is free.
+    pub fn spare(&self) -> u32
+        ensures { result ≡ self.now.links.spare }
+    {
+        self.rows[self.lists as usize].first
+    }
+
+    /// The last node of a list; [`NONE`] where the list is empty, and where there is no such list.
+    pub fn last(&self, list: u32) -> u32
+        ensures { result ≡ last_in (ends_at self.now.links list) }
+    {
+        if list >= self.lists {
+            return NONE;
+        }
+        match self.rows[list as usize].ends() {
+            Some(ends) => ends.last,
+            None => NONE,
+        }
     }
 
     /// What is shown of a node, by its index. A free node reads as one that links to [`NONE`].

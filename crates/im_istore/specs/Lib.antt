@@ -1,3 +1,4 @@
 pub mod Joined
 pub mod Agreement
 pub mod Access
+pub mod Records

@@ -6,17 +6,20 @@
 #![tactic(auto)]
 
 ghost use Rattle.std.specs.Prelude.{◌≡◌, ◌≢◌, ◌<◌, ◌++◌, [], List, Option, length, drop, slice_get, IfNone, ◌+◌, ◌≤◌};
-ghost use Rattle.std.specs.Prelude.{vec_len, vec_capacity};
+ghost use Rattle.std.specs.Prelude.{ℕ, Err, IfSome, vec_len, vec_capacity};
+ghost use Rattle.im_types.specs.declared.operations.Kind.TheVariants.{I};
 ghost use Rattle.im_types.specs.declared.operations.Op.TheVariants.{Fetch, Store};
+ghost use Rattle.im_types.specs.declared.operations.Reply.{Reply};
 ghost use Rattle.im_types.specs.declared.operations.Reply.TheVariants.{Stored};
-ghost use Rattle.im_types.specs.declared.operations.Entry.TheVariants.{Answered};
+ghost use Rattle.im_types.specs.declared.operations.Entry.TheVariants.{Answered, Waiting};
 ghost use Rattle.im_types.specs.Act.{act};
 ghost use Rattle.im_cell.specs.declared.slots.Slot.{Slot};
 ghost use Rattle.im_cell.specs.Slots.{slot_at};
-ghost use Rattle.im_arena.specs.Lists.{list_at, with_list, free};
+ghost use Rattle.im_arena.specs.Lists.{list_at, with_list, free, IsPopped};
 ghost use Rattle.im_istore.specs.Joined.{cells_of};
 ghost use Rattle.im_istore.specs.Agreement.{Agree, AgreeBut};
 ghost use Rattle.im_istore.specs.Access.{access_in, askers_of, replies_to};
+ghost use Rattle.im_istore.specs.Records.{LeavesLinks};
 
 use im_arena::Arena;
 use im_cell::CellTable;
@@ -48,6 +51,11 @@ pub fn fetch(table: &mut CellTable, arena: &mut Arena, a: u32, who: Waiter) -> E
 
     ensures agree { Agree table.new arena.new }
     ensures nodes { arena.new.held.nodes ≡ arena.old.held.nodes }
+
+    // What stays: the other cells, and all cells but where `who` waits.
+    ensures others { (b : ℕ) → b ≢ a → slice_get table.new b ≡ slice_get table.old b }
+    ensures same { result ≢ Waiting → table.new ≡ table.old }
+    ensures links { LeavesLinks result a arena.old arena.new }
 {
     let cell = match look(table, a, Kind::I) {
         Ok(cell) => cell,
@@ -86,6 +94,10 @@ pub fn store(table: &mut CellTable, arena: &Arena, a: u32, value: u64) -> Reply
     ensures nobody { (who : Waiter) → result ≢ Stored
         → (act (cells_of table.old arena.now) who (Store a value)).resumed ≡ [] }
     ensures agree { result ≢ Stored → Agree table.new arena.now }
+
+    // What stays: the other cells, and all cells where this one may not be stored to.
+    ensures others { (b : ℕ) → b ≢ a → slice_get table.new b ≡ slice_get table.old b }
+    ensures same { (reply : Reply) → access_in I (slot_at table.old a) ≡ Err reply → table.new ≡ table.old }
 {
     let cell = match look(table, a, Kind::I) {
         Ok(cell) => cell,
@@ -111,6 +123,7 @@ pub fn next_reader(arena: &mut Arena, a: u32) -> Option<Waiter>
     ensures first { result ≡ slice_get (list_at arena.old.held a) 0 }
     ensures rest { arena.new.held ≡ with_list arena.old.held a (drop 1 (list_at arena.old.held a)) }
     ensures none { IfNone result (arena.new ≡ arena.old) }
+    ensures links { IfSome result (λ _. IsPopped a arena.old arena.new) }
 
     // Of each table whose full cell this is.
     ensures cells { (slots : List (Option Slot)) → AgreeBut a slots arena.old

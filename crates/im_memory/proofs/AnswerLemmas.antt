@@ -16,7 +16,7 @@ use Rattle.im_types.specs.declared.operations.Kept.{Kept}
 use Rattle.im_types.specs.declared.commands.Request.{Request}
 use Rattle.im_types.specs.Contents.{CellState, Empty, Full, Clashed, Held, Window, held_at, waiters_of, kept_for}
 use Rattle.im_types.specs.Place.{place, fill}
-use Rattle.im_types.specs.Window.{ask, answer, answer_each, note, is_waiting}
+use Rattle.im_types.specs.Window.{ask, answer, note, is_waiting}
 use Rattle.im_types.specs.Act.{Served, Acted, only_tells, fetch, store, take_from, put, same_kind, serve_cell, at_cell, allocate, allocate_at, release_block, block_with_base, is_waiting_cell, act}
 use Rattle.im_types.specs.Step.{asker}
 use Rattle.im_types.specs.Agreement.{same_waiter, times, awaiting, waits_for, WaitersAgree}

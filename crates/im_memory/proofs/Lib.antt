@@ -10,3 +10,4 @@ pub mod ThreadLemmas
 pub mod ShownLemmas
 pub mod RecordLemmas
 pub mod RestoreLemmas
+pub mod TouchLemmas

@@ -5,11 +5,7 @@ use Rattle.im_types.specs.declared.TheConstants.{NONE}
 use Rattle.im_types.specs.declared.operations.Block.{Block}
 use Rattle.im_types.specs.declared.operations.Waiter.{Waiter}
 use Rattle.im_types.specs.declared.records.CellRecord.TheVariants.{Free as FreeCell, Held as BlockCell}
-use Rattle.im_types.specs.declared.operations.Kept.{Kept}
-use Rattle.im_types.specs.Contents.{Window}
-use Rattle.im_types.specs.Layout.{layout_1}
-use Rattle.im_types.specs.Memory.{IsWindow}
-use Rattle.im_types.specs.Records.{IsLink, FitsPlace, FitsWindow}
+use Rattle.im_types.specs.Records.{IsLink}
 use Rattle.im_laws.proofs.Tests.{below_or_from, some_same}
 use Rattle.im_types.specs.declared.cells.Cell.{Cell}
 use Rattle.im_cell.specs.declared.slots.Slot.{Slot}
@@ -26,7 +22,7 @@ length-cells [] ends = refl
 length-cells (slot ∷ slots) [] = ap suc (length-cells slots [])
 length-cells (slot ∷ slots) (e ∷ ends) = ap suc (length-cells slots ends)
 
-cell-at : (slots : List (Option Slot)) (ends : List (Option Ends)) (a : ℕ) → slice_index_or (cell_records slots ends) a (FreeCell 0 NONE) ≡ cell_record (slot_at slots a) (slice_index_or ends a None)
+pub cell-at : (slots : List (Option Slot)) (ends : List (Option Ends)) (a : ℕ) → slice_index_or (cell_records slots ends) a (FreeCell 0 NONE) ≡ cell_record (slot_at slots a) (slice_index_or ends a None)
 cell-at [] ends a = refl
 cell-at (slot ∷ slots) [] zero = refl
 cell-at (slot ∷ slots) [] (suc a) = cell-at slots [] a

@@ -130,7 +130,7 @@ module _ (cells : List CellRecord) (arena : Shown) (windows : List Window) (comp
 pub lists-fit : (cells : List CellRecord) (lists : List (List Waiter)) (windows : List Window) → AreComplete (record { cells = cells; lists = lists; windows = windows })
     → sum_by length lists ≤ WINDOW * length windows
 lists-fit cells lists windows complete =
-    let arena : Shown = record { held = record { nodes = 0; lists = lists }; links = record { records = []; ends = [] } } in
+    let arena : Shown = record { held = record { nodes = 0; lists = lists }; links = record { records = []; ends = []; spare = 0 } } in
     let memory = restored-memory cells arena windows complete in
     all-fit (map shown_slot cells) arena windows (parts-agree cells arena windows complete) memory.agrees memory.windows
 

@@ -1,17 +1,15 @@
 -- A free node for each new request: each request on a list has a Waiting entry of its own, and a window has few entries.
-use Rattle.std.proofs.Common.{◌≡◌, ◌≢◌, ⊎_elim, ℕ, zero, suc, ◌+◌, ◌-◌, ◌*◌, ◌<◌, ◌≤◌, List, [], ◌∷◌, length, set, Some, None, Ok, true, false, refl, sym, ap, ◌∙◌, arith}
+use Rattle.std.proofs.Common.{◌≡◌, ◌≢◌, ⊎_elim, ℕ, zero, suc, ◌+◌, ◌*◌, ◌<◌, ◌≤◌, List, [], ◌∷◌, length, Some, Ok, true, false, sym, ap, ◌∙◌, arith}
 use Rattle.std.specs.Prelude.{Option, slice_get}
 use Rattle.std.specs.List.{sum_by}
 use Rattle.std.proofs.lemmas.List.Sums.{sum_by-cons}
 use Rattle.im_types.specs.declared.TheConstants.{WINDOW}
-use Rattle.im_types.specs.declared.operations.Reply.{Reply}
 use Rattle.im_types.specs.declared.operations.Reply.TheVariants.{Stored}
 use Rattle.im_types.specs.declared.operations.Waiter.{Waiter}
-use Rattle.im_types.specs.declared.operations.Kept.{Kept}
 use Rattle.im_types.specs.declared.commands.Request.{Request}
 use Rattle.im_types.specs.declared.commands.Judged.TheVariants.{Fresh}
 use Rattle.im_types.specs.Contents.{Held, Window, held_at, kept_for}
-use Rattle.im_types.specs.Window.{judge, answer_at, answer_in, answer, is_waiting}
+use Rattle.im_types.specs.Window.{judge, answer}
 use Rattle.im_types.specs.Agreement.{same_waiter, times, waits_in, WaitersAgree}
 use Rattle.im_types.specs.Memory.{IsWindow}
 use Rattle.im_laws.proofs.Tests.{true_or_false}

@@ -9,6 +9,7 @@ ghost use Rattle.im_arena.specs.Lists.{list_at, free};
 ghost use Rattle.im_istore.specs.Joined.{cells_of};
 ghost use Rattle.im_istore.specs.Agreement.{Agree, AgreeBut};
 ghost use Rattle.im_istore.specs.Access.{replies_to};
+ghost use Rattle.im_memory.specs.Changing.{places_in, ChangesAt, AreAmong, IsDrained, LeavesOthers};
 ghost use Rattle.im_memory.specs.Resuming.{replies_of, AreListed, AgreeFor, AreAwaited, HasActed};
 
 use im_arena::Arena;
@@ -49,8 +50,11 @@ fn told(entry: Entry) -> Acted
 // A store: its readers stay on the list of the cell, until `resume` answers them.
 fn store(table: &mut CellTable, arena: &Arena, a: u32, value: u64) -> Acted
     requires { Agree table.old arena.now }
-    ensures { let cells = cells_of table.old arena.now in HasActed table.new arena.now result
+    ensures acted { let cells = cells_of table.old arena.now in HasActed table.new arena.now result
         (at_cell I (store value) cells a (held_at cells a)) }
+    ensures changes { let places = places_in table.old arena.now (Op.Store a value) in
+        ChangesAt places table.old arena.now table.new arena.now }
+    ensures among { AreAmong (places_in table.old arena.now (Op.Store a value)) result.resumed arena.now }
 {
     let reply = im_istore::store(table, arena, a, value);
     match reply {
@@ -68,6 +72,9 @@ fn put(table: &mut CellTable, arena: &mut Arena, a: u32, value: u64) -> Acted
     ensures acted { let cells = cells_of table.old arena.old in HasActed table.new arena.new result
         (at_cell M (put value) cells a (held_at cells a)) }
     ensures nodes { arena.new.held.nodes ≡ arena.old.held.nodes }
+    ensures changes { let places = places_in table.old arena.old (Op.Put a value) in
+        ChangesAt places table.old arena.old table.new arena.new }
+    ensures among { AreAmong (places_in table.old arena.old (Op.Put a value)) result.resumed arena.new }
 {
     let (reply, taker) = im_mstore::put(table, arena, a, value);
     match taker {
@@ -82,7 +89,10 @@ fn put(table: &mut CellTable, arena: &mut Arena, a: u32, value: u64) -> Acted
 // A new block.
 fn allocate(table: &mut CellTable, arena: &Arena, kind: Kind, n: u32) -> Acted
     requires { Agree table.old arena.now }
-    ensures { HasActed table.new arena.now result (allocate (cells_of table.old arena.now) kind n) }
+    ensures acted { HasActed table.new arena.now result (allocate (cells_of table.old arena.now) kind n) }
+    ensures changes { let places = places_in table.old arena.now (Op.Alloc kind n) in
+        ChangesAt places table.old arena.now table.new arena.now }
+    ensures nobody { result.resumed ≡ Resumed.Nobody }
 {
     if n == 0 {
         return told(Entry::Answered(Reply::BadLength));
@@ -96,8 +106,11 @@ fn allocate(table: &mut CellTable, arena: &Arena, kind: Kind, n: u32) -> Acted
 // The end of a block.
 fn release(table: &mut CellTable, arena: &Arena, a: u32) -> Acted
     requires { Agree table.old arena.now }
-    ensures { let cells = cells_of table.old arena.now in HasActed table.new arena.now result
+    ensures acted { let cells = cells_of table.old arena.now in HasActed table.new arena.now result
         (release_block cells a (block_with_base a (held_at cells a))) }
+    ensures changes { let places = places_in table.old arena.now (Op.Release a) in
+        ChangesAt places table.old arena.now table.new arena.now }
+    ensures nobody { result.resumed ≡ Resumed.Nobody }
 {
     let Some(block) = table.block_of(a) else {
         return told(Entry::Answered(Reply::NoBlock));
@@ -118,6 +131,10 @@ pub fn act(table: &mut CellTable, arena: &mut Arena, who: Waiter, op: Op) -> Act
     requires room { 0 < free arena.old.held }
     ensures acted { HasActed table.new arena.new result (act (cells_of table.old arena.old) who op) }
     ensures nodes { arena.new.held.nodes ≡ arena.old.held.nodes }
+
+    // Of the records that it may change.
+    ensures changes { ChangesAt (places_in table.old arena.old op) table.old arena.old table.new arena.new }
+    ensures among { AreAmong (places_in table.old arena.old op) result.resumed arena.new }
 {
     match op {
         Op::Alloc(kind, n) => allocate(table, arena, kind, n),
@@ -141,6 +158,7 @@ fn drain(sessions: &mut Sessions, arena: &mut Arena, a: u32, value: u64)
     ensures cells { (slots : List (Option Slot)) → AgreeBut a slots arena.old
         → cells_of slots arena.new ≡ cells_of slots arena.old }
     ensures agree { (slots : List (Option Slot)) → AgreeBut a slots arena.old → Agree slots arena.new }
+    ensures drained { IsDrained a arena.old arena.new }
 {
     while let Some(reader) = next_reader(arena, a) {
         sessions.answer(reader, Reply::Value(value));
@@ -158,6 +176,7 @@ pub fn resume(sessions: &mut Sessions, arena: &mut Arena, resumed: Resumed)
     ensures cells { (slots : List (Option Slot)) → AgreeFor resumed slots arena.old
         → cells_of slots arena.new ≡ cells_of slots arena.old }
     ensures agree { (slots : List (Option Slot)) → AgreeFor resumed slots arena.old → Agree slots arena.new }
+    ensures others { LeavesOthers resumed arena.old arena.new }
 {
     match resumed {
         Resumed::Nobody => {}

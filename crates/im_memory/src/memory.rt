@@ -7,13 +7,16 @@ ghost use Rattle.im_types.specs.Window.{judge, ask, bounds};
 ghost use Rattle.im_types.specs.Step.{step, serve, asker, acceptance};
 ghost use Rattle.im_types.specs.Act.{act};
 ghost use Rattle.im_types.specs.Run.{after};
-ghost use Rattle.im_types.specs.Agreement.{WaitingAgrees, KeepsEntries};
+ghost use Rattle.im_types.specs.Agreement.{KeepsEntries};
 ghost use Rattle.im_types.specs.Memory.{IsMemory};
 ghost use Rattle.im_types.specs.History.{ValueLaw, MatchingLaw};
 ghost use Rattle.im_types.specs.Layout.{Sizes};
 ghost use Rattle.im_types.specs.Pages.{ShowsRecords};
 ghost use Rattle.im_types.specs.Presences.{presence_in};
 ghost use Rattle.im_memory.specs.MakesMemory.{contents_of, MakesMemory};
+ghost use Rattle.im_memory.specs.Shown.{records_of};
+ghost use Rattle.im_memory.specs.State.{state_of};
+ghost use Rattle.im_memory.specs.Touched.{touched, ChangesOnly};
 
 use crate::acts::{act, resume};
 use crate::records::MemoryRecords;
@@ -28,7 +31,8 @@ use im_types::{
 use std::alloc::Global;
 use std::marker::Model;
 
-/// A memory. Contracts see its contents, and they are always those of a memory.
+/// A memory. Contracts see what it contains, which is always a memory, the records that show it on the pages of an
+/// image, and the waiter node that the next request that waits takes.
 ///
 /// The room for all requests that may wait is taken by [`Memory::new`]: a request that waits is kept in its element's
 /// window, so there are never more of them than entries.
@@ -40,13 +44,13 @@ pub struct Memory {
 }
 
 impl Model for Memory {
-    ghost use Rattle.im_types.specs.Contents.{Contents};
+    ghost use Rattle.im_memory.specs.State.{MemoryState, state_of};
 
-    ghost Value = { Contents };
+    ghost Value = { MemoryState };
 
-    ghost use Rattle.im_memory.specs.MakesMemory.{contents_of, MakesMemory};
+    ghost use Rattle.im_memory.specs.MakesMemory.{MakesMemory};
 
-    ghost view = { λ m. contents_of m.table m.arena m.sessions };
+    ghost view = { λ m. state_of m.table m.arena m.sessions };
 
     ghost invariant = { λ m. MakesMemory m.table m.arena m.sessions };
 }
@@ -66,6 +70,8 @@ fn serve(
         contents_of table.new arena.new sessions.new
         ≡ (serve m request.now (act m.cells (asker request.now) request.now.op)).contents }
     ensures memory { MakesMemory table.new arena.new sessions.new }
+    ensures changes { let m = state_of table.old arena.old sessions.old in
+        ChangesOnly (touched m (Command.Request request.now)) m.records (records_of table.new arena.new sessions.new) }
 {
     let who = Waiter {
         element: request.element,
@@ -81,8 +87,8 @@ impl Memory {
     /// A memory of these sizes, with no block and no entry. All memory that it will ever need is taken here; refused
     /// with `NoMemory` where there isn't enough.
     pub fn new(alloc: Global, limits: Limits) -> Result<Self, Refusal>
-        ensures empty { IfOk result (λ m. m ≡ empty_contents limits.cells limits.elements) }
-        ensures memory { IfOk result (λ m. IsMemory limits.cells limits.elements m) }
+        ensures empty { IfOk result (λ m. m.contents ≡ empty_contents limits.cells limits.elements) }
+        ensures memory { IfOk result (λ m. IsMemory limits.cells limits.elements m.contents) }
         ensures refused { IfErr result (λ refusal. refusal ≡ Refusal.NoMemory) }
     {
         let nodes = WINDOW as u32 * limits.elements as u32;
@@ -108,22 +114,24 @@ impl Memory {
     /// with `WindowFull` where 16 entries are kept; a confirmation with `Gap` past the next number, and with
     /// `NotAnswered` where an entry that it would drop still waits. It takes no memory.
     pub fn step(&mut self, command: &Command) -> Result<Outcome, Refusal>
-        ensures answer { result ≡ (step self.old command.now).answer }
-        ensures contents { self.new ≡ (step self.old command.now).contents }
+        ensures answer { result ≡ (step self.old.contents command.now).answer }
+        ensures contents { self.new.contents ≡ (step self.old.contents command.now).contents }
         ensures refused { OnErr result (self.new ≡ self.old) }
 
-        // It stays a memory, who waits has a waiting entry, and what is kept stays kept until it is confirmed.
-        ensures memory { IsMemory (length self.old.cells) (length self.old.windows) self.new }
-        ensures agrees { WaitingAgrees self.new }
-        ensures keeps { KeepsEntries self.old command.now self.new }
+        // Of the records that show it, no others change.
+        ensures changes { ChangesOnly (touched self.old command.now) self.old.records self.new.records }
+
+        // It stays a memory, in which who waits has a waiting entry, and what is kept stays kept until it is confirmed.
+        ensures memory { let m = self.old.contents in IsMemory (length m.cells) (length m.windows) self.new.contents }
+        ensures keeps { KeepsEntries self.old.contents command.now self.new.contents }
 
         // After any commands from the empty memory on, and then this one, the laws of whole histories hold.
-        ensures values { let empty = empty_contents (length self.old.cells) (length self.old.windows) in
-            (commands : List Command) → self.old ≡ after empty commands
-            → ValueLaw empty (commands ++ command.now ∷ []) }
-        ensures matching { let empty = empty_contents (length self.old.cells) (length self.old.windows) in
-            (commands : List Command) → self.old ≡ after empty commands
-            → MatchingLaw empty (commands ++ command.now ∷ []) }
+        ensures values { let m = self.old.contents in
+            let empty = empty_contents (length m.cells) (length m.windows) in
+            (commands : List Command) → m ≡ after empty commands → ValueLaw empty (commands ++ command.now ∷ []) }
+        ensures matching { let m = self.old.contents in
+            let empty = empty_contents (length m.cells) (length m.windows) in
+            (commands : List Command) → m ≡ after empty commands → MatchingLaw empty (commands ++ command.now ∷ []) }
     {
         match command {
             Command::Request(request) => self.request(request),
@@ -132,9 +140,12 @@ impl Memory {
     }
 
     fn request(&mut self, request: &Request) -> Result<Outcome, Refusal>
-        ensures answer { result ≡ (step self.old (Command.Request request.now)).answer }
-        ensures contents { self.new ≡ (step self.old (Command.Request request.now)).contents }
-        ensures was_memory { IsMemory (length self.old.cells) (length self.old.windows) self.old }
+        ensures answer { result ≡ (step self.old.contents (Command.Request request.now)).answer }
+        ensures contents { self.new.contents ≡ (step self.old.contents (Command.Request request.now)).contents }
+        ensures was_memory { let m = self.old.contents in IsMemory (length m.cells) (length m.windows) m }
+        ensures refused { OnErr result (self.new ≡ self.old) }
+        ensures changes { let command = Command.Request request.now in
+            ChangesOnly (touched self.old command) self.old.records self.new.records }
     {
         match self.sessions.judge(request) {
             Err(refusal) => Err(refusal),
@@ -152,9 +163,12 @@ impl Memory {
     }
 
     fn confirm(&mut self, element: u16, upto: u64) -> Result<Outcome, Refusal>
-        ensures answer { result ≡ (step self.old (Command.Confirm element upto)).answer }
-        ensures contents { self.new ≡ (step self.old (Command.Confirm element upto)).contents }
-        ensures was_memory { IsMemory (length self.old.cells) (length self.old.windows) self.old }
+        ensures answer { result ≡ (step self.old.contents (Command.Confirm element upto)).answer }
+        ensures contents { self.new.contents ≡ (step self.old.contents (Command.Confirm element upto)).contents }
+        ensures was_memory { let m = self.old.contents in IsMemory (length m.cells) (length m.windows) m }
+        ensures refused { OnErr result (self.new ≡ self.old) }
+        ensures changes { let command = Command.Confirm element upto in
+            ChangesOnly (touched self.old command) self.old.records self.new.records }
     {
         match self.sessions.confirm(element, upto) {
             Ok(()) => Ok(Outcome::Confirmed),
@@ -165,7 +179,7 @@ impl Memory {
     /// Whether [`Memory::step`] would accept this command, which it does where the command changes the memory, or why
     /// it would be refused.
     pub fn judge(&self, command: &Command) -> Result<bool, Refusal>
-        ensures { result ≡ acceptance self.now command.now }
+        ensures { result ≡ acceptance self.now.contents command.now }
     {
         match command {
             Command::Request(request) => match self.sessions.judge(request) {
@@ -180,7 +194,7 @@ impl Memory {
     /// The entry that is kept under an element's number: refused with `NoElement`, with `Forgotten` below the window,
     /// and with `Gap` where the number isn't used yet.
     pub fn collect(&self, element: u16, number: u64) -> Result<Entry, Refusal>
-        ensures { result ≡ ask self.now.windows (record { element = element; number = number }) }
+        ensures { result ≡ ask self.now.contents.windows (record { element = element; number = number }) }
     {
         self.sessions.entry(element, number)
     }
@@ -188,39 +202,39 @@ impl Memory {
     /// The base of an element's window, from which on its entries are numbered, and the number of its next new request:
     /// refused with `NoElement`.
     pub fn window(&self, element: u16) -> Result<(u64, u64), Refusal>
-        ensures { result ≡ bounds self.now.windows element }
+        ensures { result ≡ bounds self.now.contents.windows element }
     {
         self.sessions.window(element)
     }
 
     /// How many cells there are, at most 65,536.
     pub fn cells(&self) -> u32
-        ensures count { result ≡ length self.now.cells }
+        ensures count { result ≡ length self.now.contents.cells }
         ensures few { result ≤ MAX_CELLS }
-        ensures memory { IsMemory (length self.now.cells) (length self.now.windows) self.now }
+        ensures memory { let m = self.now.contents in IsMemory (length m.cells) (length m.windows) m }
     {
         self.arena.list_count()
     }
 
     /// How many elements there are, at most 64.
     pub fn elements(&self) -> u16
-        ensures count { result ≡ length self.now.windows }
+        ensures count { result ≡ length self.now.contents.windows }
         ensures few { result ≤ MAX_ELEMENTS }
-        ensures memory { IsMemory (length self.now.cells) (length self.now.windows) self.now }
+        ensures memory { let m = self.now.contents in IsMemory (length m.cells) (length m.windows) m }
     {
         self.sessions.elements() as u16
     }
 
     /// What the cell at an address is, or `None` where the address lies in no block.
     pub fn cell(&self, a: u32) -> Option<Cell>
-        ensures { result ≡ presence_in (held_at self.now.cells a) }
+        ensures { result ≡ presence_in (held_at self.now.contents.cells a) }
     {
         self.table.get(a)
     }
 
     /// The block that an address lies in.
     pub fn block(&self, a: u32) -> Option<Block>
-        ensures { result ≡ block_at self.now.cells a }
+        ensures { result ≡ block_at self.now.contents.cells a }
     {
         self.table.block_of(a)
     }
@@ -228,32 +242,33 @@ impl Memory {
     /// The requests that wait at a cell, in their order of arrival; none where the address lies in no block. Each takes
     /// one step.
     pub fn waiters(&self, a: u32) -> Waiters<'_>
-        ensures { result ≡ waiters_at self.now.cells a }
+        ensures { result ≡ waiters_at self.now.contents.cells a }
     {
         self.arena.waiters(a)
     }
 
     /// The request at this place, from 0, among those that wait at a cell. It takes as many steps as the place.
     pub fn waiter(&self, a: u32, place: usize) -> Option<Waiter>
-        ensures { result ≡ slice_get (waiters_at self.now.cells a) place }
+        ensures { result ≡ slice_get (waiters_at self.now.contents.cells a) place }
     {
         self.waiters(a).nth(place)
     }
 
     /// What is kept under an element's number.
     pub fn kept(&self, element: u16, number: u64) -> Option<Kept>
-        ensures { result ≡ kept_for self.now.windows (record { element = element; number = number }) }
+        ensures { result ≡ kept_for self.now.contents.windows (record { element = element; number = number }) }
     {
         self.sessions.kept(element, number)
     }
 
     /// The records of the memory as it is now, for the pages of an image.
     pub fn records(&self) -> MemoryRecords<'_>
-        ensures shows { (s : Sizes) → s.cells ≡ length self.now.cells → s.elements ≡ length self.now.windows
-            → ShowsRecords s result self.now }
-        ensures cells { length result.cells ≡ length self.now.cells }
-        ensures nodes { length result.nodes ≡ WINDOW * length self.now.windows }
-        ensures windows { result.windows ≡ self.now.windows }
+        ensures view { result ≡ self.now.records }
+        ensures shows { let m = self.now.contents in
+            (s : Sizes) → s.cells ≡ length m.cells → s.elements ≡ length m.windows → ShowsRecords s result m }
+        ensures cells { length result.cells ≡ length self.now.contents.cells }
+        ensures nodes { length result.nodes ≡ WINDOW * length self.now.contents.windows }
+        ensures windows { result.windows ≡ self.now.contents.windows }
     {
         MemoryRecords::new(&self.table, &self.arena, &self.sessions)
     }

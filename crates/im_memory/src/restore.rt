@@ -102,7 +102,7 @@ impl<'a> Restoring<'a> {
     /// The memory that the parts stand for. `NoMemory` where there is no room for the table of its cells.
     pub fn finish(self, alloc: Global) -> Result<Memory, Refusal>
         requires { AreComplete self }
-        ensures memory { IfOk result (λ m. m ≡ contents_shown self.entry) }
+        ensures memory { IfOk result (λ m. m.contents ≡ contents_shown self.entry) }
         ensures only { IfErr result (λ refusal. refusal ≡ Refusal.NoMemory) }
     {
         let Restoring {

@@ -5,14 +5,18 @@
 //! Contracts say what a call does to the cells by the definitions of `im_types`.
 #![tactic(auto)]
 
-ghost use Rattle.std.specs.Prelude.{◌≡◌, ◌<◌, ◌∷◌, [], length, MatchOption};
+ghost use Rattle.std.specs.Prelude.{◌≡◌, ◌≢◌, ◌<◌, ◌∷◌, [], ℕ, length, slice_get, Err, MatchOption};
+ghost use Rattle.im_types.specs.declared.operations.Kind.TheVariants.{M};
+ghost use Rattle.im_types.specs.declared.operations.Reply.{Reply};
 ghost use Rattle.im_types.specs.declared.operations.Op.TheVariants.{Take, Put};
 ghost use Rattle.im_types.specs.declared.operations.Entry.TheVariants.{Answered};
 ghost use Rattle.im_types.specs.Act.{act};
-ghost use Rattle.im_arena.specs.Lists.{list_at, free};
+ghost use Rattle.im_cell.specs.Slots.{slot_at};
+ghost use Rattle.im_arena.specs.Lists.{list_at, free, IsPopped};
 ghost use Rattle.im_istore.specs.Joined.{cells_of};
 ghost use Rattle.im_istore.specs.Agreement.{Agree};
-ghost use Rattle.im_istore.specs.Access.{replies_to};
+ghost use Rattle.im_istore.specs.Access.{access_in, replies_to};
+ghost use Rattle.im_istore.specs.Records.{LeavesLinks};
 ghost use Rattle.im_mstore.specs.Access.{open_cell};
 
 use im_arena::Arena;
@@ -44,6 +48,11 @@ pub fn take(table: &mut CellTable, arena: &mut Arena, a: u32, who: Waiter) -> En
 
     ensures agree { Agree table.new arena.new }
     ensures nodes { arena.new.held.nodes ≡ arena.old.held.nodes }
+
+    // What stays: the other cells, and all cells where this one may not be taken from.
+    ensures others { (b : ℕ) → b ≢ a → slice_get table.new b ≡ slice_get table.old b }
+    ensures same { (reply : Reply) → access_in M (slot_at table.old a) ≡ Err reply → table.new ≡ table.old }
+    ensures links { LeavesLinks result a arena.old arena.new }
 {
     let cell = match look(table, a, Kind::M) {
         Ok(cell) => cell,
@@ -78,6 +87,11 @@ pub fn put(table: &mut CellTable, arena: &mut Arena, a: u32, value: u64) -> (Rep
 
     ensures agree { Agree table.new arena.new }
     ensures nodes { arena.new.held.nodes ≡ arena.old.held.nodes }
+
+    // What stays: the other cells, and all cells where this one may not be put to.
+    ensures others { (b : ℕ) → b ≢ a → slice_get table.new b ≡ slice_get table.old b }
+    ensures same { (reply : Reply) → access_in M (slot_at table.old a) ≡ Err reply → table.new ≡ table.old }
+    ensures links { MatchOption result.1 (arena.new ≡ arena.old) (λ _. IsPopped a arena.old arena.new) }
 {
     let cell = match look(table, a, Kind::M) {
         Ok(cell) => cell,

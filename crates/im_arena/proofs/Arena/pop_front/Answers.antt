@@ -3,6 +3,7 @@ use Rattle.std.specs.Prelude.{slice_get}
 use Rattle.std.proofs.lemmas.List.{with_items_is}
 use Rattle.im_arena.specs.Table.{count_of, spans_of}
 use Rattle.im_arena.proofs.Views.{inside-held, held-popped, none-first, held-none, some-first, free-less, count-popped}
+use Rattle.im_arena.proofs.Frames.{IsPopped-transferred}
 use Rattle.im_arena.proofs.Arena.pop_front.Goals as goal
 
 pub returns-then-index-clause-first : goal.returns-then-index-clause-first
@@ -39,3 +40,10 @@ returns-clause-rest c =
     let t = rw (c.as_mut_slice.ensures.value, c.as_mut_slice-2.ensures.value) at c.transfer-waiter.ensures in
     rw (with_items_is c.self.inside.nodes c.transfer-waiter.new.nodes (omega (arith, t.table)), with_items_is c.self.inside.rows c.transfer-waiter.new.rows (omega (arith, t.size)), ← c.self.view_is)
     (held-popped _ _ _ _ c.self.invariant _ _ _ _ _ inside t)
+
+pub returns-clause-links : goal.returns-clause-links
+returns-clause-links c =
+    let inside = inside-held _ _ _ _ c.self.invariant _ (rw (← c.self.view_is) at c.requires) in
+    let t = rw (c.as_mut_slice.ensures.value, c.as_mut_slice-2.ensures.value) at c.transfer-waiter.ensures in
+    rw (with_items_is c.self.inside.nodes c.transfer-waiter.new.nodes (omega (arith, t.table)), with_items_is c.self.inside.rows c.transfer-waiter.new.rows (omega (arith, t.size)), ← c.self.view_is)
+    (IsPopped-transferred _ _ _ _ c.self.invariant _ _ _ _ _ inside t)

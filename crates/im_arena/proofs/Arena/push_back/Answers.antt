@@ -3,6 +3,7 @@ use Rattle.std.proofs.lemmas.List.{with_items_is}
 use Rattle.im_arena.specs.Lists.{free}
 use Rattle.im_arena.specs.Table.{count_of, spans_of}
 use Rattle.im_arena.proofs.Views.{inside-held, some-free, held-pushed, count-pushed}
+use Rattle.im_arena.proofs.Frames.{IsPushed-transferred}
 use Rattle.im_arena.proofs.Arena.push_back.Goals as goal
 
 pub transfer-requires-clause-some : goal.transfer-requires-clause-some
@@ -25,3 +26,10 @@ returns-clause-pushed c = λ _.
     let t = rw (c.as_mut_slice.ensures.value, c.as_mut_slice-2.ensures.value, c.with.ensures) at c.transfer.ensures in
     rw (with_items_is c.self.inside.nodes c.transfer.new.nodes (omega (arith, t.table)), with_items_is c.self.inside.rows c.transfer.new.rows (omega (arith, t.size)), ← c.self.view_is)
     (held-pushed _ _ _ _ c.self.invariant _ _ _ _ _ inside t)
+
+pub returns-clause-links : goal.returns-clause-links
+returns-clause-links c = λ _.
+    let inside = inside-held _ _ _ _ c.self.invariant _ (rw (← c.self.view_is) at c.requires) in
+    let t = rw (c.as_mut_slice.ensures.value, c.as_mut_slice-2.ensures.value, c.with.ensures) at c.transfer.ensures in
+    rw (with_items_is c.self.inside.nodes c.transfer.new.nodes (omega (arith, t.table)), with_items_is c.self.inside.rows c.transfer.new.rows (omega (arith, t.size)), ← c.self.view_is)
+    (IsPushed-transferred _ _ _ _ c.self.invariant _ _ _ _ _ inside t)

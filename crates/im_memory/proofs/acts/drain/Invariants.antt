@@ -1,10 +1,11 @@
-use Rattle.std.proofs.Common.{◌≡◌, ◌<◌, List, Option, length}
+use Rattle.std.proofs.Common.{◌≡◌, ◌≢◌, ℕ, ◌<◌, List, Option, length, slice_get}
 use Rattle.im_types.specs.Window.{answer_each}
 use Rattle.im_cell.specs.declared.slots.Slot.{Slot}
 use Rattle.im_arena.specs.Lists.{list_at}
 use Rattle.im_istore.specs.Joined.{cells_of}
 use Rattle.im_istore.specs.Agreement.{AgreeBut}
 use Rattle.im_istore.specs.Access.{replies_to}
+use Rattle.im_memory.specs.Changing.{IsAway}
 use Rattle.im_memory.specs.Resuming.{AreAwaited}
 use Rattle.im_memory.proofs.acts.drain.Given as goal
 
@@ -16,6 +17,9 @@ invariant-loop-reader l = record {
   windows : answer_each l.sessions (replies_to (list_at l.arena.held l.a) l.value) ≡ answer_each l.initial.sessions (replies_to (list_at l.initial.arena.held l.a) l.value);
   nodes : l.arena.held.nodes ≡ l.initial.arena.held.nodes;
   draining : (slots : List (Option Slot)) → AgreeBut l.a slots l.initial.arena → AgreeBut l.a slots l.arena × (cells_of slots l.arena ≡ cells_of slots l.initial.arena);
+  ends : (b : ℕ) → b ≢ l.a → slice_get l.arena.links.ends b ≡ slice_get l.initial.arena.links.ends b;
+  records : (n : ℕ) → IsAway l.initial.arena l.a n → slice_get l.arena.links.records n ≡ slice_get l.initial.arena.links.records n;
+  away : (n : ℕ) → IsAway l.initial.arena l.a n → IsAway l.arena l.a n;
 }
 
 abbrev pub decreases-loop-reader : goal.decreases-loop-reader

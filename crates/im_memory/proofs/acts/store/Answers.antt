@@ -1,13 +1,16 @@
-use Rattle.std.proofs.Common.{sym}
+use Rattle.std.proofs.Common.{ap, sym, ◌∙◌}
 use Rattle.im_types.specs.declared.operations.Waiter.{Waiter}
 use Rattle.im_istore.proofs.Cells.{AgreeBut-inside}
+use Rattle.im_types.specs.declared.operations.Reply.{Reply}
+use Rattle.im_types.specs.declared.operations.Entry.TheVariants.{Answered}
+use Rattle.im_memory.proofs.TouchLemmas.{store-change, store-among}
 use Rattle.im_memory.proofs.acts.store.Goals as goal
 
 anyone : Waiter
 anyone = record { element = 0; number = 0 }
 
-pub returns-in-Stored : goal.returns-in-Stored
-returns-in-Stored c = record {
+pub returns-in-Stored-clause-acted : goal.returns-in-Stored-clause-acted
+returns-in-Stored-clause-acted c = record {
   cells = c.store-reply.ensures.cells anyone;
   told = c.store-reply.ensures.reply anyone;
   replies = sym (c.store-reply.ensures.readers anyone c.in-Stored.is);
@@ -15,11 +18,23 @@ returns-in-Stored c = record {
   agree = c.store-reply.ensures.draining c.in-Stored.is;
 }
 
-pub returns-in_default : goal.returns-in_default
-returns-in_default c = rw c.told.ensures (record {
+pub returns-in_default-clause-acted : goal.returns-in_default-clause-acted
+returns-in_default-clause-acted c = rw c.told.ensures (record {
   cells = c.store-reply.ensures.cells anyone;
   told = c.store-reply.ensures.reply anyone;
   replies = sym (c.store-reply.ensures.nobody anyone c.in_default.not-Stored);
   listed = tt;
   agree = c.store-reply.ensures.agree c.in_default.not-Stored;
 })
+
+pub returns-in-Stored-clause-among : goal.returns-in-Stored-clause-among
+returns-in-Stored-clause-among c =
+    store-among c.args.table.now c.args.arena.now c.requires c.args.a c.args.value (ap (λ (r : Reply). Answered r) (sym c.in-Stored.is) ∙ c.store-reply.ensures.reply anyone)
+
+pub returns-in-Stored-clause-changes : goal.returns-in-Stored-clause-changes
+returns-in-Stored-clause-changes c =
+    store-change c.args.table.now c.store-reply.new.table c.args.arena.now c.args.a c.args.value c.store-reply.ensures.others c.store-reply.ensures.same
+
+pub returns-in_default-clause-changes : goal.returns-in_default-clause-changes
+returns-in_default-clause-changes c =
+    store-change c.args.table.now c.store-reply.new.table c.args.arena.now c.args.a c.args.value c.store-reply.ensures.others c.store-reply.ensures.same

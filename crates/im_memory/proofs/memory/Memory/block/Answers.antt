@@ -1,10 +1,11 @@
 use Rattle.std.proofs.Common.{sym, ap, ◌∙◌, arith}
-use Rattle.im_types.specs.Contents.{Contents, block_at}
+use Rattle.im_types.specs.Contents.{block_at}
 use Rattle.im_cell.specs.Slots.{block_at as block_in_slots}
 use Rattle.im_memory.proofs.CellsLemmas.{block_at-cells}
+use Rattle.im_memory.specs.State.{MemoryState}
 use Rattle.im_memory.proofs.memory.Memory.block.Goals as goal
 
 pub returns : goal.returns
 returns c =
     let m = c.self.inside in
-    c.block_of.ensures.block ∙ ap (block_in_slots m.table) (omega arith) ∙ sym (block_at-cells m.table m.arena c.args.a) ∙ ap (λ (m : Contents). block_at m.cells c.args.a) c.self.view_is
+    c.block_of.ensures.block ∙ ap (block_in_slots m.table) (omega arith) ∙ sym (block_at-cells m.table m.arena c.args.a) ∙ ap (λ (m : MemoryState). block_at m.contents.cells c.args.a) c.self.view_is

@@ -1,11 +1,12 @@
 use Rattle.std.proofs.Common.{ap, ◌∙◌}
-use Rattle.im_types.specs.Contents.{Contents, held_at}
+use Rattle.im_types.specs.Contents.{held_at}
 use Rattle.im_types.specs.Presences.{presence_in}
 use Rattle.im_memory.proofs.PresenceLemmas.{presence-at}
+use Rattle.im_memory.specs.State.{MemoryState}
 use Rattle.im_memory.proofs.memory.Memory.cell.Goals as goal
 
 pub returns : goal.returns
 returns c =
     let m = c.self.inside in
     c.get.ensures ∙ presence-at m.table m.arena c.self.invariant.agree c.args.a
-    ∙ ap (λ (m : Contents). presence_in (held_at m.cells c.args.a)) c.self.view_is
+    ∙ ap (λ (m : MemoryState). presence_in (held_at m.contents.cells c.args.a)) c.self.view_is

@@ -8,7 +8,6 @@ use Rattle.im_types.specs.Memory.{IsMemory}
 use Rattle.im_histories.proofs.Laws.{every_value_law, every_matching_law}
 use Rattle.im_laws.proofs.MemoryLemmas.{step-memory}
 use Rattle.im_laws.proofs.RunAgrees.{step-keeps}
-use Rattle.im_laws.proofs.RefusedSteps.{step-refused}
 use Rattle.im_memory.proofs.memory.Memory.step.Goals as goal
 
 module _ (m next : Contents) (command known : Command) (is : command ≡ known) (steps : next ≡ (step m known).contents) (memory : IsMemory (length m.cells) (length m.windows) m) where
@@ -20,39 +19,34 @@ module _ (m next : Contents) (command known : Command) (is : command ≡ known) 
 
 pub returns-in-Request-clause-memory : goal.returns-in-Request-clause-memory
 returns-in-Request-clause-memory c =
-    stays c.args.self.now c.request.new.self c.args.command.now (Asks c.in-Request.request) c.in-Request.is c.request.ensures.contents c.request.ensures.was_memory
-
-pub returns-in-Request-clause-agrees : goal.returns-in-Request-clause-agrees
-returns-in-Request-clause-agrees c =
-    (stays c.args.self.now c.request.new.self c.args.command.now (Asks c.in-Request.request) c.in-Request.is c.request.ensures.contents c.request.ensures.was_memory).agrees
+    stays c.args.self.now.contents c.request.new.self.contents c.args.command.now (Asks c.in-Request.request) c.in-Request.is c.request.ensures.contents c.request.ensures.was_memory
 
 pub returns-in-Request-clause-keeps : goal.returns-in-Request-clause-keeps
 returns-in-Request-clause-keeps c =
-    keeps c.args.self.now c.request.new.self c.args.command.now (Asks c.in-Request.request) c.in-Request.is c.request.ensures.contents c.request.ensures.was_memory
+    keeps c.args.self.now.contents c.request.new.self.contents c.args.command.now (Asks c.in-Request.request) c.in-Request.is c.request.ensures.contents c.request.ensures.was_memory
 
 pub returns-in-Request-clause-refused : goal.returns-in-Request-clause-refused
-returns-in-Request-clause-refused c = step-refused c.args.self.now c.request.new.self (Asks c.in-Request.request) c.request.result c.request.ensures.answer c.request.ensures.contents
+returns-in-Request-clause-refused c = c.request.ensures.refused
 
 pub returns-in-Request-clause-values : goal.returns-in-Request-clause-values
-returns-in-Request-clause-values c = λ commands was. every_value_law (length c.args.self.now.cells) (length c.args.self.now.windows) (commands ++ c.args.command.now ∷ [])
+returns-in-Request-clause-values c = λ commands was. every_value_law (length c.args.self.now.contents.cells) (length c.args.self.now.contents.windows) (commands ++ c.args.command.now ∷ [])
 
 pub returns-in-Request-clause-matching : goal.returns-in-Request-clause-matching
-returns-in-Request-clause-matching c = λ commands was. every_matching_law (length c.args.self.now.cells) (length c.args.self.now.windows) (commands ++ c.args.command.now ∷ [])
+returns-in-Request-clause-matching c = λ commands was. every_matching_law (length c.args.self.now.contents.cells) (length c.args.self.now.contents.windows) (commands ++ c.args.command.now ∷ [])
 
 pub returns-in-Confirm-clause-memory : goal.returns-in-Confirm-clause-memory
 returns-in-Confirm-clause-memory c =
-    stays c.args.self.now c.confirm.new.self c.args.command.now (Confirm c.in-Confirm.element c.in-Confirm.upto) c.in-Confirm.is c.confirm.ensures.contents c.confirm.ensures.was_memory
-
-pub returns-in-Confirm-clause-agrees : goal.returns-in-Confirm-clause-agrees
-returns-in-Confirm-clause-agrees c =
-    (stays c.args.self.now c.confirm.new.self c.args.command.now (Confirm c.in-Confirm.element c.in-Confirm.upto) c.in-Confirm.is c.confirm.ensures.contents c.confirm.ensures.was_memory).agrees
+    stays c.args.self.now.contents c.confirm.new.self.contents c.args.command.now (Confirm c.in-Confirm.element c.in-Confirm.upto) c.in-Confirm.is c.confirm.ensures.contents c.confirm.ensures.was_memory
 
 pub returns-in-Confirm-clause-keeps : goal.returns-in-Confirm-clause-keeps
 returns-in-Confirm-clause-keeps c =
-    keeps c.args.self.now c.confirm.new.self c.args.command.now (Confirm c.in-Confirm.element c.in-Confirm.upto) c.in-Confirm.is c.confirm.ensures.contents c.confirm.ensures.was_memory
+    keeps c.args.self.now.contents c.confirm.new.self.contents c.args.command.now (Confirm c.in-Confirm.element c.in-Confirm.upto) c.in-Confirm.is c.confirm.ensures.contents c.confirm.ensures.was_memory
 
 pub returns-in-Confirm-clause-values : goal.returns-in-Confirm-clause-values
-returns-in-Confirm-clause-values c = λ commands was. every_value_law (length c.args.self.now.cells) (length c.args.self.now.windows) (commands ++ c.args.command.now ∷ [])
+returns-in-Confirm-clause-values c = λ commands was. every_value_law (length c.args.self.now.contents.cells) (length c.args.self.now.contents.windows) (commands ++ c.args.command.now ∷ [])
 
 pub returns-in-Confirm-clause-matching : goal.returns-in-Confirm-clause-matching
-returns-in-Confirm-clause-matching c = λ commands was. every_matching_law (length c.args.self.now.cells) (length c.args.self.now.windows) (commands ++ c.args.command.now ∷ [])
+returns-in-Confirm-clause-matching c = λ commands was. every_matching_law (length c.args.self.now.contents.cells) (length c.args.self.now.contents.windows) (commands ++ c.args.command.now ∷ [])
+
+pub returns-in-Confirm-clause-refused : goal.returns-in-Confirm-clause-refused
+returns-in-Confirm-clause-refused c = c.confirm.ensures.refused

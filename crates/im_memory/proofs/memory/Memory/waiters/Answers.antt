@@ -1,10 +1,11 @@
 use Rattle.std.proofs.Common.{sym, ap, ◌∙◌, arith}
-use Rattle.im_types.specs.Contents.{Contents, waiters_at}
+use Rattle.im_types.specs.Contents.{waiters_at}
 use Rattle.im_arena.specs.Lists.{list_at}
 use Rattle.im_istore.proofs.Waiters.{waiters_at-cells}
+use Rattle.im_memory.specs.State.{MemoryState}
 use Rattle.im_memory.proofs.memory.Memory.waiters.Goals as goal
 
 pub returns : goal.returns
 returns c =
     let m = c.self.inside in
-    c.waiters.ensures ∙ ap (list_at m.arena.held) (omega arith) ∙ sym (waiters_at-cells m.table m.arena c.args.a c.self.invariant.agree) ∙ ap (λ (m : Contents). waiters_at m.cells c.args.a) c.self.view_is
+    c.waiters.ensures ∙ ap (list_at m.arena.held) (omega arith) ∙ sym (waiters_at-cells m.table m.arena c.args.a c.self.invariant.agree) ∙ ap (λ (m : MemoryState). waiters_at m.contents.cells c.args.a) c.self.view_is

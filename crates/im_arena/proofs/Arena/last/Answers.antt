@@ -1,0 +1,16 @@
+use Rattle.std.proofs.Common.{None, map, take, sym, ap, ◌∙◌, arith}
+use Rattle.std.proofs.lemmas.Option.{get_or_from_slice_get}
+use Rattle.im_arena.specs.Lists.{last_in}
+use Rattle.im_arena.specs.Table.{ends_of}
+use Rattle.im_arena.proofs.Views.{ends-read}
+use Rattle.im_arena.proofs.Arena.last.Goals as goal
+
+pub returns-in-Some : goal.returns-in-Some
+returns-in-Some c =
+    let read = ends-read _ _ _ _ c.self.invariant _ c.index.result.now (omega arith) c.index.ensures in
+    rw (← c.self.view_is) (sym (ap last_in (get_or_from_slice_get (take c.self.inside.lists (map ends_of c.self.inside.rows.items)) c.args.list _ None (sym read) ∙ sym c.ends.ensures ∙ c.in-Some.is)))
+
+pub returns-in-None : goal.returns-in-None
+returns-in-None c =
+    let read = ends-read _ _ _ _ c.self.invariant _ c.index.result.now (omega arith) c.index.ensures in
+    rw (← c.self.view_is) (sym (ap last_in (get_or_from_slice_get (take c.self.inside.lists (map ends_of c.self.inside.rows.items)) c.args.list _ None (sym read) ∙ sym c.ends.ensures ∙ c.in-None.is)))

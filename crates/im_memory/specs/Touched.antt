@@ -1,0 +1,155 @@
+-- Which records a command may change. (Own.)
+use Rattle.std.specs.Prelude.{◌≡◌, ◌≢◌, ℕ, zero, suc, List, [], ◌∷◌, length, map, Option, None, Some, slice_get, slice_index_or, if◌then◌else◌}
+use Rattle.im_types.specs.declared.TheConstants.{NONE}
+use Rattle.im_types.specs.declared.operations.Kind.{Kind}
+use Rattle.im_types.specs.declared.operations.Kind.TheVariants.{I, M}
+use Rattle.im_types.specs.declared.operations.Op.{Op}
+use Rattle.im_types.specs.declared.operations.Op.TheVariants.{Alloc, Release, Fetch, Store, Take, Put}
+use Rattle.im_types.specs.declared.operations.Block.{Block}
+use Rattle.im_types.specs.declared.operations.Waiter.{Waiter}
+use Rattle.im_types.specs.declared.operations.Reply.{Reply}
+use Rattle.im_types.specs.declared.commands.Command.{Command}
+use Rattle.im_types.specs.declared.commands.Command.TheVariants.{Request as Asks, Confirm}
+use Rattle.im_types.specs.declared.records.PresenceTag.{PresenceTag}
+use Rattle.im_types.specs.declared.records.PresenceTag.TheVariants.{Empty as TagEmpty}
+use Rattle.im_types.specs.declared.records.CellRecord.{CellRecord}
+use Rattle.im_types.specs.declared.records.CellRecord.TheVariants.{Free as FreeCell, Held as BlockCell}
+use Rattle.im_types.specs.declared.records.NodeRecord.{NodeRecord}
+use Rattle.im_types.specs.Contents.{CellState, Empty, Full, Clashed, Held, held_at}
+use Rattle.im_types.specs.Place.{place}
+use Rattle.im_types.specs.Act.{same_kind, block_with_base, act}
+use Rattle.im_types.specs.Step.{asker}
+use Rattle.im_types.specs.Pages.{Records}
+use Rattle.im_types.specs.Records.{tag_first, tag_last}
+use Rattle.im_arena.specs.Chain.{along}
+use Rattle.im_arena.specs.Lists.{free_record, link_of}
+use Rattle.im_memory.specs.State.{MemoryState}
+
+-- the tag of a cell's record; a free cell has none
+abbrev pub tag_in : CellRecord → PresenceTag
+tag_in (FreeCell hole next) = TagEmpty
+tag_in (BlockCell block tag) = tag
+
+-- the tag at an address
+abbrev pub tag_at : Records → ℕ → PresenceTag
+tag_at r a = tag_in (slice_index_or r.cells a (FreeCell 0 NONE))
+
+-- the first node of the list of a cell, as its record names it
+abbrev pub first_at : Records → ℕ → ℕ
+first_at r a = tag_first (tag_at r a)
+
+-- the last one
+abbrev pub last_at : Records → ℕ → ℕ
+last_at r a = tag_last (tag_at r a)
+
+-- the node behind another one
+abbrev pub next_at : List NodeRecord → ℕ → ℕ
+next_at nodes n = link_of (slice_index_or nodes n free_record)
+
+-- so many nodes of a list, from its first one on
+abbrev pub nodes_from : List NodeRecord → ℕ → ℕ → List ℕ
+nodes_from nodes first count = along (λ n. n) (next_at nodes) first count
+
+-- so many addresses from this one on
+abbrev pub addresses : ℕ → ℕ → List ℕ
+addresses base zero = []
+addresses base (suc n) = base ∷ addresses (suc base) n
+
+-- the cells, by address, and the waiter nodes whose records an operation may change
+pub record Places : Type 0 where
+  pub cells : List ℕ
+  pub nodes : List ℕ
+
+-- no record of a cell or a node
+abbrev pub nowhere : Places
+nowhere = record { cells = []; nodes = [] }
+
+-- the record of one cell
+abbrev pub one_cell : ℕ → Places
+one_cell a = record { cells = a ∷ []; nodes = [] }
+
+-- the nodes for one who waits behind these: the spare one and, where somebody waits already, the last one before it
+abbrev pub nodes_behind : ℕ → ℕ → List Waiter → List ℕ
+nodes_behind spare last [] = spare ∷ []
+nodes_behind spare last (waiter ∷ waiters) = spare ∷ last ∷ []
+
+-- by a fetch of a cell in this state, where the spare node and the last one of the cell's list are these
+abbrev pub by_fetch : ℕ → ℕ → ℕ → CellState → Places
+by_fetch spare last a (Empty waiters) = record { cells = a ∷ []; nodes = nodes_behind spare last waiters }
+by_fetch spare last a (Full v) = nowhere
+by_fetch spare last a (Clashed v) = nowhere
+
+-- by a store, where the list of the cell begins at this node: the nodes of all readers are given back
+abbrev pub by_store : List NodeRecord → ℕ → ℕ → CellState → Places
+by_store nodes first a (Empty readers) = record { cells = a ∷ []; nodes = nodes_from nodes first (length readers) }
+by_store nodes first a (Full v) = one_cell a
+by_store nodes first a (Clashed v) = one_cell a
+
+-- by a take
+abbrev pub by_take : ℕ → ℕ → ℕ → CellState → Places
+by_take spare last a (Empty waiters) = record { cells = a ∷ []; nodes = nodes_behind spare last waiters }
+by_take spare last a (Full v) = one_cell a
+by_take spare last a (Clashed v) = one_cell a
+
+-- by a put: the node of the first taker is given back
+abbrev pub by_put : ℕ → ℕ → CellState → Places
+by_put first a (Empty []) = one_cell a
+by_put first a (Empty (taker ∷ takers)) = record { cells = a ∷ []; nodes = first ∷ [] }
+by_put first a (Full v) = one_cell a
+by_put first a (Clashed v) = one_cell a
+
+-- at a cell of the kind that the operation is for; else nowhere
+abbrev pub places_at : Kind → (CellState → Places) → Option Held → Places
+places_at kind by None = nowhere
+places_at kind by (Some held) = if same_kind kind held.block.kind then by held.state else nowhere
+
+-- the cells from a base on, if there is one
+abbrev pub places_from : ℕ → Option ℕ → Places
+places_from n None = nowhere
+places_from n (Some base) = record { cells = addresses base n; nodes = [] }
+
+-- the cells of a block, if there is one
+abbrev pub places_of : Option Block → Places
+places_of None = nowhere
+places_of (Some block) = record { cells = addresses block.base block.length; nodes = [] }
+
+-- by an operation on these cells, where the records and the spare node are these
+abbrev pub places : List (Option Held) → Records → ℕ → Op → Places
+places cells r spare (Alloc kind n) = places_from n (place n cells)
+places cells r spare (Release a) = places_of (block_with_base a (held_at cells a))
+places cells r spare (Fetch a) = places_at I (by_fetch spare (last_at r a) a) (held_at cells a)
+places cells r spare (Store a v) = places_at I (by_store r.nodes (first_at r a) a) (held_at cells a)
+places cells r spare (Take a) = places_at M (by_take spare (last_at r a) a) (held_at cells a)
+places cells r spare (Put a v) = places_at M (by_put (first_at r a) a) (held_at cells a)
+
+-- the elements whose windows a request may change: its own, and those of the requests that it resumes
+abbrev pub elements_told : ℕ → List (Waiter × Reply) → List ℕ
+elements_told element replies = element ∷ map (λ (r : Waiter × Reply). r.0.element) replies
+
+-- the cells, the waiter nodes and the elements whose records a command may change
+pub record Touched : Type 0 where
+  pub cells : List ℕ
+  pub nodes : List ℕ
+  pub elements : List ℕ
+
+-- at these places, and in the windows of these elements
+abbrev pub touched_in : Places → List ℕ → Touched
+touched_in p elements = record { cells = p.cells; nodes = p.nodes; elements = elements }
+
+-- the records that a command may change
+abbrev pub touched : MemoryState → Command → Touched
+touched m (Asks r) =
+    touched_in (places m.contents.cells m.records m.spare r.op)
+    (elements_told r.element (act m.contents.cells (asker r) r.op).resumed)
+touched m (Confirm element upto) = touched_in nowhere (element ∷ [])
+
+-- none of these numbers is this one
+abbrev pub IsOther : List ℕ → ℕ → Type 0
+IsOther [] n = Unit {0}
+IsOther (m ∷ ms) n = (n ≢ m) × IsOther ms n
+
+-- of all records, those of these cells, nodes and elements alone change
+pub record ChangesOnly (t : Touched) (old new : Records) : Type 0 where
+  pub cells : (a : ℕ) → IsOther t.cells a → slice_get new.cells a ≡ slice_get old.cells a
+  pub nodes : (n : ℕ) → IsOther t.nodes n → slice_get new.nodes n ≡ slice_get old.nodes n
+  pub windows : (e : ℕ) → IsOther t.elements e → slice_get new.windows e ≡ slice_get old.windows e
