@@ -8,3 +8,4 @@ pub mod Restored
 pub mod Encoding
 pub mod Outcomes
 pub mod Counterexamples
+pub mod Outside

@@ -37,3 +37,8 @@ pub record AreCounted (s : Sizes) (r : Records) : Type 0 where
   pub cells : length r.cells ≡ s.cells
   pub nodes : length r.nodes ≡ node_count layout_in_use s
   pub windows : length r.windows ≡ s.elements
+
+-- the bytes that are a page of the one memory's records are that page of the other's
+pub record SameOn (s : Sizes) (old new : Records) (page : ℕ) : Type 0 where
+  pub to : (bytes : List ℕ) → IsAreaPage s old page bytes → IsAreaPage s new page bytes
+  pub from : (bytes : List ℕ) → IsAreaPage s new page bytes → IsAreaPage s old page bytes

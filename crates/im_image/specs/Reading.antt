@@ -45,13 +45,13 @@ pub record AreParts (i : Image) : Type 0 where
   -- the header is of one of the two areas
   pub area : i.header.area ≤ 1
   -- the memory has as many cells and elements as the header says
-  pub sizes : HasSizes (sizes_of i.header.limits) i.memory
+  pub sizes : HasSizes (sizes_of i.header.limits) i.memory.contents
   -- the journal is the one behind the header
   pub journal : JournalOf (seen i.header) i.journal
 
 -- what an image that was read comes to
 abbrev pub reached : Image → Reached
-reached i = record { contents = i.memory; count = i.journal.count; room = i.journal.room }
+reached i = record { contents = i.memory.contents; count = i.journal.count; room = i.journal.room }
 
 -- the image is what this file is
 pub record IsImageOf (file : List ℕ) (i : Image) : Type 0 where

@@ -54,7 +54,7 @@ fn restore(
     requires memory { IsMemory limits.cells limits.elements
         (record { cells = cells_shown records.now.cells lists.now; windows = records.now.windows }) }
     ensures memory { IfOk result
-        (λ m. m ≡ record { cells = cells_shown records.now.cells lists.now; windows = records.now.windows }) }
+        (λ m. m.contents ≡ record { cells = cells_shown records.now.cells lists.now; windows = records.now.windows }) }
     ensures only { IfErr result (λ e. e ≡ Refusal.NoMemory) }
 {
     let mut restoring = match Restoring::new(alloc, limits, records.cells()) {
@@ -72,7 +72,7 @@ fn restore(
 /// It takes a step for each byte, each record, each waiter and each entry.
 pub fn decode(alloc: Global, area: &[u8], limits: Limits) -> Result<Memory, Refusal>
     requires { length area.now ≡ layout.area_bytes layout_in_use (sizes_of limits) }
-    ensures found { IfOk result (λ m. Shows layout_in_use (sizes_of limits) area.now m) }
+    ensures found { IfOk result (λ m. Shows layout_in_use (sizes_of limits) area.now m.contents) }
     ensures bad { IsErrOf result Refusal.BadPage → (m : Contents) → Shows layout_in_use (sizes_of limits) area.now m
         → ⊥ }
     ensures only { IfErr result (λ e. (e ≡ Refusal.BadPage) ⊎ (e ≡ Refusal.NoMemory)) }

@@ -22,5 +22,8 @@ pub use im_types::layout::{
 };
 pub use in_force::read_header;
 pub use open_area::read_memory;
-pub use pages::{areas_show_the_memory, encode, encode_page, pages_show_the_memory};
+pub use pages::{
+    areas_show_the_memory, encode, encode_into, encode_page, pages_outside_stay,
+    pages_show_the_memory,
+};
 pub use reading::{Image, Report, inspect, read_image, replay};

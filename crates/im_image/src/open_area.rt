@@ -71,8 +71,8 @@ fn read_area<D: Disk>(
 pub fn read_memory<D: Disk>(alloc: Global, disk: &mut D, header: &Header) -> Result<Memory, Refusal>
     requires area { header.now.area ≤ 1 }
     requires sound { D.honest disk.old → HasHeader (seen header.now) (D.now disk.old).bytes }
-    ensures shown { IfOk result (λ m. D.honest disk.new → IsShown layout_in_use (D.now disk.old).bytes m) }
-    ensures sizes { IfOk result (λ m. HasSizes (sizes_of header.now.limits) m) }
+    ensures shown { IfOk result (λ m. D.honest disk.new → IsShown layout_in_use (D.now disk.old).bytes m.contents) }
+    ensures sizes { IfOk result (λ m. HasSizes (sizes_of header.now.limits) m.contents) }
     ensures bad { IsErrOf result Refusal.BadPage → D.honest disk.new
         → (m : Contents) → IsShown layout_in_use (D.now disk.old).bytes m → ⊥ }
     ensures faults { Faults (λ e. (e ≡ Refusal.BadPage) ⊎ (e ≡ Refusal.NoMemory) ⊎ (e ≡ Refusal.Device)) result

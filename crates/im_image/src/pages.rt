@@ -10,7 +10,8 @@ ghost use Rattle.im_types.specs.declared.records.CellRecord.TheVariants.{Free as
 ghost use Rattle.im_types.specs.declared.records.NodeRecord.TheVariants.{Free as FreeNode};
 ghost use Rattle.im_records.specs.Paging.{joined, bytes_or_zeros};
 ghost use Rattle.im_records.specs.Placed.{placed};
-ghost use Rattle.im_image.specs.Encoding.{AreCounted, SpellsCells, SpellsNodes, SpellsSessions, IsAreaPage};
+ghost use Rattle.im_image.specs.Encoding.{AreCounted, SpellsCells, SpellsNodes, SpellsSessions, IsAreaPage, SameOn};
+ghost use Rattle.im_pages.specs.Places.{AgreeOnPage};
 
 use im_memory::{Memory, MemoryRecords};
 use im_records::{WindowRecord, put_cell, put_node, put_session};
@@ -123,9 +124,8 @@ fn encode_sessions(records: &MemoryRecords<'_>, limits: Limits, i: usize, page: 
     }
 }
 
-/// Makes one page of an area that shows a memory, from the records of the memory as it was when they were taken. Pages
-/// are numbered from 0: those of cells, those of waiter nodes, and those of sessions. It takes no memory.
-pub fn encode_page(records: &MemoryRecords<'_>, limits: Limits, i: usize, page: &mut [u8; PAGE])
+// Makes one page of an area, from a memory's records.
+fn encode_records(records: &MemoryRecords<'_>, limits: Limits, i: usize, page: &mut [u8; PAGE])
     requires count { AreCounted (sizes_of limits) records.now }
     requires page { i < layout.area_pages layout_in_use (sizes_of limits) }
     ensures { IsAreaPage (sizes_of limits) records.now i page.new }
@@ -140,6 +140,17 @@ pub fn encode_page(records: &MemoryRecords<'_>, limits: Limits, i: usize, page: 
     }
 }
 
+/// Makes one page of an area that shows a memory. Pages are numbered from 0: those of cells, those of waiter nodes, and
+/// those of sessions. It takes no memory.
+pub fn encode_page(memory: &Memory, limits: Limits, i: usize, page: &mut [u8; PAGE])
+    requires cells { length memory.now.contents.cells ≡ limits.cells }
+    requires elements { length memory.now.contents.windows ≡ limits.elements }
+    requires page { i < layout.area_pages layout_in_use (sizes_of limits) }
+    ensures { IsAreaPage (sizes_of limits) memory.now.records i page.new }
+{
+    encode_records(&memory.records(), limits, i, page);
+}
+
 // Puts a page in its place in an area.
 fn put_page(area: &mut [u8], i: usize, page: &[u8; PAGE])
     requires near { i < MOST_AREA_PAGES }
@@ -149,18 +160,31 @@ fn put_page(area: &mut [u8], i: usize, page: &[u8; PAGE])
     area[PAGE * i..PAGE * i + PAGE].copy_from_slice(page);
 }
 
+/// Makes one page of an area that shows a memory, in its place in the area. The other pages stay. It takes no memory.
+pub fn encode_into(memory: &Memory, limits: Limits, i: usize, area: &mut [u8])
+    requires cells { length memory.now.contents.cells ≡ limits.cells }
+    requires elements { length memory.now.contents.windows ≡ limits.elements }
+    requires page { i < layout.area_pages layout_in_use (sizes_of limits) }
+    requires area { length area.old ≡ layout.area_bytes layout_in_use (sizes_of limits) }
+    ensures page { IsAreaPage (sizes_of limits) memory.now.records i (record_at page_bytes area.new i) }
+    ensures others { (k : ℕ) → k < layout.area_pages layout_in_use (sizes_of limits) → k ≢ i
+        → record_at page_bytes area.new k ≡ record_at page_bytes area.old k }
+{
+    let mut page = [0; PAGE];
+    encode_page(memory, limits, i, &mut page);
+    put_page(area, i, &page);
+}
+
 /// Makes all pages of an area that shows a memory. It takes no memory.
 pub fn encode(memory: &Memory, limits: Limits, area: &mut [u8])
-    requires cells { length memory.now.cells ≡ limits.cells }
-    requires elements { length memory.now.windows ≡ limits.elements }
+    requires cells { length memory.now.contents.cells ≡ limits.cells }
+    requires elements { length memory.now.contents.windows ≡ limits.elements }
     requires area { length area.old ≡ layout.area_bytes layout_in_use (sizes_of limits) }
-    ensures { Shows layout_in_use (sizes_of limits) area.new memory.now }
+    ensures { Shows layout_in_use (sizes_of limits) area.new memory.now.contents }
 {
-    let records = memory.records();
-    let mut page = [0; PAGE];
+    let _records = memory.records();
     for i in 0..area_pages(limits) {
-        encode_page(&records, limits, i, &mut page);
-        put_page(area, i, &page);
+        encode_into(memory, limits, i, area);
     }
 }
 
@@ -177,4 +201,10 @@ pub fn areas_show_the_memory()
         → length area ≡ layout.area_bytes layout_in_use s
         → ((i : ℕ) → i < layout.area_pages layout_in_use s → IsAreaPage s r i (record_at page_bytes area i))
         → Shows layout_in_use s area m }
+{}
+
+/// A page that shows no record that changed is spelled by the same bytes as before.
+pub fn pages_outside_stay()
+    ensures { (s : Sizes) (old new : Records) (page : ℕ) → AgreeOnPage s.cells s.elements old new page
+        → SameOn s old new page }
 {}

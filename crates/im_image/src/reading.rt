@@ -47,7 +47,7 @@ pub struct Report {
 
 // Whether a memory would accept a command.
 fn accepts(memory: &Memory, command: &Command) -> bool
-    ensures { result ≡ is_accepted memory.now command.now }
+    ensures { result ≡ is_accepted memory.now.contents command.now }
 {
     match memory.judge(command) {
         Ok(accepted) => accepted,
@@ -58,8 +58,8 @@ fn accepts(memory: &Memory, command: &Command) -> bool
 /// Serves commands one after another, as long as the memory accepts each of them in its turn. Whether it accepts all;
 /// then it is the memory after all of them.
 pub fn replay(memory: &mut Memory, commands: &[Command]) -> bool
-    ensures yes { IsTrue result → accept_each memory.old commands.now ≡ Some memory.new }
-    ensures no { result ≡ false → accept_each memory.old commands.now ≡ None }
+    ensures yes { IsTrue result → accept_each memory.old.contents commands.now ≡ Some memory.new.contents }
+    ensures no { result ≡ false → accept_each memory.old.contents commands.now ≡ None }
 {
     for command in commands {
         if !accepts(memory, command) {
@@ -77,8 +77,8 @@ fn read_run<D: Disk>(
     header: Header,
     mut memory: Memory,
 ) -> Result<Image, Refusal>
-    requires under { AreUnder (seen header) memory }
-    requires shown { D.honest disk.old → HasArea (seen header) memory (D.now disk.old).bytes }
+    requires under { AreUnder (seen header) memory.contents }
+    requires shown { D.honest disk.old → HasArea (seen header) memory.contents (D.now disk.old).bytes }
     ensures parts { IfOk result (λ i. AreParts i) }
     ensures means { IfOk result (λ i. D.honest disk.new → IsImageOf (D.now disk.old).bytes i) }
     ensures fault { IfErr result (λ e. (e ≡ NoMemory) ⊎ (e ≡ Device)
@@ -149,7 +149,7 @@ pub fn read_image<D: Disk>(alloc: Global, disk: &mut D) -> Result<Image, Refusal
 pub fn inspect<D: Disk>(alloc: Global, disk: &mut D) -> Result<Report, Refusal>
     ensures header { IfOk result (λ r. D.honest disk.new → seen r.header ≡ header_of (D.now disk.old).bytes) }
     ensures means { IfOk result (λ r. D.honest disk.new → Reads layout_in_use (D.now disk.old).bytes
-        (Ok (record { contents = r.memory; count = r.header.count + r.run; room = r.room }))) }
+        (Ok (record { contents = r.memory.contents; count = r.header.count + r.run; room = r.room }))) }
     ensures fault { IfErr result (λ e. (e ≡ NoMemory) ⊎ (e ≡ Device)
         ⊎ (D.honest disk.new → Reads layout_in_use (D.now disk.old).bytes (Err e))) }
     ensures reads { D.honest disk.new → OnlyReads D.now D.past disk.old disk.new }

@@ -1,4 +1,5 @@
-use Rattle.std.proofs.Common.{◌+◌, sym}
+use Rattle.std.proofs.Common.{◌+◌, ap, sym}
+use Rattle.im_memory.specs.State.{MemoryState}
 use Rattle.im_types.specs.Meaning.{Reached}
 use Rattle.im_image.proofs.Outcomes.{reads-same}
 use Rattle.im_image.proofs.reading.inspect.Goals as goal
@@ -7,6 +8,6 @@ pub returns-in-Ok-clause-means : goal.returns-in-Ok-clause-means
 returns-in-Ok-clause-means g c = λ h.
     let i = c.in-Ok.image in
     let r = c.report_of.result in
-    let told : Reached = record { contents = r.memory; count = r.header.count + r.run; room = r.room } in
-    reads-same (g.D.Disk.now c.args.disk.now).bytes (record { contents = i.memory; count = i.journal.count; room = i.journal.room }) told
-    (sym c.report_of.ensures.memory) (sym c.report_of.ensures.count) (sym c.report_of.ensures.room) (c.in-Ok.ensures.means h)
+    let told : Reached = record { contents = r.memory.contents; count = r.header.count + r.run; room = r.room } in
+    reads-same (g.D.Disk.now c.args.disk.now).bytes (record { contents = i.memory.contents; count = i.journal.count; room = i.journal.room }) told
+    (sym (ap (λ (m : MemoryState). m.contents) c.report_of.ensures.memory)) (sym c.report_of.ensures.count) (sym c.report_of.ensures.room) (c.in-Ok.ensures.means h)

@@ -11,7 +11,7 @@ use Rattle.im_image.proofs.reading.read_behind.Goals as goal
 
 pub read_run-requires-clause-shown : goal.read_run-requires-clause-shown
 read_run-requires-clause-shown g c = λ h.
-    subst (λ (m : Moment). HasArea (seen c.args.header) c.in-Ok.memory m.bytes) (sym (c.read_memory.ensures.reads h).now)
+    subst (λ (m : Moment). HasArea (seen c.args.header) c.in-Ok.memory.contents m.bytes) (sym (c.read_memory.ensures.reads h).now)
     (record { header = c.requires.sound (c.read_memory.ensures.honest h); shown = c.in-Ok.ensures.shown h })
 
 pub returns-in-Ok-clause-means : goal.returns-in-Ok-clause-means

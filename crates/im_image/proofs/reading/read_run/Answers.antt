@@ -17,32 +17,32 @@ returns-in-Err-clause-fault g c =
       | inl is ↦ inr (inr (λ h.
           let it = c.requires.shown (c.read_tail.ensures.honest h) in
           subst (λ (e : Refusal). Reads layout_in_use (g.D.Disk.now c.args.disk.now).bytes (Err e)) (sym is)
-          (reads-no-tail (g.D.Disk.now c.args.disk.now).bytes (seen c.args.header) c.args.memory it.header.good it.header.is it.shown (c.in-Err.ensures.tail is h))))
+          (reads-no-tail (g.D.Disk.now c.args.disk.now).bytes (seen c.args.header) c.args.memory.contents it.header.good it.header.is it.shown (c.in-Err.ensures.tail is h))))
       | inr more ↦ elim more [ inl none ↦ inl none | inr device ↦ inr (inl device) ]
     ]
 
 pub returns-then-replay-clause-means : goal.returns-then-replay-clause-means
 returns-then-replay-clause-means g c = λ h.
     let it = c.requires.shown (c.read_tail.ensures.honest h) in
-    let accepted = ap (λ (l : List Command). accept_each c.args.memory l) (sym c.deref.ensures.value) ∙ c.if-replay.ensures.yes refl in
+    let accepted = ap (λ (l : List Command). accept_each c.args.memory.contents l) (sym c.deref.ensures.value) ∙ c.if-replay.ensures.yes refl in
     record {
       header = it.header.is;
       holds = (c.in-Ok.ensures.tail h).holds;
-      means = reads-all (g.D.Disk.now c.args.disk.now).bytes (seen c.args.header) c.args.memory it.header.good it.header.is it.shown
-          c.in-Ok.read.1.items c.in-Ok.read.0.room c.in-Ok.read.0.count c.replay.new.memory (c.in-Ok.ensures.tail h).reads accepted c.in-Ok.ensures.journal.2;
+      means = reads-all (g.D.Disk.now c.args.disk.now).bytes (seen c.args.header) c.args.memory.contents it.header.good it.header.is it.shown
+          c.in-Ok.read.1.items c.in-Ok.read.0.room c.in-Ok.read.0.count c.replay.new.memory.contents (c.in-Ok.ensures.tail h).reads accepted c.in-Ok.ensures.journal.2;
     }
 
 pub returns-else-replay-clause-fault : goal.returns-else-replay-clause-fault
 returns-else-replay-clause-fault g c = inr (inr (λ h.
     let it = c.requires.shown (c.read_tail.ensures.honest h) in
-    let un = ap (λ (l : List Command). accept_each c.args.memory l) (sym c.deref.ensures.value) ∙ c.if-replay.ensures.no refl in
-    reads-unaccepted (g.D.Disk.now c.args.disk.now).bytes (seen c.args.header) c.args.memory it.header.good it.header.is it.shown
+    let un = ap (λ (l : List Command). accept_each c.args.memory.contents l) (sym c.deref.ensures.value) ∙ c.if-replay.ensures.no refl in
+    reads-unaccepted (g.D.Disk.now c.args.disk.now).bytes (seen c.args.header) c.args.memory.contents it.header.good it.header.is it.shown
     c.in-Ok.read.1.items c.in-Ok.read.0.room (c.in-Ok.ensures.tail h).reads un))
 
 pub returns-then-replay-clause-parts : goal.returns-then-replay-clause-parts
 returns-then-replay-clause-parts g c =
-    let accepted = ap (λ (l : List Command). accept_each c.args.memory l) (sym c.deref.ensures.value) ∙ c.if-replay.ensures.yes refl in
-    let same = accepted-sizes c.args.memory c.replay.new.memory c.in-Ok.read.1.items accepted in
+    let accepted = ap (λ (l : List Command). accept_each c.args.memory.contents l) (sym c.deref.ensures.value) ∙ c.if-replay.ensures.yes refl in
+    let same = accepted-sizes c.args.memory.contents c.replay.new.memory.contents c.in-Ok.read.1.items accepted in
     record {
       area = c.requires.under.area;
       sizes = record { cells = same.0 ∙ c.requires.under.sizes.cells; elements = same.1 ∙ c.requires.under.sizes.elements };
