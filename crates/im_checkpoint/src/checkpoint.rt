@@ -248,11 +248,11 @@ impl Checkpoint {
     fn begin(&mut self, memory: &Memory, journal: &Journal)
         requires step { self.old.step ≡ NoCheckpoint }
         requires later { self.old.header.generation < LAST }
-        requires cells { length memory.now.cells ≡ self.old.header.sizes.cells }
-        requires elements { length memory.now.windows ≡ self.old.header.sizes.elements }
-        ensures began { Begins self.old.header memory.now journal.now.count self.new }
-        ensures kept { (now : Moment) → IsKept self.old memory.now journal.now now
-            → IsKept self.new memory.now journal.now now }
+        requires cells { length memory.now.contents.cells ≡ self.old.header.sizes.cells }
+        requires elements { length memory.now.contents.windows ≡ self.old.header.sizes.elements }
+        ensures began { Begins self.old.header memory.now.contents journal.now.count self.new }
+        ensures kept { (now : Moment) → IsKept self.old memory.now.contents journal.now now
+            → IsKept self.new memory.now.contents journal.now now }
     {
         encode(memory, self.header.limits, &mut self.area);
         self.count = journal.count();
@@ -274,12 +274,12 @@ impl Checkpoint {
         memory: &Memory,
         journal: &mut Journal,
     ) -> Result<TurnDone, Refusal>
-        requires rests { IsAtRest self.old memory.now journal.old }
-        requires kept { D.honest disk.old → IsKept self.old memory.now journal.old (D.now disk.old) }
-        ensures turned { IfOk result (λ answer. Turned self.old journal.old memory.now answer self.new journal.new) }
+        requires rests { IsAtRest self.old memory.now.contents journal.old }
+        requires kept { D.honest disk.old → IsKept self.old memory.now.contents journal.old (D.now disk.old) }
+        ensures turned { IfOk result (λ answer. Turned self.old journal.old memory.now.contents answer self.new journal.new) }
         ensures same { OnErr result ((self.new ≡ self.old) × (journal.new ≡ journal.old)) }
         ensures keeps { D.honest disk.new
-            → KeepsMeaning D.now D.past disk.old disk.new memory.now journal.old result self.new journal.new }
+            → KeepsMeaning D.now D.past disk.old disk.new memory.now.contents journal.old result self.new journal.new }
         ensures calls { D.honest disk.new → CallsAtMost D.past disk.old disk.new (most_calls result) }
         ensures honest { D.honest disk.new → D.honest disk.old }
         ensures faults { Faults (λ e. e ≡ Device) result (D.failures disk.old) (D.failures disk.new) }
@@ -307,14 +307,14 @@ impl Checkpoint {
         memory: &Memory,
         journal: &mut Journal,
     ) -> Result<TurnDone, Refusal>
-        requires fits { Fits self.old memory.now journal.old }
-        requires kept { D.honest disk.old → IsKept self.old memory.now journal.old (D.now disk.old) }
+        requires fits { Fits self.old memory.now.contents journal.old }
+        requires kept { D.honest disk.old → IsKept self.old memory.now.contents journal.old (D.now disk.old) }
         // What it answers, and what it comes to: the table of turns, and how far a checkpoint still has to go.
-        ensures turned { IfOk result (λ answer. ComesTo self.old journal.old memory.now answer self.new journal.new) }
+        ensures turned { IfOk result (λ answer. ComesTo self.old journal.old memory.now.contents answer self.new journal.new) }
         ensures same { OnErr result ((self.new ≡ self.old) × (journal.new ≡ journal.old)) }
         // Each file that a crash may leave, from the start on, and now, means the memory after all its commands.
         ensures keeps { D.honest disk.new
-            → KeepsMeaning D.now D.past disk.old disk.new memory.now journal.old result self.new journal.new }
+            → KeepsMeaning D.now D.past disk.old disk.new memory.now.contents journal.old result self.new journal.new }
         ensures calls { D.honest disk.new → CallsAtMost D.past disk.old disk.new (most_calls result) }
         ensures honest { D.honest disk.new → D.honest disk.old }
         ensures faults { Faults (λ e. e ≡ Device) result (D.failures disk.old) (D.failures disk.new) }

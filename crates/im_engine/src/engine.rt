@@ -43,14 +43,14 @@ impl<D: Disk> Model for Engine<D> {
       disk = e.disk;
       header = e.checkpoint.header;
       step = e.checkpoint.step;
-      memory = e.memory;
+      memory = e.memory.contents;
       count = e.journal.count;
       room = e.journal.room;
       failed = e.failed;
     } };
 
-    ghost invariant = { λ e. Fits e.checkpoint e.memory e.journal
-        × (D.honest e.disk → e.failed ≡ false → IsKept e.checkpoint e.memory e.journal (D.now e.disk)) };
+    ghost invariant = { λ e. Fits e.checkpoint e.memory.contents e.journal
+        × (D.honest e.disk → e.failed ≡ false → IsKept e.checkpoint e.memory.contents e.journal (D.now e.disk)) };
 }
 
 impl<D: Disk> Engine<D> {
@@ -119,13 +119,13 @@ impl<D: Disk> Engine<D> {
         journal: Journal,
         memory: Memory,
     ) -> Engine<D>
-        requires fits { Fits checkpoint memory journal }
-        requires kept { D.honest disk → IsKept checkpoint memory journal (D.now disk) }
+        requires fits { Fits checkpoint memory.contents journal }
+        requires kept { D.honest disk → IsKept checkpoint memory.contents journal (D.now disk) }
         ensures state { result ≡ record {
           disk = disk;
           header = checkpoint.header;
           step = checkpoint.step;
-          memory = memory;
+          memory = memory.contents;
           count = journal.count;
           room = journal.room;
           failed = false;
@@ -232,7 +232,7 @@ impl<D: Disk> Engine<D> {
 
     /// The memory.
     pub fn memory(&self) -> &Memory
-        ensures { result.now ≡ self.now.memory }
+        ensures { result.now.contents ≡ self.now.memory }
     {
         &self.memory
     }

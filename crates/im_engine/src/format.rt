@@ -55,7 +55,7 @@ fn lay_down<D: Disk>(
     disk: &mut D,
     limits: Limits,
 ) -> Result<(Memory, Checkpoint), Refusal>
-    ensures empty { IfOk result (λ r. r.0 ≡ empty_contents limits.cells limits.elements) }
+    ensures empty { IfOk result (λ r. r.0.contents ≡ empty_contents limits.cells limits.elements) }
     ensures idle { IfOk result (λ r. r.1 ≡ record { header = new_header (sizes_of limits); step = NoCheckpoint }) }
     ensures written { OnOk result (D.honest disk.new → (D.now disk.new).bytes ≡ new_image 0xA5 (sizes_of limits)) }
     ensures calm { OnOk result (D.honest disk.new → (D.now disk.new).ranges ≡ []) }

@@ -22,12 +22,12 @@ use std::alloc::Global;
 fn read_synced<D: Disk>(alloc: Global, disk: &mut D) -> Result<Image, Refusal>
     ensures area { IfOk result (λ i. i.header.area ≤ 1) }
     ensures fits { IfOk result (λ i.
-        Fits (record { header = seen i.header; step = NoCheckpoint }) i.memory i.journal) }
+        Fits (record { header = seen i.header; step = NoCheckpoint }) i.memory.contents i.journal) }
     ensures kept { IfOk result (λ i. D.honest disk.new
-        → IsKept (record { header = seen i.header; step = NoCheckpoint }) i.memory i.journal (D.now disk.new)) }
+        → IsKept (record { header = seen i.header; step = NoCheckpoint }) i.memory.contents i.journal (D.now disk.new)) }
     ensures found { IfOk result (λ i. D.honest disk.new → LeavesNow (D.now disk.new)
         (λ file. (seen i.header ≡ header_of file) × Reads layout_in_use file
-        (Ok (record { contents = i.memory; count = i.journal.count; room = i.journal.room })))) }
+        (Ok (record { contents = i.memory.contents; count = i.journal.count; room = i.journal.room })))) }
     ensures leaves { D.honest disk.new → LeavesWithin D.now D.past disk.old disk.new (Left (D.now disk.old)) }
     ensures fault { IfErr result (λ e. (e ≡ NoMemory) ⊎ (e ≡ Device)
         ⊎ (D.honest disk.new → LeavesNow (D.now disk.new) (IsFirstFault e))) }
