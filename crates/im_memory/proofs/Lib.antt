@@ -12,3 +12,4 @@ pub mod RecordLemmas
 pub mod RestoreLemmas
 pub mod TouchLemmas
 pub mod CoverLemmas
+pub mod Unaccepted

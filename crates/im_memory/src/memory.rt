@@ -1,10 +1,10 @@
 //! A memory, and one command on it.
-ghost use Rattle.std.specs.Prelude.{◌≡◌, ◌*◌, ◌≤◌, List, [], ◌∷◌, ◌++◌, length, IfOk, IfErr, OnErr, Ok, slice_get};
+ghost use Rattle.std.specs.Prelude.{◌≡◌, ◌*◌, ◌≤◌, List, [], ◌∷◌, ◌++◌, length, IfOk, IfErr, OnErr, Ok, false, slice_get};
 ghost use Rattle.im_types.specs.declared.commands.Judged.TheVariants.{Fresh};
 ghost use Rattle.im_types.specs.declared.commands.Command.{Command};
 ghost use Rattle.im_types.specs.Contents.{empty_contents, held_at, block_at, waiters_at, kept_for};
 ghost use Rattle.im_types.specs.Window.{judge, ask, bounds};
-ghost use Rattle.im_types.specs.Step.{step, serve, asker, acceptance};
+ghost use Rattle.im_types.specs.Step.{step, serve, asker, is_accepted, acceptance};
 ghost use Rattle.im_types.specs.Act.{act};
 ghost use Rattle.im_types.specs.Run.{after};
 ghost use Rattle.im_types.specs.Agreement.{KeepsEntries};
@@ -116,7 +116,7 @@ impl Memory {
     pub fn step(&mut self, command: &Command) -> Result<Outcome, Refusal>
         ensures answer { result ≡ (step self.old.contents command.now).answer }
         ensures contents { self.new.contents ≡ (step self.old.contents command.now).contents }
-        ensures refused { OnErr result (self.new ≡ self.old) }
+        ensures unaccepted { is_accepted self.old.contents command.now ≡ false → self.new ≡ self.old }
 
         // Of the records that show it, no others change.
         ensures changes { ChangesOnly (touched self.old command.now) self.old.records self.new.records }
@@ -144,6 +144,7 @@ impl Memory {
         ensures contents { self.new.contents ≡ (step self.old.contents (Command.Request request.now)).contents }
         ensures was_memory { let m = self.old.contents in IsMemory (length m.cells) (length m.windows) m }
         ensures refused { OnErr result (self.new ≡ self.old) }
+        ensures unaccepted { is_accepted self.old.contents (Command.Request request.now) ≡ false → self.new ≡ self.old }
         ensures changes { let command = Command.Request request.now in
             ChangesOnly (touched self.old command) self.old.records self.new.records }
     {
@@ -167,6 +168,7 @@ impl Memory {
         ensures contents { self.new.contents ≡ (step self.old.contents (Command.Confirm element upto)).contents }
         ensures was_memory { let m = self.old.contents in IsMemory (length m.cells) (length m.windows) m }
         ensures refused { OnErr result (self.new ≡ self.old) }
+        ensures unaccepted { is_accepted self.old.contents (Command.Confirm element upto) ≡ false → self.new ≡ self.old }
         ensures changes { let command = Command.Confirm element upto in
             ChangesOnly (touched self.old command) self.old.records self.new.records }
     {

@@ -1,8 +1,8 @@
-use Rattle.std.proofs.Common.{◌≡◌, length, sym, ap, ◌∙◌, subst, ◌++◌, ◌∷◌, []}
+use Rattle.std.proofs.Common.{◌≡◌, false, length, sym, ap, ◌∙◌, subst, ◌++◌, ◌∷◌, []}
 use Rattle.im_types.specs.declared.commands.Command.{Command}
 use Rattle.im_types.specs.declared.commands.Command.TheVariants.{Request as Asks, Confirm}
 use Rattle.im_types.specs.Contents.{Contents}
-use Rattle.im_types.specs.Step.{step}
+use Rattle.im_types.specs.Step.{step, is_accepted}
 use Rattle.im_types.specs.Agreement.{KeepsEntries}
 use Rattle.im_types.specs.Memory.{IsMemory}
 use Rattle.im_histories.proofs.Laws.{every_value_law, every_matching_law}
@@ -25,8 +25,8 @@ pub returns-in-Request-clause-keeps : goal.returns-in-Request-clause-keeps
 returns-in-Request-clause-keeps c =
     keeps c.args.self.now.contents c.request.new.self.contents c.args.command.now (Asks c.in-Request.request) c.in-Request.is c.request.ensures.contents c.request.ensures.was_memory
 
-pub returns-in-Request-clause-refused : goal.returns-in-Request-clause-refused
-returns-in-Request-clause-refused c = c.request.ensures.refused
+pub returns-in-Request-clause-unaccepted : goal.returns-in-Request-clause-unaccepted
+returns-in-Request-clause-unaccepted c = λ un. c.request.ensures.unaccepted (sym (ap (λ k. is_accepted c.args.self.now.contents k) c.in-Request.is) ∙ un)
 
 pub returns-in-Request-clause-values : goal.returns-in-Request-clause-values
 returns-in-Request-clause-values c = λ commands was. every_value_law (length c.args.self.now.contents.cells) (length c.args.self.now.contents.windows) (commands ++ c.args.command.now ∷ [])
@@ -48,5 +48,5 @@ returns-in-Confirm-clause-values c = λ commands was. every_value_law (length c.
 pub returns-in-Confirm-clause-matching : goal.returns-in-Confirm-clause-matching
 returns-in-Confirm-clause-matching c = λ commands was. every_matching_law (length c.args.self.now.contents.cells) (length c.args.self.now.contents.windows) (commands ++ c.args.command.now ∷ [])
 
-pub returns-in-Confirm-clause-refused : goal.returns-in-Confirm-clause-refused
-returns-in-Confirm-clause-refused c = c.confirm.ensures.refused
+pub returns-in-Confirm-clause-unaccepted : goal.returns-in-Confirm-clause-unaccepted
+returns-in-Confirm-clause-unaccepted c = λ un. c.confirm.ensures.unaccepted (sym (ap (λ k. is_accepted c.args.self.now.contents k) c.in-Confirm.is) ∙ un)
