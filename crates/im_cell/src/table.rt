@@ -113,6 +113,15 @@ impl CellTable {
         self.records[a as usize] = Record::new(slot.block, cell);
     }
 
+    /// The least base where `n` cells, at least one, are free: that of the block which [`CellTable::place`] would make;
+    /// `None` where there is no such base.
+    pub fn find(&self, n: u32) -> Option<u32>
+        requires { 0 < n }
+        ensures { result ≡ place n self.now }
+    {
+        find(self.records.as_slice(), self.nodes.as_slice(), n)
+    }
+
     /// Makes a block of `n` cells, at least one, at the least base where so many cells are free; `None` where there
     /// is no such base. All its cells are empty.
     pub fn place(&mut self, kind: Kind, n: u32) -> Option<u32>

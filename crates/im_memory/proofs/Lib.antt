@@ -11,3 +11,4 @@ pub mod ShownLemmas
 pub mod RecordLemmas
 pub mod RestoreLemmas
 pub mod TouchLemmas
+pub mod CoverLemmas

@@ -112,14 +112,16 @@ module _ (slots : List (Option Slot)) (arena : Shown) where
   placed-change kind n base slot e =
       subst (λ o. ChangesAt (places_from n o) slots arena (fill slots base n slot) arena) (e ∙ sym (place-cells slots arena n)) (filled slots arena base n slot)
 
+  pub found-base : (a : ℕ) (block : Block) → Some block ≡ block_at slots a → block.base ≡ a → Some block ≡ block_with_base a (held_at cells a)
+  found-base a block e base =
+      let t : (block.base == a) ≡ true = grind (arith, nat_tests) in
+      sym (with_base-cells slots arena a ∙ ap (slot_with_base a) (sym e) ∙ ap (λ b. cond b (Some block) None) t)
+
   -- the end of a block
   pub released-change : (a : ℕ) (block : Block) → Some block ≡ block_at slots a → block.base ≡ a
       → ChangesAt (places_in slots arena (Release a)) slots arena (fill slots a (length_at slots a) None) arena
   released-change a block e base =
-      let t : (block.base == a) ≡ true = grind (arith, nat_tests) in
-      let found : Some block ≡ block_with_base a (held_at cells a) =
-      sym (with_base-cells slots arena a ∙ ap (slot_with_base a) (sym e) ∙ ap (λ b. cond b (Some block) None) t) in
-      subst (λ o. ChangesAt (places_of o) slots arena (fill slots a (length_at slots a) None) arena) found
+      subst (λ o. ChangesAt (places_of o) slots arena (fill slots a (length_at slots a) None) arena) (found-base a block e base)
       (rw (sym base) (subst (λ n. ChangesAt (places_of (Some block)) slots arena (fill slots block.base n None) arena) (ap length_of e ∙ ap (λ x. length_at slots x) (sym base)) (filled slots arena block.base block.length None)))
 
   -- an access of a cell that may not be made, or of one in this state

@@ -6,3 +6,4 @@ pub mod Restoring
 pub mod State
 pub mod Touched
 pub mod Changing
+pub mod Covering

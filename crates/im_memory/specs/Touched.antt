@@ -122,9 +122,13 @@ places cells r spare (Store a v) = places_at I (by_store r.nodes (first_at r a) 
 places cells r spare (Take a) = places_at M (by_take spare (last_at r a) a) (held_at cells a)
 places cells r spare (Put a v) = places_at M (by_put (first_at r a) a) (held_at cells a)
 
+-- the elements of the requests that get these replies
+abbrev pub elements_in : List (Waiter × Reply) → List ℕ
+elements_in replies = map (λ (r : Waiter × Reply). r.0.element) replies
+
 -- the elements whose windows a request may change: its own, and those of the requests that it resumes
 abbrev pub elements_told : ℕ → List (Waiter × Reply) → List ℕ
-elements_told element replies = element ∷ map (λ (r : Waiter × Reply). r.0.element) replies
+elements_told element replies = element ∷ elements_in replies
 
 -- the cells, the waiter nodes and the elements whose records a command may change
 pub record Touched : Type 0 where

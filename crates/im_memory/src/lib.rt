@@ -10,6 +10,7 @@ mod acts;
 mod memory;
 mod records;
 mod restore;
+mod touches;
 mod windows;
 
 pub use im_arena::Waiters;

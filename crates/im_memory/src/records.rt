@@ -39,7 +39,7 @@ impl<'a> Model for MemoryRecords<'a> {
 }
 
 // That the links of an arena lead through its lists. It does nothing but ask for the law.
-fn are_threaded(arena: &Arena)
+pub(crate) fn are_threaded(arena: &Arena)
     requires { 0 < length arena.now.held.lists }
     ensures { IsThreaded arena.now }
 {

@@ -1,0 +1,346 @@
+-- Which pages show what a command touches.
+use Rattle.std.proofs.Common.{◌≡◌, ◌≢◌, ℕ, zero, suc, ◌+◌, ◌<◌, ◌≤◌, List, [], ◌∷◌, Bool, true, false, Option, None, Some, Ok, Err, map, length, refl, sym, ap, subst, ◌∙◌, arith, true≢false}
+use Rattle.std.specs.Prelude.{cond, ◌==◌}
+use Rattle.std.proofs.lemmas.Bool.Decides.{nat_tests}
+use Rattle.im_types.specs.declared.operations.Kind.{Kind}
+use Rattle.im_types.specs.declared.operations.Op.TheVariants.{Alloc, Release}
+use Rattle.im_types.specs.declared.operations.Block.{Block}
+use Rattle.im_types.specs.declared.operations.Reply.{Reply}
+use Rattle.im_types.specs.declared.operations.Reply.TheVariants.{NoCell, WrongKind}
+use Rattle.im_types.specs.declared.operations.Entry.TheVariants.{Answered}
+use Rattle.im_types.specs.declared.operations.Waiter.{Waiter}
+use Rattle.im_types.specs.declared.commands.Command.{Command}
+use Rattle.im_types.specs.declared.commands.Command.TheVariants.{Request as Asks}
+use Rattle.im_types.specs.declared.commands.Request.{Request}
+use Rattle.im_types.specs.declared.records.NodeRecord.{NodeRecord}
+use Rattle.im_types.specs.declared.cells.Cell.{Cell}
+use Rattle.im_types.specs.declared.cells.Cell.TheVariants.{Empty, Waiting, Full, Clashed}
+use Rattle.im_types.specs.Contents.{CellState, Held, Window, held_at}
+use Rattle.im_types.specs.Contents.{Empty as IsEmpty, Full as IsFull, Clashed as IsClashed}
+use Rattle.im_types.specs.Act.{Served, Acted as ActedCells, same_kind, only_tells, serve_cell, at_cell, block_with_base, fetch, take_from, store, put, act}
+use Rattle.im_types.specs.Step.{asker}
+use Rattle.im_types.specs.Place.{place}
+use Rattle.im_cell.specs.declared.slots.Slot.{Slot}
+use Rattle.im_cell.specs.Slots.{slot_at, block_at, is_waiting, is_waiting_cell}
+use Rattle.im_cell.specs.Slots.{block_with_base as slot_with_base}
+use Rattle.im_arena.specs.Lists.{Shown, list_at, ends_at, first_in, last_in}
+use Rattle.im_istore.specs.Joined.{state_of, held_of, cells_of}
+use Rattle.im_istore.specs.Access.{access_in, replies_to}
+use Rattle.im_istore.specs.Agreement.{has_some, Agree}
+use Rattle.im_istore.proofs.Cells.{held_at-cells}
+use Rattle.im_pages.specs.Places.{page_of_cell, page_of_node, page_of_session}
+use Rattle.im_pages.specs.PageSets.{has, size_of, IsWithin}
+use Rattle.im_memory.specs.State.{MemoryState, state_of as memory_of, rows_of}
+use Rattle.im_memory.specs.Touched.{IsOther, Places, nowhere, addresses, first_at, last_at, next_at, nodes_from, nodes_behind, by_fetch, by_take, by_put, by_store, places_at, places_from, places_of, elements_in, touched_in, touched}
+use Rattle.im_memory.specs.Changing.{places_in}
+use Rattle.im_memory.specs.Covering.{AreIn, HasPlaces, HasPages, Covers, KeepsOutside, most_at, most_by_store}
+use Rattle.im_memory.proofs.CellsLemmas.{no_list, length-cells, place-cells, with_base-cells}
+use Rattle.im_memory.proofs.TouchLemmas.{named, found-base, places-rows, look, refused, there}
+
+-- a larger set has them too
+pub AreIn-within : (page : ℕ → ℕ) (set other : List Bool) (xs : List ℕ) → IsWithin set other → AreIn page set xs → AreIn page other xs
+AreIn-within page set other [] within among = tt
+AreIn-within page set other (x ∷ xs) within among = (within (page x) among.0, AreIn-within page set other xs within among.1)
+
+-- no more pages than there are
+pub size-length : (set : List Bool) → size_of set ≤ length set
+size-length [] = omega arith
+size-length (true ∷ set) = let h = size-length set in omega arith
+size-length (false ∷ set) = let h = size-length set in omega arith
+
+-- what stands on a page outside the set is none of what the set has the pages of
+outside : (page : ℕ → ℕ) (set : List Bool) (xs : List ℕ) (p n : ℕ) → AreIn page set xs → has set p ≡ false → page n ≡ p → IsOther xs n
+outside page set [] p n among out at = tt
+outside page set (x ∷ xs) p n among out at =
+    (λ e. true≢false (sym among.0 ∙ ap (λ k. has set k) (ap page (sym e) ∙ at) ∙ out), outside page set xs p n among.1 out at)
+
+-- the records of a page outside a set that covers a command stay
+pub covers-keeps : (m : MemoryState) (command : Command) (set : List Bool) → Covers m command set → KeepsOutside m command set
+covers-keeps m command set covers after changes p out = record {
+  cells_agree = λ a at. changes.cells a (outside page_of_cell set (touched m command).cells p a covers.of_cells out at);
+  nodes_agree = λ n at. changes.nodes n (outside (page_of_node (length m.contents.cells)) set (touched m command).nodes p n covers.of_nodes out at);
+  windows_agree = λ e at. changes.windows e (outside (page_of_session (length m.contents.cells) (length m.contents.windows)) set (touched m command).elements p e covers.of_elements out at);
+}
+
+-- the pages of cells in a row
+pub AreIn-addresses : (set : List Bool) (base n : ℕ) → ((b : ℕ) → base ≤ b → b < base + n → has set (page_of_cell b) ≡ true) → AreIn page_of_cell set (addresses base n)
+AreIn-addresses set base zero all = tt
+AreIn-addresses set base (suc n) all = (all base (omega arith) (omega arith), AreIn-addresses set (suc base) n (λ b lo hi. all b (omega arith) (omega arith)))
+
+-- the nodes of a list, from where a walk begins
+pub nodes-start : (page : ℕ → ℕ) (nodes : List NodeRecord) (set : List Bool) (at first : ℕ) (left all : List Waiter) → at ≡ first → left ≡ all
+    → AreIn page set (nodes_from nodes at (length left)) → AreIn page set (nodes_from nodes first (length all))
+nodes-start page nodes set at first left all begins is among =
+    subst (λ n. AreIn page set (nodes_from nodes n (length all))) begins (subst (λ ws. AreIn page set (nodes_from nodes at (length ws))) is among)
+
+-- one node more
+pub nodes-more : (page : ℕ → ℕ) (nodes : List NodeRecord) (set : List Bool) (at next : ℕ) (left after : List Waiter) (who : Waiter) → left ≡ who ∷ after → next ≡ next_at nodes at
+    → has set (page at) ≡ true → AreIn page set (nodes_from nodes next (length after)) → AreIn page set (nodes_from nodes at (length left))
+nodes-more page nodes set at next left after who is leads here among =
+    subst (λ ws. AreIn page set (nodes_from nodes at (length ws))) (sym is) (here, subst (λ n. AreIn page set (nodes_from nodes n (length after))) leads among)
+
+pub nodes-end : (page : ℕ → ℕ) (nodes : List NodeRecord) (set : List Bool) (at : ℕ) (left : List Waiter) → left ≡ [] → AreIn page set (nodes_from nodes at (length left))
+nodes-end page nodes set at left none = subst (λ ws. AreIn page set (nodes_from nodes at (length ws))) (sym none) tt
+
+abbrev pub elements_of : List Waiter → List ℕ
+elements_of waiters = map (λ (w : Waiter). w.element) waiters
+
+pub sessions-more : (page : ℕ → ℕ) (set : List Bool) (left after : List Waiter) (who : Waiter) → left ≡ who ∷ after
+    → has set (page who.element) ≡ true → AreIn page set (elements_of after) → AreIn page set (elements_of left)
+sessions-more page set left after who is here among = subst (λ ws. AreIn page set (elements_of ws)) (sym is) (here, among)
+
+pub sessions-end : (page : ℕ → ℕ) (set : List Bool) (left : List Waiter) → left ≡ [] → AreIn page set (elements_of left)
+sessions-end page set left none = subst (λ ws. AreIn page set (elements_of ws)) (sym none) tt
+
+-- the elements of those who get one value
+pub elements-replies : (waiters : List Waiter) (v : ℕ) → elements_in (replies_to waiters v) ≡ elements_of waiters
+elements-replies [] v = refl
+elements-replies (w ∷ ws) v = ap (λ es. w.element ∷ es) (elements-replies ws v)
+
+-- the sessions of those who are told something: of nobody, of readers, of a taker
+pub told-none : (page : ℕ → ℕ) (set : List Bool) (told : List (Waiter × Reply)) → told ≡ [] → AreIn page set (elements_in told)
+told-none page set told none = subst (λ rs. AreIn page set (elements_in rs)) (sym none) tt
+
+pub told-readers : (page : ℕ → ℕ) (set : List Bool) (told : List (Waiter × Reply)) (waiters : List Waiter) (v : ℕ) → told ≡ replies_to waiters v
+    → AreIn page set (elements_of waiters) → AreIn page set (elements_in told)
+told-readers page set told waiters v is among = subst (AreIn page set) (sym (ap elements_in is ∙ elements-replies waiters v)) among
+
+pub told-taker : (page : ℕ → ℕ) (set : List Bool) (told : List (Waiter × Reply)) (w : Waiter) (ws : List Waiter) (v : ℕ) → told ≡ (put v (IsEmpty (w ∷ ws))).resumed
+    → has set (page w.element) ≡ true → AreIn page set (elements_in told)
+told-taker page set told w ws v is here = subst (λ rs. AreIn page set (elements_in rs)) (sym is) (here, tt)
+
+-- an access that may not be made, and one that may
+module _ (kind : Kind) where
+  err-places : (by : CellState → Places) (at : Option Slot) (waiters : List Waiter) (reply : Reply) → access_in kind at ≡ Err reply → places_at kind by (held_of at waiters) ≡ nowhere
+  err-places by None waiters reply e = refl
+  err-places by (Some slot) waiters reply e = by_kind (same_kind kind slot.block.kind) refl e
+    where
+      by_kind : (b : Bool) → same_kind kind slot.block.kind ≡ b → cond b (Ok slot.cell) (Err WrongKind) ≡ Err reply → places_at kind by (held_of (Some slot) waiters) ≡ nowhere
+      by_kind true same told = absurd (cc)
+      by_kind false same told = ap (λ t. cond t (by (state_of slot.cell waiters)) nowhere) same
+
+  err-resumed : (serve : CellState → Served) (cells : List (Option Held)) (a : ℕ) (at : Option Slot) (waiters : List Waiter) (reply : Reply) → access_in kind at ≡ Err reply
+      → (at_cell kind serve cells a (held_of at waiters)).resumed ≡ []
+  err-resumed serve cells a None waiters reply e = refl
+  err-resumed serve cells a (Some slot) waiters reply e = by_kind (same_kind kind slot.block.kind) refl e
+    where
+      by_kind : (b : Bool) → same_kind kind slot.block.kind ≡ b → cond b (Ok slot.cell) (Err WrongKind) ≡ Err reply → (at_cell kind serve cells a (held_of (Some slot) waiters)).resumed ≡ []
+      by_kind true same told = absurd (cc)
+      by_kind false same told = ap (λ t. (cond t (serve_cell cells a slot.block (serve (state_of slot.cell waiters))) (only_tells cells WrongKind)).resumed) same
+
+  ok-kind : (slot : Slot) (cell : Cell) → access_in kind (Some slot) ≡ Ok cell → (same_kind kind slot.block.kind ≡ true) × (slot.cell ≡ cell)
+  ok-kind slot cell e = by_kind (same_kind kind slot.block.kind) refl e
+    where
+      by_kind : (b : Bool) → same_kind kind slot.block.kind ≡ b → cond b (Ok slot.cell) (Err WrongKind) ≡ Ok cell → (same_kind kind slot.block.kind ≡ true) × (slot.cell ≡ cell)
+      by_kind true same told = (same, cc)
+      by_kind false same told = absurd (cc)
+
+  ok-places : (by : CellState → Places) (at : Option Slot) (waiters : List Waiter) (cell : Cell) → access_in kind at ≡ Ok cell → places_at kind by (held_of at waiters) ≡ by (state_of cell waiters)
+  ok-places by None waiters cell e = absurd (cc)
+  ok-places by (Some slot) waiters cell e =
+      let is = ok-kind slot cell e in
+      ap (λ t. cond t (by (state_of slot.cell waiters)) nowhere) is.0 ∙ ap (λ c. by (state_of c waiters)) is.1
+
+  ok-resumed : (serve : CellState → Served) (cells : List (Option Held)) (a : ℕ) (at : Option Slot) (waiters : List Waiter) (cell : Cell) → access_in kind at ≡ Ok cell
+      → (at_cell kind serve cells a (held_of at waiters)).resumed ≡ (serve (state_of cell waiters)).resumed
+  ok-resumed serve cells a None waiters cell e = absurd (cc)
+  ok-resumed serve cells a (Some slot) waiters cell e =
+      let is = ok-kind slot cell e in
+      ap (λ t. (cond t (serve_cell cells a slot.block (serve (state_of slot.cell waiters))) (only_tells cells WrongKind)).resumed) is.0 ∙ ap (λ c. (serve (state_of c waiters)).resumed) is.1
+
+  ok-most : (most : CellState → ℕ) (at : Option Slot) (waiters : List Waiter) (cell : Cell) → access_in kind at ≡ Ok cell → most_at kind most (held_of at waiters) ≡ most (state_of cell waiters)
+  ok-most most None waiters cell e = absurd (cc)
+  ok-most most (Some slot) waiters cell e =
+      let is = ok-kind slot cell e in
+      ap (λ t. cond t (most (state_of slot.cell waiters)) 0) is.0 ∙ ap (λ c. most (state_of c waiters)) is.1
+
+  ok-waits : (at : Option Slot) (cell : Cell) → access_in kind at ≡ Ok cell → is_waiting at ≡ is_waiting_cell cell
+  ok-waits None cell e = absurd (cc)
+  ok-waits (Some slot) cell e = ap is_waiting_cell (ok-kind slot cell e).1
+
+some_first : (waiters : List Waiter) → has_some waiters ≡ true → (w : Waiter) × (ws : List Waiter) × (waiters ≡ w ∷ ws)
+some_first [] e = absurd (cc)
+some_first (w ∷ ws) e = (w, ws, refl)
+
+module _ (kind : Kind) (slots : List (Option Slot)) (arena : Shown) (a : ℕ) where
+  abbrev cells : List (Option Held)
+  cells = cells_of slots arena
+
+  abbrev waiters : List Waiter
+  waiters = list_at arena.held a
+
+  pub HasPlaces-err : (n : ℕ) (by : CellState → Places) (set : List Bool) (reply : Reply) → access_in kind (slot_at slots a) ≡ Err reply → HasPlaces n (places_at kind by (held_at cells a)) set
+  HasPlaces-err n by set reply e =
+      subst (λ p. HasPlaces n p set) (sym (ap (places_at kind by) (held_at-cells slots arena a) ∙ err-places kind by (slot_at slots a) waiters reply e)) (record { of_cells = tt; of_nodes = tt })
+
+  pub HasPlaces-ok : (n : ℕ) (by : CellState → Places) (set : List Bool) (cell : Cell) → access_in kind (slot_at slots a) ≡ Ok cell
+      → HasPlaces n (by (state_of cell waiters)) set → HasPlaces n (places_at kind by (held_at cells a)) set
+  HasPlaces-ok n by set cell e it =
+      subst (λ p. HasPlaces n p set) (sym (ap (places_at kind by) (held_at-cells slots arena a) ∙ ok-places kind by (slot_at slots a) waiters cell e)) it
+
+  pub resumed-err : (serve : CellState → Served) (reply : Reply) → access_in kind (slot_at slots a) ≡ Err reply → (at_cell kind serve cells a (held_at cells a)).resumed ≡ []
+  resumed-err serve reply e = ap (λ h. (at_cell kind serve cells a h).resumed) (held_at-cells slots arena a) ∙ err-resumed kind serve cells a (slot_at slots a) waiters reply e
+
+  pub resumed-ok : (serve : CellState → Served) (cell : Cell) → access_in kind (slot_at slots a) ≡ Ok cell
+      → (at_cell kind serve cells a (held_at cells a)).resumed ≡ (serve (state_of cell waiters)).resumed
+  resumed-ok serve cell e = ap (λ h. (at_cell kind serve cells a h).resumed) (held_at-cells slots arena a) ∙ ok-resumed kind serve cells a (slot_at slots a) waiters cell e
+
+  pub most-ok : (most : CellState → ℕ) (cell : Cell) → access_in kind (slot_at slots a) ≡ Ok cell → most_at kind most (held_at cells a) ≡ most (state_of cell waiters)
+  most-ok most cell e = ap (most_at kind most) (held_at-cells slots arena a) ∙ ok-most kind most (slot_at slots a) waiters cell e
+
+  -- nobody is on the list of a cell that doesn't wait, and somebody on that of one that does
+  pub nobody : (cell : Cell) → access_in kind (slot_at slots a) ≡ Ok cell → Agree slots arena → is_waiting_cell cell ≡ false → waiters ≡ []
+  nobody cell e agree quiet = no_list waiters (sym (agree.each a) ∙ ok-waits kind (slot_at slots a) cell e ∙ quiet)
+
+  pub somebody : access_in kind (slot_at slots a) ≡ Ok Waiting → Agree slots arena → (w : Waiter) × (ws : List Waiter) × (waiters ≡ w ∷ ws)
+  somebody e agree = some_first waiters (sym (agree.each a) ∙ ok-waits kind (slot_at slots a) Waiting e)
+
+  -- who isn't there was refused
+  pub no_cell : (serve : CellState → Served) → ((state : CellState) → (serve state).entry ≡ Answered NoCell → ⊥)
+      → (at_cell kind serve cells a (held_at cells a)).entry ≡ Answered NoCell → (reply : Reply) × (access_in kind (slot_at slots a) ≡ Err reply)
+  no_cell serve never e = elim (look slots arena kind a) [
+    | refused reply refuses nothing tells ↦ (reply, refuses)
+    | there slot is by does ↦ absurd (never (state_of slot.cell waiters) (sym (ap (λ (x : ActedCells). x.entry) (does serve)) ∙ e))
+  ]
+
+-- where a request waits
+pub HasPlaces-behind : (n spare last a : ℕ) (waiters : List Waiter) (set : List Bool) → has set (page_of_cell a) ≡ true → has set (page_of_node n spare) ≡ true
+    → ((w : Waiter) (ws : List Waiter) → waiters ≡ w ∷ ws → has set (page_of_node n last) ≡ true) → HasPlaces n (record { cells = a ∷ []; nodes = nodes_behind spare last waiters }) set
+HasPlaces-behind n spare last a [] set cell free before = record { of_cells = (cell, tt); of_nodes = (free, tt) }
+HasPlaces-behind n spare last a (w ∷ ws) set cell free before = record { of_cells = (cell, tt); of_nodes = (free, (before w ws refl, tt)) }
+
+module _ (slots : List (Option Slot)) (arena : Shown) (agree : Agree slots arena) (a n : ℕ) (set : List Bool) (cell_in : has set (page_of_cell a) ≡ true) where
+  abbrev last : ℕ
+  last = last_at (rows_of slots arena) a
+
+  abbrev first : ℕ
+  first = first_at (rows_of slots arena) a
+
+  -- who finds no value
+  module _ (spare_in : has set (page_of_node n arena.links.spare) ≡ true) (last_in_set : has set (page_of_node n (last_in (ends_at arena.links a))) ≡ true) where
+    behind : HasPlaces n (record { cells = a ∷ []; nodes = nodes_behind arena.links.spare last (list_at arena.held a) }) set
+    behind = HasPlaces-behind n arena.links.spare last a (list_at arena.held a) set cell_in spare_in
+        (λ w ws is. subst (λ m. has set (page_of_node n m) ≡ true) (sym (named slots arena agree a w ws is).1) last_in_set)
+
+    pub fetch-open : (cell : Cell) → ((v : ℕ) → cell ≡ Full v → ⊥) → ((v : ℕ) → cell ≡ Clashed v → ⊥) → HasPlaces n (by_fetch arena.links.spare last a (state_of cell (list_at arena.held a))) set
+    fetch-open Empty full clashed = behind
+    fetch-open Waiting full clashed = behind
+    fetch-open (Full v) full clashed = absurd (full v refl)
+    fetch-open (Clashed v) full clashed = absurd (clashed v refl)
+
+    pub take-open : (cell : Cell) → ((v : ℕ) → cell ≡ Full v → ⊥) → ((v : ℕ) → cell ≡ Clashed v → ⊥) → HasPlaces n (by_take arena.links.spare last a (state_of cell (list_at arena.held a))) set
+    take-open Empty full clashed = behind
+    take-open Waiting full clashed = behind
+    take-open (Full v) full clashed = absurd (full v refl)
+    take-open (Clashed v) full clashed = absurd (clashed v refl)
+
+  -- a store to a cell that waits, and to any other
+  pub store-readers : AreIn (page_of_node n) set (nodes_from arena.links.records (first_in (ends_at arena.links a)) (length (list_at arena.held a)))
+      → HasPlaces n (by_store arena.links.records first a (IsEmpty (list_at arena.held a))) set
+  store-readers among = record { of_cells = (cell_in, tt); of_nodes = by_list (list_at arena.held a) refl among }
+    where
+      by_list : (ws : List Waiter) → list_at arena.held a ≡ ws → AreIn (page_of_node n) set (nodes_from arena.links.records (first_in (ends_at arena.links a)) (length ws))
+          → AreIn (page_of_node n) set (nodes_from arena.links.records first (length ws))
+      by_list [] is among = tt
+      by_list (w ∷ ws) is among = subst (λ m. AreIn (page_of_node n) set (nodes_from arena.links.records m (length (w ∷ ws)))) (sym (named slots arena agree a w ws is).0) among
+
+  pub store-other : (cell : Cell) → cell ≢ Waiting → (is_waiting_cell cell ≡ false → list_at arena.held a ≡ []) → HasPlaces n (by_store arena.links.records first a (state_of cell (list_at arena.held a))) set
+  store-other Empty other none = subst (λ ws. HasPlaces n (by_store arena.links.records first a (IsEmpty ws)) set) (sym (none refl)) (record { of_cells = (cell_in, tt); of_nodes = tt })
+  store-other Waiting other none = absurd (other refl)
+  store-other (Full v) other none = record { of_cells = (cell_in, tt); of_nodes = tt }
+  store-other (Clashed v) other none = record { of_cells = (cell_in, tt); of_nodes = tt }
+
+  -- a put to a cell that waits, and to any other
+  pub put-taker : has set (page_of_node n (first_in (ends_at arena.links a))) ≡ true → HasPlaces n (by_put first a (IsEmpty (list_at arena.held a))) set
+  put-taker begins = by_list (list_at arena.held a) refl
+    where
+      by_list : (ws : List Waiter) → list_at arena.held a ≡ ws → HasPlaces n (by_put first a (IsEmpty ws)) set
+      by_list [] is = record { of_cells = (cell_in, tt); of_nodes = tt }
+      by_list (w ∷ ws) is = record { of_cells = (cell_in, tt); of_nodes = (subst (λ m. has set (page_of_node n m) ≡ true) (sym (named slots arena agree a w ws is).0) begins, tt) }
+
+  pub put-other : (cell : Cell) → cell ≢ Waiting → (is_waiting_cell cell ≡ false → list_at arena.held a ≡ []) → HasPlaces n (by_put first a (state_of cell (list_at arena.held a))) set
+  put-other Empty other none = subst (λ ws. HasPlaces n (by_put first a (IsEmpty ws)) set) (sym (none refl)) (record { of_cells = (cell_in, tt); of_nodes = tt })
+  put-other Waiting other none = absurd (other refl)
+  put-other (Full v) other none = record { of_cells = (cell_in, tt); of_nodes = tt }
+  put-other (Clashed v) other none = record { of_cells = (cell_in, tt); of_nodes = tt }
+
+-- who is resumed where nobody waits
+pub store-nobody : (v : ℕ) (cell : Cell) (ws : List Waiter) → ws ≡ [] → (store v (state_of cell ws)).resumed ≡ []
+store-nobody v Empty ws none = ap (λ xs. replies_to xs v) none
+store-nobody v Waiting ws none = ap (λ xs. replies_to xs v) none
+store-nobody v (Full w) ws none = refl
+store-nobody v (Clashed w) ws none = refl
+
+pub put-nobody : (v : ℕ) (cell : Cell) (ws : List Waiter) → ws ≡ [] → (put v (state_of cell ws)).resumed ≡ []
+put-nobody v Empty ws none = ap (λ xs. (put v (IsEmpty xs)).resumed) none
+put-nobody v Waiting ws none = ap (λ xs. (put v (IsEmpty xs)).resumed) none
+put-nobody v (Full w) ws none = refl
+put-nobody v (Clashed w) ws none = refl
+
+pub quiet-cell : (cell : Cell) → cell ≢ Waiting → is_waiting_cell cell ≡ false
+quiet-cell Empty other = refl
+quiet-cell Waiting other = absurd (other refl)
+quiet-cell (Full v) other = refl
+quiet-cell (Clashed v) other = refl
+
+pub most-store-one : (all : ℕ) (cell : Cell) (ws : List Waiter) → ws ≡ [] → most_by_store all (state_of cell ws) ≡ 1
+most-store-one all Empty ws none = ap (λ xs. most_by_store all (IsEmpty xs)) none
+most-store-one all Waiting ws none = ap (λ xs. most_by_store all (IsEmpty xs)) none
+most-store-one all (Full v) ws none = refl
+most-store-one all (Clashed v) ws none = refl
+
+pub fetch-tells : (who : Waiter) (state : CellState) → (fetch who state).entry ≡ Answered NoCell → ⊥
+fetch-tells who (IsEmpty ws) e = cc
+fetch-tells who (IsFull v) e = cc
+fetch-tells who (IsClashed v) e = cc
+
+pub take-tells : (who : Waiter) (state : CellState) → (take_from who state).entry ≡ Answered NoCell → ⊥
+take-tells who (IsEmpty ws) e = cc
+take-tells who (IsFull v) e = cc
+take-tells who (IsClashed v) e = cc
+
+pub store-tells : (v : ℕ) (state : CellState) → (store v state).entry ≡ Answered NoCell → ⊥
+store-tells v (IsEmpty ws) e = cc
+store-tells v (IsFull w) e = cc
+store-tells v (IsClashed w) e = cc
+
+pub put-tells : (v : ℕ) (state : CellState) → (put v state).entry ≡ Answered NoCell → ⊥
+put-tells v (IsEmpty []) e = cc
+put-tells v (IsEmpty (w ∷ ws)) e = cc
+put-tells v (IsFull w) e = cc
+put-tells v (IsClashed w) e = cc
+
+-- the pages of a request, from those of its operation
+module _ (slots : List (Option Slot)) (arena : Shown) (windows : List Window) (r : Request) (set : List Bool) (lists : length arena.held.lists ≡ length slots) where
+  pub covers-request : HasPlaces (length arena.held.lists) (places_in slots arena r.op) set
+      → has set (page_of_session (length arena.held.lists) (length windows) r.element) ≡ true
+      → AreIn (page_of_session (length arena.held.lists) (length windows)) set (elements_in (act (cells_of slots arena) (asker r) r.op).resumed)
+      → Covers (memory_of slots arena windows) (Asks r) set
+  covers-request has_places own told =
+      subst (λ n. HasPages n (length windows) (touched (memory_of slots arena windows) (Asks r)) set) (lists ∙ sym (length-cells slots arena))
+      (subst (λ p. HasPages (length arena.held.lists) (length windows) (touched_in p (r.element ∷ elements_in (act (cells_of slots arena) (asker r) r.op).resumed)) set) (sym (places-rows slots arena windows r.op))
+      (record { of_cells = has_places.of_cells; of_nodes = has_places.of_nodes; of_elements = (own, told) }))
+
+-- the cells of a block that is released, and of none
+module _ (slots : List (Option Slot)) (arena : Shown) (a n : ℕ) (set : List Bool) where
+  pub release-block : (block : Block) → Some block ≡ block_at slots a → block.base ≡ a → AreIn page_of_cell set (addresses block.base block.length)
+      → HasPlaces n (places_in slots arena (Release a)) set
+  release-block block e base among = subst (λ o. HasPlaces n (places_of o) set) (found-base slots arena a block e base) (record { of_cells = among; of_nodes = tt })
+
+  pub release-inner : (block : Block) → Some block ≡ block_at slots a → block.base ≢ a → HasPlaces n (places_in slots arena (Release a)) set
+  release-inner block e base =
+      let t : (block.base == a) ≡ false = grind (arith, nat_tests) in
+      let none : None ≡ block_with_base a (held_at (cells_of slots arena) a) =
+      sym (with_base-cells slots arena a ∙ ap (slot_with_base a) (sym e) ∙ ap (λ b. cond b (Some block) None) t) in
+      subst (λ o. HasPlaces n (places_of o) set) none (record { of_cells = tt; of_nodes = tt })
+
+  pub release-none : None ≡ block_at slots a → HasPlaces n (places_in slots arena (Release a)) set
+  release-none e = subst (λ o. HasPlaces n (places_of o) set) (sym (with_base-cells slots arena a ∙ ap (slot_with_base a) (sym e))) (record { of_cells = tt; of_nodes = tt })
+
+-- the cells of a new block, and of none
+module _ (slots : List (Option Slot)) (arena : Shown) (kind : Kind) (length n : ℕ) (set : List Bool) where
+  pub alloc-block : (base : ℕ) → Some base ≡ place length slots → AreIn page_of_cell set (addresses base length) → HasPlaces n (places_in slots arena (Alloc kind length)) set
+  alloc-block base e among = subst (λ o. HasPlaces n (places_from length o) set) (e ∙ sym (place-cells slots arena length)) (record { of_cells = among; of_nodes = tt })
+
+  pub alloc-none : None ≡ place length slots → HasPlaces n (places_in slots arena (Alloc kind length)) set
+  alloc-none e = subst (λ o. HasPlaces n (places_from length o) set) (e ∙ sym (place-cells slots arena length)) (record { of_cells = tt; of_nodes = tt })
