@@ -6,7 +6,7 @@ use Rattle.im_types.specs.Contents.{Contents}
 use Rattle.im_types.specs.Step.{step, is_accepted}
 use Rattle.im_types.specs.Slot.{sequence_of}
 use Rattle.im_types.specs.Journal.{Ring, Tail, slot, tail}
-use Rattle.im_types.specs.Layout.{layout_in_use, area_at, area_bytes, journal_at, image_length, ring_of}
+use Rattle.im_types.specs.Layout.{layout_in_use, area_at, area_bytes, area_of, journal_at, image_length, ring_of}
 use Rattle.im_types.specs.Header.{Header, header_place, is_open_header, generation_in}
 use Rattle.im_types.specs.Meaning.{Reads, accept_each}
 use Rattle.im_disk.specs.Since.{SameBut}
@@ -16,10 +16,9 @@ use Rattle.im_journal.proofs.Tails.{tail_elsewhere}
 use Rattle.im_meaning.specs.Images.{other, IsBelow, IsImage}
 use Rattle.im_meaning.proofs.Meanings.{image_reads}
 use Rattle.im_meaning.proofs.Writes.{write_in_other_area, write_in_other_header, write_behind_closed_gate, write_lower_gate}
-use Rattle.im_checkpoint.specs.Step.{Step, CheckpointState}
-use Rattle.im_checkpoint.specs.Keeping.{MeansWith, other_area, KeepsStep, Keeps}
+use Rattle.im_checkpoint.specs.Keeping.{MeansWith, other_area, Keeps}
 use Rattle.im_checkpoint.proofs.Bytes.{range_byte, range_length, range_outside}
-use Rattle.im_checkpoint.proofs.Headers.{IsGood, good, area_from, area_to, place_to}
+use Rattle.im_checkpoint.proofs.Headers.{IsGood, good, area_from, area_to, area_before, place_to}
 
 -- commands that are accepted, from a later one on
 pub accept_later : (k : ℕ) (shown taken m : Contents) (commands : List Command) → accept_each shown (take k commands) ≡ Some taken → accept_each shown commands ≡ Some m → accept_each taken (drop k commands) ≡ Some m
@@ -70,11 +69,11 @@ means_of h m j shown commands there file image accepts count enough = (
 pub gate_is : (k : ℕ) (file : List ℕ) → is_open_header (header_place k file) ≡ (get_or file (4096 * k) 0 == open_gate)
 gate_is k file = ap (λ (b : ℕ). b == open_gate) (range_byte file (4096 * k) (4096 * k + 64) 0 (omega arith) ∙ ap (λ (n : ℕ). get_or file n 0) (omega arith))
 
-module _ (c : CheckpointState) (m : Contents) (j : JournalState) (file : List ℕ) (it : Keeps c m j file) where
-  pub facts : IsGood c.header
-  facts = good c.header file it.image.in_force
+module _ (h : Header) (m : Contents) (j : JournalState) (file : List ℕ) (it : Keeps h m j file) where
+  pub facts : IsGood h
+  facts = good h file it.image.in_force
 
-  pub some : 0 < c.header.sizes.slots
+  pub some : 0 < h.sizes.slots
   some = omega (arith, facts.limits.enough_slots)
 
   some_slots : 0 < j.ring.slots
@@ -84,36 +83,36 @@ module _ (c : CheckpointState) (m : Contents) (j : JournalState) (file : List �
   pub enough : j.room ≤ it.there
   enough =
       let held : Holds j file = it.journal in
-      let read : tail (ring_of layout_in_use c.header.sizes) c.header.count file ≡ Some (record { commands = held.commands; room = held.there }) =
-      subst (λ (n : ℕ). tail (ring_of layout_in_use c.header.sizes) n file ≡ Some (record { commands = held.commands; room = held.there })) it.first
+      let read : tail (ring_of layout_in_use h.sizes) h.count file ≡ Some (record { commands = held.commands; room = held.there }) =
+      subst (λ (n : ℕ). tail (ring_of layout_in_use h.sizes) n file ≡ Some (record { commands = held.commands; room = held.there })) it.first
       (subst (λ (r : Ring). tail r j.first file ≡ Some (record { commands = held.commands; room = held.there })) it.ring held.reads) in
       omega (arith, held.enough, ap room_in (sym read ∙ it.image.journal))
 
-  pub size : length file ≡ image_length layout_in_use c.header.sizes
+  pub size : length file ≡ image_length layout_in_use h.sizes
   size = it.image.in_force.size
 
-  other_from : 8192 ≤ area_at layout_in_use c.header.sizes (other c.header)
-  other_from = area_from (area_bytes layout_in_use c.header.sizes) (1 - c.header.area)
+  other_from : 8192 ≤ area_at layout_in_use h.sizes (other h)
+  other_from = area_from (area_bytes layout_in_use h.sizes) (1 - h.area)
 
-  other_to : area_at layout_in_use c.header.sizes (other c.header) + area_bytes layout_in_use c.header.sizes ≤ journal_at layout_in_use c.header.sizes
-  other_to = area_to (area_bytes layout_in_use c.header.sizes) c.header.area
+  other_to : area_at layout_in_use h.sizes (other h) + area_bytes layout_in_use h.sizes ≤ journal_at layout_in_use h.sizes
+  other_to = area_to (area_bytes layout_in_use h.sizes) h.area
 
-  base_is : j.ring.base ≡ journal_at layout_in_use c.header.sizes
+  base_is : j.ring.base ≡ journal_at layout_in_use h.sizes
   base_is = ap (λ (r : Ring). r.base) it.ring
 
   -- another file with the same image and the same journal
   pub record Still (d : List ℕ) : Type 0 where
-    pub image : IsImage layout_in_use c.header it.shown it.commands it.there d
+    pub image : IsImage layout_in_use h it.shown it.commands it.there d
     pub journal : Holds j d
 
   pub still_means : (d : List ℕ) → Still d → MeansWith m j d
-  still_means d s = means_of c.header m j it.shown it.commands it.there d s.image it.accepts it.count enough
+  still_means d s = means_of h m j it.shown it.commands it.there d s.image it.accepts it.count enough
 
   pub still_itself : Still file
   still_itself = record { image = it.image; journal = it.journal }
 
-  pub keeps_at : (next : Step) (d : List ℕ) → Still d → KeepsStep c.header it.shown it.commands next d → Keeps (record { header = c.header; step = next }) m j d
-  keeps_at next d s step_is = record {
+  abbrev pub keeps_at : (d : List ℕ) → Still d → Keeps h m j d
+  keeps_at d s = record {
     shown = it.shown;
     commands = it.commands;
     there = it.there;
@@ -123,14 +122,13 @@ module _ (c : CheckpointState) (m : Contents) (j : JournalState) (file : List �
     ring = it.ring;
     first = it.first;
     journal = s.journal;
-    step = step_is;
   }
 
   -- what is written in the area that isn't in force
-  pub still_in_area : (at n : ℕ) (d : List ℕ) → SameBut at n file d → area_at layout_in_use c.header.sizes (other c.header) ≤ at
-      → at + n ≤ area_at layout_in_use c.header.sizes (other c.header) + area_bytes layout_in_use c.header.sizes → Still d
+  pub still_in_area : (at n : ℕ) (d : List ℕ) → SameBut at n file d → area_at layout_in_use h.sizes (other h) ≤ at
+      → at + n ≤ area_at layout_in_use h.sizes (other h) + area_bytes layout_in_use h.sizes → Still d
   still_in_area at n d but from to = record {
-    image = write_in_other_area layout_in_use c.header it.shown it.commands it.there file d at n it.image but some from to;
+    image = write_in_other_area layout_in_use h it.shown it.commands it.there file d at n it.image but some from to;
     journal = holds_behind j at n file d some_slots (omega (arith, to, other_to, base_is)) but it.journal;
   }
 
@@ -139,42 +137,42 @@ module _ (c : CheckpointState) (m : Contents) (j : JournalState) (file : List �
   holds_still at n d but to = holds_behind j at n file d some_slots (omega (arith, to, other_from, other_to, base_is)) but it.journal
 
   -- what is written in the place of the other header
-  still_in_header : (at n : ℕ) (d : List ℕ) → SameBut at n file d → at + n ≤ 4096 * other c.header + 64 → IsImage layout_in_use c.header it.shown it.commands it.there d → Still d
+  still_in_header : (at n : ℕ) (d : List ℕ) → SameBut at n file d → at + n ≤ 4096 * other h + 64 → IsImage layout_in_use h it.shown it.commands it.there d → Still d
   still_in_header at n d but to image = record {
     image = image;
-    journal = holds_still at n d but (omega (arith, to, place_to c.header.area));
+    journal = holds_still at n d but (omega (arith, to, place_to h.area));
   }
 
   -- and its gate is closed then
-  pub still_shut : (d : List ℕ) → is_open_header (header_place (other c.header) d) ≡ false → SameBut (4096 * other c.header) 64 file d → Still d
-  still_shut d closed but = still_in_header (4096 * other c.header) 64 d but (omega arith)
-      (write_in_other_header layout_in_use c.header it.shown it.commands it.there file d (4096 * other c.header) 64 it.image but some (omega arith) (omega arith) (inl closed))
+  pub still_shut : (d : List ℕ) → is_open_header (header_place (other h) d) ≡ false → SameBut (4096 * other h) 64 file d → Still d
+  still_shut d closed but = still_in_header (4096 * other h) 64 d but (omega arith)
+      (write_in_other_header layout_in_use h it.shown it.commands it.there file d (4096 * other h) 64 it.image but some (omega arith) (omega arith) (inl closed))
 
-  pub still_behind_gate : (d : List ℕ) → is_open_header (header_place (other c.header) file) ≡ false → SameBut (4096 * other c.header + 1) 63 file d → Still d
-  still_behind_gate d closed but = still_in_header (4096 * other c.header + 1) 63 d but (omega arith)
-      (write_behind_closed_gate layout_in_use c.header it.shown it.commands it.there file d (4096 * other c.header + 1) 63 it.image but some (omega arith) (omega arith) (omega arith) closed)
+  pub still_behind_gate : (d : List ℕ) → is_open_header (header_place (other h) file) ≡ false → SameBut (4096 * other h + 1) 63 file d → Still d
+  still_behind_gate d closed but = still_in_header (4096 * other h + 1) 63 d but (omega arith)
+      (write_behind_closed_gate layout_in_use h it.shown it.commands it.there file d (4096 * other h + 1) 63 it.image but some (omega arith) (omega arith) (omega arith) closed)
 
   -- the gate of a header that is open is of a lower generation
-  pub still_gate : (d : List ℕ) → is_open_header (header_place (other c.header) file) ≡ true → SameBut (4096 * other c.header) 1 file d → Still d
-  still_gate d opened but = still_in_header (4096 * other c.header) 1 d but (omega arith)
-      (write_lower_gate layout_in_use c.header it.shown it.commands it.there file d (4096 * other c.header) 1 it.image but some (omega arith) (omega arith) (omega arith) (by_below it.image.in_force.below))
+  pub still_gate : (d : List ℕ) → is_open_header (header_place (other h) file) ≡ true → SameBut (4096 * other h) 1 file d → Still d
+  still_gate d opened but = still_in_header (4096 * other h) 1 d but (omega arith)
+      (write_lower_gate layout_in_use h it.shown it.commands it.there file d (4096 * other h) 1 it.image but some (omega arith) (omega arith) (omega arith) (by_below it.image.in_force.below))
     where
       clash : (b : Bool) → b ≡ true → b ≡ false → ⊥
       clash b is isnt = absurd (cc)
 
-      by_below : IsBelow c.header.generation (header_place (other c.header) file) → generation_in (header_place (other c.header) file) < c.header.generation
+      by_below : IsBelow h.generation (header_place (other h) file) → generation_in (header_place (other h) file) < h.generation
       by_below (inl closed) = absurd (clash _ opened closed)
       by_below (inr lower) = lower
 
   -- the area is as long as its pages
-  pub area_fits : area_at layout_in_use c.header.sizes (other c.header) + area_bytes layout_in_use c.header.sizes ≤ length file
+  pub area_fits : area_at layout_in_use h.sizes (other h) + area_bytes layout_in_use h.sizes ≤ length file
   area_fits = omega (arith, other_to, size)
 
-  pub area_length : length (other_area c.header file) ≡ area_bytes layout_in_use c.header.sizes
-  area_length = range_length file (area_at layout_in_use c.header.sizes (other c.header)) (area_at layout_in_use c.header.sizes (other c.header) + area_bytes layout_in_use c.header.sizes) (omega arith) area_fits
+  pub area_length : length (other_area h file) ≡ area_bytes layout_in_use h.sizes
+  area_length = range_length file (area_at layout_in_use h.sizes (other h)) (area_at layout_in_use h.sizes (other h) + area_bytes layout_in_use h.sizes) (omega arith) area_fits
       ∙ omega arith
 
-  -- the headers' places aren't of the area
-  pub area_stays : (at n : ℕ) (d : List ℕ) → SameBut at n file d → at + n ≤ 8192 → other_area c.header d ≡ other_area c.header file
-  area_stays at n d but to = range_outside at n (area_at layout_in_use c.header.sizes (other c.header)) (area_at layout_in_use c.header.sizes (other c.header) + area_bytes layout_in_use c.header.sizes) file d but
-      (omega arith) area_fits (inr (omega (arith, to, other_from)))
+  -- the headers' places aren't of the areas
+  pub area_stays : (k at n : ℕ) (d : List ℕ) → SameBut at n file d → at + n ≤ 8192 → k ≤ 1 → area_of layout_in_use h.sizes k d ≡ area_of layout_in_use h.sizes k file
+  area_stays k at n d but to low = range_outside at n (area_at layout_in_use h.sizes k) (area_at layout_in_use h.sizes k + area_bytes layout_in_use h.sizes) file d but
+      (omega arith) (omega (arith, size, area_before (area_bytes layout_in_use h.sizes) k low)) (inr (omega (arith, to, area_from (area_bytes layout_in_use h.sizes) k)))

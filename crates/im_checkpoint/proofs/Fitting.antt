@@ -6,8 +6,8 @@ use Rattle.im_types.specs.Contents.{Contents}
 use Rattle.im_types.specs.Header.{Header}
 use Rattle.im_journal.specs.Holding.{JournalState, to_sweep, with_room}
 use Rattle.im_checkpoint.specs.declared.checkpoint.TurnDone.{TurnDone}
-use Rattle.im_checkpoint.specs.Step.{Taken, Step, NoCheckpoint, PagesLeft, PagesDone, Synced, CheckpointState, IsUnderWay, with_left, all_pages, turns_left}
-use Rattle.im_checkpoint.specs.Turns.{Turned, is_due, next_header}
+use Rattle.im_checkpoint.specs.Step.{Step, NoCheckpoint, PagesLeft, PagesDone, Synced, CheckpointState, PagedCheckpoint, IsUnderWay, with_left, turns_left}
+use Rattle.im_checkpoint.specs.Turns.{Turned, Moved, is_due, next_header}
 use Rattle.im_checkpoint.specs.Keeping.{IsBetween, StepFits, Fits, ComesTo}
 
 -- where a call is done, what follows from it
@@ -15,13 +15,13 @@ pub once_more : {T E : Type 0} {P Q : T → Type 0} (r : Result T E) → IfOk r 
 once_more (Ok x) p then = then x p
 once_more (Err e) p then = tt
 
-by_left : (h : Header) (j : JournalState) (taken : Taken) (left : List ℕ) → IsBetween h j taken → StepFits h j (with_left taken left)
-by_left h j taken [] between = between
-by_left h j taken (page ∷ left) between = between
+by_left : (h : Header) (j : JournalState) (count : ℕ) (left : List ℕ) → IsBetween h j count → StepFits h j (with_left count left)
+by_left h j count [] between = between
+by_left h j count (page ∷ left) between = between
 
-turns_with : (taken : Taken) (left : List ℕ) → turns_left (with_left taken left) ≡ length left + 2
-turns_with taken [] = omega arith
-turns_with taken (page ∷ left) = refl
+pub turns_with : (count : ℕ) (left : List ℕ) → turns_left (with_left count left) ≡ length left + 2
+turns_with count [] = omega arith
+turns_with count (page ∷ left) = refl
 
 one_less : (n turns : ℕ) → turns ≡ n + 2 → suc n + 2 ≡ turns + 1
 one_less n turns is = omega (arith, is)
@@ -37,7 +37,13 @@ pub none_or_some : (n : ℕ) → (n ≡ 0) ⊎ (0 < n)
 none_or_some zero = inl refl
 none_or_some (suc n) = inr (omega arith)
 
-module _ (old : CheckpointState) (j : JournalState) (m : Contents) (answer : TurnDone) (new : CheckpointState) (k : JournalState) (turned : Turned old j m answer new k) (fits : Fits old m j) where
+module _ (before : PagedCheckpoint) (j : JournalState) (m : Contents) (answer : TurnDone) (after : PagedCheckpoint) (k : JournalState) (turned : Turned before.state j answer after.state k) (moved : Moved before answer after) (fits : Fits before.state m j) where
+  abbrev old : CheckpointState
+  old = before.state
+
+  abbrev new : CheckpointState
+  new = after.state
+
   -- of the same header
   with_step : (s : Step) → StepFits old.header j s → new ≡ record { header = old.header; step = s } → k ≡ j → Fits new m k
   with_step s step_is is same = subst (λ (x : CheckpointState). Fits x m k) (sym is) (subst (λ (x : JournalState). Fits (record { header = old.header; step = s }) m x) (sym same) (record {
@@ -50,9 +56,10 @@ module _ (old : CheckpointState) (j : JournalState) (m : Contents) (answer : Tur
 
   -- no checkpoint is under way
   module _ (is : old.step ≡ NoCheckpoint) where
-    comes : k.count ≡ j.count → Fits new m k → ComesTo old j m answer new k
+    comes : k.count ≡ j.count → Fits new m k → ComesTo before j m answer after k
     comes same it = record {
       turned = turned;
+      moved = moved;
       nearer = λ under. absurd (subst IsUnderWay is under);
       count = same;
       fits = it;
@@ -67,48 +74,50 @@ module _ (old : CheckpointState) (j : JournalState) (m : Contents) (answer : Tur
       step = subst (λ (s : Step). StepFits old.header (with_room j n) s) (sym is) tt;
     }
 
-    comes_swept : 0 < to_sweep j → ComesTo old j m answer new k
+    comes_swept : 0 < to_sweep j → ComesTo before j m answer after k
     comes_swept some = let row = turned.swept is some in
         comes (ap (λ (x : JournalState). x.count) row.2) (subst (λ (x : CheckpointState). Fits x m k) (sym row.1) (subst (λ (x : JournalState). Fits old m x) (sym row.2) (swept_fits _)))
 
-    comes_began : to_sweep j ≡ 0 → is_due old.header j ≡ true → ComesTo old j m answer new k
+    comes_began : to_sweep j ≡ 0 → is_due old.header j ≡ true → ComesTo before j m answer after k
     comes_began none due =
         let row = turned.began is none due in
         let began = row.1 in
-        let taken : Taken = record { count = j.count; area = began.area } in
         comes (ap (λ (x : JournalState). x.count) row.2)
-        (with_step (PagesLeft taken (all_pages old.header.sizes)) (record { from = due_before old.header.count j.count _ due; to = omega arith }) began.state row.2)
+        (with_step (with_left j.count began.left) (by_left old.header j j.count began.left (record { from = due_before old.header.count j.count _ due; to = omega arith })) began.state row.2)
 
-    comes_idle : to_sweep j ≡ 0 → is_due old.header j ≡ false → ComesTo old j m answer new k
+    comes_idle : to_sweep j ≡ 0 → is_due old.header j ≡ false → ComesTo before j m answer after k
     comes_idle none not = let row = turned.idle is none not in
         comes (ap (λ (x : JournalState). x.count) row.2) (subst (λ (x : CheckpointState). Fits x m k) (sym row.1) (subst (λ (x : JournalState). Fits old m x) (sym row.2) fits))
 
-    pub comes_rest : ComesTo old j m answer new k
+    pub comes_rest : ComesTo before j m answer after k
     comes_rest = ⊎_elim (λ none. ⊎_elim (comes_began none) (comes_idle none) (true_or_false (is_due old.header j))) comes_swept (none_or_some (to_sweep j))
 
-  module _ (taken : Taken) where
-    pub comes_page : (i : ℕ) (left : List ℕ) → old.step ≡ PagesLeft taken (i ∷ left) → ComesTo old j m answer new k
-    comes_page i left is = let row = turned.page taken i left is in record {
+  module _ (count : ℕ) where
+    pub comes_page : (i : ℕ) (left : List ℕ) → old.step ≡ PagesLeft count (i ∷ left) → ComesTo before j m answer after k
+    comes_page i left is = let row = turned.page count i left is in record {
       turned = turned;
-      nearer = λ under. ap turns_left is ∙ one_less (length left) (turns_left (with_left taken left)) (turns_with taken left) ∙ sym (ap (λ (x : CheckpointState). turns_left x.step + 1) row.1);
+      moved = moved;
+      nearer = λ under. ap turns_left is ∙ one_less (length left) (turns_left (with_left count left)) (turns_with count left) ∙ sym (ap (λ (x : CheckpointState). turns_left x.step + 1) row.1);
       count = ap (λ (x : JournalState). x.count) row.2;
-      fits = with_step (with_left taken left) (by_left old.header j taken left (subst (λ (s : Step). StepFits old.header j s) is fits.step)) row.1 row.2;
+      fits = with_step (with_left count left) (by_left old.header j count left (subst (λ (s : Step). StepFits old.header j s) is fits.step)) row.1 row.2;
     }
 
-    pub comes_synced : old.step ≡ PagesDone taken → ComesTo old j m answer new k
-    comes_synced is = let row = turned.synced taken is in record {
+    pub comes_synced : old.step ≡ PagesDone count → ComesTo before j m answer after k
+    comes_synced is = let row = turned.synced count is in record {
       turned = turned;
+      moved = moved;
       nearer = λ under. ap turns_left is ∙ sym (ap (λ (x : CheckpointState). turns_left x.step + 1) row.1);
       count = ap (λ (x : JournalState). x.count) row.2;
-      fits = with_step (Synced taken) (subst (λ (s : Step). StepFits old.header j s) is fits.step) row.1 row.2;
+      fits = with_step (Synced count) (subst (λ (s : Step). StepFits old.header j s) is fits.step) row.1 row.2;
     }
 
-    pub comes_in_force : old.step ≡ Synced taken → ComesTo old j m answer new k
-    comes_in_force is = let row = turned.in_force taken is in record {
+    pub comes_in_force : old.step ≡ Synced count → ComesTo before j m answer after k
+    comes_in_force is = let row = turned.in_force count is in record {
       turned = turned;
+      moved = moved;
       nearer = λ under. ap turns_left is ∙ sym (ap (λ (x : CheckpointState). turns_left x.step + 1) row.1);
       count = ap (λ (x : JournalState). x.count) row.2;
-      fits = subst (λ (x : CheckpointState). Fits x m k) (sym row.1) (subst (λ (x : JournalState). Fits (record { header = next_header old.header taken.count; step = NoCheckpoint }) m x) (sym row.2) (record {
+      fits = subst (λ (x : CheckpointState). Fits x m k) (sym row.1) (subst (λ (x : JournalState). Fits (record { header = next_header old.header count; step = NoCheckpoint }) m x) (sym row.2) (record {
         cells = fits.cells;
         elements = fits.elements;
         ring = fits.ring;

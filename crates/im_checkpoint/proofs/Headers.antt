@@ -1,5 +1,5 @@
 -- The header in force, and the one that follows it.
-use Rattle.std.proofs.Common.{◌≡◌, ℕ, zero, suc, ◌+◌, ◌-◌, ◌*◌, ◌<◌, ◌≤◌, ◌==◌, ◌&&◌, nat_le, Bool, true, List, refl, ◌∙◌, ap, subst, arith}
+use Rattle.std.proofs.Common.{◌≡◌, ◌⊎◌, inl, inr, ℕ, zero, suc, ◌+◌, ◌-◌, ◌*◌, ◌<◌, ◌≤◌, ◌==◌, ◌&&◌, nat_le, Bool, true, List, refl, ◌∙◌, ap, subst, arith}
 use Rattle.std.proofs.lemmas.Bool.Decides.{nat_tests}
 use Rattle.im_types.proofs.Tests.{and_both}
 use Rattle.im_types.specs.declared.TheConstants.{LAST, MAX_CELLS, MAX_ELEMENTS, MIN_SLOTS, MAX_SLOTS}
@@ -103,3 +103,14 @@ area_to bytes (suc n) = by_zero (1 - suc n) (omega arith)
 
 pub place_to : (area : ℕ) → 4096 * (1 - area) + 64 ≤ 8192
 place_to area = omega arith
+
+pub area_before : (bytes area : ℕ) → area ≤ 1 → 8192 + bytes * area + bytes ≤ 8192 + bytes * 2
+area_before bytes zero low = omega arith
+area_before bytes (suc zero) low = omega arith
+area_before bytes (suc (suc n)) low = absurd (omega (arith, low))
+
+-- one area lies before the other
+pub area_apart : (bytes area : ℕ) → area ≤ 1 → (8192 + bytes * area + bytes ≤ 8192 + bytes * (1 - area)) ⊎ (8192 + bytes * (1 - area) + bytes ≤ 8192 + bytes * area)
+area_apart bytes zero low = inl (omega arith)
+area_apart bytes (suc zero) low = inr (omega arith)
+area_apart bytes (suc (suc n)) low = absurd (omega (arith, low))

@@ -1,5 +1,5 @@
 -- What each device call of a turn may leave.
-use Rattle.std.proofs.Common.{◌≡◌, inl, ⊎_elim, ℕ, ◌+◌, ◌*◌, ◌<◌, ◌≤◌, ◌==◌, true, false, List, [], ◌∷◌, length, refl, sym, ◌∙◌, ap, subst, arith}
+use Rattle.std.proofs.Common.{◌≡◌, inl, ⊎_elim, ℕ, zero, ◌+◌, ◌*◌, ◌<◌, ◌≤◌, ◌==◌, true, false, List, [], ◌∷◌, length, refl, sym, ◌∙◌, ap, subst, arith}
 use Rattle.im_types.specs.Bytes.{open_gate}
 use Rattle.im_types.specs.Contents.{Contents}
 use Rattle.im_types.specs.Layout.{layout_in_use, page_bytes, area_at, area_bytes, area_pages, record_at}
@@ -11,39 +11,48 @@ use Rattle.im_disk.proofs.SinceLemmas.{leaves_start, leaves_step, left_sync, lef
 use Rattle.im_laws.proofs.Tests.{true_false}
 use Rattle.im_journal.specs.Holding.{JournalState, Holds}
 use Rattle.im_meaning.specs.Images.{other}
-use Rattle.im_checkpoint.specs.Step.{Taken, Step, NoCheckpoint, PagesLeft, PagesDone, Synced, CheckpointState, with_left}
+use Rattle.im_checkpoint.specs.Step.{Step, NoCheckpoint, PagesLeft, PagesDone, Synced, CheckpointState, with_left}
 use Rattle.im_checkpoint.specs.Turns.{next_header, begun_at}
-use Rattle.im_checkpoint.specs.Keeping.{MeansWith, KeepsStep, Keeps, IsCalm, IsKept}
+use Rattle.im_checkpoint.specs.Keeping.{Paged, MeansWith, IsWriting, KeepsStep, Keeps, IsCalm, IsKept}
 use Rattle.im_checkpoint.proofs.Bytes.{same_all, same_back, same_then, same_wider, same_overlaid}
 use Rattle.im_checkpoint.proofs.Headers.{same_itself, area_from, place_to}
-use Rattle.im_checkpoint.proofs.Files.{Still, gate_is, still_means, keeps_at, still_in_area, still_gate, size}
-use Rattle.im_checkpoint.proofs.Pages.{page_length, page_fits, page_kept, closed_kept, shut_kept}
-use Rattle.im_checkpoint.proofs.Takeover.{shut_torn, whole_there, next_kept}
+use Rattle.im_checkpoint.proofs.Files.{Still, gate_is, still_means, keeps_at, still_in_area, still_gate, area_stays, size}
+use Rattle.im_checkpoint.proofs.Copies.{IsPageFor, page_written, writing_moved}
+use Rattle.im_checkpoint.proofs.Pages.{page_fits, page_still, this_page, apart_page, own_area, shut_but, shut_gate, shut_still}
+use Rattle.im_checkpoint.proofs.Takeover.{shut_torn, whole_there, next_kept, next_rests}
 
 -- where nothing is in doubt every state is calm
 calm_all : (s : Step) (now : Moment) → now.ranges ≡ [] → IsCalm s now
 calm_all NoCheckpoint now none = none
-calm_all (PagesLeft taken left) now none = tt
-calm_all (PagesDone taken) now none = tt
-calm_all (Synced taken) now none = none
+calm_all (PagesLeft count left) now none = tt
+calm_all (PagesDone count) now none = tt
+calm_all (Synced count) now none = none
 
-calm_left : (taken : Taken) (left : List ℕ) (now : Moment) → IsCalm (with_left taken left) now
-calm_left taken [] now = tt
-calm_left taken (page ∷ left) now = tt
+pub calm_left : (count : ℕ) (left : List ℕ) (now : Moment) → IsCalm (with_left count left) now
+calm_left count [] now = tt
+calm_left count (page ∷ left) now = tt
 
 -- what is read where nothing is in doubt is kept
-pub kept_calm : (c : CheckpointState) (m : Contents) (j : JournalState) (now : Moment) → now.ranges ≡ [] → Keeps c m j now.bytes → IsKept c m j now
-kept_calm c m j now none read = record {
+pub kept_calm : (c : CheckpointState) (x : Paged) (m : Contents) (j : JournalState) (now : Moment) → now.ranges ≡ [] → (read : Keeps c.header m j now.bytes) → KeepsStep c.header read.shown read.commands x c.step now.bytes → IsKept c x m j now
+kept_calm c x m j now none read step = record {
   read = read;
+  step = step;
   elsewhere = λ d left. subst (λ (l : List ℕ). SameBut (area_at layout_in_use c.header.sizes (other c.header)) (area_bytes layout_in_use c.header.sizes) now.bytes l) (sym (left_settled now d none left))
       (same_all (area_at layout_in_use c.header.sizes (other c.header)) (area_bytes layout_in_use c.header.sizes) now.bytes);
   calm = calm_all c.step now none;
 }
 
-pub kept_synced : (c : CheckpointState) (m : Contents) (j : JournalState) (before now : Moment) → now ≡ synced before → Keeps c m j before.bytes → IsKept c m j now
-kept_synced c m j before now is read = subst (λ (x : Moment). IsKept c m j x) (sym is) (kept_calm c m j (synced before) refl read)
+-- the same of bytes that are those of a file
+pub kept_file : (c : CheckpointState) (x : Paged) (m : Contents) (j : JournalState) (now : Moment) (file : List ℕ) → now.ranges ≡ [] → now.bytes ≡ file → (read : Keeps c.header m j file) → KeepsStep c.header read.shown read.commands x c.step file → IsKept c x m j now
+kept_file c x m j now file none is read step = by_file now.bytes (sym is) none
+  where
+    AtBytes : List ℕ → Type 0
+    AtBytes file = (read : Keeps c.header m j file) × KeepsStep c.header read.shown read.commands x c.step file
 
-module _ (c : CheckpointState) (m : Contents) (j : JournalState) (m0 : Moment) (kept : IsKept c m j m0) where
+    by_file : (bytes : List ℕ) → file ≡ bytes → now.ranges ≡ [] → IsKept c x m j now
+    by_file bytes same none = let at : AtBytes now.bytes = subst AtBytes (sym is) (read, step) in kept_calm c x m j now none at.0 at.1
+
+module _ (c : CheckpointState) (x : Paged) (m : Contents) (j : JournalState) (m0 : Moment) (kept : IsKept c x m j m0) where
   abbrev P : List ℕ → Type 0
   P = MeansWith m j
 
@@ -53,24 +62,27 @@ module _ (c : CheckpointState) (m : Contents) (j : JournalState) (m0 : Moment) (
   abbrev many : ℕ
   many = area_bytes layout_in_use c.header.sizes
 
-  still : (d : List ℕ) → SameBut start many m0.bytes d → Still c m j m0.bytes kept.read d
-  still d but = still_in_area c m j m0.bytes kept.read start many d but (omega arith) (omega arith)
+  still : (d : List ℕ) → SameBut start many m0.bytes d → Still c.header m j m0.bytes kept.read d
+  still d but = still_in_area c.header m j m0.bytes kept.read start many d but (omega arith) (omega arith)
 
   near_means : (d : List ℕ) → SameBut start many m0.bytes d → P d
-  near_means d but = still_means c m j m0.bytes kept.read d (still d but)
+  near_means d but = still_means c.header m j m0.bytes kept.read d (still d but)
 
   -- each file that may be left means the memory
   pub means_left : (d : List ℕ) → Left m0 d → P d
   means_left d left = near_means d (kept.elsewhere d left)
 
   -- a page
-  module _ (taken : Taken) (i : ℕ) (left : List ℕ) (is : c.step ≡ PagesLeft taken (i ∷ left)) (few : i < area_pages layout_in_use c.header.sizes) (bytes : List ℕ) (page : bytes ≡ record_at page_bytes taken.area i)
+  module _ (count : ℕ) (i : ℕ) (left : List ℕ) (is : c.step ≡ PagesLeft count (i ∷ left)) (bytes : List ℕ) (size_page : length bytes ≡ 4096) (page : IsPageFor c.header.sizes x i bytes)
       (at : ℕ) (at_is : at ≡ area_at layout_in_use c.header.sizes (other c.header) + 4096 * i) where
-    size_page : length bytes ≡ 4096
-    size_page = page_length c m j m0.bytes kept.read taken i left is few bytes page at at_is
+    known : IsWriting c.header kept.read.shown kept.read.commands x count (i ∷ left) m0.bytes
+    known = subst (λ (s : Step). KeepsStep c.header kept.read.shown kept.read.commands x s m0.bytes) is kept.step
+
+    few : i < area_pages layout_in_use c.header.sizes
+    few = known.others.inside i (zero, omega arith, refl)
 
     fits : at + length bytes ≤ length m0.bytes
-    fits = page_fits c m j m0.bytes kept.read taken i left is few bytes page at at_is
+    fits = page_fits c.header m j m0.bytes kept.read i few bytes size_page at at_is
 
     wide : (d e : List ℕ) → SameBut at (length bytes) d e → SameBut start many d e
     wide d e but = same_wider at (length bytes) start many d e but (omega (arith, at_is)) (omega (arith, at_is, size_page, few))
@@ -78,7 +90,7 @@ module _ (c : CheckpointState) (m : Contents) (j : JournalState) (m0 : Moment) (
     module _ (past0 : List Moment) (m1 : Moment) (past1 : List Moment) (tick : MayTick (Torn at (length bytes)) m0 m1 past0 past1) where
       near : (d : List ℕ) → Left m1 d → SameBut start many m0.bytes d
       near d here = ⊎_elim
-          (λ nothing. kept.elsewhere d (subst (λ (x : Moment). Left x d) nothing.0 here))
+          (λ nothing. kept.elsewhere d (subst (λ (y : Moment). Left y d) nothing.0 here))
           (λ ticked. let from : (e : List ℕ) × Left m0 e × SameBut at (length bytes) e d = left_torn at (length bytes) m0 m1 fits ticked.now d here in
           same_then start many m0.bytes from.0 d (kept.elsewhere from.0 from.1) (wide from.0 d from.2))
           tick
@@ -89,16 +101,28 @@ module _ (c : CheckpointState) (m : Contents) (j : JournalState) (m0 : Moment) (
       pub page_leaves : Leaves m0 m1 past0 past1 (MeansWith m j)
       page_leaves = leaves_step m0 m0 m1 past0 past0 past1 P (Torn at (length bytes)) (leaves_start m0 past0 P) tick page_now
 
-      pub page_done : m1 ≡ written at bytes m0 → IsKept (record { header = c.header; step = with_left taken left }) m j m1
+      new_step : KeepsStep c.header kept.read.shown kept.read.commands x (with_left count left) (overlaid m0.bytes at bytes)
+      new_step = by_left left (page_written c.header x m0.bytes (overlaid m0.bytes at bytes) i left bytes page
+          (own_area c.header m j m0.bytes kept.read i few bytes size_page at at_is) (this_page c.header m j m0.bytes kept.read i few bytes size_page at at_is) (apart_page c.header m j m0.bytes kept.read i few bytes size_page at at_is)
+          kept.read.shown kept.read.commands count known)
+        where
+          by_left : (l : List ℕ) → IsWriting c.header kept.read.shown kept.read.commands x count l (overlaid m0.bytes at bytes) → KeepsStep c.header kept.read.shown kept.read.commands x (with_left count l) (overlaid m0.bytes at bytes)
+          by_left [] w = w
+          by_left (p ∷ l) w = w
+
+      pub page_done : m1 ≡ written at bytes m0 → IsKept (record { header = c.header; step = with_left count left }) x m j m1
       page_done is_written =
-          let bytes_are : m1.bytes ≡ overlaid m0.bytes at bytes = ap (λ (x : Moment). x.bytes) is_written in
+          let bytes_are : m1.bytes ≡ overlaid m0.bytes at bytes = ap (λ (y : Moment). y.bytes) is_written in
+          let both : (read : Keeps c.header m j m1.bytes) × KeepsStep c.header read.shown read.commands x (with_left count left) m1.bytes =
+          subst (λ (l : List ℕ). (read : Keeps c.header m j l) × KeepsStep c.header read.shown read.commands x (with_left count left) l) (sym bytes_are)
+          (keeps_at c.header m j m0.bytes kept.read (overlaid m0.bytes at bytes) (page_still c.header m j m0.bytes kept.read i few bytes size_page at at_is), new_step) in
           record {
-            read = subst (λ (l : List ℕ). Keeps (record { header = c.header; step = with_left taken left }) m j l) (sym bytes_are)
-                (page_kept c m j m0.bytes kept.read taken i left is few bytes page at at_is);
+            read = both.0;
+            step = both.1;
             elsewhere = λ d here. same_then start many m1.bytes m0.bytes d
                 (same_back start many m0.bytes m1.bytes (wide m0.bytes m1.bytes (subst (λ (l : List ℕ). SameBut at (length bytes) m0.bytes l) (sym bytes_are) (same_overlaid m0.bytes at bytes fits))))
                 (near d here);
-            calm = calm_left taken left m1;
+            calm = calm_left count left m1;
           }
 
   -- a call that only reads
@@ -121,10 +145,11 @@ module _ (c : CheckpointState) (m : Contents) (j : JournalState) (m0 : Moment) (
       pub closed_leaves : Leaves m0 m2 past0 past2 (MeansWith m j)
       closed_leaves = leaves_step m0 m1 m2 past0 past1 past2 P Shaken (read_leaves past0 m1 past1 read_tick) sync_tick closed_now
 
-      pub closed_done : (taken : Taken) → c.step ≡ PagesDone taken → is_open_header (header_place (other c.header) m0.bytes) ≡ false → m2 ≡ synced m1
-          → IsKept (record { header = c.header; step = Synced taken }) m j m2
-      closed_done taken is closed is_synced = kept_synced (record { header = c.header; step = Synced taken }) m j m1 m2 is_synced
-          (subst (λ (x : Moment). Keeps (record { header = c.header; step = Synced taken }) m j x.bytes) (sym m1_is) (closed_kept c m j m0.bytes kept.read taken is closed))
+      pub closed_done : (count : ℕ) → c.step ≡ PagesDone count → is_open_header (header_place (other c.header) m0.bytes) ≡ false → m2 ≡ synced m1
+          → IsKept (record { header = c.header; step = Synced count }) x m j m2
+      closed_done count is closed is_synced =
+          let known : IsWriting c.header kept.read.shown kept.read.commands x count [] m0.bytes = subst (λ (s : Step). KeepsStep c.header kept.read.shown kept.read.commands x s m0.bytes) is kept.step in
+          kept_file (record { header = c.header; step = Synced count }) x m j m2 m0.bytes (ap (λ (y : Moment). y.ranges) is_synced) (ap (λ (y : Moment). y.bytes) is_synced ∙ ap (λ (y : Moment). y.bytes) m1_is) kept.read (known, closed)
 
     -- it is open, and is being closed
     module _ (opened : is_open_header (header_place (other c.header) m0.bytes) ≡ true) (m2 : Moment) (past2 : List Moment) (write_tick : MayTick (Torn (4096 * other c.header) 1) m1 m2 past1 past2) where
@@ -132,7 +157,7 @@ module _ (c : CheckpointState) (m : Contents) (j : JournalState) (m0 : Moment) (
       before e here = subst (λ (x : Moment). Left x e) m1_is here
 
       place_fits : 4096 * other c.header + 1 ≤ length m1.bytes
-      place_fits = subst (λ (x : Moment). 4096 * other c.header + 1 ≤ length x.bytes) (sym m1_is) (omega (arith, place_to c.header.area, size c m j m0.bytes kept.read))
+      place_fits = subst (λ (x : Moment). 4096 * other c.header + 1 ≤ length x.bytes) (sym m1_is) (omega (arith, place_to c.header.area, size c.header m j m0.bytes kept.read))
 
       -- a file that might be left before keeps the memory too, with the gate open
       gate_before : (e : List ℕ) → SameBut start many m0.bytes e → is_open_header (header_place (other c.header) e) ≡ true
@@ -143,9 +168,8 @@ module _ (c : CheckpointState) (m : Contents) (j : JournalState) (m0 : Moment) (
 
       torn_means : (e d : List ℕ) → SameBut start many m0.bytes e → SameBut (4096 * other c.header) 1 e d → P d
       torn_means e d but gate =
-          let none : CheckpointState = record { header = c.header; step = NoCheckpoint } in
-          let keeps : Keeps (record { header = c.header; step = NoCheckpoint }) m j e = keeps_at c m j m0.bytes kept.read NoCheckpoint e (still e but) tt in
-          still_means (record { header = c.header; step = NoCheckpoint }) m j e keeps d (still_gate (record { header = c.header; step = NoCheckpoint }) m j e keeps d (gate_before e but) gate)
+          let keeps : Keeps c.header m j e = keeps_at c.header m j m0.bytes kept.read e (still e but) in
+          still_means c.header m j e keeps d (still_gate c.header m j e keeps d (gate_before e but) gate)
 
       pub shut_now : LeavesNow m2 (MeansWith m j)
       shut_now d here = ⊎_elim
@@ -164,32 +188,40 @@ module _ (c : CheckpointState) (m : Contents) (j : JournalState) (m0 : Moment) (
         pub shut_sync_leaves : Leaves m0 m3 past0 past3 (MeansWith m j)
         shut_sync_leaves = leaves_step m0 m2 m3 past0 past2 past3 P Shaken shut_leaves sync_tick shut_sync_now
 
-        pub shut_done : (taken : Taken) → c.step ≡ PagesDone taken → m2 ≡ written (4096 * other c.header) (0 ∷ []) m1 → m3 ≡ synced m2
-            → IsKept (record { header = c.header; step = Synced taken }) m j m3
-        shut_done taken is is_written is_synced =
-            let bytes_are : m2.bytes ≡ overlaid m0.bytes (4096 * other c.header) (0 ∷ []) =
-            ap (λ (x : Moment). x.bytes) is_written ∙ ap (λ (x : Moment). overlaid x.bytes (4096 * other c.header) (0 ∷ [])) m1_is in
-            kept_synced (record { header = c.header; step = Synced taken }) m j m2 m3 is_synced
-            (subst (λ (l : List ℕ). Keeps (record { header = c.header; step = Synced taken }) m j l) (sym bytes_are) (shut_kept c m j m0.bytes kept.read taken is opened))
+        pub shut_done : (count : ℕ) → c.step ≡ PagesDone count → m2 ≡ written (4096 * other c.header) (0 ∷ []) m1 → m3 ≡ synced m2
+            → IsKept (record { header = c.header; step = Synced count }) x m j m3
+        shut_done count is is_written is_synced =
+            let file : List ℕ = overlaid m0.bytes (4096 * other c.header) (0 ∷ []) in
+            let bytes_are : m3.bytes ≡ overlaid m0.bytes (4096 * other c.header) (0 ∷ []) =
+            ap (λ (y : Moment). y.bytes) is_synced ∙ ap (λ (y : Moment). y.bytes) is_written ∙ ap (λ (y : Moment). overlaid y.bytes (4096 * other c.header) (0 ∷ [])) m1_is in
+            let known : IsWriting c.header kept.read.shown kept.read.commands x count [] m0.bytes = subst (λ (s : Step). KeepsStep c.header kept.read.shown kept.read.commands x s m0.bytes) is kept.step in
+            let but = shut_but c.header m j m0.bytes kept.read in
+            let low : 4096 * other c.header + 1 ≤ 8192 = omega (arith, place_to c.header.area) in
+            kept_file (record { header = c.header; step = Synced count }) x m j m3 file (ap (λ (y : Moment). y.ranges) is_synced) bytes_are
+            (keeps_at c.header m j m0.bytes kept.read file (shut_still c.header m j m0.bytes kept.read opened))
+            (writing_moved c.header x m0.bytes file (area_stays c.header m j m0.bytes kept.read c.header.area (4096 * other c.header) 1 file but low kept.read.image.in_force.number)
+            (area_stays c.header m j m0.bytes kept.read (other c.header) (4096 * other c.header) 1 file but low (omega arith)) kept.read.shown kept.read.commands count [] known, shut_gate c.header m j m0.bytes kept.read)
 
   -- the next header
-  module _ (taken : Taken) (is : c.step ≡ Synced taken) where
+  module _ (count : ℕ) (is : c.step ≡ Synced count) where
+    at_sync : IsWriting c.header kept.read.shown kept.read.commands x count [] m0.bytes × (is_open_header (header_place (other c.header) m0.bytes) ≡ false)
+    at_sync = subst (λ (s : Step). KeepsStep c.header kept.read.shown kept.read.commands x s m0.bytes) is kept.step
+
     only : (d : List ℕ) → Left m0 d → d ≡ m0.bytes
     only d here = left_settled m0 d (subst (λ (s : Step). IsCalm s m0) is kept.calm) here
 
     shut_there : IsShut (4096 * other c.header) m0.bytes
     shut_there opened =
-        let known = subst (λ (s : Step). KeepsStep c.header kept.read.shown kept.read.commands s m0.bytes) is kept.read.step in
-        true_false (sym (same_itself _ _ opened) ∙ sym (gate_is (other c.header) m0.bytes) ∙ known.2)
+        true_false (sym (same_itself _ _ opened) ∙ sym (gate_is (other c.header) m0.bytes) ∙ at_sync.1)
 
     -- its gate is closed in each file that may be left
     pub next_closed : IsClosed (4096 * other c.header) 64 m0
     next_closed = record {
-      inside = omega (arith, place_to c.header.area, size c m j m0.bytes kept.read);
+      inside = omega (arith, place_to c.header.area, size c.header m j m0.bytes kept.read);
       shut = λ d here. subst (λ (l : List ℕ). IsShut (4096 * other c.header) l) (sym (only d here)) shut_there;
     }
 
-    module _ (body : List ℕ) (body_is : body ≡ header_body (next_header c.header taken.count)) (body_size : length body ≡ 63) (bytes : List ℕ) (bytes_are : bytes ≡ open_gate ∷ body) where
+    module _ (body : List ℕ) (body_is : body ≡ header_body (next_header c.header count)) (body_size : length body ≡ 63) (bytes : List ℕ) (bytes_are : bytes ≡ open_gate ∷ body) where
       long : length bytes ≡ 64
       long = omega (arith, ap length bytes_are, body_size)
 
@@ -198,12 +230,16 @@ module _ (c : CheckpointState) (m : Contents) (j : JournalState) (m0 : Moment) (
           let but : SameBut (4096 * other c.header) 64 m0.bytes d =
           subst (λ (l : List ℕ). SameBut (4096 * other c.header) 64 l d) (only may.from may.left) (subst (λ (n : ℕ). SameBut (4096 * other c.header) n may.from d) long may.same) in
           ⊎_elim
-          (λ shut. shut_torn c m j m0.bytes kept.read taken is body body_is body_size d but shut)
-          (λ there. whole_there c m j m0.bytes kept.read taken is body body_is body_size d but (subst (λ (l : List ℕ). HasThere (4096 * other c.header) l d) bytes_are there))
+          (λ shut. shut_torn c.header x m j m0.bytes kept.read count at_sync body body_is body_size d but shut)
+          (λ there. whole_there c.header x m j m0.bytes kept.read count at_sync body body_is body_size d but (subst (λ (l : List ℕ). HasThere (4096 * other c.header) l d) bytes_are there))
           may.gated
 
-      pub in_force_done : ((f : List ℕ) → Holds j f → Holds (begun_at taken.count j) f) → (m1 : Moment) → m1 ≡ synced (written (4096 * other c.header) bytes m0)
-          → IsKept (record { header = next_header c.header taken.count; step = NoCheckpoint }) m (begun_at taken.count j) m1
-      in_force_done later m1 is_written = kept_synced (record { header = next_header c.header taken.count; step = NoCheckpoint }) m (begun_at taken.count j) (written (4096 * other c.header) bytes m0) m1 is_written
-          (subst (λ (l : List ℕ). Keeps (record { header = next_header c.header taken.count; step = NoCheckpoint }) m (begun_at taken.count j) (overlaid m0.bytes (4096 * other c.header) l)) (sym bytes_are)
-          (next_kept c m j m0.bytes kept.read taken is body body_is body_size later))
+      pub in_force_done : ((f : List ℕ) → Holds j f → Holds (begun_at count j) f) → (m1 : Moment) → m1 ≡ synced (written (4096 * other c.header) bytes m0)
+          → IsKept (record { header = next_header c.header count; step = NoCheckpoint }) x m (begun_at count j) m1
+      in_force_done later m1 is_written =
+          let file : List ℕ = overlaid m0.bytes (4096 * other c.header) (open_gate ∷ body) in
+          let bytes_is : m1.bytes ≡ overlaid m0.bytes (4096 * other c.header) (open_gate ∷ body) =
+          ap (λ (y : Moment). y.bytes) is_written ∙ ap (λ (l : List ℕ). overlaid m0.bytes (4096 * other c.header) l) bytes_are in
+          kept_file (record { header = next_header c.header count; step = NoCheckpoint }) x m (begun_at count j) m1 file (ap (λ (y : Moment). y.ranges) is_written) bytes_is
+          (next_kept c.header x m j m0.bytes kept.read count at_sync body body_is body_size later)
+          (next_rests c.header x m j m0.bytes kept.read count at_sync body body_is body_size)

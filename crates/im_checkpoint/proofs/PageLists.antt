@@ -1,105 +1,106 @@
--- Lists of pages, and the fields of a checkpoint as its state.
-use Rattle.std.proofs.Common.{◌≡◌, ℕ, zero, suc, ◌+◌, ◌-◌, ◌<◌, ◌≤◌, List, [], ◌∷◌, ◌++◌, length, get_or, take, drop, refl, sym, ◌∙◌, ap, subst, arith}
-use Rattle.std.specs.List.{Contains}
-use Rattle.std.proofs.lemmas.List.{take-append-le, take_all}
-use Rattle.im_types.specs.Layout.{layout_in_use, area_pages}
+-- The fields of a checkpoint as its state.
+use Rattle.std.proofs.Common.{◌≡◌, ℕ, ◌+◌, ◌<◌, ◌≤◌, Bool, true, false, List, [], ◌∷◌, length, replicate, refl, sym, ◌∙◌, ap, subst, arith}
+use Rattle.im_types.specs.Contents.{Contents}
 use Rattle.im_types.specs.Header.{Header}
+use Rattle.im_disk.specs.Moment.{Moment}
+use Rattle.im_journal.specs.Holding.{JournalState}
+use Rattle.im_memory.specs.State.{MemoryState}
+use Rattle.im_pages.specs.PageSets.{has, union, pages_from, IsNext}
+use Rattle.im_pages.proofs.SetLemmas.{from-next}
 use Rattle.im_checkpoint.specs.declared.checkpoint.Step.{Step as Mark}
 use Rattle.im_checkpoint.specs.declared.checkpoint.Step.TheVariants.{NoCheckpoint as None_yet, PagesLeft as Some_left, PagesDone as All_written, Synced as On_disk}
-use Rattle.im_checkpoint.specs.Step.{Taken, NoCheckpoint, PagesLeft, PagesDone, Synced, CheckpointState, pages_from, step_of, IsPagesLeft, IsPagesDone, IsSynced, IsCheckpoint}
+use Rattle.im_checkpoint.specs.Step.{Step, NoCheckpoint, PagesLeft, PagesDone, Synced, PagedCheckpoint, with_left, left_in, step_of, IsPagesLeft, IsPagesDone, IsSynced}
+use Rattle.im_checkpoint.specs.Keeping.{paged, IsKept}
 
-pub pages_push : (n from : ℕ) → pages_from (n + 1) from ≡ pages_from n from ++ (from + n) ∷ []
-pages_push zero from = ap (λ (p : ℕ). p ∷ []) (omega arith)
-pages_push (suc n) from =
-    let more : suc n + 1 ≡ suc (n + 1) = omega arith in
-    let last : from + 1 + n ≡ from + suc n = omega arith in
-    ap (λ (k : ℕ). pages_from k from) more
-    ∙ ap (λ (l : List ℕ). from ∷ l) (pages_push n (from + 1) ∙ ap (λ (p : ℕ). pages_from n (from + 1) ++ p ∷ []) last)
+-- a page of the set comes first among those from it on
+pub first_is : (set : List Bool) (page : ℕ) → page < length set → has set page ≡ true → pages_from page set ≡ page ∷ pages_from (page + 1) set
+first_is set page low there = from-next set page page (record { from = omega arith; inside = low; there = there; between = λ p from to. absurd (omega arith) })
 
-pub pages_next : (n : ℕ) → pages_from (n + 1) 0 ≡ pages_from n 0 ++ n ∷ []
-pages_next n = let last : 0 + n ≡ n = omega arith in pages_push n 0 ∙ ap (λ (p : ℕ). pages_from n 0 ++ p ∷ []) last
+-- a set with no page adds none
+pub union_none : (set : List Bool) → union (replicate (length set) false) set ≡ set
+union_none [] = refl
+union_none (b ∷ set) = ap (λ (l : List Bool). b ∷ l) (union_none set)
 
-pub pages_length : (n from : ℕ) → length (pages_from n from) ≡ n
-pages_length zero from = refl
-pages_length (suc n) from = ap (λ (k : ℕ). suc k) (pages_length n (from + 1))
+pub left_with : (count : ℕ) (left : List ℕ) → left_in (with_left count left) ≡ left
+left_with count [] = refl
+left_with count (page ∷ left) = refl
 
-pub pages_at : (n from k d : ℕ) → k < n → get_or (pages_from n from) k d ≡ from + k
-pages_at zero from k d low = absurd (omega (arith, low))
-pages_at (suc n) from zero d low = omega arith
-pages_at (suc n) from (suc k) d low = pages_at n (from + 1) k d (omega (arith, low)) ∙ omega arith
+-- what a checkpoint's fields stand for
+abbrev pub view_of : Header → Mark → ℕ → List ℕ → List Bool → List Bool → List ℕ → PagedCheckpoint
+view_of h p count left recent older copies = record { state = record { header = h; step = step_of p count left }; recent = recent; older = older; copies = copies }
 
-pub pages_contain : (n from p : ℕ) → from ≤ p → p < from + n → Contains (pages_from n from) p
-pages_contain n from p low high = (p - from, omega (arith, pages_length n from, low, high), pages_at n from (p - from) p (omega (arith, low, high)) ∙ omega (arith, low))
+module _ (s : PagedCheckpoint) (h : Header) (p : Mark) (count : ℕ) (left : List ℕ) (recent older : List Bool) (copies : List ℕ) (view : view_of h p count left recent older copies ≡ s) where
+  step_is : s.state.step ≡ step_of p count left
+  step_is = sym (ap (λ (x : PagedCheckpoint). x.state.step) view)
 
--- a buffer that was written whole
-pub written_whole : (n : ℕ) (l buffer : List ℕ) → length l ≡ length buffer → n ≡ length buffer → take n (l ++ drop (length l) buffer) ≡ l
-written_whole n l buffer size long = take-append-le n l (drop (length l) buffer) (omega (arith, size, long)) ∙ take_all n l (omega (arith, size, long))
-
--- the rest of a list by its first
-pub rest_is : (l : List ℕ) (k : ℕ) → k < length l → drop k l ≡ get_or l k 0 ∷ drop (k + 1) l
-rest_is [] k low = absurd (omega (arith, low))
-rest_is (x ∷ l) zero low = refl
-rest_is (x ∷ l) (suc k) low =
-    let more : suc (k + 1) ≡ suc k + 1 = omega arith in
-    rest_is l k (omega (arith, low)) ∙ ap (λ (n : ℕ). get_or l k 0 ∷ drop n (x ∷ l)) more
-
--- the state that a checkpoint's fields stand for
-module _ (s : CheckpointState) (h : Header) (p : Mark) (taken : Taken) (pages : List ℕ) (written : ℕ) (view : (let x : CheckpointState = record { header = h; step = step_of p taken (drop written pages) } in x) ≡ s) where
-  step_is : s.step ≡ step_of p taken (drop written pages)
-  step_is = sym (ap (λ (x : CheckpointState). x.step) view)
-
-  pub mark_left : IsPagesLeft s.step → p ≡ Some_left
+  pub mark_left : IsPagesLeft s.state.step → p ≡ Some_left
   mark_left is = by_mark p (subst IsPagesLeft step_is is)
     where
-      by_mark : (q : Mark) → IsPagesLeft (step_of q taken (drop written pages)) → q ≡ Some_left
+      by_mark : (q : Mark) → IsPagesLeft (step_of q count left) → q ≡ Some_left
       by_mark None_yet it = absurd it
       by_mark Some_left it = refl
       by_mark All_written it = absurd it
       by_mark On_disk it = absurd it
 
-  pub mark_done : IsPagesDone s.step → p ≡ All_written
+  pub mark_done : IsPagesDone s.state.step → p ≡ All_written
   mark_done is = by_mark p (subst IsPagesDone step_is is)
     where
-      by_mark : (q : Mark) → IsPagesDone (step_of q taken (drop written pages)) → q ≡ All_written
+      by_mark : (q : Mark) → IsPagesDone (step_of q count left) → q ≡ All_written
       by_mark None_yet it = absurd it
       by_mark Some_left it = absurd it
       by_mark All_written it = refl
       by_mark On_disk it = absurd it
 
-  pub mark_synced : IsSynced s.step → p ≡ On_disk
+  pub mark_synced : IsSynced s.state.step → p ≡ On_disk
   mark_synced is = by_mark p (subst IsSynced step_is is)
     where
-      by_mark : (q : Mark) → IsSynced (step_of q taken (drop written pages)) → q ≡ On_disk
+      by_mark : (q : Mark) → IsSynced (step_of q count left) → q ≡ On_disk
       by_mark None_yet it = absurd it
       by_mark Some_left it = absurd it
       by_mark All_written it = absurd it
       by_mark On_disk it = refl
 
-  pub state_done : IsPagesDone s.step → s ≡ record { header = h; step = PagesDone taken }
-  state_done is = sym view ∙ ap (λ (q : Mark). (let x : CheckpointState = record { header = h; step = step_of q taken (drop written pages) } in x)) (mark_done is)
+  mark_none : s.state.step ≡ NoCheckpoint → p ≡ None_yet
+  mark_none is = by_mark p (subst IsNone step_is (subst IsNone (sym is) tt))
+    where
+      IsNone : Step → Type 0
+      IsNone NoCheckpoint = Unit {0}
+      IsNone (PagesLeft n l) = ⊥
+      IsNone (PagesDone n) = ⊥
+      IsNone (Synced n) = ⊥
 
-  pub state_synced : IsSynced s.step → s ≡ record { header = h; step = Synced taken }
-  state_synced is = sym view ∙ ap (λ (q : Mark). (let x : CheckpointState = record { header = h; step = step_of q taken (drop written pages) } in x)) (mark_synced is)
+      by_mark : (q : Mark) → IsNone (step_of q count left) → q ≡ None_yet
+      by_mark None_yet it = refl
+      by_mark Some_left it = absurd it
+      by_mark All_written it = absurd it
+      by_mark On_disk it = absurd it
 
-  pub state_idle : s.step ≡ NoCheckpoint → s ≡ record { header = h; step = NoCheckpoint }
-  state_idle is =
-      let header : s.header ≡ h = sym (ap (λ (x : CheckpointState). x.header) view) in
-      (λ i. record { header = header i; step = is i })
+  pub step_left : IsPagesLeft s.state.step → s.state.step ≡ PagesLeft count left
+  step_left is = step_is ∙ ap (λ (q : Mark). step_of q count left) (mark_left is)
 
-  -- pages are left
-  module _ (known : IsCheckpoint h p pages written taken.area) (is : IsPagesLeft s.step) where
-    some : written < length pages
-    some = known.some (mark_left is)
+  pub step_done : IsPagesDone s.state.step → s.state.step ≡ PagesDone count
+  step_done is = step_is ∙ ap (λ (q : Mark). step_of q count left) (mark_done is)
 
-    pub state_left : s ≡ record { header = h; step = PagesLeft taken (get_or pages written 0 ∷ drop (written + 1) pages) }
-    state_left = sym view ∙ ap (λ (q : Mark). (let x : CheckpointState = record { header = h; step = step_of q taken (drop written pages) } in x)) (mark_left is)
-        ∙ ap (λ (l : List ℕ). (let x : CheckpointState = record { header = h; step = PagesLeft taken l } in x)) (rest_is pages written some)
+  pub step_synced : IsSynced s.state.step → s.state.step ≡ Synced count
+  step_synced is = step_is ∙ ap (λ (q : Mark). step_of q count left) (mark_synced is)
 
-    many : length pages ≡ area_pages layout_in_use h.sizes
-    many = ap length known.all ∙ pages_length (area_pages layout_in_use h.sizes) 0
+  pub header_is : h ≡ s.state.header
+  header_is = ap (λ (x : PagedCheckpoint). x.state.header) view
 
-    pub next_page : get_or pages written 0 ≡ written
-    next_page = ap (λ (l : List ℕ). get_or l written 0) known.all ∙ pages_at (area_pages layout_in_use h.sizes) 0 written 0 (omega (arith, some, many)) ∙ omega arith
+  -- the invariant, of the fields
+  module _ (n : MemoryState) (m : Contents) (j : JournalState) (now : Moment) (kept : IsKept s.state (paged s n) m j now) where
+    kept_fields : (q : Mark) → p ≡ q → IsKept (record { header = h; step = step_of q count left }) (record { recent = recent; older = older; copies = copies; records = n.records }) m j now
+    kept_fields q is = subst (λ (q : Mark). IsKept (record { header = h; step = step_of q count left }) (record { recent = recent; older = older; copies = copies; records = n.records }) m j now) is
+        (subst (λ (x : PagedCheckpoint). IsKept x.state (paged x n) m j now) (sym view) kept)
 
-    pub page_low : get_or pages written 0 < area_pages layout_in_use h.sizes
-    page_low = omega (arith, next_page, some, many)
+    pub kept_none : s.state.step ≡ NoCheckpoint → IsKept (record { header = h; step = NoCheckpoint }) (record { recent = recent; older = older; copies = copies; records = n.records }) m j now
+    kept_none is = kept_fields None_yet (mark_none is)
+
+    pub kept_left : IsPagesLeft s.state.step → IsKept (record { header = h; step = PagesLeft count left }) (record { recent = recent; older = older; copies = copies; records = n.records }) m j now
+    kept_left is = kept_fields Some_left (mark_left is)
+
+    pub kept_done : IsPagesDone s.state.step → IsKept (record { header = h; step = PagesDone count }) (record { recent = recent; older = older; copies = copies; records = n.records }) m j now
+    kept_done is = kept_fields All_written (mark_done is)
+
+    pub kept_synced : IsSynced s.state.step → IsKept (record { header = h; step = Synced count }) (record { recent = recent; older = older; copies = copies; records = n.records }) m j now
+    kept_synced is = kept_fields On_disk (mark_synced is)

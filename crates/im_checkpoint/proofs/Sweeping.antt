@@ -4,7 +4,7 @@ use Rattle.im_types.specs.declared.commands.Command.{Command}
 use Rattle.im_types.specs.Contents.{Contents}
 use Rattle.im_types.specs.Journal.{Ring, Tail, tail}
 use Rattle.im_types.specs.Layout.{layout_in_use, area_at, area_bytes, area_of, journal_at, ring_of}
-use Rattle.im_types.specs.Header.{header_in, header_place, is_open_header, spells_header}
+use Rattle.im_types.specs.Header.{Header, header_in, header_place, is_open_header, spells_header}
 use Rattle.im_types.specs.Pages.{Shows}
 use Rattle.im_disk.specs.Moment.{Moment}
 use Rattle.im_disk.specs.Since.{SameBut}
@@ -12,31 +12,27 @@ use Rattle.im_disk.proofs.SinceLemmas.{left_now, left_settled}
 use Rattle.im_journal.specs.Holding.{JournalState, AllHold, with_room, SameRun, MaySweep}
 use Rattle.im_meaning.specs.Images.{other, IsBelow, InForce, IsImage}
 use Rattle.im_checkpoint.specs.Step.{Step, NoCheckpoint, CheckpointState}
-use Rattle.im_checkpoint.specs.Keeping.{MeansWith, KeepsStep, Keeps, IsCalm, IsKept}
+use Rattle.im_checkpoint.specs.Keeping.{Paged, MeansWith, Keeps, IsCalm, IsKept}
 use Rattle.im_checkpoint.proofs.Bytes.{range_outside}
-use Rattle.im_checkpoint.proofs.Headers.{place_to}
+use Rattle.im_checkpoint.proofs.Headers.{area_before, place_to}
 use Rattle.im_checkpoint.proofs.Files.{Still, size, means_of, still_in_area}
+use Rattle.im_checkpoint.proofs.Copies.{step_moved}
 use Rattle.im_checkpoint.proofs.Moments.{kept_calm}
 
 abbrev commands_of : Option Tail → List Command
 commands_of None = []
 commands_of (Some t) = t.commands
 
-area_before : (bytes area : ℕ) → area ≤ 1 → 8192 + bytes * area + bytes ≤ 8192 + bytes * 2
-area_before bytes zero low = omega arith
-area_before bytes (suc zero) low = omega arith
-area_before bytes (suc (suc n)) low = absurd (omega (arith, low))
-
 -- what stands before the journal stays, where only the journal is written
-module _ (c : CheckpointState) (m : Contents) (j : JournalState) (file : List ℕ) (it : Keeps c m j file) (d : List ℕ) (but : SameBut j.ring.base (64 * j.ring.slots) file d) where
-  base_is : j.ring.base ≡ journal_at layout_in_use c.header.sizes
+module _ (h : Header) (m : Contents) (j : JournalState) (file : List ℕ) (it : Keeps h m j file) (d : List ℕ) (but : SameBut j.ring.base (64 * j.ring.slots) file d) where
+  base_is : j.ring.base ≡ journal_at layout_in_use h.sizes
   base_is = ap (λ (r : Ring). r.base) it.ring
 
   low_base : 8192 ≤ j.ring.base
   low_base = omega (arith, base_is)
 
   long : j.ring.base ≤ length file
-  long = omega (arith, base_is, size c m j file it)
+  long = omega (arith, base_is, size h m j file it)
 
   before : (a b : ℕ) → a ≤ b → b ≤ j.ring.base → slice_range d a b ≡ slice_range file a b
   before a b order low = range_outside j.ring.base (64 * j.ring.slots) a b file d but order (omega (arith, low, long)) (inl low)
@@ -44,81 +40,83 @@ module _ (c : CheckpointState) (m : Contents) (j : JournalState) (file : List �
   place_stays : (k : ℕ) → 4096 * k + 64 ≤ 8192 → header_place k d ≡ header_place k file
   place_stays k low = before (4096 * k) (4096 * k + 64) (omega arith) (omega (arith, low, low_base))
 
-  pub other_place_stays : header_place (other c.header) d ≡ header_place (other c.header) file
-  other_place_stays = place_stays (other c.header) (place_to c.header.area)
+  pub other_place_stays : header_place (other h) d ≡ header_place (other h) file
+  other_place_stays = place_stays (other h) (place_to h.area)
 
   mine_low : (k : ℕ) → k ≤ 1 → 4096 * k + 64 ≤ 8192
   mine_low k low = omega (arith, low)
 
-  pub area_before_stays : (k : ℕ) → k ≤ 1 → area_of layout_in_use c.header.sizes k d ≡ area_of layout_in_use c.header.sizes k file
-  area_before_stays k low = before (area_at layout_in_use c.header.sizes k) (area_at layout_in_use c.header.sizes k + area_bytes layout_in_use c.header.sizes) (omega arith)
-      (omega (arith, base_is, area_before (area_bytes layout_in_use c.header.sizes) k low))
+  pub area_before_stays : (k : ℕ) → k ≤ 1 → area_of layout_in_use h.sizes k d ≡ area_of layout_in_use h.sizes k file
+  area_before_stays k low = before (area_at layout_in_use h.sizes k) (area_at layout_in_use h.sizes k + area_bytes layout_in_use h.sizes) (omega arith)
+      (omega (arith, base_is, area_before (area_bytes layout_in_use h.sizes) k low))
 
-  pub in_force_stays : InForce layout_in_use c.header d
+  pub in_force_stays : InForce layout_in_use h d
   in_force_stays =
-      let f : InForce layout_in_use c.header file = it.image.in_force in
-      let mine : header_place c.header.area d ≡ header_place c.header.area file = place_stays c.header.area (mine_low c.header.area f.number) in
+      let f : InForce layout_in_use h file = it.image.in_force in
+      let mine : header_place h.area d ≡ header_place h.area file = place_stays h.area (mine_low h.area f.number) in
       record {
         number = f.number;
         size = but.size ∙ f.size;
         opened = ap is_open_header mine ∙ f.opened;
         fields = ap header_in mine ∙ f.fields;
-        spelled = ap (λ (place : List ℕ). spells_header layout_in_use c.header.area place) mine ∙ f.spelled;
-        below = subst (λ (place : List ℕ). IsBelow c.header.generation place) (sym other_place_stays) f.below;
+        spelled = ap (λ (place : List ℕ). spells_header layout_in_use h.area place) mine ∙ f.spelled;
+        below = subst (λ (place : List ℕ). IsBelow h.generation place) (sym other_place_stays) f.below;
       }
 
-  pub shows_stays : Shows layout_in_use c.header.sizes (area_of layout_in_use c.header.sizes c.header.area d) it.shown
-  shows_stays = subst (λ (area : List ℕ). Shows layout_in_use c.header.sizes area it.shown) (sym (area_before_stays c.header.area it.image.in_force.number)) it.image.shows
+  pub shows_stays : Shows layout_in_use h.sizes (area_of layout_in_use h.sizes h.area d) it.shown
+  shows_stays = subst (λ (area : List ℕ). Shows layout_in_use h.sizes area it.shown) (sym (area_before_stays h.area it.image.in_force.number)) it.image.shows
 
-  pub tail_of_image : (t : Tail) → tail j.ring j.first d ≡ Some t → tail (ring_of layout_in_use c.header.sizes) c.header.count d ≡ Some t
+  pub tail_of_image : (t : Tail) → tail j.ring j.first d ≡ Some t → tail (ring_of layout_in_use h.sizes) h.count d ≡ Some t
   tail_of_image t is =
-      subst (λ (n : ℕ). tail (ring_of layout_in_use c.header.sizes) n d ≡ Some t) it.first
+      subst (λ (n : ℕ). tail (ring_of layout_in_use h.sizes) n d ≡ Some t) it.first
       (subst (λ (r : Ring). tail r j.first d ≡ Some t) it.ring is)
 
 -- a file whose run is the same
-module _ (c : CheckpointState) (m : Contents) (j : JournalState) (file : List ℕ) (it : Keeps c m j file) (d : List ℕ) (run : SameRun j file d) where
-  before_is : tail (ring_of layout_in_use c.header.sizes) c.header.count file ≡ Some (record { commands = run.commands; room = run.there })
+module _ (h : Header) (m : Contents) (j : JournalState) (file : List ℕ) (it : Keeps h m j file) (d : List ℕ) (run : SameRun j file d) where
+  before_is : tail (ring_of layout_in_use h.sizes) h.count file ≡ Some (record { commands = run.commands; room = run.there })
   before_is =
-      subst (λ (n : ℕ). tail (ring_of layout_in_use c.header.sizes) n file ≡ Some (record { commands = run.commands; room = run.there })) it.first
+      subst (λ (n : ℕ). tail (ring_of layout_in_use h.sizes) n file ≡ Some (record { commands = run.commands; room = run.there })) it.first
       (subst (λ (r : Ring). tail r j.first file ≡ Some (record { commands = run.commands; room = run.there })) it.ring run.before)
 
   same_commands : run.commands ≡ it.commands
   same_commands = ap commands_of (sym before_is ∙ it.image.journal)
 
-  pub swept_image : IsImage layout_in_use c.header it.shown it.commands run.found d
+  pub swept_image : IsImage layout_in_use h it.shown it.commands run.found d
   swept_image = record {
-    in_force = in_force_stays c m j file it d run.same;
-    shows = shows_stays c m j file it d run.same;
-    journal = subst (λ (l : List Command). tail (ring_of layout_in_use c.header.sizes) c.header.count d ≡ Some (record { commands = l; room = run.found })) same_commands
-        (tail_of_image c m j file it d run.same (record { commands = run.commands; room = run.found }) run.after);
+    in_force = in_force_stays h m j file it d run.same;
+    shows = shows_stays h m j file it d run.same;
+    journal = subst (λ (l : List Command). tail (ring_of layout_in_use h.sizes) h.count d ≡ Some (record { commands = l; room = run.found })) same_commands
+        (tail_of_image h m j file it d run.same (record { commands = run.commands; room = run.found }) run.after);
   }
 
   pub swept_means : MeansWith m j d
-  swept_means = means_of c.header m j it.shown it.commands run.found d swept_image it.accepts it.count run.enough
+  swept_means = means_of h m j it.shown it.commands run.found d swept_image it.accepts it.count run.enough
 
 -- the journal is held by each file that may be left
-pub all_hold : (c : CheckpointState) (m : Contents) (j : JournalState) (now : Moment) → IsKept c m j now → AllHold j now
-all_hold c m j now kept d left =
-    let still : Still c m j now.bytes kept.read d = still_in_area c m j now.bytes kept.read (area_at layout_in_use c.header.sizes (other c.header)) (area_bytes layout_in_use c.header.sizes) d (kept.elsewhere d left) (omega arith) (omega arith) in
+pub all_hold : (c : CheckpointState) (x : Paged) (m : Contents) (j : JournalState) (now : Moment) → IsKept c x m j now → AllHold j now
+all_hold c x m j now kept d left =
+    let still : Still c.header m j now.bytes kept.read d = still_in_area c.header m j now.bytes kept.read (area_at layout_in_use c.header.sizes (other c.header)) (area_bytes layout_in_use c.header.sizes) d (kept.elsewhere d left) (omega arith) (omega arith) in
     still.journal
 
-module _ (c : CheckpointState) (m : Contents) (j : JournalState) (m0 : Moment) (is : c.step ≡ NoCheckpoint) (kept : IsKept c m j m0) where
+module _ (c : CheckpointState) (x : Paged) (m : Contents) (j : JournalState) (m0 : Moment) (is : c.step ≡ NoCheckpoint) (kept : IsKept c x m j m0) where
   calm : m0.ranges ≡ []
   calm = subst (λ (s : Step). IsCalm s m0) is kept.calm
 
   pub sweep_means : (d : List ℕ) → MaySweep j m0 d → MeansWith m j d
-  sweep_means d may = swept_means c m j m0.bytes kept.read d (subst (λ (l : List ℕ). SameRun j l d) (left_settled m0 may.from calm may.left) may.run)
+  sweep_means d may = swept_means c.header m j m0.bytes kept.read d (subst (λ (l : List ℕ). SameRun j l d) (left_settled m0 may.from calm may.left) may.run)
 
-  pub sweep_done : (m1 : Moment) (n : ℕ) (k : JournalState) → k ≡ with_room j n → SameRun j m0.bytes m1.bytes → m1.ranges ≡ [] → AllHold k m1 → IsKept c m k m1
-  sweep_done m1 n k k_is run none holds = kept_calm c m k m1 none (record {
-    shown = kept.read.shown;
-    commands = kept.read.commands;
-    there = run.found;
-    image = swept_image c m j m0.bytes kept.read m1.bytes run;
-    accepts = kept.read.accepts;
-    count = ap (λ (x : JournalState). x.count) k_is ∙ kept.read.count;
-    ring = ap (λ (x : JournalState). x.ring) k_is ∙ kept.read.ring;
-    first = ap (λ (x : JournalState). x.first) k_is ∙ kept.read.first;
-    journal = holds m1.bytes (left_now m1);
-    step = subst (λ (s : Step). KeepsStep c.header kept.read.shown kept.read.commands s m1.bytes) (sym is) tt;
-  })
+  pub sweep_done : (m1 : Moment) (n : ℕ) (k : JournalState) → k ≡ with_room j n → SameRun j m0.bytes m1.bytes → m1.ranges ≡ [] → AllHold k m1 → IsKept c x m k m1
+  sweep_done m1 n k k_is run none holds = kept_calm c x m k m1 none
+      (record {
+        shown = kept.read.shown;
+        commands = kept.read.commands;
+        there = run.found;
+        image = swept_image c.header m j m0.bytes kept.read m1.bytes run;
+        accepts = kept.read.accepts;
+        count = ap (λ (y : JournalState). y.count) k_is ∙ kept.read.count;
+        ring = ap (λ (y : JournalState). y.ring) k_is ∙ kept.read.ring;
+        first = ap (λ (y : JournalState). y.first) k_is ∙ kept.read.first;
+        journal = holds m1.bytes (left_now m1);
+      })
+      (step_moved c.header x m0.bytes m1.bytes (area_before_stays c.header m j m0.bytes kept.read m1.bytes run.same c.header.area kept.read.image.in_force.number)
+      (area_before_stays c.header m j m0.bytes kept.read m1.bytes run.same (other c.header) (omega arith)) kept.read.shown kept.read.commands c.step (other_place_stays c.header m j m0.bytes kept.read m1.bytes run.same) kept.step)

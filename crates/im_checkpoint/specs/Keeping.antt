@@ -1,36 +1,39 @@
 -- What a checkpoint, a memory and a journal have to do with the file that they are kept in. (Own.)
-use Rattle.std.specs.Prelude.{◌≡◌, ◌⊎◌, ℕ, ◌+◌, ◌<◌, ◌≤◌, List, [], length, take, Some, false, Result, OnOk}
+use Rattle.std.specs.Prelude.{◌≡◌, ℕ, ◌+◌, ◌<◌, ◌≤◌, Bool, ◌||◌, List, [], length, take, Some, true, false, Result, OnOk}
 use Rattle.std.specs.List.{Contains}
 use Rattle.im_types.specs.declared.TheConstants.{LAST}
 use Rattle.im_types.specs.declared.commands.Command.{Command}
 use Rattle.im_types.specs.Contents.{Contents}
-use Rattle.im_types.specs.Layout.{layout_in_use, page_bytes, area_at, area_bytes, area_pages, area_of, record_at, ring_of}
+use Rattle.im_types.specs.Layout.{Sizes, layout_in_use, page_bytes, area_at, area_bytes, area_pages, area_of, record_at, ring_of}
 use Rattle.im_types.specs.Header.{Header, header_place, is_open_header}
-use Rattle.im_types.specs.Pages.{Shows}
+use Rattle.im_types.specs.Pages.{Records, ShowsRecords}
 use Rattle.im_types.specs.Meaning.{Means, accept_each}
 use Rattle.im_disk.specs.Moment.{Moment, Left}
 use Rattle.im_disk.specs.Since.{SameBut, LeavesOnly}
 use Rattle.im_journal.specs.Holding.{JournalState, Holds}
+use Rattle.im_memory.specs.State.{MemoryState}
 use Rattle.im_meaning.specs.Images.{other, IsImage}
+use Rattle.im_pages.specs.PageSets.{has}
+use Rattle.im_image.specs.Encoding.{IsAreaPage, AreCounted, SameOn}
 use Rattle.im_checkpoint.specs.declared.checkpoint.TurnDone.{TurnDone}
-use Rattle.im_checkpoint.specs.Step.{Taken, Step, NoCheckpoint, PagesLeft, PagesDone, Synced, CheckpointState, IsUnderWay, IsSynced, turns_left}
-use Rattle.im_checkpoint.specs.Turns.{Turned}
+use Rattle.im_checkpoint.specs.Step.{Step, NoCheckpoint, PagesLeft, PagesDone, Synced, CheckpointState, PagedCheckpoint, IsUnderWay, IsSynced, turns_left}
+use Rattle.im_checkpoint.specs.Turns.{Turned, Moved}
 
 -- the file means this memory after as many commands as the journal has, with its room at the least
 abbrev pub MeansWith : Contents → JournalState → List ℕ → Type 0
 MeansWith m j file = Means m j.count j.room file
 
--- what was taken is of a count between the header's and the journal's
-pub record IsBetween (h : Header) (j : JournalState) (taken : Taken) : Type 0 where
-  pub from : h.count ≤ taken.count
-  pub to : taken.count ≤ j.count
-
 -- the count of what was taken, if anything was, is between the header's and the journal's
+pub record IsBetween (h : Header) (j : JournalState) (count : ℕ) : Type 0 where
+  pub from : h.count ≤ count
+  pub to : count ≤ j.count
+
+-- so is that of a checkpoint under way
 abbrev pub StepFits : Header → JournalState → Step → Type 0
 StepFits h j NoCheckpoint = Unit {0}
-StepFits h j (PagesLeft taken left) = IsBetween h j taken
-StepFits h j (PagesDone taken) = IsBetween h j taken
-StepFits h j (Synced taken) = IsBetween h j taken
+StepFits h j (PagesLeft count left) = IsBetween h j count
+StepFits h j (PagesDone count) = IsBetween h j count
+StepFits h j (Synced count) = IsBetween h j count
 
 -- the memory and the journal are of the sizes that the header says, and the journal's run begins at its count
 pub record Fits (c : CheckpointState) (m : Contents) (j : JournalState) : Type 0 where
@@ -52,79 +55,128 @@ pub record IsReady (c : CheckpointState) (j : JournalState) : Type 0 where
   pub counted : StepFits c.header j c.step
 
 -- What a turn that is done comes to.
-pub record ComesTo (old : CheckpointState) (j : JournalState) (m : Contents) (answer : TurnDone) (new : CheckpointState) (k : JournalState) : Type 0 where
+pub record ComesTo (old : PagedCheckpoint) (j : JournalState) (m : Contents) (answer : TurnDone) (new : PagedCheckpoint) (k : JournalState) : Type 0 where
   -- its answer and what it changes are as the table of turns says
-  pub turned : Turned old j m answer new k
+  pub turned : Turned old.state j answer new.state k
+  -- and so is what becomes of the pages that changed
+  pub moved : Moved old answer new
   -- a checkpoint under way has a turn less to go: one for each page and two more, whatever is served between
-  pub nearer : IsUnderWay old.step → turns_left old.step ≡ turns_left new.step + 1
+  pub nearer : IsUnderWay old.state.step → turns_left old.state.step ≡ turns_left new.state.step + 1
   -- the count of all commands stays
   pub count : k.count ≡ j.count
   -- the memory and the journal are those of the header still
-  pub fits : Fits new m k
+  pub fits : Fits new.state m k
 
--- what was taken is the memory after some of the commands since the header's count, all pages of it, and there may be a later generation
-pub record IsTaken (h : Header) (shown : Contents) (commands : List Command) (taken : Taken) : Type 0 where
-  pub many : ℕ
-  pub few : many ≤ length commands
-  pub count : taken.count ≡ h.count + many
-  pub to_last : taken.count ≤ LAST
-  pub memory : Contents
-  pub accepts : accept_each shown (take many commands) ≡ Some memory
-  pub size : length taken.area ≡ area_bytes layout_in_use h.sizes
-  pub shows : Shows layout_in_use h.sizes taken.area memory
-  pub later : h.generation < LAST
+-- what is known of pages: those that changed, copies of some, and the memory's records
+pub record Paged : Type 0 where
+  pub recent : List Bool
+  pub older : List Bool
+  pub copies : List ℕ
+  pub records : Records
+
+-- a checkpoint's pages, and the records that a memory shows
+abbrev pub paged : PagedCheckpoint → MemoryState → Paged
+paged c m = record { recent = c.recent; older = c.older; copies = c.copies; records = m.records }
+
+-- whether a page changed since the last checkpoint but one began
+abbrev pub changed : Paged → ℕ → Bool
+changed x page = has x.older page || has x.recent page
+
+-- whether it changed since the last one began
+abbrev pub changed_lately : Paged → ℕ → Bool
+changed_lately x page = has x.recent page
+
+-- a page of the area in force, and of the other one
+abbrev pub own_page : Header → List ℕ → ℕ → List ℕ
+own_page h file page = record_at page_bytes (area_of layout_in_use h.sizes h.area file) page
 
 -- the area that isn't in force
 abbrev pub other_area : Header → List ℕ → List ℕ
 other_area h file = area_of layout_in_use h.sizes (other h) file
 
--- each page is still to be written, or stands in the area that isn't in force as it was taken
-abbrev pub AreWritten : Header → Taken → List ℕ → List ℕ → Type 0
-AreWritten h taken left file = (page : ℕ) → page < area_pages layout_in_use h.sizes
-    → Contains left page ⊎ (record_at page_bytes (other_area h file) page ≡ record_at page_bytes taken.area page)
+abbrev pub other_page : Header → List ℕ → ℕ → List ℕ
+other_page h file page = record_at page_bytes (other_area h file) page
+
+-- each page that hasn't changed stands there as the memory's records spell it
+abbrev pub Stand : Sizes → (ℕ → Bool) → Records → (ℕ → List ℕ) → Type 0
+Stand s is_changed records on = (page : ℕ) → page < area_pages layout_in_use s → is_changed page ≡ false → IsAreaPage s records page (on page)
+
+-- pages as they were taken, some of them left to be written
+pub record AreTaken (s : Sizes) (x : Paged) (taken : Records) (left : List ℕ) (on : ℕ → List ℕ) : Type 0 where
+  -- a page that hasn't changed since is as it was taken
+  pub same : (page : ℕ) → page < area_pages layout_in_use s → changed_lately x page ≡ false → SameOn s taken x.records page
+  -- a page that is left and has changed since was copied before
+  pub copied : (page : ℕ) → page < area_pages layout_in_use s → Contains left page → changed_lately x page ≡ true → IsAreaPage s taken page (record_at page_bytes x.copies page)
+  -- a page that isn't left stands in the other area as it was taken
+  pub written : (page : ℕ) → page < area_pages layout_in_use s → (Contains left page → ⊥) → IsAreaPage s taken page (on page)
+  -- they are pages of the area
+  pub inside : (page : ℕ) → Contains left page → page < area_pages layout_in_use s
+
+-- what was taken: the records of the memory after some of the commands since the header's count; and there may be a later generation
+pub record IsTaken (h : Header) (shown : Contents) (commands : List Command) (count : ℕ) (taken : Records) : Type 0 where
+  pub many : ℕ
+  pub few : many ≤ length commands
+  pub count_is : count ≡ h.count + many
+  pub to_last : count ≤ LAST
+  pub memory : Contents
+  pub accepts : accept_each shown (take many commands) ≡ Some memory
+  pub counted : AreCounted h.sizes taken
+  pub shows : ShowsRecords h.sizes taken memory
+  pub later : h.generation < LAST
+
+-- what a checkpoint under way says of the pages of the file that is read
+pub record IsWriting (h : Header) (shown : Contents) (commands : List Command) (x : Paged) (count : ℕ) (left : List ℕ) (file : List ℕ) : Type 0 where
+  pub taken : Records
+  pub is_taken : IsTaken h shown commands count taken
+  pub own : Stand h.sizes (changed x) x.records (own_page h file)
+  pub others : AreTaken h.sizes x taken left (other_page h file)
+
+-- what the pages of both areas are where no checkpoint is under way
+pub record IsResting (h : Header) (x : Paged) (file : List ℕ) : Type 0 where
+  pub own : Stand h.sizes (changed_lately x) x.records (own_page h file)
+  pub others : Stand h.sizes (changed x) x.records (other_page h file)
 
 -- what the state of a checkpoint says of the file that is read
-abbrev pub KeepsStep : Header → Contents → List Command → Step → List ℕ → Type 0
-KeepsStep h shown commands NoCheckpoint file = Unit {0}
-KeepsStep h shown commands (PagesLeft taken left) file = IsTaken h shown commands taken × AreWritten h taken left file
-KeepsStep h shown commands (PagesDone taken) file = IsTaken h shown commands taken × (other_area h file ≡ taken.area)
-KeepsStep h shown commands (Synced taken) file =
-    IsTaken h shown commands taken × (other_area h file ≡ taken.area) × (is_open_header (header_place (other h) file) ≡ false)
+abbrev pub KeepsStep : Header → Contents → List Command → Paged → Step → List ℕ → Type 0
+KeepsStep h shown commands x NoCheckpoint file = IsResting h x file
+KeepsStep h shown commands x (PagesLeft count left) file = IsWriting h shown commands x count left file
+KeepsStep h shown commands x (PagesDone count) file = IsWriting h shown commands x count [] file
+KeepsStep h shown commands x (Synced count) file = IsWriting h shown commands x count [] file × (is_open_header (header_place (other h) file) ≡ false)
 
 -- What is known of the file that is read.
-pub record Keeps (c : CheckpointState) (m : Contents) (j : JournalState) (file : List ℕ) : Type 0 where
+pub record Keeps (h : Header) (m : Contents) (j : JournalState) (file : List ℕ) : Type 0 where
   -- the memory that the area in force shows, the commands behind it, and the room that an opening would find
   pub shown : Contents
   pub commands : List Command
   pub there : ℕ
   -- the header is in force, its area shows that memory, and the journal has those commands and that room
-  pub image : IsImage layout_in_use c.header shown commands there file
+  pub image : IsImage layout_in_use h shown commands there file
   -- they lead to this memory
   pub accepts : accept_each shown commands ≡ Some m
-  pub count : j.count ≡ c.header.count + length commands
+  pub count : j.count ≡ h.count + length commands
   -- the journal is that of the file, its run begins at the header's count
-  pub ring : j.ring ≡ ring_of layout_in_use c.header.sizes
-  pub first : j.first ≡ c.header.count
+  pub ring : j.ring ≡ ring_of layout_in_use h.sizes
+  pub first : j.first ≡ h.count
   pub journal : Holds j file
-  -- as far as the checkpoint has come, the area that isn't in force has what was taken
-  pub step : KeepsStep c.header shown commands c.step file
 
 -- in these states nothing that was written is in doubt
 abbrev pub IsCalm : Step → Moment → Type 0
 IsCalm NoCheckpoint now = now.ranges ≡ []
-IsCalm (PagesLeft taken left) now = Unit {0}
-IsCalm (PagesDone taken) now = Unit {0}
-IsCalm (Synced taken) now = now.ranges ≡ []
+IsCalm (PagesLeft count left) now = Unit {0}
+IsCalm (PagesDone count) now = Unit {0}
+IsCalm (Synced count) now = now.ranges ≡ []
 
 -- The one invariant: what is read is as the checkpoint says, and what a crash may leave differs from it in the area that isn't in force alone.
-pub record IsKept (c : CheckpointState) (m : Contents) (j : JournalState) (now : Moment) : Type 0 where
-  pub read : Keeps c m j now.bytes
+pub record IsKept (c : CheckpointState) (x : Paged) (m : Contents) (j : JournalState) (now : Moment) : Type 0 where
+  pub read : Keeps c.header m j now.bytes
+  -- as far as the checkpoint has come, each page that isn't known to have changed stands in its area
+  pub step : KeepsStep c.header read.shown read.commands x c.step now.bytes
   pub elsewhere : (file : List ℕ) → Left now file → SameBut (area_at layout_in_use c.header.sizes (other c.header)) (area_bytes layout_in_use c.header.sizes) now.bytes file
   pub calm : IsCalm c.step now
 
 -- What a turn's calls do to the disk: nothing that a crash may leave loses the meaning.
-pub record KeepsMeaning {D T E : Type 0} (now : D → Moment) (past : D → List Moment) (old new : D) (m : Contents) (j : JournalState) (result : Result T E) (c : CheckpointState) (k : JournalState) : Type 0 where
+pub record KeepsMeaning {D T E : Type 0} (now : D → Moment) (past : D → List Moment) (old new : D) (m : Contents) (j : JournalState) (result : Result T E) (c : CheckpointState) (x : Paged) (k : JournalState) : Type 0 where
   -- each file that a crash may leave, within the turn and at its end, means the memory after all the journal's commands
   pub leaves : LeavesOnly now past old new (MeansWith m j)
   -- and once it is done, the disk is as the new checkpoint and the new journal say
-  pub kept : OnOk result (IsKept c m k (now new))
+  pub kept : OnOk result (IsKept c x m k (now new))

@@ -1,15 +1,14 @@
 -- What a turn of a checkpoint does, by the state that it finds. (Own.)
-use Rattle.std.specs.Prelude.{◌≡◌, ℕ, ◌+◌, ◌-◌, ◌<◌, Bool, true, false, ◌&&◌, nat_lt, min, List, ◌∷◌, Result, Ok, Err}
+use Rattle.std.specs.Prelude.{◌≡◌, ◌≢◌, ℕ, ◌+◌, ◌-◌, ◌<◌, ◌≤◌, Bool, true, false, ◌&&◌, nat_lt, min, List, ◌∷◌, length, replicate, not, Result, Ok, Err}
 use Rattle.im_types.specs.declared.TheConstants.{LAST}
 use Rattle.im_types.specs.declared.refusals.Refusal.{Refusal}
-use Rattle.im_types.specs.Contents.{Contents}
 use Rattle.im_types.specs.Layout.{layout_in_use, area_pages}
 use Rattle.im_types.specs.Header.{Header}
-use Rattle.im_types.specs.Pages.{Shows}
 use Rattle.im_journal.specs.Holding.{JournalState, to_sweep, with_room}
 use Rattle.im_checkpoint.specs.declared.checkpoint.TurnDone.{TurnDone}
 use Rattle.im_checkpoint.specs.declared.checkpoint.TurnDone.TheVariants.{Idle, Began, Page, Synced as SyncedNow, InForce, Swept}
-use Rattle.im_checkpoint.specs.Step.{Taken, NoCheckpoint, PagesLeft, PagesDone, Synced, CheckpointState, with_left, all_pages, turns_left}
+use Rattle.im_pages.specs.PageSets.{union, pages_from}
+use Rattle.im_checkpoint.specs.Step.{NoCheckpoint, PagesLeft, PagesDone, Synced, CheckpointState, PagedCheckpoint, with_left, turns_left, left_in}
 
 -- there are commands since the header's count, and there may be a later generation
 abbrev pub is_due : Header → JournalState → Bool
@@ -23,23 +22,35 @@ next_header h count = record { version = h.version; area = 1 - h.area; generatio
 abbrev pub begun_at : ℕ → JournalState → JournalState
 begun_at count j = record j { first = count }
 
--- a checkpoint as it begins: it has the memory's pages and count as they are now, and all pages are left
-pub record Begins (h : Header) (m : Contents) (count : ℕ) (new : CheckpointState) : Type 0 where
-  pub area : List ℕ
-  pub shows : Shows layout_in_use h.sizes area m
-  pub state : new ≡ record { header = h; step = PagesLeft (record { count = count; area = area }) (all_pages h.sizes) }
-  pub turns : turns_left new.step ≡ area_pages layout_in_use h.sizes + 2
+-- no checkpoint, where all pages of both areas count as changed, or those of the other area alone
+pub record IsIdle (h : Header) (other_alone : Bool) (c : PagedCheckpoint) : Type 0 where
+  pub state : c.state ≡ record { header = h; step = NoCheckpoint }
+  pub recent : c.recent ≡ replicate (area_pages layout_in_use h.sizes) (not other_alone)
+  pub older : c.older ≡ replicate (area_pages layout_in_use h.sizes) other_alone
+
+-- a checkpoint as it begins: it is of the count as it is now, some pages are left, and it comes to its end in at most a turn for each page of an area and two more
+pub record Begins (h : Header) (count : ℕ) (new : CheckpointState) : Type 0 where
+  pub left : List ℕ
+  pub state : new ≡ record { header = h; step = with_left count left }
+  pub turns : turns_left new.step ≤ area_pages layout_in_use h.sizes + 2
 
 -- What a turn does, by the state that it finds.
-pub record Turned (old : CheckpointState) (j : JournalState) (m : Contents) (answer : TurnDone) (new : CheckpointState) (k : JournalState) : Type 0 where
+pub record Turned (old : CheckpointState) (j : JournalState) (answer : TurnDone) (new : CheckpointState) (k : JournalState) : Type 0 where
   pub swept : old.step ≡ NoCheckpoint → 0 < to_sweep j → (answer ≡ Swept) × (new ≡ old) × (k ≡ with_room j (min 3 (to_sweep j)))
-  pub began : old.step ≡ NoCheckpoint → to_sweep j ≡ 0 → is_due old.header j ≡ true → (answer ≡ Began) × Begins old.header m j.count new × (k ≡ j)
+  pub began : old.step ≡ NoCheckpoint → to_sweep j ≡ 0 → is_due old.header j ≡ true → (answer ≡ Began) × Begins old.header j.count new × (k ≡ j)
   pub idle : old.step ≡ NoCheckpoint → to_sweep j ≡ 0 → is_due old.header j ≡ false → (answer ≡ Idle) × (new ≡ old) × (k ≡ j)
-  pub page : (taken : Taken) (i : ℕ) (left : List ℕ) → old.step ≡ PagesLeft taken (i ∷ left)
-      → (answer ≡ Page i) × (new ≡ record { header = old.header; step = with_left taken left }) × (k ≡ j)
-  pub synced : (taken : Taken) → old.step ≡ PagesDone taken → (answer ≡ SyncedNow) × (new ≡ record { header = old.header; step = Synced taken }) × (k ≡ j)
-  pub in_force : (taken : Taken) → old.step ≡ Synced taken
-      → (answer ≡ InForce) × (new ≡ record { header = next_header old.header taken.count; step = NoCheckpoint }) × (k ≡ begun_at taken.count j)
+  pub page : (count : ℕ) (i : ℕ) (left : List ℕ) → old.step ≡ PagesLeft count (i ∷ left)
+      → (answer ≡ Page i) × (new ≡ record { header = old.header; step = with_left count left }) × (k ≡ j)
+  pub synced : (count : ℕ) → old.step ≡ PagesDone count → (answer ≡ SyncedNow) × (new ≡ record { header = old.header; step = Synced count }) × (k ≡ j)
+  pub in_force : (count : ℕ) → old.step ≡ Synced count
+      → (answer ≡ InForce) × (new ≡ record { header = next_header old.header count; step = NoCheckpoint }) × (k ≡ begun_at count j)
+
+-- What a turn does with the pages that changed.
+pub record Moved (old : PagedCheckpoint) (answer : TurnDone) (new : PagedCheckpoint) : Type 0 where
+  -- a checkpoint that begins writes the pages that changed since the other area's last one began, in rising order and no others, and none has changed since then
+  pub begun : answer ≡ Began → (left_in new.state.step ≡ pages_from 0 (union old.older old.recent)) × (new.older ≡ old.recent) × (new.recent ≡ replicate (length old.older) false)
+  -- any other turn leaves the pages
+  pub stays : answer ≢ Began → (new.older ≡ old.older) × (new.recent ≡ old.recent)
 
 -- at most so many device calls come before this answer: by what was done, and four before a refusal
 abbrev pub most_calls : Result TurnDone Refusal → ℕ

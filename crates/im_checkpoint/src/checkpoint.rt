@@ -3,50 +3,57 @@
 //! | state | the turn | its answer | the next state |
 //! |---|---|---|---|
 //! | no checkpoint, old slots to be swept | closes the gates of three at most | `Swept` | no checkpoint |
-//! | no checkpoint, none to be swept, new commands | takes the memory's pages and count | `Began` | pages left |
+//! | no checkpoint, none to be swept, new commands | takes the pages that changed, and the count | `Began` | pages left |
 //! | no checkpoint, none of either | nothing | `Idle` | no checkpoint |
 //! | pages left | writes the next page into the other area | `Page` | pages left; after the last, pages done |
 //! | pages done | syncs the pages, and closes the other header's gate | `Synced` | synced |
 //! | synced | writes the other area's header, and opens its gate | `InForce` | no checkpoint |
 //!
-//! The other area is the one that isn't in force, and new commands are those since the header's count. A turn that
-//! answers `Device` leaves the state as it was. After generation [`LAST`] no checkpoint begins. The table is `Turned`
+//! The other area is the one that isn't in force, and new commands are those since the header's count. The pages that
+//! changed are those that a command named since the other area's last checkpoint began; where there are none, all pages
+//! are done at once. Nothing is copied then: a page that is left is copied by [`Checkpoint::before`], before the first
+//! command that changes it. A turn that answers `Device` leaves the state as it was. After generation [`LAST`] no checkpoint begins. The table is `Turned`
 //! (`specs/Turns.antt`); what holds of the disk in each state, and what a stop leaves, is `IsKept`
 //! (`specs/Keeping.antt`), told in docs/CRASH.md.
-ghost use Rattle.std.specs.Prelude.{◌≡◌, ◌+◌, ◌*◌, ◌<◌, ◌≤◌, ℕ, List, length, min, if◌then◌else◌, ◌==◌};
+ghost use Rattle.std.specs.Prelude.{◌≡◌, ◌≢◌, ◌⊎◌, ◌+◌, ◌*◌, ◌<◌, ◌≤◌, ℕ, true, false, not, length, min, replicate, ◌==◌};
 ghost use Rattle.std.specs.Prelude.{OnOk, OnErr, IfOk, IfErr};
 ghost use Rattle.im_types.specs.declared.refusals.Refusal.TheVariants.{NoMemory, Device};
 ghost use Rattle.im_types.specs.Contents.{Contents};
 ghost use Rattle.im_types.specs.Layout as layout;
-ghost use Rattle.im_types.specs.Layout.{layout_in_use, sizes_of};
-ghost use Rattle.im_types.specs.Pages.{Shows};
+ghost use Rattle.im_types.specs.Layout.{layout_in_use, sizes_of, page_bytes, record_at};
 ghost use Rattle.im_disk.specs.Moment.{Moment, Faults};
 ghost use Rattle.im_disk.specs.Gate.{IsClosed};
 ghost use Rattle.im_disk.specs.Since.{CallsAtMost};
 ghost use Rattle.im_journal.specs.Holding.{JournalState, AllHold, to_sweep, with_room};
+ghost use Rattle.im_memory.specs.State.{MemoryState};
 ghost use Rattle.im_meaning.specs.Images.{other};
+ghost use Rattle.im_pages.specs.PageSets.{has, union, pages_from, IsNext};
 ghost use Rattle.im_image.specs.Headers.{seen};
-ghost use Rattle.im_checkpoint.specs.Step.{Taken, NoCheckpoint, PagesLeft, CheckpointState, all_pages, pages_from};
+ghost use Rattle.im_image.specs.Encoding.{IsAreaPage};
+ghost use Rattle.im_checkpoint.specs.Step.{NoCheckpoint, PagesLeft, CheckpointState, PagedCheckpoint, with_left, step_of};
 ghost use Rattle.im_checkpoint.specs.Step.{IsPagesLeft, IsPagesDone, IsSynced};
-ghost use Rattle.im_checkpoint.specs.Turns.{Turned, Begins, is_due, most_calls};
-ghost use Rattle.im_checkpoint.specs.Keeping.{Fits, IsKept, IsAtRest, IsReady, ComesTo, KeepsMeaning};
+ghost use Rattle.im_checkpoint.specs.Turns.{Turned, Moved, Begins, IsIdle, is_due, most_calls};
+ghost use Rattle.im_image.specs.Reading.{HasSizes};
+ghost use Rattle.im_checkpoint.specs.Keeping.{Paged, paged, Fits, IsKept, IsAtRest, IsReady, ComesTo, KeepsMeaning};
 
 use crate::header::{close_other, next_header, open_next};
 use im_disk::Disk;
-use im_image::{Header, encode};
+use im_image::{Header, encode_page};
 use im_journal::Journal;
 use im_memory::Memory;
+use im_pages::PageSet;
 use im_types::layout::{PAGE, area_at, area_pages};
 use im_types::{LAST, Limits, Refusal};
-use std::alloc::{AllocError, Global};
+use std::alloc::Global;
 use std::marker::Model;
+use std::mem::swap;
 
 /// What a turn did.
 #[derive(Clone, Copy, Debug, PartialEq, Eq)]
 pub enum TurnDone {
     /// Nothing: there was nothing to do.
     Idle,
-    /// It took the memory's pages and count as they are now.
+    /// It took the pages that changed, and the count as it is now.
     Began,
     /// It wrote the page with this number.
     Page(u32),
@@ -67,54 +74,93 @@ enum Step {
     Synced,
 }
 
-/// The header in force, and how far the next area has come.
+/// The header in force, how far the next area has come, and the pages that changed.
 ///
-/// The space for a whole area is taken once, by [`Checkpoint::idle`].
+/// The sets of pages, and the space for copies of all pages of an area, are taken once, by [`Checkpoint::idle`].
 #[derive(Drop)]
 pub struct Checkpoint {
     header: Header,
     step: Step,
-    pages: Vec<u32>,
-    written: usize,
     count: u64,
-    area: Vec<u8>,
+    // The pages that changed since the last checkpoint began.
+    recent: PageSet,
+    // Those that changed since the one before it began, and before the last one did.
+    older: PageSet,
+    // Of these the pages from the next one on are left.
+    left: PageSet,
+    next: usize,
+    // The pages that a command names.
+    named: PageSet,
+    // Pages that are left and have changed, as they were, each in its place in an area.
+    copies: Vec<u8>,
 }
 
 impl Model for Checkpoint {
-    ghost use Rattle.std.specs.Prelude.{drop};
+    ghost use Rattle.im_pages.specs.PageSets.{pages_from};
     ghost use Rattle.im_image.specs.Headers.{seen};
-    ghost use Rattle.im_checkpoint.specs.Step.{CheckpointState, IsCheckpoint, step_of};
+    ghost use Rattle.im_checkpoint.specs.Step.{PagedCheckpoint, IsCheckpoint, step_of};
 
-    ghost Value = { CheckpointState };
+    ghost Value = { PagedCheckpoint };
 
     ghost view = { λ c. record {
-      header = seen c.header;
-      step = step_of c.step (record { count = c.count; area = c.area.items }) (drop c.written c.pages.items);
+      state = record { header = seen c.header; step = step_of c.step c.count (pages_from c.next c.left) };
+      recent = c.recent;
+      older = c.older;
+      copies = c.copies.items;
     } };
 
-    ghost invariant = { λ c. IsCheckpoint (seen c.header) c.step c.pages.items c.written c.area.items };
+    ghost invariant = { λ c. IsCheckpoint (seen c.header) c.step c.recent c.older c.left c.named c.next c.copies.items };
 }
 
-// All pages of an area.
-fn all_pages(alloc: Global, limits: Limits) -> Result<Vec<u32>, AllocError>
-    ensures { IfOk result (λ pages. pages.items ≡ all_pages (sizes_of limits)) }
+// All pages of an area, or none of them.
+fn all_or_none(alloc: Global, limits: Limits, all: bool) -> Result<PageSet, Refusal>
+    ensures set { IfOk result (λ set. set ≡ replicate (layout.area_pages layout_in_use (sizes_of limits)) all) }
+    ensures only { IfErr result (λ e. e ≡ NoMemory) }
 {
-    let mut pages = Vec::new(alloc);
-    for page in 0..area_pages(limits) {
-        pages.push(page as u32)?;
+    let Ok(mut set) = PageSet::new(alloc, limits) else {
+        return Err(Refusal::NoMemory);
+    };
+    if !all {
+        return Ok(set);
     }
-    Ok(pages)
+    set.fill();
+    Ok(set)
 }
 
-// How far a checkpoint has come once so many of its pages are written.
-fn step_after(written: usize, pages: usize) -> Step
-    ensures { result ≡ (if written == pages then Step.PagesDone else Step.PagesLeft) }
+// How far a checkpoint has come whose pages from this one on are left, and the first of them, if there is one.
+fn next_left(left: &PageSet, from: usize) -> (Step, usize)
+    ensures step { (count : ℕ) → step_of result.0 count (pages_from result.1 left.now)
+        ≡ with_left count (pages_from from left.now) }
+    ensures some { result.0 ≡ Step.PagesLeft → IsNext left.now from result.1 }
+    ensures only { (result.0 ≡ Step.PagesLeft) ⊎ (result.0 ≡ Step.PagesDone) }
 {
-    if written == pages {
-        Step::PagesDone
-    } else {
-        Step::PagesLeft
+    match left.next_from(from) {
+        Some(page) => (Step::PagesLeft, page),
+        None => (Step::PagesDone, 0),
     }
+}
+
+// The bytes of a page that is left: its copy where it has changed, else the page as it is.
+fn page_for(
+    recent: &PageSet,
+    copies: &[u8],
+    memory: &Memory,
+    limits: Limits,
+    i: usize,
+    page: &mut [u8; PAGE],
+)
+    requires cells { length memory.now.contents.cells ≡ limits.cells }
+    requires elements { length memory.now.contents.windows ≡ limits.elements }
+    requires inside { i < layout.area_pages layout_in_use (sizes_of limits) }
+    requires space { length copies.now ≡ layout.area_bytes layout_in_use (sizes_of limits) }
+    ensures copy { has recent.now i ≡ true → page.new ≡ record_at page_bytes copies.now i }
+    ensures fresh { has recent.now i ≡ false → IsAreaPage (sizes_of limits) memory.now.records i page.new }
+{
+    if recent.has(i) {
+        page.copy_from_slice(&copies[PAGE * i..PAGE * i + PAGE]);
+        return;
+    }
+    encode_page(memory, limits, i, page);
 }
 
 // Closes the gates of the oldest slots that are to be swept, three at most.
@@ -124,9 +170,9 @@ fn sweep<D: Disk>(disk: &mut D, journal: &mut Journal) -> Result<TurnDone, Refus
     ensures swept { IfOk result (λ answer. (answer ≡ TurnDone.Swept)
         × (journal.new ≡ with_room journal.old (min 3 (to_sweep journal.old)))) }
     ensures same { OnErr result (journal.new ≡ journal.old) }
-    ensures keeps { D.honest disk.new → (c : CheckpointState) (m : Contents) → c.step ≡ NoCheckpoint
-        → IsKept c m journal.old (D.now disk.old)
-        → KeepsMeaning D.now D.past disk.old disk.new m journal.old result c journal.new }
+    ensures keeps { D.honest disk.new → (c : CheckpointState) (x : Paged) (m : Contents) → c.step ≡ NoCheckpoint
+        → IsKept c x m journal.old (D.now disk.old)
+        → KeepsMeaning D.now D.past disk.old disk.new m journal.old result c x journal.new }
     ensures calls { D.honest disk.new → CallsAtMost D.past disk.old disk.new (most_calls result) }
     ensures honest { D.honest disk.new → D.honest disk.old }
     ensures faults { Faults (λ e. e ≡ Device) result (D.failures disk.old) (D.failures disk.new) }
@@ -139,71 +185,91 @@ fn sweep<D: Disk>(disk: &mut D, journal: &mut Journal) -> Result<TurnDone, Refus
 }
 
 impl Checkpoint {
-    /// No checkpoint yet, with this header in force. It takes the space for a whole area: `NoMemory` where that is
-    /// refused.
-    pub fn idle(alloc: Global, header: &Header) -> Result<Checkpoint, Refusal>
+    /// No checkpoint yet, with this header in force. All pages of both areas count as changed; where the image was just
+    /// formatted, those of the other area alone. It takes the sets of pages, and the space for an area: `NoMemory` where
+    /// that is refused.
+    pub fn idle(alloc: Global, header: &Header, formatted: bool) -> Result<Checkpoint, Refusal>
         requires { header.now.area ≤ 1 }
-        ensures state { IfOk result (λ c. c ≡ record { header = seen header.now; step = NoCheckpoint }) }
+        ensures idle { IfOk result (λ c. IsIdle (seen header.now) formatted c) }
         ensures only { IfErr result (λ e. e ≡ NoMemory) }
     {
-        let Ok(pages) = all_pages(alloc, header.limits) else {
+        let limits = header.limits;
+        let Ok(recent) = all_or_none(alloc, limits, !formatted) else {
             return Err(Refusal::NoMemory);
         };
-        let Ok(area) = vec![in alloc; 0; PAGE * area_pages(header.limits)] else {
+        let Ok(older) = all_or_none(alloc, limits, formatted) else {
+            return Err(Refusal::NoMemory);
+        };
+        let Ok(left) = PageSet::new(alloc, limits) else {
+            return Err(Refusal::NoMemory);
+        };
+        let Ok(named) = PageSet::new(alloc, limits) else {
+            return Err(Refusal::NoMemory);
+        };
+        let Ok(copies) = vec![in alloc; 0; PAGE * area_pages(limits)] else {
             return Err(Refusal::NoMemory);
         };
         Ok(Checkpoint {
             header: *header,
             step: Step::NoCheckpoint,
-            pages,
-            written: 0,
             count: 0,
-            area,
+            recent,
+            older,
+            left,
+            next: 0,
+            named,
+            copies,
         })
     }
 
     /// The header in force.
     pub fn header(&self) -> Header
-        ensures { seen result ≡ self.now.header }
+        ensures { seen result ≡ self.now.state.header }
     {
         self.header // As it was put in force.
     }
 
     // Writes the next page into the area that isn't in force.
-    fn write_page<D: Disk>(&mut self, disk: &mut D) -> Result<TurnDone, Refusal>
-        requires step { IsPagesLeft self.old.step }
+    fn write_page<D: Disk>(&mut self, disk: &mut D, memory: &Memory) -> Result<TurnDone, Refusal>
+        requires step { IsPagesLeft self.old.state.step }
+        requires sizes { HasSizes self.old.state.header.sizes memory.now.contents }
         requires inside { D.honest disk.old
-            → layout.journal_at layout_in_use self.old.header.sizes ≤ length (D.now disk.old).bytes }
-        ensures turned { IfOk result (λ answer. (m : Contents) (j : JournalState)
-            → Turned self.old j m answer self.new j) }
+            → layout.journal_at layout_in_use self.old.state.header.sizes ≤ length (D.now disk.old).bytes }
+        ensures turned { IfOk result (λ answer. ((j : JournalState) → Turned self.old.state j answer self.new.state j)
+            × Moved self.old answer self.new) }
         ensures same { OnErr result (self.new ≡ self.old) }
-        ensures keeps { D.honest disk.new → (m : Contents) (j : JournalState) → IsKept self.old m j (D.now disk.old)
-            → KeepsMeaning D.now D.past disk.old disk.new m j result self.new j }
+        ensures keeps { D.honest disk.new → (m : Contents) (j : JournalState)
+            → IsKept self.old.state (paged self.old memory.now) m j (D.now disk.old)
+            → KeepsMeaning D.now D.past disk.old disk.new m j result self.new.state (paged self.new memory.now) j }
         ensures calls { D.honest disk.new → CallsAtMost D.past disk.old disk.new (most_calls result) }
         ensures honest { D.honest disk.new → D.honest disk.old }
         ensures faults { Faults (λ e. e ≡ Device) result (D.failures disk.old) (D.failures disk.new) }
     {
-        let page = self.pages[self.written];
-        let from = PAGE * page as usize;
-        let at = area_at(self.header.limits, 1 - self.header.area as usize) + from;
+        let page = self.next;
+        let limits = self.header.limits;
+        let mut bytes = [0; PAGE];
+        page_for(&self.recent, self.copies.as_slice(), memory, limits, page, &mut bytes);
+        let at = area_at(limits, 1 - self.header.area as usize) + PAGE * page;
         // Nobody reads the area that isn't in force: what a stop leaves of the page doesn't count.
-        if let Err(_) = disk.write_at(at, &self.area[from..from + PAGE]) {
+        if let Err(_) = disk.write_at(at, &bytes) {
             return Err(Refusal::Device);
         }
-        self.written += 1;
-        self.step = step_after(self.written, self.pages.len());
-        Ok(TurnDone::Page(page))
+        let (step, next) = next_left(&self.left, page + 1);
+        self.step = step;
+        self.next = next;
+        Ok(TurnDone::Page(page as u32))
     }
 
     // Puts the pages on the disk, and closes the other header's gate.
     fn sync_pages<D: Disk>(&mut self, disk: &mut D) -> Result<TurnDone, Refusal>
-        requires step { IsPagesDone self.old.step }
+        requires step { IsPagesDone self.old.state.step }
         requires inside { D.honest disk.old → 8192 ≤ length (D.now disk.old).bytes }
-        ensures turned { IfOk result (λ answer. (m : Contents) (j : JournalState)
-            → Turned self.old j m answer self.new j) }
+        ensures turned { IfOk result (λ answer. ((j : JournalState) → Turned self.old.state j answer self.new.state j)
+            × Moved self.old answer self.new) }
         ensures same { OnErr result (self.new ≡ self.old) }
-        ensures keeps { D.honest disk.new → (m : Contents) (j : JournalState) → IsKept self.old m j (D.now disk.old)
-            → KeepsMeaning D.now D.past disk.old disk.new m j result self.new j }
+        ensures keeps { D.honest disk.new → (n : MemoryState) (m : Contents) (j : JournalState)
+            → IsKept self.old.state (paged self.old n) m j (D.now disk.old)
+            → KeepsMeaning D.now D.past disk.old disk.new m j result self.new.state (paged self.new n) j }
         ensures calls { D.honest disk.new → CallsAtMost D.past disk.old disk.new (most_calls result) }
         ensures honest { D.honest disk.new → D.honest disk.old }
         ensures faults { Faults (λ e. e ≡ Device) result (D.failures disk.old) (D.failures disk.new) }
@@ -222,13 +288,15 @@ impl Checkpoint {
         disk: &mut D,
         journal: &mut Journal,
     ) -> Result<TurnDone, Refusal>
-        requires ready { IsReady self.old journal.old }
-        requires closed { D.honest disk.old → IsClosed (4096 * other self.old.header) 64 (D.now disk.old) }
-        ensures turned { IfOk result (λ answer. (m : Contents)
-            → Turned self.old journal.old m answer self.new journal.new) }
+        requires ready { IsReady self.old.state journal.old }
+        requires closed { D.honest disk.old → IsClosed (4096 * other self.old.state.header) 64 (D.now disk.old) }
+        ensures turned { IfOk result (λ answer. Turned self.old.state journal.old answer self.new.state journal.new
+            × Moved self.old answer self.new) }
         ensures same { OnErr result ((self.new ≡ self.old) × (journal.new ≡ journal.old)) }
-        ensures keeps { D.honest disk.new → (m : Contents) → IsKept self.old m journal.old (D.now disk.old)
-            → KeepsMeaning D.now D.past disk.old disk.new m journal.old result self.new journal.new }
+        ensures keeps { D.honest disk.new → (n : MemoryState) (m : Contents)
+            → IsKept self.old.state (paged self.old n) m journal.old (D.now disk.old)
+            → KeepsMeaning D.now D.past disk.old disk.new m journal.old result self.new.state (paged self.new n)
+            journal.new }
         ensures calls { D.honest disk.new → CallsAtMost D.past disk.old disk.new (most_calls result) }
         ensures honest { D.honest disk.new → D.honest disk.old }
         ensures faults { Faults (λ e. e ≡ Device) result (D.failures disk.old) (D.failures disk.new) }
@@ -244,25 +312,33 @@ impl Checkpoint {
         Ok(TurnDone::InForce)
     }
 
-    // Takes the memory's pages and count as they are now.
+    // Takes the pages that changed, and the count as it is now.
     fn begin(&mut self, memory: &Memory, journal: &Journal)
-        requires step { self.old.step ≡ NoCheckpoint }
-        requires later { self.old.header.generation < LAST }
-        requires cells { length memory.now.contents.cells ≡ self.old.header.sizes.cells }
-        requires elements { length memory.now.contents.windows ≡ self.old.header.sizes.elements }
-        ensures began { Begins self.old.header memory.now.contents journal.now.count self.new }
-        ensures kept { (now : Moment) → IsKept self.old memory.now.contents journal.now now
-            → IsKept self.new memory.now.contents journal.now now }
+        requires step { self.old.state.step ≡ NoCheckpoint }
+        requires later { self.old.state.header.generation < LAST }
+        requires sizes { HasSizes self.old.state.header.sizes memory.now.contents }
+        ensures began { Begins self.old.state.header journal.now.count self.new.state }
+        ensures moved { Moved self.old TurnDone.Began self.new }
+        ensures kept { (now : Moment)
+            → IsKept self.old.state (paged self.old memory.now) memory.now.contents journal.now now
+            → IsKept self.new.state (paged self.new memory.now) memory.now.contents journal.now now }
     {
-        encode(memory, self.header.limits, &mut self.area);
+        // Nothing is copied: the memory's records are what is taken.
+        let _records = memory.records();
+        self.left.clear();
+        self.left.union_with(&self.older);
+        self.left.union_with(&self.recent);
+        swap(&mut self.older, &mut self.recent);
+        self.recent.clear();
         self.count = journal.count();
-        self.written = 0;
-        self.step = Step::PagesLeft;
+        let (step, next) = next_left(&self.left, 0);
+        self.step = step;
+        self.next = next;
     }
 
     // Whether there are commands since the header's count, and there may be a later generation.
     fn is_due(&self, journal: &Journal) -> bool
-        ensures { result ≡ is_due self.now.header journal.now }
+        ensures { result ≡ is_due self.now.state.header journal.now }
     {
         self.header.count < journal.count() && self.header.generation < LAST
     }
@@ -274,12 +350,15 @@ impl Checkpoint {
         memory: &Memory,
         journal: &mut Journal,
     ) -> Result<TurnDone, Refusal>
-        requires rests { IsAtRest self.old memory.now.contents journal.old }
-        requires kept { D.honest disk.old → IsKept self.old memory.now.contents journal.old (D.now disk.old) }
-        ensures turned { IfOk result (λ answer. Turned self.old journal.old memory.now.contents answer self.new journal.new) }
+        requires rests { IsAtRest self.old.state memory.now.contents journal.old }
+        requires kept { D.honest disk.old → IsKept self.old.state (paged self.old memory.now) memory.now.contents journal.old
+            (D.now disk.old) }
+        ensures turned { IfOk result (λ answer. Turned self.old.state journal.old answer self.new.state journal.new
+            × Moved self.old answer self.new) }
         ensures same { OnErr result ((self.new ≡ self.old) × (journal.new ≡ journal.old)) }
         ensures keeps { D.honest disk.new
-            → KeepsMeaning D.now D.past disk.old disk.new memory.now.contents journal.old result self.new journal.new }
+            → KeepsMeaning D.now D.past disk.old disk.new memory.now.contents journal.old result self.new.state
+            (paged self.new memory.now) journal.new }
         ensures calls { D.honest disk.new → CallsAtMost D.past disk.old disk.new (most_calls result) }
         ensures honest { D.honest disk.new → D.honest disk.old }
         ensures faults { Faults (λ e. e ≡ Device) result (D.failures disk.old) (D.failures disk.new) }
@@ -294,7 +373,7 @@ impl Checkpoint {
         Ok(TurnDone::Idle)
     }
 
-    /// One turn, by what was done so far: it takes the memory's pages, writes one of them, puts them on the disk, puts
+    /// One turn, by what was done so far: it takes the pages that changed, writes one of them, puts them on the disk, puts
     /// the header of their area in force, or closes the gates of slots whose commands the area in force holds, three at
     /// most. `Idle` where there is none of it to do. It makes at most four device calls and takes no memory. The memory
     /// and the journal are those that the header's image means.
@@ -307,21 +386,24 @@ impl Checkpoint {
         memory: &Memory,
         journal: &mut Journal,
     ) -> Result<TurnDone, Refusal>
-        requires fits { Fits self.old memory.now.contents journal.old }
-        requires kept { D.honest disk.old → IsKept self.old memory.now.contents journal.old (D.now disk.old) }
+        requires fits { Fits self.old.state memory.now.contents journal.old }
+        requires kept { D.honest disk.old → IsKept self.old.state (paged self.old memory.now) memory.now.contents journal.old
+            (D.now disk.old) }
         // What it answers, and what it comes to: the table of turns, and how far a checkpoint still has to go.
-        ensures turned { IfOk result (λ answer. ComesTo self.old journal.old memory.now.contents answer self.new journal.new) }
+        ensures turned { IfOk result (λ answer. ComesTo self.old journal.old memory.now.contents answer self.new
+            journal.new) }
         ensures same { OnErr result ((self.new ≡ self.old) × (journal.new ≡ journal.old)) }
         // Each file that a crash may leave, from the start on, and now, means the memory after all its commands.
         ensures keeps { D.honest disk.new
-            → KeepsMeaning D.now D.past disk.old disk.new memory.now.contents journal.old result self.new journal.new }
+            → KeepsMeaning D.now D.past disk.old disk.new memory.now.contents journal.old result self.new.state
+            (paged self.new memory.now) journal.new }
         ensures calls { D.honest disk.new → CallsAtMost D.past disk.old disk.new (most_calls result) }
         ensures honest { D.honest disk.new → D.honest disk.old }
         ensures faults { Faults (λ e. e ≡ Device) result (D.failures disk.old) (D.failures disk.new) }
     {
         match self.step {
             Step::NoCheckpoint => self.rest(disk, memory, journal),
-            Step::PagesLeft => self.write_page(disk),
+            Step::PagesLeft => self.write_page(disk, memory),
             Step::PagesDone => self.sync_pages(disk),
             Step::Synced => self.put_in_force(disk, journal),
         }

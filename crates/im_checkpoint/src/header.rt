@@ -7,9 +7,9 @@ ghost use Rattle.im_disk.specs.Gate.{IsClosed};
 ghost use Rattle.im_disk.specs.Since.{LeavesWithin, LeavesNow, LeavesOnly, CallsAtMost};
 ghost use Rattle.im_journal.specs.Holding.{JournalState, Holds};
 ghost use Rattle.im_image.specs.Headers.{seen};
-ghost use Rattle.im_checkpoint.specs.Step.{Taken, NoCheckpoint, PagesDone, Synced};
+ghost use Rattle.im_checkpoint.specs.Step.{NoCheckpoint, PagesDone, Synced};
 ghost use Rattle.im_checkpoint.specs.Turns.{next_header, begun_at};
-ghost use Rattle.im_checkpoint.specs.Keeping.{MeansWith, IsKept};
+ghost use Rattle.im_checkpoint.specs.Keeping.{Paged, MeansWith, IsKept};
 
 use im_disk::{DeviceFault, Disk, write_behind_gate};
 use im_image::Header;
@@ -36,15 +36,15 @@ pub(crate) fn next_header(header: &Header, count: u64) -> Header
 pub(crate) fn close_other<D: Disk>(disk: &mut D, header: &Header) -> Result<(), DeviceFault>
     requires area { header.now.area ≤ 1 }
     requires inside { D.honest disk.old → 8192 ≤ length (D.now disk.old).bytes }
-    ensures leaves { D.honest disk.new → (taken : Taken) (m : Contents) (j : JournalState)
-        → IsKept (record { header = seen header.now; step = PagesDone taken }) m j (D.now disk.old)
+    ensures leaves { D.honest disk.new → (count : ℕ) (x : Paged) (m : Contents) (j : JournalState)
+        → IsKept (record { header = seen header.now; step = PagesDone count }) x m j (D.now disk.old)
         → LeavesWithin D.now D.past disk.old disk.new (MeansWith m j) }
-    ensures now { D.honest disk.new → (taken : Taken) (m : Contents) (j : JournalState)
-        → IsKept (record { header = seen header.now; step = PagesDone taken }) m j (D.now disk.old)
+    ensures now { D.honest disk.new → (count : ℕ) (x : Paged) (m : Contents) (j : JournalState)
+        → IsKept (record { header = seen header.now; step = PagesDone count }) x m j (D.now disk.old)
         → LeavesNow (D.now disk.new) (MeansWith m j) }
-    ensures kept { OnOk result (D.honest disk.new → (taken : Taken) (m : Contents) (j : JournalState)
-        → IsKept (record { header = seen header.now; step = PagesDone taken }) m j (D.now disk.old)
-        → IsKept (record { header = seen header.now; step = Synced taken }) m j (D.now disk.new)) }
+    ensures kept { OnOk result (D.honest disk.new → (count : ℕ) (x : Paged) (m : Contents) (j : JournalState)
+        → IsKept (record { header = seen header.now; step = PagesDone count }) x m j (D.now disk.old)
+        → IsKept (record { header = seen header.now; step = Synced count }) x m j (D.now disk.new)) }
     ensures few { D.honest disk.new → CallsAtMost D.past disk.old disk.new 3 }
     ensures honest { D.honest disk.new → D.honest disk.old }
     ensures failures { Counts result (D.failures disk.old) (D.failures disk.new) }
@@ -64,16 +64,16 @@ pub(crate) fn close_other<D: Disk>(disk: &mut D, header: &Header) -> Result<(), 
 pub(crate) fn open_next<D: Disk>(disk: &mut D, next: &Header) -> Result<(), DeviceFault>
     requires area { next.now.area ≤ 1 }
     requires closed { D.honest disk.old → IsClosed (4096 * next.now.area) 64 (D.now disk.old) }
-    ensures leaves { D.honest disk.new → (h : definition.Header) (taken : Taken) (m : Contents) (j : JournalState)
-        → seen next.now ≡ next_header h taken.count
-        → IsKept (record { header = h; step = Synced taken }) m j (D.now disk.old)
+    ensures leaves { D.honest disk.new → (h : definition.Header) (count : ℕ) (x : Paged) (m : Contents) (j : JournalState)
+        → seen next.now ≡ next_header h count
+        → IsKept (record { header = h; step = Synced count }) x m j (D.now disk.old)
         → LeavesOnly D.now D.past disk.old disk.new (MeansWith m j) }
     ensures kept { OnOk result (D.honest disk.new
-        → (h : definition.Header) (taken : Taken) (m : Contents) (j : JournalState)
-        → seen next.now ≡ next_header h taken.count
-        → IsKept (record { header = h; step = Synced taken }) m j (D.now disk.old)
-        → ((file : List ℕ) → Holds j file → Holds (begun_at taken.count j) file)
-        → IsKept (record { header = next_header h taken.count; step = NoCheckpoint }) m (begun_at taken.count j)
+        → (h : definition.Header) (count : ℕ) (x : Paged) (m : Contents) (j : JournalState)
+        → seen next.now ≡ next_header h count
+        → IsKept (record { header = h; step = Synced count }) x m j (D.now disk.old)
+        → ((file : List ℕ) → Holds j file → Holds (begun_at count j) file)
+        → IsKept (record { header = next_header h count; step = NoCheckpoint }) x m (begun_at count j)
         (D.now disk.new)) }
     ensures few { D.honest disk.new → CallsAtMost D.past disk.old disk.new 4 }
     ensures honest { D.honest disk.new → D.honest disk.old }

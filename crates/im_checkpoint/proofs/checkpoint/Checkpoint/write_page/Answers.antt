@@ -1,31 +1,33 @@
-use Rattle.std.proofs.Common.{◌+◌, ◌*◌, ℕ, List, slice_range, ap, refl, arith}
-use Rattle.std.proofs.lemmas.List.{get_or_read_under}
+use Rattle.std.proofs.Common.{◌+◌, ◌*◌, ◌∷◌, ℕ, List, ap, subst, sym, refl, ◌∙◌}
+use Rattle.im_types.specs.Layout.{page_bytes, record_at}
+use Rattle.im_pages.specs.PageSets.{pages_from}
 use Rattle.im_image.specs.Headers.{seen}
-use Rattle.im_checkpoint.proofs.PageLists.{mark_left, page_low}
-use Rattle.im_checkpoint.proofs.Turning.{wrote_now, wrote_leaves, wrote_kept}
+use Rattle.im_checkpoint.specs.Step.{Step, PagesLeft, CheckpointState}
+use Rattle.im_checkpoint.specs.Keeping.{Paged, IsKept}
+use Rattle.im_checkpoint.proofs.Copies.{IsPageFor}
+use Rattle.im_checkpoint.proofs.PageLists.{first_is, mark_left, kept_left}
+use Rattle.im_checkpoint.proofs.Moments.{page_now, page_leaves, page_done}
 use Rattle.im_checkpoint.proofs.checkpoint.Checkpoint.write_page.Goals as goal
-
-pub slice_bounds-write_at-end : goal.slice_bounds-write_at-end
-slice_bounds-write_at-end g c =
-    let e = c.self.inside in
-    let some = c.self.invariant.some (mark_left c.args.self.now (seen e.header) e.step (record { count = e.count; area = e.area.items }) e.pages.items e.written c.self.view_is c.requires.step) in
-    let page = get_or_read_under e.pages.items e.written _ c.index-page.result.now 0 c.index-page.ensures some refl in
-    let low = page_low c.args.self.now (seen e.header) e.step (record { count = e.count; area = e.area.items }) e.pages.items e.written c.self.view_is c.self.invariant c.requires.step in
-    omega (arith, page, low, c.self.invariant.size, c.deref.ensures.len)
 
 pub returns-in-Err-clause-keeps : goal.returns-in-Err-clause-keeps
 returns-in-Err-clause-keeps g c = λ h m j kept.
     let e = c.self.inside in
-    let some = c.self.invariant.some (mark_left c.args.self.now (seen e.header) e.step (record { count = e.count; area = e.area.items }) e.pages.items e.written c.self.view_is c.requires.step) in
-    let page = get_or_read_under e.pages.items e.written _ c.index-page.result.now 0 c.index-page.ensures some refl in
+    let x : Paged = record { recent = e.recent; older = e.older; copies = e.copies.items; records = c.args.memory.now.records } in
+    let mark = mark_left c.args.self.now (seen e.header) e.step e.count (pages_from e.next e.left) e.recent e.older e.copies.items c.self.view_is c.requires.step in
+    let rest : List ℕ = pages_from (e.next + 1) e.left in
+    let at : CheckpointState = record { header = seen e.header; step = PagesLeft e.count (e.next ∷ pages_from (e.next + 1) e.left) } in
+    let before : IsKept at x m j (g.D.Disk.now c.args.disk.now) =
+    subst (λ (l : List ℕ). IsKept (record { header = seen e.header; step = PagesLeft e.count l }) x m j (g.D.Disk.now c.args.disk.now)) (first_is e.left e.next (c.self.invariant.next_low mark) (c.self.invariant.next_left mark))
+    (kept_left c.args.self.now (seen e.header) e.step e.count (pages_from e.next e.left) e.recent e.older e.copies.items c.self.view_is c.args.memory.now m j (g.D.Disk.now c.args.disk.now) kept c.requires.step) in
+    let page : IsPageFor (seen e.header).sizes x e.next c.page_for.new.page = record {
+      copy = λ yes. c.page_for.ensures.copy yes ∙ ap (λ (l : List ℕ). record_at page_bytes l e.next) c.as_slice.ensures.value;
+      fresh = λ no. c.page_for.ensures.fresh no;
+    } in
+    let at_is = ap (λ (n : ℕ). n + 4096 * e.next) c.area_at.ensures.at in
     record {
       leaves = record {
-        within = wrote_leaves c.args.self.now (seen e.header) e.step (record { count = e.count; area = e.area.items }) e.pages.items e.written c.self.view_is c.self.invariant c.requires.step
-            c.index-page.result.now page _ (ap (λ (l : List ℕ). slice_range l (4096 * c.index-page.result.now) (4096 * c.index-page.result.now + 4096)) c.deref.ensures.value) c.area_at.result c.area_at.ensures.at
-            m j (g.D.Disk.now c.args.disk.now) kept (g.D.Disk.past c.args.disk.now) (g.D.Disk.now c.write_at.new.self) (g.D.Disk.past c.write_at.new.self) (c.write_at.ensures.moment h);
-        after = wrote_now c.args.self.now (seen e.header) e.step (record { count = e.count; area = e.area.items }) e.pages.items e.written c.self.view_is c.self.invariant c.requires.step
-            c.index-page.result.now page _ (ap (λ (l : List ℕ). slice_range l (4096 * c.index-page.result.now) (4096 * c.index-page.result.now + 4096)) c.deref.ensures.value) c.area_at.result c.area_at.ensures.at
-            m j (g.D.Disk.now c.args.disk.now) kept (g.D.Disk.past c.args.disk.now) (g.D.Disk.now c.write_at.new.self) (g.D.Disk.past c.write_at.new.self) (c.write_at.ensures.moment h);
+        within = page_leaves at x m j (g.D.Disk.now c.args.disk.now) before e.count e.next rest refl c.page_for.new.page c.page_for.array_long page _ at_is (g.D.Disk.past c.args.disk.now) (g.D.Disk.now c.write_at.new.self) (g.D.Disk.past c.write_at.new.self) (c.write_at.ensures.moment h);
+        after = page_now at x m j (g.D.Disk.now c.args.disk.now) before e.count e.next rest refl c.page_for.new.page c.page_for.array_long page _ at_is (g.D.Disk.past c.args.disk.now) (g.D.Disk.now c.write_at.new.self) (g.D.Disk.past c.write_at.new.self) (c.write_at.ensures.moment h);
       };
       kept = tt;
     }
@@ -33,19 +35,23 @@ returns-in-Err-clause-keeps g c = λ h m j kept.
 pub returns-clause-keeps : goal.returns-clause-keeps
 returns-clause-keeps g c = λ h m j kept.
     let e = c.self.inside in
-    let some = c.self.invariant.some (mark_left c.args.self.now (seen e.header) e.step (record { count = e.count; area = e.area.items }) e.pages.items e.written c.self.view_is c.requires.step) in
-    let page = get_or_read_under e.pages.items e.written _ c.index-page.result.now 0 c.index-page.ensures some refl in
+    let x : Paged = record { recent = e.recent; older = e.older; copies = e.copies.items; records = c.args.memory.now.records } in
+    let mark = mark_left c.args.self.now (seen e.header) e.step e.count (pages_from e.next e.left) e.recent e.older e.copies.items c.self.view_is c.requires.step in
+    let rest : List ℕ = pages_from (e.next + 1) e.left in
+    let at : CheckpointState = record { header = seen e.header; step = PagesLeft e.count (e.next ∷ pages_from (e.next + 1) e.left) } in
+    let before : IsKept at x m j (g.D.Disk.now c.args.disk.now) =
+    subst (λ (l : List ℕ). IsKept (record { header = seen e.header; step = PagesLeft e.count l }) x m j (g.D.Disk.now c.args.disk.now)) (first_is e.left e.next (c.self.invariant.next_low mark) (c.self.invariant.next_left mark))
+    (kept_left c.args.self.now (seen e.header) e.step e.count (pages_from e.next e.left) e.recent e.older e.copies.items c.self.view_is c.args.memory.now m j (g.D.Disk.now c.args.disk.now) kept c.requires.step) in
+    let page : IsPageFor (seen e.header).sizes x e.next c.page_for.new.page = record {
+      copy = λ yes. c.page_for.ensures.copy yes ∙ ap (λ (l : List ℕ). record_at page_bytes l e.next) c.as_slice.ensures.value;
+      fresh = λ no. c.page_for.ensures.fresh no;
+    } in
+    let at_is = ap (λ (n : ℕ). n + 4096 * e.next) c.area_at.ensures.at in
     record {
       leaves = record {
-        within = wrote_leaves c.args.self.now (seen e.header) e.step (record { count = e.count; area = e.area.items }) e.pages.items e.written c.self.view_is c.self.invariant c.requires.step
-            c.index-page.result.now page _ (ap (λ (l : List ℕ). slice_range l (4096 * c.index-page.result.now) (4096 * c.index-page.result.now + 4096)) c.deref.ensures.value) c.area_at.result c.area_at.ensures.at
-            m j (g.D.Disk.now c.args.disk.now) kept (g.D.Disk.past c.args.disk.now) (g.D.Disk.now c.write_at.new.self) (g.D.Disk.past c.write_at.new.self) (c.write_at.ensures.moment h);
-        after = wrote_now c.args.self.now (seen e.header) e.step (record { count = e.count; area = e.area.items }) e.pages.items e.written c.self.view_is c.self.invariant c.requires.step
-            c.index-page.result.now page _ (ap (λ (l : List ℕ). slice_range l (4096 * c.index-page.result.now) (4096 * c.index-page.result.now + 4096)) c.deref.ensures.value) c.area_at.result c.area_at.ensures.at
-            m j (g.D.Disk.now c.args.disk.now) kept (g.D.Disk.past c.args.disk.now) (g.D.Disk.now c.write_at.new.self) (g.D.Disk.past c.write_at.new.self) (c.write_at.ensures.moment h);
+        within = page_leaves at x m j (g.D.Disk.now c.args.disk.now) before e.count e.next rest refl c.page_for.new.page c.page_for.array_long page _ at_is (g.D.Disk.past c.args.disk.now) (g.D.Disk.now c.write_at.new.self) (g.D.Disk.past c.write_at.new.self) (c.write_at.ensures.moment h);
+        after = page_now at x m j (g.D.Disk.now c.args.disk.now) before e.count e.next rest refl c.page_for.new.page c.page_for.array_long page _ at_is (g.D.Disk.past c.args.disk.now) (g.D.Disk.now c.write_at.new.self) (g.D.Disk.past c.write_at.new.self) (c.write_at.ensures.moment h);
       };
-      kept = wrote_kept c.args.self.now (seen e.header) e.step (record { count = e.count; area = e.area.items }) e.pages.items e.written c.self.view_is c.self.invariant c.requires.step
-          c.index-page.result.now page _ (ap (λ (l : List ℕ). slice_range l (4096 * c.index-page.result.now) (4096 * c.index-page.result.now + 4096)) c.deref.ensures.value) c.area_at.result c.area_at.ensures.at
-          m j (g.D.Disk.now c.args.disk.now) kept (g.D.Disk.past c.args.disk.now) (g.D.Disk.now c.write_at.new.self) (g.D.Disk.past c.write_at.new.self) (c.write_at.ensures.moment h)
-          (c.in_default.ensures.tick h).now c.step_after-self-inside.result c.len.result (omega (arith, c.len.ensures, e.pages.ok.0)) c.step_after-self-inside.ensures (omega (arith, some));
+      kept = subst (λ (s : Step). IsKept (record { header = seen e.header; step = s }) x m j (g.D.Disk.now c.write_at.new.self)) (sym (c.next_left-step.ensures.step e.count))
+          (page_done at x m j (g.D.Disk.now c.args.disk.now) before e.count e.next rest refl c.page_for.new.page c.page_for.array_long page _ at_is (g.D.Disk.past c.args.disk.now) (g.D.Disk.now c.write_at.new.self) (g.D.Disk.past c.write_at.new.self) (c.write_at.ensures.moment h) (c.in_default.ensures.tick h).now);
     }
