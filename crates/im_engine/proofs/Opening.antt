@@ -1,7 +1,7 @@
 -- What is read of an image.
-use Rattle.std.proofs.Common.{ℕ, ◌+◌, List, length, Ok, ◌≡◌, sym, ◌∙◌, ap, subst}
+use Rattle.std.proofs.Common.{ℕ, ◌+◌, List, length, replicate, true, Ok, ◌≡◌, sym, ◌∙◌, ap, subst}
 use Rattle.im_types.specs.Contents.{Contents}
-use Rattle.im_types.specs.Layout.{layout_in_use}
+use Rattle.im_types.specs.Layout.{layout_in_use, area_pages}
 use Rattle.im_types.specs.Header.{Header, header_of}
 use Rattle.im_types.specs.Meaning.{Reached, Reads}
 use Rattle.im_disk.specs.Moment.{Moment, Left, Shaken, MayTick, synced}
@@ -13,8 +13,9 @@ use Rattle.im_meaning.specs.Images.{IsImage, IsRead}
 use Rattle.im_meaning.proofs.Headers.{in_force_is}
 use Rattle.im_meaning.proofs.Meanings.{read_image}
 use Rattle.im_checkpoint.specs.Step.{NoCheckpoint}
-use Rattle.im_checkpoint.specs.Keeping.{Keeps, IsKept}
+use Rattle.im_checkpoint.specs.Keeping.{Paged, Keeps, IsKept}
 use Rattle.im_checkpoint.proofs.Moments.{kept_calm}
+use Rattle.im_engine.proofs.Making.{rests}
 
 -- after a sync, and calls that only read, what the bytes have is what every file left has
 pub settled : (old mid new : Moment) (P : List ℕ → Type 0) → mid ≡ synced old → new ≡ mid → P mid.bytes → LeavesNow new P
@@ -31,7 +32,7 @@ opens_leaves m0 m1 m2 p0 p1 p2 tick reads =
 
 -- with no checkpoint under way, what is read of a file is kept in it
 pub keeps_read : (h : Header) (m : Contents) (j : JournalState) (file : List ℕ) → h ≡ header_of file → JournalOf h j → Holds j file
-    → Reads layout_in_use file (Ok (record { contents = m; count = j.count; room = j.room })) → Keeps (record { header = h; step = NoCheckpoint }) m j file
+    → Reads layout_in_use file (Ok (record { contents = m; count = j.count; room = j.room })) → Keeps h m j file
 keeps_read h m j file is journal holds reads =
     let r : Reached = record { contents = m; count = j.count; room = j.room } in
     let read : IsRead layout_in_use file r = read_image layout_in_use file r reads in
@@ -46,12 +47,11 @@ keeps_read h m j file is journal holds reads =
       ring = journal.ring;
       first = journal.first;
       journal = holds;
-      step = tt;
     }
 
 -- and after a sync, and calls that only read, the disk keeps it
-pub kept_read : (old mid new : Moment) (h : Header) (m : Contents) (j : JournalState) → mid ≡ synced old → new ≡ mid → h ≡ header_of mid.bytes → JournalOf h j → Holds j mid.bytes
-    → Reads layout_in_use mid.bytes (Ok (record { contents = m; count = j.count; room = j.room })) → IsKept (record { header = h; step = NoCheckpoint }) m j new
-kept_read old mid new h m j done same is journal holds reads =
-    subst (λ (x : Moment). IsKept (record { header = h; step = NoCheckpoint }) m j x) (sym same)
-    (kept_calm (record { header = h; step = NoCheckpoint }) m j mid (ap (λ (x : Moment). x.ranges) done) (keeps_read h m j mid.bytes is journal holds reads))
+pub kept_read : (old mid new : Moment) (h : Header) (x : Paged) (m : Contents) (j : JournalState) → x.recent ≡ replicate (area_pages layout_in_use h.sizes) true → mid ≡ synced old → new ≡ mid → h ≡ header_of mid.bytes → JournalOf h j → Holds j mid.bytes
+    → Reads layout_in_use mid.bytes (Ok (record { contents = m; count = j.count; room = j.room })) → IsKept (record { header = h; step = NoCheckpoint }) x m j new
+kept_read old mid new h x m j all done same is journal holds reads =
+    subst (λ (y : Moment). IsKept (record { header = h; step = NoCheckpoint }) x m j y) (sym same)
+    (kept_calm (record { header = h; step = NoCheckpoint }) x m j mid (ap (λ (y : Moment). y.ranges) done) (keeps_read h m j mid.bytes is journal holds reads) (rests h x mid.bytes all))

@@ -7,14 +7,13 @@ use Rattle.im_types.specs.Contents.{Contents}
 use Rattle.im_types.specs.Header.{Header}
 use Rattle.im_types.specs.Journal.{slot_at}
 use Rattle.im_types.specs.Step.{step, is_accepted, unless_refused, acceptance}
-use Rattle.im_laws.proofs.AcceptLemmas.{unaccepted-leaves}
 use Rattle.im_laws.proofs.MemoryLemmas.{step-cell_count, step-window_count}
 use Rattle.im_disk.specs.Moment.{Moment, Left}
 use Rattle.im_disk.specs.Since.{SameBut, Calls, CallsBy}
 use Rattle.im_disk.proofs.SinceLemmas.{left_now}
 use Rattle.im_journal.specs.Holding.{JournalState, Holds, AllHold, longer, Appended}
-use Rattle.im_checkpoint.specs.Step.{Taken, Step, NoCheckpoint, PagesLeft, PagesDone, Synced, CheckpointState}
-use Rattle.im_checkpoint.specs.Keeping.{IsBetween, StepFits, Fits, IsKept}
+use Rattle.im_checkpoint.specs.Step.{Step, NoCheckpoint, PagesLeft, PagesDone, Synced, CheckpointState}
+use Rattle.im_checkpoint.specs.Keeping.{Paged, IsBetween, StepFits, Fits, IsKept}
 use Rattle.im_engine.specs.State.{EngineState}
 use Rattle.im_engine.specs.Run.{Answered, calls_for}
 use Rattle.im_engine.proofs.Accepting.{Answers, accepted_answers}
@@ -32,9 +31,6 @@ judged_refused accepts refusal (Err other) e = cc
 pub accepts : (m : Contents) (command : Command) (b : Bool) (r : Result Bool Refusal) → r ≡ acceptance m command → r ≡ Ok b → is_accepted m command ≡ b
 accepts m command b r is e = judged_is (is_accepted m command) b (step m command).answer (sym is ∙ e)
 
-pub unaccepted_same : (m new : Contents) (command : Command) → new ≡ (step m command).contents → is_accepted m command ≡ false → new ≡ m
-unaccepted_same m new command is un = is ∙ unaccepted-leaves m command un
-
 -- a memory and a journal of the sizes of a header, with a command more
 pub fits_longer : (c : CheckpointState) (m new : Contents) (j longer_j : JournalState) (command : Command) → Fits c m j → new ≡ (step m command).contents → longer_j ≡ longer j → Fits c new longer_j
 fits_longer c m new j longer_j command it is more = record {
@@ -45,23 +41,23 @@ fits_longer c m new j longer_j command it is more = record {
   step = subst (λ (x : JournalState). StepFits c.header x c.step) (sym more) (step_longer c.header j c.step it.step);
 }
   where
-    later : (h : Header) (j : JournalState) (taken : Taken) → IsBetween h j taken → IsBetween h (longer j) taken
-    later h j taken it = record { from = it.from; to = (let to : taken.count ≤ j.count = it.to in omega arith) }
+    later : (h : Header) (j : JournalState) (count : ℕ) → IsBetween h j count → IsBetween h (longer j) count
+    later h j count it = record { from = it.from; to = (let to : count ≤ j.count = it.to in omega arith) }
 
     step_longer : (h : Header) (j : JournalState) (s : Step) → StepFits h j s → StepFits h (longer j) s
     step_longer h j NoCheckpoint it = tt
-    step_longer h j (PagesLeft taken left) it = later h j taken it
-    step_longer h j (PagesDone taken) it = later h j taken it
-    step_longer h j (Synced taken) it = later h j taken it
+    step_longer h j (PagesLeft count left) it = later h j count it
+    step_longer h j (PagesDone count) it = later h j count it
+    step_longer h j (Synced count) it = later h j count it
 
 -- a disk that keeps a memory keeps it with a command more, once that is appended
-module _ (c : CheckpointState) (m : Contents) (j : JournalState) (now : Moment) (kept : IsKept c m j now) (command : Command) (accepted : is_accepted m command ≡ true) where
+module _ (c : CheckpointState) (x : Paged) (m : Contents) (j : JournalState) (now : Moment) (kept : IsKept c x m j now) (command : Command) (accepted : is_accepted m command ≡ true) where
   pub kept_with_it : (new : Contents) → new ≡ (step m command).contents → (longer_j : JournalState) → longer_j ≡ longer j → (after : Moment) → SameBut (slot_at j.ring j.count) 64 now.bytes after.bytes → after.ranges ≡ []
-      → ((file : List ℕ) → Left after file → Appended j command now file) → AllHold longer_j after → IsKept c new longer_j after
+      → ((file : List ℕ) → Left after file → Appended j command now file) → AllHold longer_j after → IsKept c x new longer_j after
   kept_with_it new is longer_j more after but calm added holds =
-      subst (λ (x : Contents). IsKept c x longer_j after) (sym is)
-      (subst (λ (x : JournalState). IsKept c (step m command).contents x after) (sym more)
-      (kept_longer c m j now kept command accepted after but calm (added after.bytes (left_now after))
+      subst (λ (y : Contents). IsKept c x y longer_j after) (sym is)
+      (subst (λ (y : JournalState). IsKept c x (step m command).contents y after) (sym more)
+      (kept_longer c x m j now kept command accepted after but calm (added after.bytes (left_now after))
       (subst (λ (x : JournalState). Holds x after.bytes) more (holds after.bytes (left_now after)))))
 
 -- an answer to a command, by what the engine is

@@ -5,7 +5,7 @@ ghost use Rattle.im_types.specs.Window.{ask, bounds};
 ghost use Rattle.im_types.specs.Step.{step, is_accepted};
 ghost use Rattle.im_disk.specs.Moment.{Faults};
 ghost use Rattle.im_disk.specs.Since.{LeavesWithin, LeavesNow, LeavesOnly, CallsAtMost, CallsBy};
-ghost use Rattle.im_checkpoint.specs.Keeping.{Fits, IsKept};
+ghost use Rattle.im_checkpoint.specs.Keeping.{Fits, IsKept, paged};
 ghost use Rattle.im_checkpoint.specs.Step.{IsUnderWay, turns_left};
 ghost use Rattle.im_checkpoint.specs.Turns.{most_calls};
 ghost use Rattle.im_engine.specs.Run.{Answered, TurnAnswered, calls_for};
@@ -34,23 +34,24 @@ pub struct Engine<D: Disk> {
 
 impl<D: Disk> Model for Engine<D> {
     ghost use Rattle.std.specs.Prelude.{◌≡◌, false};
-    ghost use Rattle.im_checkpoint.specs.Keeping.{Fits, IsKept};
+    ghost use Rattle.im_checkpoint.specs.Keeping.{Fits, IsKept, paged};
     ghost use Rattle.im_engine.specs.State.{EngineState};
 
     ghost Value = { EngineState D };
 
     ghost view = { λ e. record {
       disk = e.disk;
-      header = e.checkpoint.header;
-      step = e.checkpoint.step;
+      header = e.checkpoint.state.header;
+      step = e.checkpoint.state.step;
       memory = e.memory.contents;
       count = e.journal.count;
       room = e.journal.room;
       failed = e.failed;
     } };
 
-    ghost invariant = { λ e. Fits e.checkpoint e.memory.contents e.journal
-        × (D.honest e.disk → e.failed ≡ false → IsKept e.checkpoint e.memory.contents e.journal (D.now e.disk)) };
+    ghost invariant = { λ e. Fits e.checkpoint.state e.memory.contents e.journal
+        × (D.honest e.disk → e.failed ≡ false
+        → IsKept e.checkpoint.state (paged e.checkpoint e.memory) e.memory.contents e.journal (D.now e.disk)) };
 }
 
 impl<D: Disk> Engine<D> {
@@ -109,6 +110,7 @@ impl<D: Disk> Engine<D> {
             self.failed = true; // The command is there, or not.
             return Err(Refusal::Device);
         }
+        self.checkpoint.before(&self.memory, command); // No call of the disk: what a stop leaves is as it was.
         self.memory.step(command)
     }
 
@@ -119,12 +121,13 @@ impl<D: Disk> Engine<D> {
         journal: Journal,
         memory: Memory,
     ) -> Engine<D>
-        requires fits { Fits checkpoint memory.contents journal }
-        requires kept { D.honest disk → IsKept checkpoint memory.contents journal (D.now disk) }
+        requires fits { Fits checkpoint.state memory.contents journal }
+        requires kept { D.honest disk
+            → IsKept checkpoint.state (paged checkpoint memory) memory.contents journal (D.now disk) }
         ensures state { result ≡ record {
           disk = disk;
-          header = checkpoint.header;
-          step = checkpoint.step;
+          header = checkpoint.state.header;
+          step = checkpoint.state.step;
           memory = memory.contents;
           count = journal.count;
           room = journal.room;

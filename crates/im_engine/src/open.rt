@@ -1,14 +1,14 @@
 //! How an image is opened.
-ghost use Rattle.std.specs.Prelude.{◌≡◌, ◌⊎◌, ◌≤◌, false, length, Ok, IfOk, IfErr, MatchResult};
+ghost use Rattle.std.specs.Prelude.{◌≡◌, ◌⊎◌, ◌≤◌, false, true, replicate, length, Ok, IfOk, IfErr, MatchResult};
 ghost use Rattle.im_types.specs.declared.refusals.Refusal.TheVariants.{NoMemory, Device};
 ghost use Rattle.im_disk.specs.Moment.{Left, Fault, Faults};
 ghost use Rattle.im_disk.specs.Since.{LeavesWithin, LeavesNow};
-ghost use Rattle.im_types.specs.Layout.{layout_in_use};
+ghost use Rattle.im_types.specs.Layout.{layout_in_use, area_pages};
 ghost use Rattle.im_types.specs.Header.{header_of};
 ghost use Rattle.im_types.specs.Meaning.{Reads};
 ghost use Rattle.im_image.specs.Headers.{seen, MayRefuseImage};
 ghost use Rattle.im_checkpoint.specs.Step.{NoCheckpoint};
-ghost use Rattle.im_checkpoint.specs.Keeping.{Fits, IsKept};
+ghost use Rattle.im_checkpoint.specs.Keeping.{Paged, Fits, IsKept};
 ghost use Rattle.im_engine.specs.State.{MeansState, IsFirstFault, IsFound};
 
 use crate::engine::Engine;
@@ -23,8 +23,11 @@ fn read_synced<D: Disk>(alloc: Global, disk: &mut D) -> Result<Image, Refusal>
     ensures area { IfOk result (λ i. i.header.area ≤ 1) }
     ensures fits { IfOk result (λ i.
         Fits (record { header = seen i.header; step = NoCheckpoint }) i.memory.contents i.journal) }
-    ensures kept { IfOk result (λ i. D.honest disk.new
-        → IsKept (record { header = seen i.header; step = NoCheckpoint }) i.memory.contents i.journal (D.now disk.new)) }
+    // Whatever is known of pages, where all of them count as changed.
+    ensures kept { IfOk result (λ i. D.honest disk.new → (x : Paged)
+        → x.recent ≡ replicate (area_pages layout_in_use (seen i.header).sizes) true
+        → IsKept (record { header = seen i.header; step = NoCheckpoint }) x i.memory.contents i.journal
+        (D.now disk.new)) }
     ensures found { IfOk result (λ i. D.honest disk.new → LeavesNow (D.now disk.new)
         (λ file. (seen i.header ≡ header_of file) × Reads layout_in_use file
         (Ok (record { contents = i.memory.contents; count = i.journal.count; room = i.journal.room })))) }
@@ -69,7 +72,7 @@ impl<D: Disk> Engine<D> {
         ensures honest { MatchResult result (λ e. D.honest e.disk → D.honest disk) (λ e. D.honest e.1 → D.honest disk) }
     {
         match read_synced(alloc, &mut disk) {
-            Ok(image) => match Checkpoint::idle(alloc, &image.header) {
+            Ok(image) => match Checkpoint::idle(alloc, &image.header, false) {
                 Ok(checkpoint) => Ok(Engine::started(
                     disk,
                     checkpoint,

@@ -8,10 +8,10 @@ use Rattle.im_engine.proofs.Opening.{settled, opens_leaves, kept_read}
 use Rattle.im_engine.proofs.open.read_synced.Goals as goal
 
 pub returns-in-Ok-clause-kept : goal.returns-in-Ok-clause-kept
-returns-in-Ok-clause-kept g c = λ h.
+returns-in-Ok-clause-kept g c = λ h x all.
     let i = c.in-Ok.image in
     let done = (c.in_default.ensures.tick (c.read_image.ensures.honest h)).now in
-    kept_read (g.D.Disk.now c.args.disk.now) (g.D.Disk.now c.sync.new.self) (g.D.Disk.now c.read_image.new.disk) (seen i.header) i.memory.contents i.journal
+    kept_read (g.D.Disk.now c.args.disk.now) (g.D.Disk.now c.sync.new.self) (g.D.Disk.now c.read_image.new.disk) (seen i.header) x i.memory.contents i.journal all
     done (c.read_image.ensures.reads h).now (c.in-Ok.ensures.header h) c.in-Ok.ensures.parts.journal (c.in-Ok.ensures.holds h) (c.in-Ok.ensures.means h)
 
 pub returns-in-Ok-clause-leaves : goal.returns-in-Ok-clause-leaves
