@@ -10,15 +10,12 @@ use Rattle.im_types.specs.declared.operations.Reply.TheVariants.{NoCell, WrongKi
 use Rattle.im_types.specs.declared.operations.Entry.TheVariants.{Answered}
 use Rattle.im_types.specs.declared.operations.Waiter.{Waiter}
 use Rattle.im_types.specs.declared.commands.Command.{Command}
-use Rattle.im_types.specs.declared.commands.Command.TheVariants.{Request as Asks}
-use Rattle.im_types.specs.declared.commands.Request.{Request}
 use Rattle.im_types.specs.declared.records.NodeRecord.{NodeRecord}
 use Rattle.im_types.specs.declared.cells.Cell.{Cell}
 use Rattle.im_types.specs.declared.cells.Cell.TheVariants.{Empty, Waiting, Full, Clashed}
-use Rattle.im_types.specs.Contents.{CellState, Held, Window, held_at}
+use Rattle.im_types.specs.Contents.{CellState, Held, held_at}
 use Rattle.im_types.specs.Contents.{Empty as IsEmpty, Full as IsFull, Clashed as IsClashed}
-use Rattle.im_types.specs.Act.{Served, Acted as ActedCells, same_kind, only_tells, serve_cell, at_cell, block_with_base, fetch, take_from, store, put, act}
-use Rattle.im_types.specs.Step.{asker}
+use Rattle.im_types.specs.Act.{Served, Acted as ActedCells, same_kind, only_tells, serve_cell, at_cell, block_with_base, fetch, take_from, store, put}
 use Rattle.im_types.specs.Place.{place}
 use Rattle.im_cell.specs.declared.slots.Slot.{Slot}
 use Rattle.im_cell.specs.Slots.{slot_at, block_at, is_waiting, is_waiting_cell}
@@ -29,18 +26,13 @@ use Rattle.im_istore.specs.Access.{access_in, replies_to}
 use Rattle.im_istore.specs.Agreement.{has_some, Agree}
 use Rattle.im_istore.proofs.Cells.{held_at-cells}
 use Rattle.im_pages.specs.Places.{page_of_cell, page_of_node, page_of_session}
-use Rattle.im_pages.specs.PageSets.{has, size_of, IsWithin}
-use Rattle.im_memory.specs.State.{MemoryState, state_of as memory_of, rows_of}
-use Rattle.im_memory.specs.Touched.{IsOther, Places, nowhere, addresses, first_at, last_at, next_at, nodes_from, nodes_behind, by_fetch, by_take, by_put, by_store, places_at, places_from, places_of, elements_in, touched_in, touched}
+use Rattle.im_pages.specs.PageSets.{has, size_of}
+use Rattle.im_memory.specs.State.{MemoryState, rows_of}
+use Rattle.im_memory.specs.Touched.{IsOther, Places, nowhere, one_cell, addresses, first_at, last_at, next_at, nodes_from, nodes_behind, by_fetch, by_take, by_put, by_store, at_kind, places_at, places_from, places_of, elements_in, touched}
 use Rattle.im_memory.specs.Changing.{places_in}
-use Rattle.im_memory.specs.Covering.{AreIn, HasPlaces, HasPages, Covers, KeepsOutside, most_at, most_by_store}
-use Rattle.im_memory.proofs.CellsLemmas.{no_list, length-cells, place-cells, with_base-cells}
-use Rattle.im_memory.proofs.TouchLemmas.{named, found-base, places-rows, look, refused, there}
-
--- a larger set has them too
-pub AreIn-within : (page : ℕ → ℕ) (set other : List Bool) (xs : List ℕ) → IsWithin set other → AreIn page set xs → AreIn page other xs
-AreIn-within page set other [] within among = tt
-AreIn-within page set other (x ∷ xs) within among = (within (page x) among.0, AreIn-within page set other xs within among.1)
+use Rattle.im_memory.specs.Covering.{AreIn, HasPlaces, Covers, KeepsOutside, most_at}
+use Rattle.im_memory.proofs.CellsLemmas.{no_list, place-cells, with_base-cells}
+use Rattle.im_memory.proofs.TouchLemmas.{named, found-base, look, refused, there}
 
 -- no more pages than there are
 pub size-length : (set : List Bool) → size_of set ≤ length set
@@ -66,12 +58,6 @@ covers-keeps m command set covers after changes p out = record {
 pub AreIn-addresses : (set : List Bool) (base n : ℕ) → ((b : ℕ) → base ≤ b → b < base + n → has set (page_of_cell b) ≡ true) → AreIn page_of_cell set (addresses base n)
 AreIn-addresses set base zero all = tt
 AreIn-addresses set base (suc n) all = (all base (omega arith) (omega arith), AreIn-addresses set (suc base) n (λ b lo hi. all b (omega arith) (omega arith)))
-
--- the nodes of a list, from where a walk begins
-pub nodes-start : (page : ℕ → ℕ) (nodes : List NodeRecord) (set : List Bool) (at first : ℕ) (left all : List Waiter) → at ≡ first → left ≡ all
-    → AreIn page set (nodes_from nodes at (length left)) → AreIn page set (nodes_from nodes first (length all))
-nodes-start page nodes set at first left all begins is among =
-    subst (λ n. AreIn page set (nodes_from nodes n (length all))) begins (subst (λ ws. AreIn page set (nodes_from nodes at (length ws))) is among)
 
 -- one node more
 pub nodes-more : (page : ℕ → ℕ) (nodes : List NodeRecord) (set : List Bool) (at next : ℕ) (left after : List Waiter) (who : Waiter) → left ≡ who ∷ after → next ≡ next_at nodes at
@@ -111,13 +97,13 @@ told-taker page set told w ws v is here = subst (λ rs. AreIn page set (elements
 
 -- an access that may not be made, and one that may
 module _ (kind : Kind) where
-  err-places : (by : CellState → Places) (at : Option Slot) (waiters : List Waiter) (reply : Reply) → access_in kind at ≡ Err reply → places_at kind by (held_of at waiters) ≡ nowhere
-  err-places by None waiters reply e = refl
-  err-places by (Some slot) waiters reply e = by_kind (same_kind kind slot.block.kind) refl e
+  err-at : {X : Type 0} (none : X) (by : CellState → X) (at : Option Slot) (waiters : List Waiter) (reply : Reply) → access_in kind at ≡ Err reply → at_kind none kind by (held_of at waiters) ≡ none
+  err-at none by None waiters reply e = refl
+  err-at none by (Some slot) waiters reply e = by_kind (same_kind kind slot.block.kind) refl e
     where
-      by_kind : (b : Bool) → same_kind kind slot.block.kind ≡ b → cond b (Ok slot.cell) (Err WrongKind) ≡ Err reply → places_at kind by (held_of (Some slot) waiters) ≡ nowhere
+      by_kind : (b : Bool) → same_kind kind slot.block.kind ≡ b → cond b (Ok slot.cell) (Err WrongKind) ≡ Err reply → at_kind none kind by (held_of (Some slot) waiters) ≡ none
       by_kind true same told = absurd (cc)
-      by_kind false same told = ap (λ t. cond t (by (state_of slot.cell waiters)) nowhere) same
+      by_kind false same told = ap (λ t. cond t (by (state_of slot.cell waiters)) none) same
 
   err-resumed : (serve : CellState → Served) (cells : List (Option Held)) (a : ℕ) (at : Option Slot) (waiters : List Waiter) (reply : Reply) → access_in kind at ≡ Err reply
       → (at_cell kind serve cells a (held_of at waiters)).resumed ≡ []
@@ -135,11 +121,11 @@ module _ (kind : Kind) where
       by_kind true same told = (same, cc)
       by_kind false same told = absurd (cc)
 
-  ok-places : (by : CellState → Places) (at : Option Slot) (waiters : List Waiter) (cell : Cell) → access_in kind at ≡ Ok cell → places_at kind by (held_of at waiters) ≡ by (state_of cell waiters)
-  ok-places by None waiters cell e = absurd (cc)
-  ok-places by (Some slot) waiters cell e =
+  ok-at : {X : Type 0} (none : X) (by : CellState → X) (at : Option Slot) (waiters : List Waiter) (cell : Cell) → access_in kind at ≡ Ok cell → at_kind none kind by (held_of at waiters) ≡ by (state_of cell waiters)
+  ok-at none by None waiters cell e = absurd (cc)
+  ok-at none by (Some slot) waiters cell e =
       let is = ok-kind slot cell e in
-      ap (λ t. cond t (by (state_of slot.cell waiters)) nowhere) is.0 ∙ ap (λ c. by (state_of c waiters)) is.1
+      ap (λ t. cond t (by (state_of slot.cell waiters)) none) is.0 ∙ ap (λ c. by (state_of c waiters)) is.1
 
   ok-resumed : (serve : CellState → Served) (cells : List (Option Held)) (a : ℕ) (at : Option Slot) (waiters : List Waiter) (cell : Cell) → access_in kind at ≡ Ok cell
       → (at_cell kind serve cells a (held_of at waiters)).resumed ≡ (serve (state_of cell waiters)).resumed
@@ -147,12 +133,6 @@ module _ (kind : Kind) where
   ok-resumed serve cells a (Some slot) waiters cell e =
       let is = ok-kind slot cell e in
       ap (λ t. (cond t (serve_cell cells a slot.block (serve (state_of slot.cell waiters))) (only_tells cells WrongKind)).resumed) is.0 ∙ ap (λ c. (serve (state_of c waiters)).resumed) is.1
-
-  ok-most : (most : CellState → ℕ) (at : Option Slot) (waiters : List Waiter) (cell : Cell) → access_in kind at ≡ Ok cell → most_at kind most (held_of at waiters) ≡ most (state_of cell waiters)
-  ok-most most None waiters cell e = absurd (cc)
-  ok-most most (Some slot) waiters cell e =
-      let is = ok-kind slot cell e in
-      ap (λ t. cond t (most (state_of slot.cell waiters)) 0) is.0 ∙ ap (λ c. most (state_of c waiters)) is.1
 
   ok-waits : (at : Option Slot) (cell : Cell) → access_in kind at ≡ Ok cell → is_waiting at ≡ is_waiting_cell cell
   ok-waits None cell e = absurd (cc)
@@ -171,12 +151,12 @@ module _ (kind : Kind) (slots : List (Option Slot)) (arena : Shown) (a : ℕ) wh
 
   pub HasPlaces-err : (n : ℕ) (by : CellState → Places) (set : List Bool) (reply : Reply) → access_in kind (slot_at slots a) ≡ Err reply → HasPlaces n (places_at kind by (held_at cells a)) set
   HasPlaces-err n by set reply e =
-      subst (λ p. HasPlaces n p set) (sym (ap (places_at kind by) (held_at-cells slots arena a) ∙ err-places kind by (slot_at slots a) waiters reply e)) (record { of_cells = tt; of_nodes = tt })
+      subst (λ p. HasPlaces n p set) (sym (ap (places_at kind by) (held_at-cells slots arena a) ∙ err-at kind nowhere by (slot_at slots a) waiters reply e)) (record { of_cells = tt; of_nodes = tt })
 
   pub HasPlaces-ok : (n : ℕ) (by : CellState → Places) (set : List Bool) (cell : Cell) → access_in kind (slot_at slots a) ≡ Ok cell
       → HasPlaces n (by (state_of cell waiters)) set → HasPlaces n (places_at kind by (held_at cells a)) set
   HasPlaces-ok n by set cell e it =
-      subst (λ p. HasPlaces n p set) (sym (ap (places_at kind by) (held_at-cells slots arena a) ∙ ok-places kind by (slot_at slots a) waiters cell e)) it
+      subst (λ p. HasPlaces n p set) (sym (ap (places_at kind by) (held_at-cells slots arena a) ∙ ok-at kind nowhere by (slot_at slots a) waiters cell e)) it
 
   pub resumed-err : (serve : CellState → Served) (reply : Reply) → access_in kind (slot_at slots a) ≡ Err reply → (at_cell kind serve cells a (held_at cells a)).resumed ≡ []
   resumed-err serve reply e = ap (λ h. (at_cell kind serve cells a h).resumed) (held_at-cells slots arena a) ∙ err-resumed kind serve cells a (slot_at slots a) waiters reply e
@@ -186,7 +166,7 @@ module _ (kind : Kind) (slots : List (Option Slot)) (arena : Shown) (a : ℕ) wh
   resumed-ok serve cell e = ap (λ h. (at_cell kind serve cells a h).resumed) (held_at-cells slots arena a) ∙ ok-resumed kind serve cells a (slot_at slots a) waiters cell e
 
   pub most-ok : (most : CellState → ℕ) (cell : Cell) → access_in kind (slot_at slots a) ≡ Ok cell → most_at kind most (held_at cells a) ≡ most (state_of cell waiters)
-  most-ok most cell e = ap (most_at kind most) (held_at-cells slots arena a) ∙ ok-most kind most (slot_at slots a) waiters cell e
+  most-ok most cell e = ap (most_at kind most) (held_at-cells slots arena a) ∙ ok-at kind 0 most (slot_at slots a) waiters cell e
 
   -- nobody is on the list of a cell that doesn't wait, and somebody on that of one that does
   pub nobody : (cell : Cell) → access_in kind (slot_at slots a) ≡ Ok cell → Agree slots arena → is_waiting_cell cell ≡ false → waiters ≡ []
@@ -202,6 +182,19 @@ module _ (kind : Kind) (slots : List (Option Slot)) (arena : Shown) (a : ℕ) wh
     | refused reply refuses nothing tells ↦ (reply, refuses)
     | there slot is by does ↦ absurd (never (state_of slot.cell waiters) (sym (ap (λ (x : ActedCells). x.entry) (does serve)) ∙ e))
   ]
+
+-- what holds of a cell that doesn't wait, by its state
+pub quiet-state : (P : CellState → Type 0) (cell : Cell) (ws : List Waiter) → cell ≢ Waiting → ws ≡ [] → P (IsEmpty []) → ((v : ℕ) → P (IsFull v)) → ((v : ℕ) → P (IsClashed v)) → P (state_of cell ws)
+quiet-state P Empty ws other none empty full clashed = subst (λ xs. P (IsEmpty xs)) (sym none) empty
+quiet-state P Waiting ws other none empty full clashed = absurd (other refl)
+quiet-state P (Full v) ws other none empty full clashed = full v
+quiet-state P (Clashed v) ws other none empty full clashed = clashed v
+
+pub quiet-cell : (cell : Cell) → cell ≢ Waiting → is_waiting_cell cell ≡ false
+quiet-cell Empty other = refl
+quiet-cell Waiting other = absurd (other refl)
+quiet-cell (Full v) other = refl
+quiet-cell (Clashed v) other = refl
 
 -- where a request waits
 pub HasPlaces-behind : (n spare last a : ℕ) (waiters : List Waiter) (set : List Bool) → has set (page_of_cell a) ≡ true → has set (page_of_node n spare) ≡ true
@@ -234,7 +227,7 @@ module _ (slots : List (Option Slot)) (arena : Shown) (agree : Agree slots arena
     take-open (Full v) full clashed = absurd (full v refl)
     take-open (Clashed v) full clashed = absurd (clashed v refl)
 
-  -- a store to a cell that waits, and to any other
+  -- a store to a cell that waits
   pub store-readers : AreIn (page_of_node n) set (nodes_from arena.links.records (first_in (ends_at arena.links a)) (length (list_at arena.held a)))
       → HasPlaces n (by_store arena.links.records first a (IsEmpty (list_at arena.held a))) set
   store-readers among = record { of_cells = (cell_in, tt); of_nodes = by_list (list_at arena.held a) refl among }
@@ -244,50 +237,21 @@ module _ (slots : List (Option Slot)) (arena : Shown) (agree : Agree slots arena
       by_list [] is among = tt
       by_list (w ∷ ws) is among = subst (λ m. AreIn (page_of_node n) set (nodes_from arena.links.records m (length (w ∷ ws)))) (sym (named slots arena agree a w ws is).0) among
 
-  pub store-other : (cell : Cell) → cell ≢ Waiting → (is_waiting_cell cell ≡ false → list_at arena.held a ≡ []) → HasPlaces n (by_store arena.links.records first a (state_of cell (list_at arena.held a))) set
-  store-other Empty other none = subst (λ ws. HasPlaces n (by_store arena.links.records first a (IsEmpty ws)) set) (sym (none refl)) (record { of_cells = (cell_in, tt); of_nodes = tt })
-  store-other Waiting other none = absurd (other refl)
-  store-other (Full v) other none = record { of_cells = (cell_in, tt); of_nodes = tt }
-  store-other (Clashed v) other none = record { of_cells = (cell_in, tt); of_nodes = tt }
+  -- a store or a put to a cell that doesn't wait
+  pub other-cell : (by : CellState → Places) → by (IsEmpty []) ≡ one_cell a → ((v : ℕ) → by (IsFull v) ≡ one_cell a) → ((v : ℕ) → by (IsClashed v) ≡ one_cell a)
+      → (cell : Cell) → cell ≢ Waiting → list_at arena.held a ≡ [] → HasPlaces n (by (state_of cell (list_at arena.held a))) set
+  other-cell by empty full clashed cell other none = quiet-state (λ state. HasPlaces n (by state) set) cell (list_at arena.held a) other none (of_one (by (IsEmpty [])) empty) (λ v. of_one (by (IsFull v)) (full v)) (λ v. of_one (by (IsClashed v)) (clashed v))
+    where
+      of_one : (p : Places) → p ≡ one_cell a → HasPlaces n p set
+      of_one p is = subst (λ p. HasPlaces n p set) (sym is) (record { of_cells = (cell_in, tt); of_nodes = tt })
 
-  -- a put to a cell that waits, and to any other
+  -- a put to a cell that waits
   pub put-taker : has set (page_of_node n (first_in (ends_at arena.links a))) ≡ true → HasPlaces n (by_put first a (IsEmpty (list_at arena.held a))) set
   put-taker begins = by_list (list_at arena.held a) refl
     where
       by_list : (ws : List Waiter) → list_at arena.held a ≡ ws → HasPlaces n (by_put first a (IsEmpty ws)) set
       by_list [] is = record { of_cells = (cell_in, tt); of_nodes = tt }
       by_list (w ∷ ws) is = record { of_cells = (cell_in, tt); of_nodes = (subst (λ m. has set (page_of_node n m) ≡ true) (sym (named slots arena agree a w ws is).0) begins, tt) }
-
-  pub put-other : (cell : Cell) → cell ≢ Waiting → (is_waiting_cell cell ≡ false → list_at arena.held a ≡ []) → HasPlaces n (by_put first a (state_of cell (list_at arena.held a))) set
-  put-other Empty other none = subst (λ ws. HasPlaces n (by_put first a (IsEmpty ws)) set) (sym (none refl)) (record { of_cells = (cell_in, tt); of_nodes = tt })
-  put-other Waiting other none = absurd (other refl)
-  put-other (Full v) other none = record { of_cells = (cell_in, tt); of_nodes = tt }
-  put-other (Clashed v) other none = record { of_cells = (cell_in, tt); of_nodes = tt }
-
--- who is resumed where nobody waits
-pub store-nobody : (v : ℕ) (cell : Cell) (ws : List Waiter) → ws ≡ [] → (store v (state_of cell ws)).resumed ≡ []
-store-nobody v Empty ws none = ap (λ xs. replies_to xs v) none
-store-nobody v Waiting ws none = ap (λ xs. replies_to xs v) none
-store-nobody v (Full w) ws none = refl
-store-nobody v (Clashed w) ws none = refl
-
-pub put-nobody : (v : ℕ) (cell : Cell) (ws : List Waiter) → ws ≡ [] → (put v (state_of cell ws)).resumed ≡ []
-put-nobody v Empty ws none = ap (λ xs. (put v (IsEmpty xs)).resumed) none
-put-nobody v Waiting ws none = ap (λ xs. (put v (IsEmpty xs)).resumed) none
-put-nobody v (Full w) ws none = refl
-put-nobody v (Clashed w) ws none = refl
-
-pub quiet-cell : (cell : Cell) → cell ≢ Waiting → is_waiting_cell cell ≡ false
-quiet-cell Empty other = refl
-quiet-cell Waiting other = absurd (other refl)
-quiet-cell (Full v) other = refl
-quiet-cell (Clashed v) other = refl
-
-pub most-store-one : (all : ℕ) (cell : Cell) (ws : List Waiter) → ws ≡ [] → most_by_store all (state_of cell ws) ≡ 1
-most-store-one all Empty ws none = ap (λ xs. most_by_store all (IsEmpty xs)) none
-most-store-one all Waiting ws none = ap (λ xs. most_by_store all (IsEmpty xs)) none
-most-store-one all (Full v) ws none = refl
-most-store-one all (Clashed v) ws none = refl
 
 pub fetch-tells : (who : Waiter) (state : CellState) → (fetch who state).entry ≡ Answered NoCell → ⊥
 fetch-tells who (IsEmpty ws) e = cc
@@ -309,17 +273,6 @@ put-tells v (IsEmpty []) e = cc
 put-tells v (IsEmpty (w ∷ ws)) e = cc
 put-tells v (IsFull w) e = cc
 put-tells v (IsClashed w) e = cc
-
--- the pages of a request, from those of its operation
-module _ (slots : List (Option Slot)) (arena : Shown) (windows : List Window) (r : Request) (set : List Bool) (lists : length arena.held.lists ≡ length slots) where
-  pub covers-request : HasPlaces (length arena.held.lists) (places_in slots arena r.op) set
-      → has set (page_of_session (length arena.held.lists) (length windows) r.element) ≡ true
-      → AreIn (page_of_session (length arena.held.lists) (length windows)) set (elements_in (act (cells_of slots arena) (asker r) r.op).resumed)
-      → Covers (memory_of slots arena windows) (Asks r) set
-  covers-request has_places own told =
-      subst (λ n. HasPages n (length windows) (touched (memory_of slots arena windows) (Asks r)) set) (lists ∙ sym (length-cells slots arena))
-      (subst (λ p. HasPages (length arena.held.lists) (length windows) (touched_in p (r.element ∷ elements_in (act (cells_of slots arena) (asker r) r.op).resumed)) set) (sym (places-rows slots arena windows r.op))
-      (record { of_cells = has_places.of_cells; of_nodes = has_places.of_nodes; of_elements = (own, told) }))
 
 -- the cells of a block that is released, and of none
 module _ (slots : List (Option Slot)) (arena : Shown) (a n : ℕ) (set : List Bool) where

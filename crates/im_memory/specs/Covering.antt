@@ -1,5 +1,5 @@
 -- Which pages a set must have, so that no record of a page outside it changes. (Own.)
-use Rattle.std.specs.Prelude.{◌≡◌, ℕ, ◌+◌, List, [], ◌∷◌, Bool, true, false, length, Option, None, Some, if◌then◌else◌}
+use Rattle.std.specs.Prelude.{◌≡◌, ℕ, ◌+◌, List, [], ◌∷◌, Bool, true, false, length, Option}
 use Rattle.im_types.specs.declared.operations.Kind.{Kind}
 use Rattle.im_types.specs.declared.operations.Kind.TheVariants.{I, M}
 use Rattle.im_types.specs.declared.operations.Op.{Op}
@@ -9,13 +9,13 @@ use Rattle.im_types.specs.declared.commands.Command.TheVariants.{Request as Asks
 use Rattle.im_types.specs.Contents.{CellState, Empty, Full, Clashed, Held, Contents, held_at}
 use Rattle.im_types.specs.declared.operations.Reply.TheVariants.{NoCell}
 use Rattle.im_types.specs.declared.operations.Entry.TheVariants.{Answered}
-use Rattle.im_types.specs.Act.{same_kind, act}
+use Rattle.im_types.specs.Act.{act}
 use Rattle.im_types.specs.Step.{asker}
 use Rattle.im_types.specs.Pages.{Records}
 use Rattle.im_pages.specs.Places.{page_of_cell, page_of_node, page_of_session, AgreeOnPage}
 use Rattle.im_pages.specs.PageSets.{has, with_page}
 use Rattle.im_memory.specs.State.{MemoryState}
-use Rattle.im_memory.specs.Touched.{Places, Touched, touched, ChangesOnly}
+use Rattle.im_memory.specs.Touched.{Places, Touched, at_kind, touched, ChangesOnly}
 
 -- the page of each of these is in the set
 abbrev pub AreIn : (ℕ → ℕ) → List Bool → List ℕ → Type 0
@@ -45,8 +45,7 @@ KeepsOutside m command set =
 
 -- at a cell of the kind that the operation is for, besides the page of the own session; else none
 abbrev pub most_at : Kind → (CellState → ℕ) → Option Held → ℕ
-most_at kind most None = 0
-most_at kind most (Some held) = if same_kind kind held.block.kind then most held.state else 0
+most_at kind most held = at_kind 0 kind most held
 
 -- by a store, where there are so many pages in all: the nodes of readers, and their sessions, may be on any of them
 abbrev pub most_by_store : ℕ → CellState → ℕ

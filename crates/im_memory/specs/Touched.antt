@@ -98,10 +98,14 @@ by_put first a (Empty (taker ∷ takers)) = record { cells = a ∷ []; nodes = f
 by_put first a (Full v) = one_cell a
 by_put first a (Clashed v) = one_cell a
 
--- at a cell of the kind that the operation is for; else nowhere
+-- what a cell of the kind that the operation is for comes to; else none
+abbrev pub at_kind : {X : Type 0} → X → Kind → (CellState → X) → Option Held → X
+at_kind none kind by None = none
+at_kind none kind by (Some held) = if same_kind kind held.block.kind then by held.state else none
+
+-- where, at a cell of the kind that the operation is for
 abbrev pub places_at : Kind → (CellState → Places) → Option Held → Places
-places_at kind by None = nowhere
-places_at kind by (Some held) = if same_kind kind held.block.kind then by held.state else nowhere
+places_at kind by held = at_kind nowhere kind by held
 
 -- the cells from a base on, if there is one
 abbrev pub places_from : ℕ → Option ℕ → Places

@@ -100,18 +100,16 @@ fn touch_cells(base: u32, n: u32, pages: &mut PageSet)
     }
 }
 
-// Where a request waits: its cell, the node that it takes, and the last node before it, which will link to it.
-fn touch_deferred(arena: &Arena, a: u32, pages: &mut PageSet)
-    ensures cell { has pages.new (pages_of.page_of_cell a) ≡ true }
+// The nodes that a new waiter changes: the one that it takes, and the last one before it, which will link to it.
+fn touch_ends(arena: &Arena, a: u32, pages: &mut PageSet)
     ensures spare { let cells = length arena.now.held.lists in
         has pages.new (pages_of.page_of_node cells arena.now.links.spare) ≡ true }
     ensures last { let cells = length arena.now.held.lists in
         has pages.new (pages_of.page_of_node cells (last_in (ends_at arena.now.links a))) ≡ true }
     ensures kept { IsWithin pages.old pages.new }
     ensures length { length pages.new ≡ length pages.old }
-    ensures few { size_of pages.new ≤ size_of pages.old + 3 }
+    ensures few { size_of pages.new ≤ size_of pages.old + 2 }
 {
-    touch_cell(a, pages);
     touch_node(arena, arena.spare(), pages);
     touch_node(arena, arena.last(a), pages);
 }
@@ -153,7 +151,10 @@ fn touch_fetch(table: &CellTable, arena: &Arena, a: u32, pages: &mut PageSet)
     match cell {
         Cell::Full(_) => {}
         Cell::Clashed(_) => {}
-        _ => touch_deferred(arena, a, pages),
+        _ => {
+            touch_cell(a, pages);
+            touch_ends(arena, a, pages);
+        }
     }
 }
 
@@ -167,14 +168,14 @@ fn touch_take(table: &CellTable, arena: &Arena, a: u32, pages: &mut PageSet)
         + most_by (length pages.old) (cells_of table.now arena.now) (Op.Take a) }
     ensures refused { (told : Told) → access_in M (slot_at table.now a) ≡ Err told → pages.new ≡ pages.old }
 {
-    let cell = match look(table, a, Kind::M) {
-        Ok(cell) => cell,
-        Err(_) => return,
+    let Ok(cell) = look(table, a, Kind::M) else {
+        return;
     };
+    touch_cell(a, pages);
     match cell {
-        Cell::Full(_) => touch_cell(a, pages),
-        Cell::Clashed(_) => touch_cell(a, pages),
-        _ => touch_deferred(arena, a, pages),
+        Cell::Full(_) => {}
+        Cell::Clashed(_) => {}
+        _ => touch_ends(arena, a, pages),
     }
 }
 
@@ -250,14 +251,12 @@ fn touch_put(
         + most_by (length pages.old) (cells_of table.now arena.now) (Op.Put a value) }
     ensures refused { (told : Told) → access_in M (slot_at table.now a) ≡ Err told → pages.new ≡ pages.old }
 {
-    let cell = match look(table, a, Kind::M) {
-        Ok(cell) => cell,
-        Err(_) => return,
+    let Ok(cell) = look(table, a, Kind::M) else {
+        return;
     };
     touch_cell(a, pages);
-    match cell {
-        Cell::Waiting => touch_taker(arena, elements, a, pages),
-        _ => {}
+    if let Cell::Waiting = cell {
+        touch_taker(arena, elements, a, pages);
     }
 }
 

@@ -21,9 +21,9 @@ returns-in-Clashed-clause-places c =
 
 pub returns-in_default-clause-places : goal.returns-in_default-clause-places
 returns-in_default-clause-places c =
-    let added = c.touch_deferred.ensures in
+    let added = c.touch_ends.ensures in
     HasPlaces-ok I c.args.table.now c.args.arena.now c.args.a _ (by_fetch c.args.arena.now.links.spare (last_at (rows_of c.args.table.now c.args.arena.now) c.args.a) c.args.a) _ _ (sym c.in-Ok.ensures)
-    (fetch-open c.args.table.now c.args.arena.now c.requires c.args.a _ _ added.cell added.spare added.last c.in-Ok.cell c.in_default.not-Full c.in_default.not-Clashed)
+    (fetch-open c.args.table.now c.args.arena.now c.requires c.args.a _ _ (added.kept _ c.touch_cell.ensures.cell) added.spare added.last c.in-Ok.cell c.in_default.not-Full c.in_default.not-Clashed)
 
 pub returns-in_default-clause-few : goal.returns-in_default-clause-few
 returns-in_default-clause-few c =

@@ -1,4 +1,4 @@
-use Rattle.std.proofs.Common.{Ok, length, sym, ap, ◌∙◌, arith}
+use Rattle.std.proofs.Common.{Ok, ◌≡◌, refl, [], length, sym, ap, ◌∙◌, arith}
 use Rattle.im_types.specs.declared.operations.Kind.TheVariants.{M}
 use Rattle.im_types.specs.declared.cells.Cell.TheVariants.{Waiting}
 use Rattle.im_types.specs.Contents.{Empty as IsEmpty}
@@ -6,15 +6,15 @@ use Rattle.im_types.specs.Act.{put}
 use Rattle.im_pages.specs.Places.{page_of_session}
 use Rattle.im_memory.specs.State.{rows_of}
 use Rattle.im_memory.specs.Touched.{by_put, first_at}
-use Rattle.im_memory.proofs.CoverLemmas.{HasPlaces-err, HasPlaces-ok, resumed-err, resumed-ok, most-ok, nobody, somebody, put-taker, put-other, put-nobody, told-none, told-taker, quiet-cell}
+use Rattle.im_memory.proofs.CoverLemmas.{HasPlaces-err, HasPlaces-ok, resumed-err, resumed-ok, most-ok, nobody, somebody, put-taker, other-cell, quiet-state, told-none, told-taker, quiet-cell}
 use Rattle.im_memory.proofs.touches.touch_put.Goals as goal
 
-pub returns-in-Err-clause-places : goal.returns-in-Err-clause-places
-returns-in-Err-clause-places c = HasPlaces-err M c.args.table.now c.args.arena.now c.args.a _ (by_put (first_at (rows_of c.args.table.now c.args.arena.now) c.args.a) c.args.a) _ _ (sym c.in-Err.ensures)
+pub returns-in_default-clause-places : goal.returns-in_default-clause-places
+returns-in_default-clause-places c = HasPlaces-err M c.args.table.now c.args.arena.now c.args.a _ (by_put (first_at (rows_of c.args.table.now c.args.arena.now) c.args.a) c.args.a) _ _ (sym c.in_default.ensures)
 
-pub returns-in-Err-clause-sessions : goal.returns-in-Err-clause-sessions
-returns-in-Err-clause-sessions c =
-    told-none (page_of_session (length c.args.arena.now.held.lists) c.args.elements) _ _ (resumed-err M c.args.table.now c.args.arena.now c.args.a (put c.args.value) _ (sym c.in-Err.ensures))
+pub returns-in_default-clause-sessions : goal.returns-in_default-clause-sessions
+returns-in_default-clause-sessions c =
+    told-none (page_of_session (length c.args.arena.now.held.lists) c.args.elements) _ _ (resumed-err M c.args.table.now c.args.arena.now c.args.a (put c.args.value) _ (sym c.in_default.ensures))
 
 pub returns-in-Waiting-clause-places : goal.returns-in-Waiting-clause-places
 returns-in-Waiting-clause-places c =
@@ -33,18 +33,20 @@ returns-in-Waiting-clause-few c =
     let most = most-ok M c.args.table.now c.args.arena.now c.args.a (λ state. 3) _ (sym c.in-Ok.ensures) in
     omega arith
 
-pub returns-in_default-clause-places : goal.returns-in_default-clause-places
-returns-in_default-clause-places c =
+pub returns-in_default-cell-clause-places : goal.returns-in_default-cell-clause-places
+returns-in_default-cell-clause-places c =
+    let none = nobody M c.args.table.now c.args.arena.now c.args.a c.in-Ok.cell (sym c.in-Ok.ensures) c.requires (quiet-cell c.in-Ok.cell c.in_default-cell.not-Waiting) in
     HasPlaces-ok M c.args.table.now c.args.arena.now c.args.a _ (by_put (first_at (rows_of c.args.table.now c.args.arena.now) c.args.a) c.args.a) _ _ (sym c.in-Ok.ensures)
-    (put-other c.args.table.now c.args.arena.now c.requires c.args.a _ _ c.touch_cell.ensures.cell c.in-Ok.cell c.in_default.not-Waiting (nobody M c.args.table.now c.args.arena.now c.args.a c.in-Ok.cell (sym c.in-Ok.ensures) c.requires))
+    (other-cell c.args.table.now c.args.arena.now c.requires c.args.a _ _ c.touch_cell.ensures.cell (by_put (first_at (rows_of c.args.table.now c.args.arena.now) c.args.a) c.args.a) refl (λ v. refl) (λ v. refl) c.in-Ok.cell c.in_default-cell.not-Waiting none)
 
-pub returns-in_default-clause-sessions : goal.returns-in_default-clause-sessions
-returns-in_default-clause-sessions c =
-    let none = nobody M c.args.table.now c.args.arena.now c.args.a c.in-Ok.cell (sym c.in-Ok.ensures) c.requires (quiet-cell c.in-Ok.cell c.in_default.not-Waiting) in
-    let told = resumed-ok M c.args.table.now c.args.arena.now c.args.a (put c.args.value) c.in-Ok.cell (sym c.in-Ok.ensures) ∙ put-nobody c.args.value c.in-Ok.cell _ none in
+pub returns-in_default-cell-clause-sessions : goal.returns-in_default-cell-clause-sessions
+returns-in_default-cell-clause-sessions c =
+    let none = nobody M c.args.table.now c.args.arena.now c.args.a c.in-Ok.cell (sym c.in-Ok.ensures) c.requires (quiet-cell c.in-Ok.cell c.in_default-cell.not-Waiting) in
+    let told = resumed-ok M c.args.table.now c.args.arena.now c.args.a (put c.args.value) c.in-Ok.cell (sym c.in-Ok.ensures)
+    ∙ quiet-state (λ state. (put c.args.value state).resumed ≡ []) c.in-Ok.cell _ c.in_default-cell.not-Waiting none refl (λ v. refl) (λ v. refl) in
     told-none (page_of_session (length c.args.arena.now.held.lists) c.args.elements) _ _ told
 
-pub returns-in_default-clause-few : goal.returns-in_default-clause-few
-returns-in_default-clause-few c =
+pub returns-in_default-cell-clause-few : goal.returns-in_default-cell-clause-few
+returns-in_default-cell-clause-few c =
     let most = most-ok M c.args.table.now c.args.arena.now c.args.a (λ state. 3) _ (sym c.in-Ok.ensures) in
     omega arith

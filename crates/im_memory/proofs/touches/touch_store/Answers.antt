@@ -1,4 +1,4 @@
-use Rattle.std.proofs.Common.{Ok, ◌≡◌, length, sym, ap, ◌∙◌, arith}
+use Rattle.std.proofs.Common.{Ok, ◌≡◌, [], refl, length, sym, ap, ◌∙◌, arith}
 use Rattle.im_types.specs.declared.operations.Kind.TheVariants.{I}
 use Rattle.im_types.specs.declared.cells.Cell.TheVariants.{Waiting}
 use Rattle.im_types.specs.Contents.{held_at, Empty as IsEmpty}
@@ -9,7 +9,7 @@ use Rattle.im_pages.specs.Places.{page_of_session}
 use Rattle.im_memory.specs.State.{rows_of}
 use Rattle.im_memory.specs.Touched.{by_store, first_at}
 use Rattle.im_memory.specs.Covering.{most_at, most_by_store}
-use Rattle.im_memory.proofs.CoverLemmas.{HasPlaces-err, HasPlaces-ok, resumed-err, resumed-ok, most-ok, nobody, somebody, store-readers, store-other, store-nobody, most-store-one, quiet-cell, told-none, told-readers, size-length}
+use Rattle.im_memory.proofs.CoverLemmas.{HasPlaces-err, HasPlaces-ok, resumed-err, resumed-ok, most-ok, nobody, somebody, store-readers, other-cell, quiet-state, quiet-cell, told-none, told-readers, size-length}
 use Rattle.im_memory.proofs.touches.touch_store.Goals as goal
 
 pub returns-in-Err-clause-places : goal.returns-in-Err-clause-places
@@ -39,17 +39,21 @@ returns-in-Waiting-clause-few c =
 
 pub returns-in_default-clause-places : goal.returns-in_default-clause-places
 returns-in_default-clause-places c =
+    let none = nobody I c.args.table.now c.args.arena.now c.args.a c.in-Ok.cell (sym c.in-Ok.ensures) c.requires.agree (quiet-cell c.in-Ok.cell c.in_default.not-Waiting) in
     HasPlaces-ok I c.args.table.now c.args.arena.now c.args.a _ (by_store c.args.arena.now.links.records (first_at (rows_of c.args.table.now c.args.arena.now) c.args.a) c.args.a) _ _ (sym c.in-Ok.ensures)
-    (store-other c.args.table.now c.args.arena.now c.requires.agree c.args.a _ _ c.touch_cell.ensures.cell c.in-Ok.cell c.in_default.not-Waiting (nobody I c.args.table.now c.args.arena.now c.args.a c.in-Ok.cell (sym c.in-Ok.ensures) c.requires.agree))
+    (other-cell c.args.table.now c.args.arena.now c.requires.agree c.args.a _ _ c.touch_cell.ensures.cell (by_store c.args.arena.now.links.records (first_at (rows_of c.args.table.now c.args.arena.now) c.args.a) c.args.a) refl (λ v. refl) (λ v. refl) c.in-Ok.cell c.in_default.not-Waiting none)
 
 pub returns-in_default-clause-sessions : goal.returns-in_default-clause-sessions
 returns-in_default-clause-sessions c =
     let none = nobody I c.args.table.now c.args.arena.now c.args.a c.in-Ok.cell (sym c.in-Ok.ensures) c.requires.agree (quiet-cell c.in-Ok.cell c.in_default.not-Waiting) in
-    let told = resumed-ok I c.args.table.now c.args.arena.now c.args.a (store c.args.value) c.in-Ok.cell (sym c.in-Ok.ensures) ∙ store-nobody c.args.value c.in-Ok.cell _ none in
+    let told = resumed-ok I c.args.table.now c.args.arena.now c.args.a (store c.args.value) c.in-Ok.cell (sym c.in-Ok.ensures)
+    ∙ quiet-state (λ state. (store c.args.value state).resumed ≡ []) c.in-Ok.cell _ c.in_default.not-Waiting none refl (λ v. refl) (λ v. refl) in
     told-none (page_of_session (length c.args.arena.now.held.lists) c.args.elements) _ _ told
 
 pub returns-in_default-clause-few : goal.returns-in_default-clause-few
 returns-in_default-clause-few c =
     let none = nobody I c.args.table.now c.args.arena.now c.args.a c.in-Ok.cell (sym c.in-Ok.ensures) c.requires.agree (quiet-cell c.in-Ok.cell c.in_default.not-Waiting) in
-    let most = most-ok I c.args.table.now c.args.arena.now c.args.a (most_by_store (length c.args.pages.now)) c.in-Ok.cell (sym c.in-Ok.ensures) ∙ most-store-one (length c.args.pages.now) c.in-Ok.cell _ none in
+    let all = length c.args.pages.now in
+    let most = most-ok I c.args.table.now c.args.arena.now c.args.a (most_by_store all) c.in-Ok.cell (sym c.in-Ok.ensures)
+    ∙ quiet-state (λ state. most_by_store all state ≡ 1) c.in-Ok.cell _ c.in_default.not-Waiting none refl (λ v. refl) (λ v. refl) in
     omega arith
