@@ -1,11 +1,12 @@
 -- Names among names, and in places. (Own.)
-use Rattle.std.proofs.Common.{◌≡◌, ◌∙◌, ℕ, ◌≤◌, Bool, not, ◌==◌, List, [], ◌∷◌, Bor, arith, refl, ap, length, drop, inl, inr}
+use Rattle.std.proofs.Common.{◌≡◌, ◌∙◌, ℕ, ◌≤◌, Bool, false, not, ◌==◌, List, [], ◌∷◌, ◌++◌, Bor, arith, refl, ap, length, drop, inl, inr}
 use Rattle.std.specs.Prelude.{Option, Some, None}
-use Rattle.std.specs.List.{before_first, position, position_or_len}
+use Rattle.std.specs.List.{before_first, list_any, position, position_or_len}
 use Rattle.std.specs.Option.{option_map, option_and_then}
 use Rattle.std.specs.Str.{bytes_eq}
 use Rattle.std.proofs.lemmas.Bool.{cases_lt, lt-ltb, le-ltb, cond-true, cond-false}
-use Rattle.std.proofs.lemmas.List.{length-map}
+use Rattle.std.proofs.lemmas.List.{length-map, map-append}
+use Rattle.indexmap.specs.IndexSet.{insert_key}
 use Rattle.std.proofs.lemmas.List.Sums.{prefix_len-le-length}
 use Rattle.im_script.specs.declared.places.Place.TheVariants.{Named}
 use Rattle.im_script.specs.Grammar.{offset_of, place_past, texts}
@@ -43,7 +44,12 @@ position_missing p xs r e f = elim (cases_lt (position_or_len p xs) (length xs))
 
 -- a place by its parts
 pub place_by_parts : (names : List (List ℕ)) (word name rest : List ℕ) (index offset : Option ℕ) → name ≡ before_first (λ byte. byte == 43) word → rest ≡ drop (position_or_len (λ byte. byte == 43) word) word
-    → index ≡ position (λ given. bytes_eq given name) names → offset ≡ offset_of rest → option_and_then (λ i. option_map (Named i) offset) index ≡ place_past names word
+    → index ≡ position (bytes_eq name) names → offset ≡ offset_of rest → option_and_then (λ i. option_map (Named i) offset) index ≡ place_past names word
 place_by_parts names word name rest index offset name_is rest_is index_is offset_is =
     ap (λ (o : Option ℕ). option_and_then (λ i. option_map (Named i) o) index) (offset_is ∙ ap offset_of rest_is)
-    ∙ ap (option_and_then (λ i. option_map (Named i) (offset_of (drop (position_or_len (λ byte. byte == 43) word) word)))) (index_is ∙ ap (λ (n : List ℕ). position (λ given. bytes_eq given n) names) name_is)
+    ∙ ap (option_and_then (λ i. option_map (Named i) (offset_of (drop (position_or_len (λ byte. byte == 43) word) word)))) (index_is ∙ ap (λ (n : List ℕ). position (bytes_eq n) names) name_is)
+
+-- a new name goes behind the others
+pub texts_insert : (keys : List (Bor (List ℕ))) (k : Bor (List ℕ)) → list_any (λ (x : Bor (List ℕ)). bytes_eq k.now x.now) keys ≡ false
+    → texts (insert_key (λ (x y : Bor (List ℕ)). bytes_eq x.now y.now) keys k) ≡ texts keys ++ k.now ∷ []
+texts_insert keys k h = rw h (map-append (λ (x : Bor (List ℕ)). x.now) keys (k ∷ []))

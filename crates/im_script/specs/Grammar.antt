@@ -60,7 +60,7 @@ offset_of (plus ∷ digits) = number_up_to 1048575 digits
 abbrev pub place_past : List (List ℕ) → List ℕ → Option Place
 place_past names word =
     option_and_then (λ index. option_map (Named index) (offset_of (drop (position_or_len (λ byte. byte == 43) word) word)))
-    (position (λ given. bytes_eq given (before_first (λ byte. byte == 43) word)) names)
+    (position (bytes_eq (before_first (λ byte. byte == 43) word)) names)
 
 -- a place: an address, or one of the names with its offset
 abbrev pub place_of : List (List ℕ) → List ℕ → Option Place

@@ -2,3 +2,4 @@ pub mod Places
 pub mod Grammar
 pub mod Lines
 pub mod Script
+pub mod Faults

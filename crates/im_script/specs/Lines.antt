@@ -39,7 +39,7 @@ action_of names _ = None
 -- alloc NAME KIND LEN, a line of the setup: the name, which was not given before, and the block
 abbrev pub named_block : List (List ℕ) → List (List ℕ) → Option (List ℕ × Allocation)
 named_block names (word ∷ name ∷ kind ∷ len ∷ []) =
-    if bytes_eq word (codes "alloc") && (is_name name && not (is_some (position (λ given. bytes_eq given name) names)))
+    if bytes_eq word (codes "alloc") && (is_name name && not (is_some (position (bytes_eq name) names)))
     then option_map (λ b. (name, b)) (block_of kind len) else None
 named_block names _ = None
 

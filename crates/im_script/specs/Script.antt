@@ -32,7 +32,7 @@ contents_of s = record { setup = s.setup.items; parts = s.parts.items; lines = s
 
 -- what a reader has read so far
 abbrev pub draft_of : Reader → Draft
-draft_of r = record { stage = r.stage; names = texts r.names.items; script = contents_of r.script }
+draft_of r = record { stage = r.stage; names = texts r.names.keys; script = contents_of r.script }
 
 -- nothing was read
 abbrev pub new_draft : Draft
@@ -71,9 +71,9 @@ abbrev pub words_after : Draft → List (List ℕ) → Option Draft
 words_after d [] = Some d
 words_after d (word ∷ words) = if slice_index_or word 0 0 == 35 then Some d else line_after d (word ∷ words)
 
--- a line
+-- a line, which has to be ASCII
 abbrev pub counted : Draft → List ℕ → Option Draft
-counted d line = words_after d (words_of line)
+counted d line = if list_all is_ascii line then words_after d (words_of line) else None
 
 -- ---- all lines
 
@@ -82,9 +82,13 @@ abbrev pub lines_after : Draft → List (List ℕ) → Option Draft
 lines_after d [] = Some d
 lines_after d (line ∷ lines) = option_and_then (λ e. lines_after e lines) (counted d line)
 
--- the script that a text is, if it is one: lines between line feeds, of ASCII
+-- the lines of a text, between line feeds
+abbrev pub lines_of : List ℕ → List (List ℕ)
+lines_of text = slice_split (λ byte. byte == 10) text
+
+-- the script that a text is, if it is one
 abbrev pub script_of : List ℕ → Option Contents
-script_of text = if list_all is_ascii text then option_map (λ d. d.script) (lines_after new_draft (slice_split (λ byte. byte == 10) text)) else None
+script_of text = option_map (λ d. d.script) (lines_after new_draft (lines_of text))
 
 -- ---- what a reading function answers
 

@@ -1,6 +1,7 @@
 //! The words of a line, and what one word says.
-ghost use Rattle.std.specs.Prelude.{◌≡◌, ◌==◌, ◌≤◌, IfOk, codes, drop, length};
-ghost use Rattle.std.specs.List.{before_first, list_all, position, position_or_len};
+ghost use Rattle.std.specs.Prelude.{◌≡◌, ◌==◌, ◌≤◌, IfOk, codes, drop, is_some, length};
+ghost use Rattle.std.specs.List.{before_first, list_all, list_any, position, position_or_len};
+ghost use Rattle.std.specs.Char.{is_ascii};
 ghost use Rattle.std.specs.Option.{option_and_then, option_map};
 ghost use Rattle.std.specs.Str.{bytes_eq};
 ghost use Rattle.im_script.specs.Grammar.{digit_after, is_name, is_name_byte, kind_of, number_up_to, offset_of};
@@ -9,6 +10,7 @@ ghost use Rattle.im_script.specs.Grammar.{place_of, place_past, texts, words_of}
 use crate::places::Place;
 use crate::{MAX_NAME, MAX_OFFSET};
 use im_types::Kind;
+use indexmap::IndexSet;
 use std::alloc::{AllocError, Global};
 
 /// The words of a line: its parts between spaces, but for the empty ones.
@@ -76,6 +78,13 @@ fn may_name(byte: u8) -> bool
     byte.is_ascii_lowercase() || byte.is_ascii_digit()
 }
 
+/// Whether each byte of a text is ASCII.
+pub fn is_plain(text: &[u8]) -> bool
+    ensures { result ≡ list_all is_ascii text.now }
+{
+    text.iter().all(|byte| byte.is_ascii())
+}
+
 /// Whether each byte of a word may stand in a name.
 fn may_all_name(word: &[u8]) -> bool
     ensures { result ≡ list_all is_name_byte word.now }
@@ -94,10 +103,11 @@ pub fn can_name(word: &[u8]) -> bool
 }
 
 /// Where a name stands among the names.
-pub fn find_name(names: &[&[u8]], name: &[u8]) -> Option<usize>
-    ensures { result ≡ position (λ given. bytes_eq given name.now) (texts names.now) }
+pub fn find_name(names: &IndexSet<&[u8]>, name: &[u8]) -> Option<usize>
+    ensures place { result ≡ position (bytes_eq name.now) (texts names.now.keys) }
+    ensures found { is_some result ≡ list_any (λ given. bytes_eq name.now given.now) names.now.keys }
 {
-    names.iter().position(|given| *given == name)
+    names.get_index_of(name)
 }
 
 /// How many bytes of a place are its name: those before the first plus, or all.
@@ -143,16 +153,22 @@ fn make_place(index: Option<usize>, offset: Option<u32>) -> Option<Place>
 }
 
 /// A place that begins with one of the names.
-fn read_named(names: &[&[u8]], word: &[u8]) -> Option<Place>
-    ensures { result ≡ place_past (texts names.now) word.now }
+fn read_named(names: &IndexSet<&[u8]>, word: &[u8]) -> Option<Place>
+    ensures { result ≡ place_past (texts names.now.keys) word.now }
 {
     let (name, rest) = split_name(word);
     make_place(find_name(names, name), read_offset(rest))
 }
 
+/// Whether a place begins with one of the names.
+pub fn has_name(names: &IndexSet<&[u8]>, word: &[u8]) -> bool {
+    let (name, _) = split_name(word);
+    find_name(names, name).is_some()
+}
+
 /// A place: an address, or one of the names with its offset.
-pub fn read_place(names: &[&[u8]], word: &[u8]) -> Option<Place>
-    ensures { result ≡ place_of (texts names.now) word.now }
+pub fn read_place(names: &IndexSet<&[u8]>, word: &[u8]) -> Option<Place>
+    ensures { result ≡ place_of (texts names.now.keys) word.now }
 {
     match read_u32(word) {
         Some(address) => Some(Place::Address(address)),

@@ -1,11 +1,14 @@
 //! Scripts of requests: what a text says, line by line, and where each request acts once its names have bases.
 #![tactic(auto)]
 
+mod explaining;
+mod faults;
 mod grammar;
 mod lines;
 mod places;
 mod script;
 
+pub use faults::{Expected, LineFault, Quoted, ScriptFault};
 pub use grammar::read_u32;
 pub use places::{Action, Place};
 pub use script::{Allocation, Script, ScriptLine, read_script};

@@ -1,6 +1,8 @@
 //! What a line says, by its words.
-ghost use Rattle.std.specs.Prelude.{◌≡◌};
+ghost use Rattle.std.specs.Prelude.{◌≡◌, false, IfSome};
+ghost use Rattle.std.specs.List.{list_any};
 ghost use Rattle.std.specs.Option.{option_map};
+ghost use Rattle.std.specs.Str.{bytes_eq};
 ghost use Rattle.im_script.specs.Grammar.{texts};
 ghost use Rattle.im_script.specs.Lines.{action_of, action_past, block_of, named_block, part_number, plain_action};
 ghost use Rattle.im_script.specs.Lines.{starts_setup, valued_action};
@@ -8,6 +10,7 @@ ghost use Rattle.im_script.specs.Lines.{starts_setup, valued_action};
 use crate::grammar::{can_name, find_name, read_kind, read_number, read_place, read_u32};
 use crate::places::{Action, Place};
 use crate::script::Allocation;
+use indexmap::IndexSet;
 
 /// A block, by the words of its kind and its length.
 fn read_block(kind: &[u8], length: &[u8]) -> Option<Allocation>
@@ -48,8 +51,8 @@ fn read_valued(word: &[u8], place: Place, value: u64) -> Option<Action>
 }
 
 /// A request of three words: a block, or a place and a value.
-fn read_long(names: &[&[u8]], word: &[u8], first: &[u8], second: &[u8]) -> Option<Action>
-    ensures { result ≡ action_past (texts names.now) word.now first.now second.now }
+fn read_long(names: &IndexSet<&[u8]>, word: &[u8], first: &[u8], second: &[u8]) -> Option<Action>
+    ensures { result ≡ action_past (texts names.now.keys) word.now first.now second.now }
 {
     if word == b"alloc".as_slice() {
         let block = read_block(first, second)?;
@@ -60,8 +63,8 @@ fn read_long(names: &[&[u8]], word: &[u8], first: &[u8], second: &[u8]) -> Optio
 }
 
 /// A request: a line of a part.
-pub fn read_action(names: &[&[u8]], words: &[&[u8]]) -> Option<Action>
-    ensures { result ≡ action_of (texts names.now) (texts words.now) }
+pub fn read_action(names: &IndexSet<&[u8]>, words: &[&[u8]]) -> Option<Action>
+    ensures { result ≡ action_of (texts names.now.keys) (texts words.now) }
 {
     match words {
         [word, place] => read_plain(word, read_place(names, place)?),
@@ -72,10 +75,13 @@ pub fn read_action(names: &[&[u8]], words: &[&[u8]]) -> Option<Action>
 
 /// A line of the setup: a name that is not given yet, and its block.
 pub fn read_named_block<'a>(
-    names: &[&'a [u8]],
+    names: &IndexSet<&'a [u8]>,
     words: &[&'a [u8]],
 ) -> Option<(&'a [u8], Allocation)>
-    ensures { option_map (λ found. (found.0.now, found.1)) result ≡ named_block (texts names.now) (texts words.now) }
+    ensures block { option_map (λ found. (found.0.now, found.1)) result
+        ≡ named_block (texts names.now.keys) (texts words.now) }
+    ensures new { IfSome result (λ found.
+        list_any (λ given. bytes_eq found.0.now given.now) names.now.keys ≡ false) }
 {
     match words {
         [word, name, kind, length] => {

@@ -1,16 +1,20 @@
 //! Scripts, read line by line.
-ghost use Rattle.std.specs.Prelude.{◌≡◌, Err, None, Some, IfOk, IfErr, ◌⊎◌};
-ghost use Rattle.im_types.specs.declared.refusals.Refusal.TheVariants.{BadScript, NoMemory};
+ghost use Rattle.std.specs.Prelude.{◌≡◌, ◌⊎◌, None, Some, IfOk, IfErr, IfSome, OnOk};
+ghost use Rattle.im_script.specs.declared.faults.ScriptFault.TheVariants.{NoMemory};
+ghost use Rattle.im_script.specs.Faults.{IsFirstFault, line_of};
 ghost use Rattle.im_script.specs.Script.{contents_of, script_of};
 
-use crate::grammar::{read_number, split_words};
+use crate::explaining::explain;
+use crate::faults::ScriptFault;
+use crate::grammar::{is_plain, read_number, split_words};
 use crate::lines::{is_setup, read_action, read_named_block, read_part};
 use crate::places::Action;
 use im_types::{Kind, Refusal};
+use indexmap::IndexSet;
 use std::alloc::Global;
 
 /// The most that an element's number is in a script.
-const LAST_ELEMENT: u64 = 63;
+pub const LAST_ELEMENT: u64 = 63;
 
 /// A block that the setup makes.
 #[derive(Clone, Copy, Debug, PartialEq, Eq)]
@@ -58,7 +62,7 @@ pub struct Reader<'a> {
     /// Where the next line stands.
     pub stage: Stage,
     /// The name of each block of the setup.
-    pub names: Vec<&'a [u8]>,
+    pub names: IndexSet<&'a [u8]>,
     /// What was read.
     pub script: Script,
 }
@@ -74,7 +78,7 @@ impl<'a> Reader<'a> {
     {
         Reader {
             stage: Stage::Start,
-            names: Vec::new(alloc),
+            names: IndexSet::new(alloc),
             script: Script {
                 setup: Vec::new(alloc),
                 parts: Vec::new(alloc),
@@ -111,13 +115,14 @@ impl<'a> Reader<'a> {
     }
 
     /// Reads a line of the setup.
+    #[tactic(auto, using(crate::proofs::PlaceLemmas::texts_insert))]
     fn name_block(&mut self, words: &[&'a [u8]]) -> Result<(), Refusal>
         ensures { Follows result (named (draft_of self.old) (texts words.now)) (draft_of self.new) }
     {
-        let Some((name, block)) = read_named_block(self.names.as_slice(), words) else {
+        let Some((name, block)) = read_named_block(&self.names, words) else {
             return Err(Refusal::BadScript);
         };
-        self.names.push(name).map_err(|_| Refusal::NoMemory)?;
+        self.names.insert(name).map_err(|_| Refusal::NoMemory)?;
         self.script
             .setup
             .push(block)
@@ -129,7 +134,7 @@ impl<'a> Reader<'a> {
     fn ask(&mut self, element: u16, words: &[&'a [u8]]) -> Result<(), Refusal>
         ensures { Follows result (asked (draft_of self.old) element (texts words.now)) (draft_of self.new) }
     {
-        let Some(action) = read_action(self.names.as_slice(), words) else {
+        let Some(action) = read_action(&self.names, words) else {
             return Err(Refusal::BadScript);
         };
         let line = ScriptLine { element, action };
@@ -155,26 +160,60 @@ impl<'a> Reader<'a> {
     fn read_line(&mut self, alloc: Global, line: &'a [u8]) -> Result<(), Refusal>
         ensures { Follows result (counted (draft_of self.old) line.entry.now) (draft_of self.new) }
     {
+        if !is_plain(line) {
+            return Err(Refusal::BadScript);
+        }
         let words = split_words(alloc, line).map_err(|_| Refusal::NoMemory)?;
         if words.is_empty() || words[0].first() == Some(&b'#') {
             return Ok(());
         }
         self.read_words(words.as_slice())
     }
+
+    /// The fault of the line with this number, which was refused.
+    fn fault(&self, alloc: Global, line: usize, text: &'a [u8]) -> ScriptFault
+        ensures { IfSome (line_of result) (λ number. number ≡ line) }
+    {
+        match split_words(alloc, text) {
+            Ok(words) => ScriptFault::BadLine {
+                line,
+                fault: explain(self.stage, &self.names, words.as_slice()),
+            },
+            Err(_) => ScriptFault::NoMemory,
+        }
+    }
+
+    /// Reads the line with this number.
+    fn read_numbered(
+        &mut self,
+        alloc: Global,
+        number: usize,
+        line: &'a [u8],
+    ) -> Result<(), ScriptFault>
+        ensures ok { OnOk result (counted (draft_of self.old) line.entry.now ≡ Some (draft_of self.new)) }
+        ensures bad { IfErr result (λ fault. IfSome (line_of fault)
+            (λ at. (at ≡ number) × (counted (draft_of self.old) line.entry.now ≡ None))) }
+    {
+        match self.read_line(alloc, line) {
+            Ok(()) => Ok(()),
+            Err(Refusal::BadScript) => Err(self.fault(alloc, number, line)),
+            Err(_) => Err(ScriptFault::NoMemory),
+        }
+    }
 }
 
-/// Reads a script. `BadScript` comes where the text is not in the grammar, and `NoMemory` where a growth was refused.
-pub fn read_script(alloc: Global, text: &[u8]) -> Result<Script, Refusal>
+/// Reads a script. The fault of a text that is none is its first line that isn't in the grammar where it stands;
+/// `NoMemory` comes where a growth was refused.
+pub fn read_script(alloc: Global, text: &[u8]) -> Result<Script, ScriptFault>
     ensures ok { IfOk result (λ script. script_of text.now ≡ Some (contents_of script)) }
-    ensures bad { result ≡ Err BadScript → script_of text.now ≡ None }
-    ensures faults { IfErr result (λ refusal. (refusal ≡ BadScript) ⊎ (refusal ≡ NoMemory)) }
+    ensures bad { IfErr result (λ fault. (fault ≡ NoMemory) ⊎ (script_of text.now ≡ None)) }
+    ensures first { IfErr result (λ fault. IfSome (line_of fault) (IsFirstFault text.now)) }
 {
-    if !text.iter().all(|byte| byte.is_ascii()) {
-        return Err(Refusal::BadScript);
-    }
     let mut reader = Reader::new(alloc);
+    let mut number = 0;
     for line in text.split(|byte| *byte == b'\n') {
-        reader.read_line(alloc, line)?;
+        number += 1;
+        reader.read_numbered(alloc, number, line)?;
     }
     Ok(reader.script)
 }

@@ -1,0 +1,143 @@
+//! Why a text is no script.
+ghost use Rattle.std.specs.Prelude.{◌≡◌};
+ghost use Rattle.im_script.specs.Faults.{refusal_of};
+
+use im_types::Refusal;
+use std::fmt;
+use thiserror::Error;
+
+/// The most bytes of a word that a fault quotes.
+const MOST_QUOTED: usize = 32;
+
+/// What the grammar has where a word stands, or is missing. Its text is the words for it.
+#[derive(Clone, Copy, Debug, PartialEq, Eq)]
+pub enum Expected {
+    /// The first word of a line before which none counts.
+    Start,
+    /// The first word of a line of the setup.
+    Setup,
+    /// The first word of a line of a part.
+    Request,
+    /// The number of an element.
+    Element,
+    /// A name.
+    Name,
+    /// A name that no line before gave.
+    NewName,
+    /// A kind of cells.
+    Kind,
+    /// How many cells a block has.
+    Length,
+    /// Where a request acts.
+    Place,
+    /// How many cells that lies past a name's base.
+    Offset,
+    /// What a store or a put writes.
+    Value,
+    /// No word more.
+    End,
+    /// A word of ASCII.
+    Ascii,
+}
+
+impl Expected {
+    fn text(self) -> &'static str {
+        match self {
+            Expected::Start => "setup or element",
+            Expected::Setup => "alloc or element",
+            Expected::Request => "element, alloc, fetch, store, take, put or release",
+            Expected::Element => "an element's number from 0 to 63",
+            Expected::Name => "a name of 1 to 16 characters a to z and 0 to 9, the first a letter",
+            Expected::NewName => "a name that is not given yet",
+            Expected::Kind => "i or m",
+            Expected::Length => "a number from 0 to 4294967295",
+            Expected::Place => "an address from 0 to 4294967295 or a name of the setup",
+            Expected::Offset => "an offset from 0 to 1048575 behind the name's plus",
+            Expected::Value => "a number from 0 to 18446744073709551615",
+            Expected::End => "the end of the line",
+            Expected::Ascii => "ASCII",
+        }
+    }
+}
+
+impl fmt::Display for Expected {
+    fn fmt<W: fmt::Write>(&self, f: &mut fmt::Formatter<W>) -> fmt::Result {
+        f.write_str(self.text())
+    }
+}
+
+/// A word as a fault quotes it: its first 32 bytes. Its text has what is no printable ASCII as an escape, and two dots
+/// where the word is longer.
+#[derive(Clone, Copy, Debug, PartialEq, Eq)]
+pub struct Quoted {
+    bytes: [u8; MOST_QUOTED],
+    /// The length of the whole word.
+    length: usize,
+}
+
+impl Quoted {
+    /// The beginning of a word.
+    pub fn of(word: &[u8]) -> Quoted {
+        let mut bytes = [0; MOST_QUOTED];
+        let length = word.len();
+        let quoted = length.min(MOST_QUOTED);
+        bytes[..quoted].copy_from_slice(&word[..quoted]);
+        Quoted { bytes, length }
+    }
+}
+
+impl fmt::Display for Quoted {
+    fn fmt<W: fmt::Write>(&self, f: &mut fmt::Formatter<W>) -> fmt::Result {
+        let quoted = self.length.min(MOST_QUOTED);
+        let text = self.bytes[..quoted].escape_ascii();
+        let rest = if self.length > MOST_QUOTED { ".." } else { "" };
+        write!(f, "'{text}{rest}'")
+    }
+}
+
+/// Where a line isn't in the grammar.
+#[derive(Clone, Copy, Debug, PartialEq, Eq, Error)]
+pub enum LineFault {
+    /// The line ends where a word is missing.
+    #[error("the line ends, where {0} is expected")]
+    Ends(Expected),
+    /// The first word that isn't what the grammar has in its place.
+    #[error("{0}, where {1} is expected")]
+    Word(Quoted, Expected),
+}
+
+/// Why a text is no script.
+#[derive(Clone, Copy, Debug, PartialEq, Eq, Error)]
+pub enum ScriptFault {
+    /// There was not enough memory.
+    #[error("not enough memory for the script")]
+    NoMemory,
+    /// A line isn't in the grammar where it stands.
+    #[error("line {line}: {fault}")]
+    BadLine {
+        /// The line's number, from 1.
+        line: usize,
+        /// Where in the line.
+        fault: LineFault,
+    },
+}
+
+impl ScriptFault {
+    /// The refusal that it is: `NoMemory` or `BadScript`.
+    pub fn refusal(self) -> Refusal
+        ensures { result ≡ refusal_of self }
+    {
+        match self {
+            ScriptFault::NoMemory => Refusal::NoMemory,
+            ScriptFault::BadLine { .. } => Refusal::BadScript,
+        }
+    }
+}
+
+impl From<ScriptFault> for Refusal {
+    ghost from_gives = { λ fault refusal. refusal ≡ refusal_of fault };
+
+    fn from(fault: ScriptFault) -> Self {
+        fault.refusal()
+    }
+}

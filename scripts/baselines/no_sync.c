@@ -1,0 +1,10 @@
+// Syncs that do nothing, loaded before the C library (LD_PRELOAD): a program's own time, without the disk's.
+int fsync(int file) {
+    (void)file;
+    return 0;
+}
+
+int fdatasync(int file) {
+    (void)file;
+    return 0;
+}
