@@ -73,7 +73,7 @@ fn add_block(out: &mut String, a: u32, block: Option<Block>) -> Result<(), Alloc
 
 /// Adds the lines of all blocks, by their bases.
 fn add_blocks(out: &mut String, memory: &Memory) -> Result<(), AllocError>
-    ensures { OnOk result (string_bytes out.new ≡ string_bytes out.old ++ blocks_text memory.now) }
+    ensures { OnOk result (string_bytes out.new ≡ string_bytes out.old ++ blocks_text memory.now.contents) }
 {
     for a in 0..memory.cells() {
         add_block(out, a, memory.block(a))?;
@@ -92,7 +92,7 @@ fn add_waiter(out: &mut String, waiter: Waiter) -> Result<(), AllocError>
 /// Adds those that wait at a cell, in their order.
 fn add_waiters(out: &mut String, memory: &Memory, a: u32) -> Result<(), AllocError>
     ensures { OnOk result (string_bytes out.new ≡ string_bytes out.old
-        ++ waiters_text (waiters_at memory.now.cells a)) }
+        ++ waiters_text (waiters_at memory.now.contents.cells a)) }
 {
     for waiter in memory.waiters(a) {
         add_waiter(out, waiter)?;
@@ -103,7 +103,7 @@ fn add_waiters(out: &mut String, memory: &Memory, a: u32) -> Result<(), AllocErr
 /// Adds the line of a cell that is waited for.
 fn add_waiting(out: &mut String, memory: &Memory, a: u32) -> Result<(), AllocError>
     ensures { OnOk result (string_bytes out.new ≡ string_bytes out.old
-        ++ cell_line a (Some Cell.Waiting) (waiters_at memory.now.cells a)) }
+        ++ cell_line a (Some Cell.Waiting) (waiters_at memory.now.contents.cells a)) }
 {
     write!(out, "cell {a} waiting")?;
     add_waiters(out, memory, a)?;
@@ -113,7 +113,7 @@ fn add_waiting(out: &mut String, memory: &Memory, a: u32) -> Result<(), AllocErr
 /// Adds the line of a cell, where it isn't empty.
 fn add_cell(out: &mut String, memory: &Memory, a: u32) -> Result<(), AllocError>
     ensures { OnOk result (string_bytes out.new ≡ string_bytes out.old
-        ++ cell_line a (presence_in (held_at memory.now.cells a)) (waiters_at memory.now.cells a)) }
+        ++ cell_line a (presence_in (held_at memory.now.contents.cells a)) (waiters_at memory.now.contents.cells a)) }
 {
     match memory.cell(a) {
         None | Some(Cell::Empty) => Ok(()),
@@ -125,7 +125,7 @@ fn add_cell(out: &mut String, memory: &Memory, a: u32) -> Result<(), AllocError>
 
 /// Adds the lines of all cells that aren't empty, by their addresses.
 fn add_cells(out: &mut String, memory: &Memory) -> Result<(), AllocError>
-    ensures { OnOk result (string_bytes out.new ≡ string_bytes out.old ++ cells_text memory.now) }
+    ensures { OnOk result (string_bytes out.new ≡ string_bytes out.old ++ cells_text memory.now.contents) }
 {
     for a in 0..memory.cells() {
         add_cell(out, memory, a)?;
@@ -160,7 +160,8 @@ fn add_entries(
     base: u64,
     next: u64,
 ) -> Result<(), AllocError>
-    ensures { (w : Window) → slice_get memory.now.windows element ≡ Some w → base ≡ w.base → next ≡ next_number w
+    ensures { (w : Window) → slice_get memory.now.contents.windows element ≡ Some w → base ≡ w.base
+        → next ≡ next_number w
         → OnOk result (string_bytes out.new ≡ string_bytes out.old ++ entries_text element w) }
 {
     for number in base..next {
@@ -186,7 +187,7 @@ fn add_bounds(out: &mut String, element: u16, base: u64, kept: u64) -> Result<()
 /// Adds the lines of an element, where it has asked anything yet.
 fn add_element(out: &mut String, memory: &Memory, element: u16) -> Result<(), AllocError>
     ensures { OnOk result (string_bytes out.new ≡ string_bytes out.old
-        ++ window_text element (slice_get memory.now.windows element)) }
+        ++ window_text element (slice_get memory.now.contents.windows element)) }
 {
     let Ok((base, next)) = memory.window(element) else {
         return Ok(());
@@ -201,7 +202,7 @@ fn add_element(out: &mut String, memory: &Memory, element: u16) -> Result<(), Al
 
 /// Adds the lines of all elements that have asked anything yet.
 fn add_elements(out: &mut String, memory: &Memory) -> Result<(), AllocError>
-    ensures { OnOk result (string_bytes out.new ≡ string_bytes out.old ++ elements_text memory.now) }
+    ensures { OnOk result (string_bytes out.new ≡ string_bytes out.old ++ elements_text memory.now.contents) }
 {
     for element in 0..memory.elements() {
         add_element(out, memory, element)?;
@@ -212,7 +213,7 @@ fn add_elements(out: &mut String, memory: &Memory) -> Result<(), AllocError>
 /// Adds the report of an image.
 pub fn add_report(out: &mut String, report: &Report) -> Result<(), AllocError>
     ensures { OnOk result (string_bytes out.new ≡ string_bytes out.old
-        ++ report_text (seen report.now.header) report.now.run report.now.room report.now.memory) }
+        ++ report_text (seen report.now.header) report.now.run report.now.room report.now.memory.contents) }
 {
     add_version(out, &report.header)?;
     add_limits(out, &report.header)?;

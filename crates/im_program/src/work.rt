@@ -87,7 +87,10 @@ fn read_file<R: Files<File = File> + AllocGlobal>(rt: &R, script: &str) -> Resul
     ensures { IfErr result (λ refusal. (refusal ≡ BadScript) ⊎ (refusal ≡ NoMemory)) }
 {
     match fs::read(rt, script) {
-        Ok(text) => read_script(rt.alloc(), text.as_slice()),
+        Ok(text) => match read_script(rt.alloc(), text.as_slice()) {
+            Ok(script) => Ok(script),
+            Err(fault) => Err(fault.refusal()),
+        },
         Err(error) => Err(if error.kind() == io::ErrorKind::OutOfMemory {
             Refusal::NoMemory
         } else {
@@ -178,7 +181,10 @@ fn usual_image(alloc: Global) -> Result<MemDisk, Refusal> {
 fn demonstrate(alloc: Global, out: &mut String) -> Result<u8, Refusal>
     ensures status { IfOk result (λ status. status ≤ 1) }
 {
-    let script = read_script(alloc, DEMONSTRATION.as_bytes())?;
+    let script = match read_script(alloc, DEMONSTRATION.as_bytes()) {
+        Ok(script) => script,
+        Err(fault) => return Err(fault.refusal()),
+    };
     let disk = usual_image(alloc)?;
     let (status, _) = serial_on(alloc, disk, &script, out);
     Ok(status)

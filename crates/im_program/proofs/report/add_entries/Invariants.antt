@@ -6,5 +6,5 @@ use Rattle.im_program.specs.Report.{entry_line, texts_below}
 use Rattle.im_program.proofs.report.add_entries.Given as goal
 
 abbrev pub invariant-loop-number : goal.invariant-loop-number
-invariant-loop-number l = (w : Window) → slice_get l.memory.windows l.element ≡ Some w → l.base ≡ w.base → l.next ≡ next_number w
+invariant-loop-number l = (w : Window) → slice_get l.memory.contents.windows l.element ≡ Some w → l.base ≡ w.base → l.next ≡ next_number w
     → string_bytes l.out ≡ string_bytes l.fn.out ++ texts_below (λ i. entry_line l.element (w.base + i) (slice_get w.kept i)) (l.number - l.base)

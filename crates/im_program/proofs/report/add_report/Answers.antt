@@ -8,7 +8,7 @@ use Rattle.im_program.proofs.report.add_report.Goals as goal
 pub returns : goal.returns
 returns c =
     let h = seen c.args.report.now.header in
-    let m = c.args.report.now.memory in
+    let m = c.args.report.now.memory.contents in
     on_ok_weaker c.add_elements.result
     (seven_written (string_bytes c.args.out.now)
     (string_bytes c.add_version.new.out) (string_bytes c.add_limits.new.out) (string_bytes c.add_header.new.out) (string_bytes c.add_journal.new.out)

@@ -5,4 +5,4 @@ use Rattle.im_program.proofs.report.add_waiters.Given as goal
 
 abbrev pub invariant-loop-waiter : goal.invariant-loop-waiter
 invariant-loop-waiter l =
-    string_bytes l.out ++ waiters_text l.waiter-iterator ≡ string_bytes l.fn.out ++ waiters_text (waiters_at l.memory.cells l.a)
+    string_bytes l.out ++ waiters_text l.waiter-iterator ≡ string_bytes l.fn.out ++ waiters_text (waiters_at l.memory.contents.cells l.a)
