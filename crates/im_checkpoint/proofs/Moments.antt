@@ -198,9 +198,11 @@ module _ (c : CheckpointState) (x : Paged) (m : Contents) (j : JournalState) (m0
             let but = shut_but c.header m j m0.bytes kept.read in
             let low : 4096 * other c.header + 1 ≤ 8192 = omega (arith, place_to c.header.area) in
             kept_file (record { header = c.header; step = Synced count }) x m j m3 file (ap (λ (y : Moment). y.ranges) is_synced) bytes_are
-            (keeps_at c.header m j m0.bytes kept.read file (shut_still c.header m j m0.bytes kept.read opened))
-            (writing_moved c.header x m0.bytes file (area_stays c.header m j m0.bytes kept.read c.header.area (4096 * other c.header) 1 file but low kept.read.image.in_force.number)
-            (area_stays c.header m j m0.bytes kept.read (other c.header) (4096 * other c.header) 1 file but low (omega arith)) kept.read.shown kept.read.commands count [] known, shut_gate c.header m j m0.bytes kept.read)
+            (keeps_at c.header m j m0.bytes kept.read file (shut_still c.header m j m0.bytes kept.read opened)) (
+              writing_moved c.header x m0.bytes file (area_stays c.header m j m0.bytes kept.read c.header.area (4096 * other c.header) 1 file but low kept.read.image.in_force.number)
+                  (area_stays c.header m j m0.bytes kept.read (other c.header) (4096 * other c.header) 1 file but low (omega arith)) kept.read.shown kept.read.commands count [] known,
+              shut_gate c.header m j m0.bytes kept.read,
+            )
 
   -- the next header
   module _ (count : ℕ) (is : c.step ≡ Synced count) where

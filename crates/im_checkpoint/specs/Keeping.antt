@@ -12,11 +12,12 @@ use Rattle.im_disk.specs.Moment.{Moment, Left}
 use Rattle.im_disk.specs.Since.{SameBut, LeavesOnly}
 use Rattle.im_journal.specs.Holding.{JournalState, Holds}
 use Rattle.im_memory.specs.State.{MemoryState}
+use Rattle.im_memory.specs.Covering.{KeepsOutside, most_pages}
 use Rattle.im_meaning.specs.Images.{other, IsImage}
-use Rattle.im_pages.specs.PageSets.{has}
+use Rattle.im_pages.specs.PageSets.{has, size_of, IsWithin}
 use Rattle.im_image.specs.Encoding.{IsAreaPage, AreCounted, SameOn}
 use Rattle.im_checkpoint.specs.declared.checkpoint.TurnDone.{TurnDone}
-use Rattle.im_checkpoint.specs.Step.{Step, NoCheckpoint, PagesLeft, PagesDone, Synced, CheckpointState, PagedCheckpoint, IsUnderWay, IsSynced, turns_left}
+use Rattle.im_checkpoint.specs.Step.{Step, NoCheckpoint, PagesLeft, PagesDone, Synced, CheckpointState, PagedCheckpoint, IsUnderWay, IsSynced, turns_left, left_in}
 use Rattle.im_checkpoint.specs.Turns.{Turned, Moved}
 
 -- the file means this memory after as many commands as the journal has, with its room at the least
@@ -180,3 +181,19 @@ pub record KeepsMeaning {D T E : Type 0} (now : D → Moment) (past : D → List
   pub leaves : LeavesOnly now past old new (MeansWith m j)
   -- and once it is done, the disk is as the new checkpoint and the new journal say
   pub kept : OnOk result (IsKept c x m k (now new))
+
+-- What is done before a command acts.
+pub record Prepares (old : PagedCheckpoint) (m : MemoryState) (command : Command) (new : PagedCheckpoint) : Type 0 where
+  pub state : new.state ≡ old.state
+  pub older : new.older ≡ old.older
+  pub size : length new.recent ≡ length old.recent
+  -- pages are added to those that changed, as many as the command may change at most, and none is taken out
+  pub kept : IsWithin old.recent new.recent
+  pub few : size_of new.recent ≤ size_of old.recent + most_pages (length old.recent) m.contents command
+  -- whichever records the command leaves, those of any other page are as before
+  pub others : KeepsOutside m command new.recent
+  -- a page that is left and changes now for the first time is copied as it is
+  pub copied : (page : ℕ) → page < area_pages layout_in_use old.state.header.sizes → Contains (left_in old.state.step) page → has old.recent page ≡ false → has new.recent page ≡ true
+      → IsAreaPage old.state.header.sizes m.records page (record_at page_bytes new.copies page)
+  -- and earlier copies stay
+  pub stay : (page : ℕ) → page < area_pages layout_in_use old.state.header.sizes → has old.recent page ≡ true → record_at page_bytes new.copies page ≡ record_at page_bytes old.copies page

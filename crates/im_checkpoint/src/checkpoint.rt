@@ -34,16 +34,16 @@ ghost use Rattle.im_checkpoint.specs.Step.{NoCheckpoint, PagesLeft, CheckpointSt
 ghost use Rattle.im_checkpoint.specs.Step.{IsPagesLeft, IsPagesDone, IsSynced};
 ghost use Rattle.im_checkpoint.specs.Turns.{Turned, Moved, Begins, IsIdle, is_due, most_calls};
 ghost use Rattle.im_image.specs.Reading.{HasSizes};
-ghost use Rattle.im_checkpoint.specs.Keeping.{Paged, paged, Fits, IsKept, IsAtRest, IsReady, ComesTo, KeepsMeaning};
+ghost use Rattle.im_checkpoint.specs.Keeping.{Paged, paged, Fits, IsKept, Prepares, IsAtRest, IsReady, ComesTo, KeepsMeaning};
 
 use crate::header::{close_other, next_header, open_next};
 use im_disk::Disk;
-use im_image::{Header, encode_page};
+use im_image::{Header, encode_into, encode_page};
 use im_journal::Journal;
 use im_memory::Memory;
 use im_pages::PageSet;
 use im_types::layout::{PAGE, area_at, area_pages};
-use im_types::{LAST, Limits, Refusal};
+use im_types::{Command, LAST, Limits, Refusal};
 use std::alloc::Global;
 use std::marker::Model;
 use std::mem::swap;
@@ -163,6 +163,61 @@ fn page_for(
     encode_page(memory, limits, i, page);
 }
 
+// Copies a page as it is, if it is left and hasn't changed since the checkpoint began.
+fn copy_page(
+    memory: &Memory,
+    limits: Limits,
+    left: &PageSet,
+    recent: &PageSet,
+    i: usize,
+    copies: &mut [u8],
+)
+    requires cells { length memory.now.contents.cells ≡ limits.cells }
+    requires elements { length memory.now.contents.windows ≡ limits.elements }
+    requires inside { i < layout.area_pages layout_in_use (sizes_of limits) }
+    requires space { length copies.old ≡ layout.area_bytes layout_in_use (sizes_of limits) }
+    ensures copied { has left.now i ≡ true → has recent.now i ≡ false
+        → IsAreaPage (sizes_of limits) memory.now.records i (record_at page_bytes copies.new i) }
+    ensures stay { (page : ℕ) → page < layout.area_pages layout_in_use (sizes_of limits)
+        → (page ≡ i → has recent.now i ≡ true)
+        → record_at page_bytes copies.new page ≡ record_at page_bytes copies.old page }
+{
+    if !left.has(i) {
+        return;
+    }
+    if recent.has(i) {
+        return;
+    }
+    encode_into(memory, limits, i, copies);
+}
+
+// Copies each page from one on that a command names, is left, and hasn't changed since the checkpoint began.
+fn copy_pages(
+    memory: &Memory,
+    limits: Limits,
+    named: &PageSet,
+    left: &PageSet,
+    recent: &PageSet,
+    from: usize,
+    copies: &mut [u8],
+)
+    requires cells { length memory.now.contents.cells ≡ limits.cells }
+    requires elements { length memory.now.contents.windows ≡ limits.elements }
+    requires size { length named.now ≡ layout.area_pages layout_in_use (sizes_of limits) }
+    requires space { length copies.old ≡ layout.area_bytes layout_in_use (sizes_of limits) }
+    ensures copied { (page : ℕ) → from ≤ page → page < layout.area_pages layout_in_use (sizes_of limits)
+        → has named.now page ≡ true → has left.now page ≡ true → has recent.now page ≡ false
+        → IsAreaPage (sizes_of limits) memory.now.records page (record_at page_bytes copies.new page) }
+    ensures stay { (page : ℕ) → page < layout.area_pages layout_in_use (sizes_of limits) → has recent.now page ≡ true
+        → record_at page_bytes copies.new page ≡ record_at page_bytes copies.old page }
+{
+    let mut at = from;
+    while let Some(page) = named.next_from(at) {
+        copy_page(memory, limits, left, recent, page, copies);
+        at = page + 1;
+    }
+}
+
 // Closes the gates of the oldest slots that are to be swept, three at most.
 fn sweep<D: Disk>(disk: &mut D, journal: &mut Journal) -> Result<TurnDone, Refusal>
     requires some { 0 < to_sweep journal.old }
@@ -229,6 +284,42 @@ impl Checkpoint {
         self.header // As it was put in force.
     }
 
+    // The same as `before`, while pages are left.
+    fn copy_named(&mut self, memory: &Memory, command: &Command)
+        requires step { IsPagesLeft self.old.state.step }
+        requires sizes { HasSizes self.old.state.header.sizes memory.now.contents }
+        ensures { Prepares self.old memory.now command.now self.new }
+    {
+        self.named.clear();
+        memory.touches(command, &mut self.named);
+        let limits = self.header.limits;
+        let from = self.next;
+        let copies = self.copies.as_mut_slice();
+        copy_pages(
+            memory,
+            limits,
+            &self.named,
+            &self.left,
+            &self.recent,
+            from,
+            copies,
+        );
+        self.recent.union_with(&self.named);
+    }
+
+    /// To be called before a command that the memory accepts acts. Each page on which it may change a record counts as
+    /// changed in both areas from now on, and those of them that a checkpoint under way has still to write are copied as
+    /// they are, unless they were before. It takes no memory, and makes no call of the disk.
+    pub fn before(&mut self, memory: &Memory, command: &Command)
+        requires sizes { HasSizes self.old.state.header.sizes memory.now.contents }
+        ensures { Prepares self.old memory.now command.now self.new }
+    {
+        match self.step {
+            Step::PagesLeft => self.copy_named(memory, command),
+            _ => memory.touches(command, &mut self.recent),
+        }
+    }
+
     // Writes the next page into the area that isn't in force.
     fn write_page<D: Disk>(&mut self, disk: &mut D, memory: &Memory) -> Result<TurnDone, Refusal>
         requires step { IsPagesLeft self.old.state.step }
@@ -248,7 +339,14 @@ impl Checkpoint {
         let page = self.next;
         let limits = self.header.limits;
         let mut bytes = [0; PAGE];
-        page_for(&self.recent, self.copies.as_slice(), memory, limits, page, &mut bytes);
+        page_for(
+            &self.recent,
+            self.copies.as_slice(),
+            memory,
+            limits,
+            page,
+            &mut bytes,
+        );
         let at = area_at(limits, 1 - self.header.area as usize) + PAGE * page;
         // Nobody reads the area that isn't in force: what a stop leaves of the page doesn't count.
         if let Err(_) = disk.write_at(at, &bytes) {

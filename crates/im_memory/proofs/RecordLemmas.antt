@@ -1,10 +1,13 @@
 -- One record of a memory, and its bounds.
-use Rattle.std.proofs.Common.{◌≡◌, inl, ⊎_elim, ℕ, zero, suc, ◌≤◌, List, [], ◌∷◌, length, Some, None, refl, sym, ap, ◌∙◌, subst, arith}
-use Rattle.std.specs.Prelude.{Option, slice_get, slice_index_or}
-use Rattle.im_types.specs.declared.TheConstants.{NONE}
+use Rattle.std.proofs.Common.{◌≡◌, inl, ⊎_elim, ℕ, zero, suc, ◌<◌, ◌≤◌, ◌*◌, List, [], ◌∷◌, length, Some, None, refl, sym, ap, ◌∙◌, subst, arith}
+use Rattle.std.specs.Prelude.{Option, slice_get, slice_index_or, replicate}
+use Rattle.im_types.specs.declared.TheConstants.{NONE, WINDOW}
 use Rattle.im_types.specs.declared.operations.Block.{Block}
 use Rattle.im_types.specs.declared.operations.Waiter.{Waiter}
 use Rattle.im_types.specs.declared.records.CellRecord.TheVariants.{Free as FreeCell, Held as BlockCell}
+use Rattle.im_types.specs.declared.records.CellRecord.{CellRecord}
+use Rattle.im_types.specs.Contents.{new_window}
+use Rattle.im_types.specs.Pages.{Records}
 use Rattle.im_types.specs.Records.{IsLink}
 use Rattle.im_laws.proofs.Tests.{below_or_from, some_same}
 use Rattle.im_types.specs.declared.cells.Cell.{Cell}
@@ -13,7 +16,8 @@ use Rattle.im_cell.specs.Slots.{slot_at, block_in, cell_in}
 use Rattle.im_arena.specs.declared.table.Ends.{Ends}
 use Rattle.im_types.specs.declared.records.NodeRecord.{NodeRecord}
 use Rattle.im_arena.specs.Lists.{Shown, Threads, IsThreaded, list_at, ends_at, first_in, last_in, free_record, link_of}
-use Rattle.im_memory.specs.Shown.{tag_of, cell_record, cell_records, AreWithin}
+use Rattle.im_memory.specs.Shown.{tag_of, cell_record, cell_records, records_of, AreWithin}
+use Rattle.im_memory.specs.State.{empty_records}
 use Rattle.im_memory.proofs.ThreadLemmas.{first-within, last-within, read-within}
 use Rattle.im_memory.proofs.ShownLemmas.{IsNode, On, Off, Past, each-node}
 
@@ -88,3 +92,36 @@ ends-read arena a ends e = by_list arena.links.ends a e
     by_list [] a e = absurd (cc)
     by_list (x ∷ all) zero e = some_same ends x e
     by_list (x ∷ all) (suc a) e = by_list all a e
+
+-- ---- a memory with no block and no entry
+
+free-cells : (n : ℕ) (ends : List (Option Ends)) → cell_records (replicate n None) ends ≡ replicate n (FreeCell 0 NONE)
+free-cells zero ends = refl
+free-cells (suc n) [] = ap (λ cells. FreeCell 0 NONE ∷ cells) (free-cells n [])
+free-cells (suc n) (e ∷ ends) = ap (λ cells. FreeCell 0 NONE ∷ cells) (free-cells n ends)
+
+-- a list that has one thing in each place
+all-free : (records : List NodeRecord) (n : ℕ) → length records ≡ n → ((i : ℕ) → i < n → slice_get records i ≡ Some free_record) → records ≡ replicate n free_record
+all-free [] zero size each = refl
+all-free [] (suc n) size each = absurd (omega arith)
+all-free (x ∷ records) zero size each = absurd (omega arith)
+all-free (x ∷ records) (suc n) size each =
+    ap (λ r. r ∷ records) (some_same x free_record (each 0 (omega arith)))
+    ∙ ap (λ rs. free_record ∷ rs) (all-free records n (omega arith) (λ i lt. each (suc i) (omega arith)))
+
+abbrev nobody_at : List Waiter
+nobody_at = []
+
+no-list : (lists a : ℕ) → slice_index_or (replicate lists (nobody_at)) a [] ≡ []
+no-list zero a = refl
+no-list (suc lists) zero = refl
+no-list (suc lists) (suc a) = no-list lists a
+
+pub empty-records : (cells elements : ℕ) (arena : Shown) → IsThreaded arena → arena.held.lists ≡ replicate cells [] → arena.held.nodes ≡ WINDOW * elements
+    → records_of (replicate cells None) arena (replicate elements new_window) ≡ empty_records cells elements
+empty-records cells elements arena threaded lists nodes =
+    let empty : (a : ℕ) → list_at arena.held a ≡ [] = λ a. ap (λ (all : List (List Waiter)). slice_index_or all a []) lists ∙ no-list cells a in
+    let free = all-free arena.links.records (WINDOW * elements) (threaded.node_count ∙ nodes)
+    (λ n lt. threaded.unreached n (omega arith) (λ a i listed below at. let none = ap length (empty a) in omega arith)) in
+    ap (λ (shown : List CellRecord). let r : Records = record { cells = shown; nodes = arena.links.records; windows = replicate elements new_window } in r) (free-cells cells arena.links.ends)
+    ∙ ap (λ (shown : List NodeRecord). let r : Records = record { cells = replicate cells (FreeCell 0 NONE); nodes = shown; windows = replicate elements new_window } in r) free

@@ -1,9 +1,11 @@
 -- A memory as contracts see it. (Own.)
-use Rattle.std.specs.Prelude.{ℕ, List, [], Option}
-use Rattle.im_types.specs.Contents.{Window, Contents}
+use Rattle.std.specs.Prelude.{ℕ, ◌*◌, List, [], Option, replicate}
+use Rattle.im_types.specs.declared.TheConstants.{NONE, WINDOW}
+use Rattle.im_types.specs.declared.records.CellRecord.TheVariants.{Free as FreeCell}
+use Rattle.im_types.specs.Contents.{Window, Contents, new_window}
 use Rattle.im_types.specs.Pages.{Records}
 use Rattle.im_cell.specs.declared.slots.Slot.{Slot}
-use Rattle.im_arena.specs.Lists.{Shown}
+use Rattle.im_arena.specs.Lists.{Shown, free_record}
 use Rattle.im_memory.specs.MakesMemory.{contents_of}
 use Rattle.im_memory.specs.Shown.{records_of}
 
@@ -20,6 +22,14 @@ state_of slots arena windows = record {
   contents = contents_of slots arena windows;
   records = records_of slots arena windows;
   spare = arena.links.spare;
+}
+
+-- the records of a memory with no block and no entry
+abbrev pub empty_records : ℕ → ℕ → Records
+empty_records cells elements = record {
+  cells = replicate cells (FreeCell 0 NONE);
+  nodes = replicate (WINDOW * elements) free_record;
+  windows = replicate elements new_window;
 }
 
 -- the records of cells and nodes that a table and an arena make

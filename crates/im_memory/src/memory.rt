@@ -15,11 +15,11 @@ ghost use Rattle.im_types.specs.Pages.{ShowsRecords};
 ghost use Rattle.im_types.specs.Presences.{presence_in};
 ghost use Rattle.im_memory.specs.MakesMemory.{contents_of, MakesMemory};
 ghost use Rattle.im_memory.specs.Shown.{records_of};
-ghost use Rattle.im_memory.specs.State.{state_of};
+ghost use Rattle.im_memory.specs.State.{state_of, empty_records};
 ghost use Rattle.im_memory.specs.Touched.{touched, ChangesOnly};
 
 use crate::acts::{act, resume};
-use crate::records::MemoryRecords;
+use crate::records::{MemoryRecords, are_threaded};
 use crate::windows::judge_confirm;
 use im_arena::{Arena, Waiters};
 use im_cell::CellTable;
@@ -89,6 +89,7 @@ impl Memory {
     pub fn new(alloc: Global, limits: Limits) -> Result<Self, Refusal>
         ensures empty { IfOk result (λ m. m.contents ≡ empty_contents limits.cells limits.elements) }
         ensures memory { IfOk result (λ m. IsMemory limits.cells limits.elements m.contents) }
+        ensures records { IfOk result (λ m. m.records ≡ empty_records limits.cells limits.elements) }
         ensures refused { IfErr result (λ refusal. refusal ≡ Refusal.NoMemory) }
     {
         let nodes = WINDOW as u32 * limits.elements as u32;
@@ -98,6 +99,7 @@ impl Memory {
         let Ok(arena) = Arena::new(alloc, nodes, limits.cells) else {
             return Err(Refusal::NoMemory);
         };
+        are_threaded(&arena);
         let Ok(sessions) = Sessions::new(alloc, limits.elements) else {
             return Err(Refusal::NoMemory);
         };

@@ -4,6 +4,7 @@ use Rattle.im_types.specs.Header.{header_of}
 use Rattle.im_types.specs.Meaning.{Reads}
 use Rattle.im_disk.specs.Since.{LeavesNow}
 use Rattle.im_checkpoint.specs.Step.{CheckpointState}
+use Rattle.im_checkpoint.specs.Keeping.{paged, IsKept}
 use Rattle.im_engine.specs.State.{EngineState, IsFound}
 use Rattle.im_engine.proofs.engine.Engine.open.Goals as goal
 
@@ -12,4 +13,11 @@ returns-in-Ok-idle-clause-found g c =
     let i = c.in-Ok.image in
     subst (λ (s : EngineState g.row.D.Denot). g.D.Disk.honest s.disk → LeavesNow (g.D.Disk.now s.disk) (IsFound s)) (sym c.started.ensures.state)
     (λ h. subst (λ (x : CheckpointState). LeavesNow (g.D.Disk.now c.read_synced.new.disk) (λ file. (x.header ≡ header_of file) × Reads layout_in_use file (Ok (record { contents = i.memory.contents; count = i.journal.count; room = i.journal.room }))))
-    (sym c.in-Ok-idle.ensures.state) (c.in-Ok.ensures.found h))
+    (sym c.in-Ok-idle.ensures.idle.state) (c.in-Ok.ensures.found h))
+
+pub started-requires-clause-kept : goal.started-requires-clause-kept
+started-requires-clause-kept g c = λ h.
+    let i = c.in-Ok.image in
+    let idle = c.in-Ok-idle.ensures.idle in
+    subst (λ (s : CheckpointState). IsKept s (paged c.in-Ok-idle.checkpoint i.memory) i.memory.contents i.journal (g.D.Disk.now c.read_synced.new.disk)) (sym idle.state)
+    (c.in-Ok.ensures.kept h (paged c.in-Ok-idle.checkpoint i.memory) idle.recent)

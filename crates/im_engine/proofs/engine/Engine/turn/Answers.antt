@@ -7,6 +7,9 @@ use Rattle.im_engine.specs.State.{EngineState, MeansState}
 use Rattle.im_engine.proofs.Keeping.{all_mean}
 use Rattle.im_engine.proofs.engine.Engine.turn.Goals as goal
 
+pub turn-requires-clause-kept : goal.turn-requires-clause-kept
+turn-requires-clause-kept g c = λ h. c.self.invariant.1 h c.if-self.false
+
 pub invariant_of-self : goal.invariant_of-self
 invariant_of-self g c = (
   c.in-Ok.ensures.turned.fits,
