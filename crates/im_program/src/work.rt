@@ -87,7 +87,10 @@ fn read_file<R: Files<File = File> + AllocGlobal>(rt: &R, script: &str) -> Resul
     ensures { IfErr result (λ refusal. (refusal ≡ BadScript) ⊎ (refusal ≡ NoMemory)) }
 {
     match fs::read(rt, script) {
-        Ok(text) => read_script(rt.alloc(), text.as_slice()),
+        Ok(text) => match read_script(rt.alloc(), text.as_slice()) {
+            Ok(script) => Ok(script),
+            Err(fault) => Err(fault.refusal()),
+        },
         Err(error) => Err(if error.kind() == io::ErrorKind::OutOfMemory {
             Refusal::NoMemory
         } else {
