@@ -77,7 +77,7 @@ pub struct Quoted {
 
 impl Quoted {
     /// The beginning of a word.
-    pub fn of(word: &[u8]) -> Quoted {
+    pub(crate) fn of(word: &[u8]) -> Quoted {
         let mut bytes = [0; MOST_QUOTED];
         let length = word.len();
         let quoted = length.min(MOST_QUOTED);

@@ -159,9 +159,9 @@ impl Scripts {
                 self.read = Some(script);
                 write!(said, "{blocks} blocks, {parts} parts, {requests} requests")?;
             }
-            Err(refusal) => {
+            Err(fault) => {
                 self.read = None;
-                add_refusal(said, refusal)?;
+                add_refusal(said, fault.refusal())?;
             }
         }
         Ok(())
