@@ -5,7 +5,8 @@ use Rattle.im_types.specs.declared.TheConstants.{LAST}
 use Rattle.im_types.specs.declared.commands.Command.{Command}
 use Rattle.im_types.specs.Contents.{Contents}
 use Rattle.im_types.specs.Step.{step, is_accepted}
-use Rattle.im_types.specs.Layout.{layout_in_use, page_bytes, area_at, area_bytes, journal_at, ring_of, record_at}
+use Rattle.im_types.specs.Layout.{layout_in_use, area_at, area_bytes, area_of, journal_at, ring_of}
+use Rattle.im_types.specs.Pages.{Records}
 use Rattle.im_types.specs.Header.{Header, header_place, is_open_header}
 use Rattle.im_types.specs.Journal.{Ring, Tail, tail, slot_at}
 use Rattle.im_types.specs.Meaning.{accept_each}
@@ -14,11 +15,12 @@ use Rattle.im_disk.specs.Since.{SameBut, LeavesNow}
 use Rattle.im_journal.specs.Holding.{JournalState, Holds, AllHold, room_after, longer, longer_tail, Appended, MayAppend}
 use Rattle.im_meaning.specs.Images.{other, IsImage}
 use Rattle.im_meaning.proofs.Writes.{write_in_journal}
-use Rattle.im_checkpoint.specs.Step.{Taken, Step, NoCheckpoint, PagesLeft, PagesDone, Synced, CheckpointState}
-use Rattle.im_checkpoint.specs.Keeping.{MeansWith, IsTaken, other_area, AreWritten, KeepsStep, Keeps, IsKept}
+use Rattle.im_checkpoint.specs.Step.{CheckpointState, left_in}
+use Rattle.im_checkpoint.specs.Keeping.{Paged, MeansWith, IsTaken, KeepsStep, Keeps, IsKept}
 use Rattle.im_checkpoint.proofs.Bytes.{range_outside}
-use Rattle.im_checkpoint.proofs.Headers.{area_to, place_to}
-use Rattle.im_checkpoint.proofs.Files.{Still, still_in_area, means_of, enough, area_fits, size}
+use Rattle.im_checkpoint.proofs.Headers.{area_before, place_to}
+use Rattle.im_checkpoint.proofs.Files.{Still, still_in_area, means_of, enough, size}
+use Rattle.im_checkpoint.proofs.Copies.{IsPrepared, step_moved, step_named, taken_longer}
 use Rattle.im_checkpoint.proofs.Moments.{kept_calm, means_left}
 
 -- one command more
@@ -45,43 +47,30 @@ room_grows count room there le = by_test (count + 1 == LAST)
 
 -- what was taken was taken of a beginning of the commands
 
-taken_still : (h : Header) (shown : Contents) (commands : List Command) (command : Command) (taken : Taken) → IsTaken h shown commands taken → IsTaken h shown (commands ++ command ∷ []) taken
-taken_still h shown commands command taken it =
+taken_still : (h : Header) (shown : Contents) (commands : List Command) (command : Command) (count : ℕ) (taken : Records) → IsTaken h shown commands count taken → IsTaken h shown (commands ++ command ∷ []) count taken
+taken_still h shown commands command count taken it =
     let few : it.many ≤ length commands = it.few in
     record {
       many = it.many;
       few = omega (arith, length-append commands (command ∷ []));
-      count = it.count;
+      count_is = it.count_is;
       memory = it.memory;
       accepts = ap (λ (l : List Command). accept_each shown l) (take-append-le it.many commands (command ∷ []) it.few) ∙ it.accepts;
-      size = it.size;
+      counted = it.counted;
       shows = it.shows;
       to_last = it.to_last;
       later = it.later;
     }
 
-written_still : (h : Header) (taken : Taken) (left : List ℕ) (c d : List ℕ) → other_area h d ≡ other_area h c → AreWritten h taken left c → AreWritten h taken left d
-written_still h taken left c d same it page few = ⊎_elim
-    (λ to_come. inl to_come)
-    (λ there. inr (ap (λ (area : List ℕ). record_at page_bytes area page) same ∙ there))
-    (it page few)
-
-step_still : (h : Header) (shown : Contents) (commands : List Command) (command : Command) (s : Step) (c d : List ℕ) → other_area h d ≡ other_area h c → header_place (other h) d ≡ header_place (other h) c
-    → KeepsStep h shown commands s c → KeepsStep h shown (commands ++ command ∷ []) s d
-step_still h shown commands command NoCheckpoint c d area place it = tt
-step_still h shown commands command (PagesLeft taken left) c d area place it = (taken_still h shown commands command taken it.0, written_still h taken left c d area it.1)
-step_still h shown commands command (PagesDone taken) c d area place it = (taken_still h shown commands command taken it.0, area ∙ it.1)
-step_still h shown commands command (Synced taken) c d area place it = (taken_still h shown commands command taken it.0, area ∙ it.1, ap is_open_header place ∙ it.2)
-
-module _ (c : CheckpointState) (m : Contents) (j : JournalState) (now : Moment) (kept : IsKept c m j now) where
-  abbrev read : Keeps c m j now.bytes
+module _ (c : CheckpointState) (x : Paged) (m : Contents) (j : JournalState) (now : Moment) (kept : IsKept c x m j now) where
+  abbrev read : Keeps c.header m j now.bytes
   read = kept.read
 
-  still : (file : List ℕ) → Left now file → Still c m j now.bytes kept.read file
-  still file left = still_in_area c m j now.bytes kept.read (area_at layout_in_use c.header.sizes (other c.header)) (area_bytes layout_in_use c.header.sizes) file (kept.elsewhere file left) (omega arith) (omega arith)
+  still : (file : List ℕ) → Left now file → Still c.header m j now.bytes kept.read file
+  still file left = still_in_area c.header m j now.bytes kept.read (area_at layout_in_use c.header.sizes (other c.header)) (area_bytes layout_in_use c.header.sizes) file (kept.elsewhere file left) (omega arith) (omega arith)
 
   pub all_mean : LeavesNow now (MeansWith m j)
-  all_mean file left = means_left c m j now kept file left
+  all_mean file left = means_left c x m j now kept file left
 
   pub all_hold : AllHold j now
   all_hold file left = (still file left).journal
@@ -100,46 +89,57 @@ module _ (c : CheckpointState) (m : Contents) (j : JournalState) (now : Moment) 
     put : (later : List Command) (there : ℕ) → tail j.ring j.first file ≡ Some (record { commands = later; room = there }) → IsImage layout_in_use c.header kept.read.shown later there file
     put later there e = write_in_journal layout_in_use c.header kept.read.shown kept.read.commands kept.read.there from file (slot_at j.ring j.count) 64 (still from left).image same behind_areas later there (sym (tail_is file) ∙ e)
 
-    image_longer : tail j.ring j.first file ≡ option_map (longer_tail j.count command) (tail j.ring j.first from)
+    pub image_longer : tail j.ring j.first file ≡ option_map (longer_tail j.count command) (tail j.ring j.first from)
         → IsImage layout_in_use c.header kept.read.shown (kept.read.commands ++ command ∷ []) (room_after j.count kept.read.there) file
     image_longer e = put (kept.read.commands ++ command ∷ []) (room_after j.count kept.read.there) (e ∙ ap (λ (t : Option Tail). option_map (longer_tail j.count command) t) there_is)
 
-    more_accepted : accept_each kept.read.shown (kept.read.commands ++ command ∷ []) ≡ Some (step m command).contents
+    pub more_accepted : accept_each kept.read.shown (kept.read.commands ++ command ∷ []) ≡ Some (step m command).contents
     more_accepted = accept_more kept.read.shown m kept.read.commands command kept.read.accepts accepted
 
-    more_counted : j.count + 1 ≡ c.header.count + length (kept.read.commands ++ command ∷ [])
+    pub more_counted : j.count + 1 ≡ c.header.count + length (kept.read.commands ++ command ∷ [])
     more_counted = omega (arith, kept.read.count, length-append kept.read.commands (command ∷ []))
 
     pub means_same : tail j.ring j.first file ≡ tail j.ring j.first from → MeansWith m j file
-    means_same e = means_of c.header m j kept.read.shown kept.read.commands kept.read.there file (put kept.read.commands kept.read.there (e ∙ there_is)) kept.read.accepts kept.read.count (enough c m j now.bytes kept.read)
+    means_same e = means_of c.header m j kept.read.shown kept.read.commands kept.read.there file (put kept.read.commands kept.read.there (e ∙ there_is)) kept.read.accepts kept.read.count (enough c.header m j now.bytes kept.read)
 
     pub means_longer : tail j.ring j.first file ≡ option_map (longer_tail j.count command) (tail j.ring j.first from) → MeansWith (step m command).contents (longer j) file
     means_longer e = means_of c.header (step m command).contents (longer j) kept.read.shown (kept.read.commands ++ command ∷ []) (room_after j.count kept.read.there) file (image_longer e) more_accepted more_counted
-        (room_grows j.count j.room kept.read.there (enough c m j now.bytes kept.read))
+        (room_grows j.count j.room kept.read.there (enough c.header m j now.bytes kept.read))
 
     -- and it keeps the memory with the command, where nothing of it was in doubt
-    pub keeps_longer : tail j.ring j.first file ≡ option_map (longer_tail j.count command) (tail j.ring j.first from) → SameBut (slot_at j.ring j.count) 64 now.bytes file → Holds (longer j) file
-        → Keeps c (step m command).contents (longer j) file
-    keeps_longer e but holds =
-        let start : ℕ = area_at layout_in_use c.header.sizes (other c.header) in
-        let end : start + area_bytes layout_in_use c.header.sizes ≤ slot_at j.ring j.count = omega (arith, behind_areas, area_to (area_bytes layout_in_use c.header.sizes) c.header.area) in
-        let whole : 8192 ≤ length now.bytes = omega (arith, size c m j now.bytes kept.read) in
-        let area : other_area c.header file ≡ other_area c.header now.bytes =
-        range_outside (slot_at j.ring j.count) 64 start (start + area_bytes layout_in_use c.header.sizes) now.bytes file but (omega arith) (area_fits c m j now.bytes kept.read) (inl end) in
-        let place : header_place (other c.header) file ≡ header_place (other c.header) now.bytes =
-        range_outside (slot_at j.ring j.count) 64 (4096 * other c.header) (4096 * other c.header + 64) now.bytes file but (omega arith) (omega (arith, whole, place_to c.header.area)) (inl (omega (arith, behind_areas, place_to c.header.area))) in
-        record {
-          shown = kept.read.shown;
-          commands = kept.read.commands ++ command ∷ [];
-          there = room_after j.count kept.read.there;
-          image = image_longer e;
-          accepts = more_accepted;
-          count = more_counted;
-          ring = kept.read.ring;
-          first = kept.read.first;
-          journal = holds;
-          step = step_still c.header kept.read.shown kept.read.commands command c.step now.bytes file area place kept.read.step;
-        }
+    abbrev pub keeps_longer : tail j.ring j.first file ≡ option_map (longer_tail j.count command) (tail j.ring j.first from) → Holds (longer j) file
+        → Keeps c.header (step m command).contents (longer j) file
+    keeps_longer e holds = record {
+      shown = kept.read.shown;
+      commands = kept.read.commands ++ command ∷ [];
+      there = room_after j.count kept.read.there;
+      image = image_longer e;
+      accepts = more_accepted;
+      count = more_counted;
+      ring = kept.read.ring;
+      first = kept.read.first;
+      journal = holds;
+    }
+
+  -- the pages that the command names were prepared
+  module _ (command : Command) (y : Paged) (prepared : IsPrepared c.header.sizes (left_in c.step) x y) (file : List ℕ) (but : SameBut (slot_at j.ring j.count) 64 now.bytes file) where
+    area_still : (k : ℕ) → k ≤ 1 → area_of layout_in_use c.header.sizes k file ≡ area_of layout_in_use c.header.sizes k now.bytes
+    area_still k low =
+        let start : ℕ = area_at layout_in_use c.header.sizes k in
+        let end : start + area_bytes layout_in_use c.header.sizes ≤ slot_at j.ring j.count = omega (arith, behind_areas, area_before (area_bytes layout_in_use c.header.sizes) k low) in
+        range_outside (slot_at j.ring j.count) 64 start (start + area_bytes layout_in_use c.header.sizes) now.bytes file but (omega arith)
+        (omega (arith, size c.header m j now.bytes kept.read, area_before (area_bytes layout_in_use c.header.sizes) k low)) (inl end)
+
+    place_still : header_place (other c.header) file ≡ header_place (other c.header) now.bytes
+    place_still =
+        let whole : 8192 ≤ length now.bytes = omega (arith, size c.header m j now.bytes kept.read) in
+        range_outside (slot_at j.ring j.count) 64 (4096 * other c.header) (4096 * other c.header + 64) now.bytes file but (omega arith) (omega (arith, whole, place_to c.header.area)) (inl (omega (arith, behind_areas, place_to c.header.area)))
+
+    step_longer : KeepsStep c.header kept.read.shown (kept.read.commands ++ command ∷ []) y c.step file
+    step_longer =
+        step_named c.header x y file kept.read.shown (kept.read.commands ++ command ∷ []) c.step prepared
+        (step_moved c.header x now.bytes file (area_still c.header.area kept.read.image.in_force.number) (area_still (other c.header) (omega arith)) kept.read.shown (kept.read.commands ++ command ∷ []) c.step place_still
+        (taken_longer c.header kept.read.shown kept.read.commands (kept.read.commands ++ command ∷ []) x c.step now.bytes (taken_still c.header kept.read.shown kept.read.commands command) kept.step))
 
   module _ (command : Command) (accepted : is_accepted m command ≡ true) where
     pub may_append_means : (file : List ℕ) → MayAppend j command now file → MeansWith m j file ⊎ MeansWith (step m command).contents (longer j) file
@@ -149,6 +149,6 @@ module _ (c : CheckpointState) (m : Contents) (j : JournalState) (now : Moment) 
         may.reads
 
     -- once it is appended, the disk keeps it
-    pub kept_longer : (new : Moment) → SameBut (slot_at j.ring j.count) 64 now.bytes new.bytes → new.ranges ≡ [] → Appended j command now new.bytes → Holds (longer j) new.bytes
-        → IsKept c (step m command).contents (longer j) new
-    kept_longer new but calm added holds = kept_calm c (step m command).contents (longer j) new calm (keeps_longer command accepted added.from new.bytes added.left added.same added.reads but holds)
+    pub kept_longer : (y : Paged) → IsPrepared c.header.sizes (left_in c.step) x y → (new : Moment) → SameBut (slot_at j.ring j.count) 64 now.bytes new.bytes → new.ranges ≡ [] → Appended j command now new.bytes → Holds (longer j) new.bytes
+        → IsKept c y (step m command).contents (longer j) new
+    kept_longer y prepared new but calm added holds = kept_calm c y (step m command).contents (longer j) new calm (keeps_longer command accepted added.from new.bytes added.left added.same added.reads holds) (step_longer command y prepared new.bytes but)

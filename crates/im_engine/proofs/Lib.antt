@@ -6,3 +6,4 @@ pub mod Running
 pub mod Opening
 pub mod FilesMean
 mod Counterexamples
+pub mod Repeats

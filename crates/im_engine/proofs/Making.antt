@@ -1,12 +1,12 @@
 -- A new image means the empty memory.
-use Rattle.std.proofs.Common.{◌≡◌, ℕ, ◌+◌, ◌*◌, ◌-◌, ◌≤◌, List, [], ◌∷◌, ◌++◌, length, drop, Option, None, Some, refl, sym, ◌∙◌, ap, subst, arith, length-append}
+use Rattle.std.proofs.Common.{◌≡◌, ℕ, ◌+◌, ◌*◌, ◌-◌, ◌<◌, ◌≤◌, Bool, true, false, List, [], ◌∷◌, ◌++◌, length, drop, Option, None, Some, refl, sym, ◌∙◌, ap, subst, arith, length-append}
 use Rattle.std.proofs.lemmas.List.{append-nil, drop_all, nil_from_length, get_or-append_right, get_or-replicate, length-replicate}
 use Rattle.im_types.specs.declared.commands.Command.{Command}
 use Rattle.im_types.specs.declared.sizes.Limits.{Limits}
 use Rattle.im_types.specs.Bytes.{zeros}
 use Rattle.im_types.specs.Sizes.{AreLimits}
 use Rattle.im_types.specs.Contents.{Contents, empty_contents}
-use Rattle.im_types.specs.Layout.{Sizes, layout_in_use, area_bytes, area_of, image_length, ring_of}
+use Rattle.im_types.specs.Layout.{Sizes, layout_in_use, area_bytes, area_pages, area_of, image_length, ring_of}
 use Rattle.im_types.specs.Header.{Header, header_body, header_fault}
 use Rattle.im_types.specs.Journal.{Tail, tail}
 use Rattle.im_types.specs.Meaning.{IsShown}
@@ -22,8 +22,12 @@ use Rattle.im_journal.specs.Holding.{JournalState, ring_under, Holds, AreClosed}
 use Rattle.im_journal.proofs.Laws.{closed_zeros}
 use Rattle.im_laws.proofs.MemoryLemmas.{empty-memory}
 use Rattle.im_engine.specs.State.{journal_of}
-use Rattle.im_checkpoint.specs.Step.{NoCheckpoint, CheckpointState}
-use Rattle.im_checkpoint.specs.Keeping.{Fits, Keeps, IsKept}
+use Rattle.im_memory.specs.State.{MemoryState}
+use Rattle.im_pages.specs.PageSets.{has}
+use Rattle.im_checkpoint.specs.Step.{NoCheckpoint, CheckpointState, PagedCheckpoint}
+use Rattle.im_checkpoint.specs.Turns.{IsIdle}
+use Rattle.im_checkpoint.specs.Keeping.{paged, Fits, Keeps, IsKept}
+use Rattle.im_engine.proofs.Opening.{all_changed}
 use Rattle.im_checkpoint.proofs.Moments.{kept_calm}
 
 -- the bytes once the gate of a whole image was opened
@@ -54,7 +58,7 @@ no_commands t commands room is none = is ∙ ap (λ (l : List Command). Some (le
 -- so it keeps the empty memory, where its journal is the fresh one
 new_image_keeps : (s : Sizes) → AreLimits s.cells s.elements s.slots
     → ((file : List ℕ) → (ring_of layout_in_use s).base + 64 * (ring_of layout_in_use s).slots ≤ length file → AreClosed (ring_of layout_in_use s) file → Holds (journal_of (new_header s) 0 s.slots) file)
-    → Keeps (record { header = new_header s; step = NoCheckpoint }) (empty_contents s.cells s.elements) (journal_of (new_header s) 0 s.slots) (new_image 0xA5 s)
+    → Keeps (new_header s) (empty_contents s.cells s.elements) (journal_of (new_header s) 0 s.slots) (new_image 0xA5 s)
 new_image_keeps s limits holds =
     let file : List ℕ = new_image 0xA5 s in
     let m : Contents = empty_contents s.cells s.elements in
@@ -76,34 +80,37 @@ new_image_keeps s limits holds =
       ring = refl;
       first = refl;
       journal = held;
-      step = tt;
     }
 
 -- the length, whatever its gate is
 pub length_new_image : (s : Sizes) → length (new_image 0 s) ≡ image_length layout_in_use s
 length_new_image s = length-image s
 
-module _ (l : Limits) (range : AreLimits l.cells l.elements l.slots) (c : CheckpointState) (c_is : c ≡ record { header = new_header (sizes_of l); step = NoCheckpoint })
-    (m : Contents) (m_is : m ≡ empty_contents l.cells l.elements) (j : JournalState) (j_is : j ≡ record { ring = ring_under l; first = 0; count = 0; room = l.slots }) where
+module _ (l : Limits) (range : AreLimits l.cells l.elements l.slots) (c : PagedCheckpoint) (idle : IsIdle (new_header (sizes_of l)) false c)
+    (n : MemoryState) (m_is : n.contents ≡ empty_contents l.cells l.elements) (j : JournalState) (j_is : j ≡ record { ring = ring_under l; first = 0; count = 0; room = l.slots }) where
   -- a new checkpoint, an empty memory and a fresh journal are of the same sizes
-  pub fresh_fits : Fits c m j
+  pub fresh_fits : Fits c.state n.contents j
   unfolding empty_contents
   fresh_fits =
-      subst (λ (x : CheckpointState). Fits x m j) (sym c_is)
+      subst (λ (x : CheckpointState). Fits x n.contents j) (sym idle.state)
       (subst (λ (x : Contents). Fits (record { header = new_header (sizes_of l); step = NoCheckpoint }) x j) (sym m_is)
       (subst (λ (x : JournalState). Fits (record { header = new_header (sizes_of l); step = NoCheckpoint }) (empty_contents l.cells l.elements) x) (sym j_is)
       (record { cells = length-replicate _ _; elements = length-replicate _ _; ring = refl; first = refl; step = tt })))
 
+  all : (page : ℕ) → page < area_pages layout_in_use (sizes_of l) → has c.recent page ≡ true
+  all page lt = ap (λ (set : List Bool). has set page) idle.recent ∙ get_or-replicate (area_pages layout_in_use (sizes_of l)) page true true lt
+
   -- a disk with a new image keeps them
   pub fresh_kept : ((file : List ℕ) → j.ring.base + 64 * j.ring.slots ≤ length file → AreClosed j.ring file → Holds j file)
-      → (now : Moment) → now.bytes ≡ new_image 0xA5 (sizes_of l) → now.ranges ≡ [] → IsKept c m j now
+      → (now : Moment) → now.bytes ≡ new_image 0xA5 (sizes_of l) → now.ranges ≡ [] → IsKept c.state (paged c n) n.contents j now
   fresh_kept holds now bytes calm =
       let fresh : (file : List ℕ) → (ring_of layout_in_use (sizes_of l)).base + 64 * (ring_of layout_in_use (sizes_of l)).slots ≤ length file → AreClosed (ring_of layout_in_use (sizes_of l)) file → Holds (journal_of (new_header (sizes_of l)) 0 l.slots) file =
       subst (λ (x : JournalState). (file : List ℕ) → x.ring.base + 64 * x.ring.slots ≤ length file → AreClosed x.ring file → Holds x file) j_is holds in
-      let keeps : Keeps (record { header = new_header (sizes_of l); step = NoCheckpoint }) (empty_contents l.cells l.elements) (journal_of (new_header (sizes_of l)) 0 l.slots) (new_image 0xA5 (sizes_of l)) =
+      let keeps : Keeps (new_header (sizes_of l)) (empty_contents l.cells l.elements) (journal_of (new_header (sizes_of l)) 0 l.slots) (new_image 0xA5 (sizes_of l)) =
       new_image_keeps (sizes_of l) range fresh in
-      kept_calm c m j now calm
-      (subst (λ (x : CheckpointState). Keeps x m j now.bytes) (sym c_is)
-      (subst (λ (x : Contents). Keeps (record { header = new_header (sizes_of l); step = NoCheckpoint }) x j now.bytes) (sym m_is)
-      (subst (λ (x : JournalState). Keeps (record { header = new_header (sizes_of l); step = NoCheckpoint }) (empty_contents l.cells l.elements) x now.bytes) (sym j_is)
-      (subst (λ (x : List ℕ). Keeps (record { header = new_header (sizes_of l); step = NoCheckpoint }) (empty_contents l.cells l.elements) (journal_of (new_header (sizes_of l)) 0 l.slots) x) (sym bytes) keeps))))
+      subst (λ (x : CheckpointState). IsKept x (paged c n) n.contents j now) (sym idle.state)
+      (kept_calm (record { header = new_header (sizes_of l); step = NoCheckpoint }) (paged c n) n.contents j now calm
+      (subst (λ (x : Contents). Keeps (new_header (sizes_of l)) x j now.bytes) (sym m_is)
+      (subst (λ (x : JournalState). Keeps (new_header (sizes_of l)) (empty_contents l.cells l.elements) x now.bytes) (sym j_is)
+      (subst (λ (x : List ℕ). Keeps (new_header (sizes_of l)) (empty_contents l.cells l.elements) (journal_of (new_header (sizes_of l)) 0 l.slots) x) (sym bytes) keeps)))
+      (all_changed (new_header (sizes_of l)) (paged c n) now.bytes all))

@@ -1,7 +1,8 @@
 -- What is read of an image.
-use Rattle.std.proofs.Common.{ℕ, ◌+◌, List, length, Ok, ◌≡◌, sym, ◌∙◌, ap, subst}
+use Rattle.std.proofs.Common.{ℕ, ◌+◌, ◌<◌, List, Bool, true, false, true≢false, length, Ok, ◌≡◌, sym, ◌∙◌, ap, subst}
+use Rattle.std.proofs.lemmas.List.{get_or-replicate}
 use Rattle.im_types.specs.Contents.{Contents}
-use Rattle.im_types.specs.Layout.{layout_in_use}
+use Rattle.im_types.specs.Layout.{layout_in_use, area_pages}
 use Rattle.im_types.specs.Header.{Header, header_of}
 use Rattle.im_types.specs.Meaning.{Reached, Reads}
 use Rattle.im_disk.specs.Moment.{Moment, Left, Shaken, MayTick, synced}
@@ -12,8 +13,12 @@ use Rattle.im_image.specs.Reading.{JournalOf}
 use Rattle.im_meaning.specs.Images.{IsImage, IsRead}
 use Rattle.im_meaning.proofs.Headers.{in_force_is}
 use Rattle.im_meaning.proofs.Meanings.{read_image}
-use Rattle.im_checkpoint.specs.Step.{NoCheckpoint}
-use Rattle.im_checkpoint.specs.Keeping.{Keeps, IsKept}
+use Rattle.im_laws.proofs.Tests.{or_right}
+use Rattle.im_memory.specs.State.{MemoryState}
+use Rattle.im_pages.specs.PageSets.{has}
+use Rattle.im_checkpoint.specs.Step.{NoCheckpoint, CheckpointState, PagedCheckpoint}
+use Rattle.im_checkpoint.specs.Turns.{IsIdle}
+use Rattle.im_checkpoint.specs.Keeping.{Paged, paged, Keeps, IsResting, IsKept}
 use Rattle.im_checkpoint.proofs.Moments.{kept_calm}
 
 -- after a sync, and calls that only read, what the bytes have is what every file left has
@@ -31,7 +36,7 @@ opens_leaves m0 m1 m2 p0 p1 p2 tick reads =
 
 -- with no checkpoint under way, what is read of a file is kept in it
 pub keeps_read : (h : Header) (m : Contents) (j : JournalState) (file : List ℕ) → h ≡ header_of file → JournalOf h j → Holds j file
-    → Reads layout_in_use file (Ok (record { contents = m; count = j.count; room = j.room })) → Keeps (record { header = h; step = NoCheckpoint }) m j file
+    → Reads layout_in_use file (Ok (record { contents = m; count = j.count; room = j.room })) → Keeps h m j file
 keeps_read h m j file is journal holds reads =
     let r : Reached = record { contents = m; count = j.count; room = j.room } in
     let read : IsRead layout_in_use file r = read_image layout_in_use file r reads in
@@ -46,12 +51,21 @@ keeps_read h m j file is journal holds reads =
       ring = journal.ring;
       first = journal.first;
       journal = holds;
-      step = tt;
     }
 
+-- where all pages count as changed, nothing is known of any
+pub all_changed : (h : Header) (x : Paged) (file : List ℕ) → ((page : ℕ) → page < area_pages layout_in_use h.sizes → has x.recent page ≡ true) → IsResting h x file
+all_changed h x file all = record {
+  own = λ page lt out. absurd (true≢false (sym (all page lt) ∙ out));
+  others = λ page lt out. absurd (true≢false (sym (all page lt) ∙ or_right (has x.older page) (has x.recent page) out));
+}
+
 -- and after a sync, and calls that only read, the disk keeps it
-pub kept_read : (old mid new : Moment) (h : Header) (m : Contents) (j : JournalState) → mid ≡ synced old → new ≡ mid → h ≡ header_of mid.bytes → JournalOf h j → Holds j mid.bytes
-    → Reads layout_in_use mid.bytes (Ok (record { contents = m; count = j.count; room = j.room })) → IsKept (record { header = h; step = NoCheckpoint }) m j new
-kept_read old mid new h m j done same is journal holds reads =
-    subst (λ (x : Moment). IsKept (record { header = h; step = NoCheckpoint }) m j x) (sym same)
-    (kept_calm (record { header = h; step = NoCheckpoint }) m j mid (ap (λ (x : Moment). x.ranges) done) (keeps_read h m j mid.bytes is journal holds reads))
+pub kept_read : (old mid new : Moment) (h : Header) (n : MemoryState) (j : JournalState) (c : PagedCheckpoint) → IsIdle h false c → mid ≡ synced old → new ≡ mid → h ≡ header_of mid.bytes → JournalOf h j → Holds j mid.bytes
+    → Reads layout_in_use mid.bytes (Ok (record { contents = n.contents; count = j.count; room = j.room })) → IsKept c.state (paged c n) n.contents j new
+kept_read old mid new h n j c idle done same is journal holds reads =
+    let all : (page : ℕ) → page < area_pages layout_in_use h.sizes → has c.recent page ≡ true =
+    λ page lt. ap (λ (set : List Bool). has set page) idle.recent ∙ get_or-replicate (area_pages layout_in_use h.sizes) page true true lt in
+    subst (λ (x : Moment). IsKept c.state (paged c n) n.contents j x) (sym same)
+    (subst (λ (s : CheckpointState). IsKept s (paged c n) n.contents j mid) (sym idle.state)
+    (kept_calm (record { header = h; step = NoCheckpoint }) (paged c n) n.contents j mid (ap (λ (x : Moment). x.ranges) done) (keeps_read h n.contents j mid.bytes is journal holds reads) (all_changed h (paged c n) mid.bytes all)))

@@ -13,8 +13,9 @@ use Rattle.im_disk.specs.Moment.{Moment, Left}
 use Rattle.im_disk.specs.Since.{SameBut, Calls, CallsBy}
 use Rattle.im_disk.proofs.SinceLemmas.{left_now}
 use Rattle.im_journal.specs.Holding.{JournalState, Holds, AllHold, longer, Appended}
-use Rattle.im_checkpoint.specs.Step.{Taken, Step, NoCheckpoint, PagesLeft, PagesDone, Synced, CheckpointState}
-use Rattle.im_checkpoint.specs.Keeping.{IsBetween, StepFits, Fits, IsKept}
+use Rattle.im_checkpoint.specs.Step.{Step, NoCheckpoint, PagesLeft, PagesDone, Synced, CheckpointState, left_in}
+use Rattle.im_checkpoint.specs.Keeping.{Paged, IsBetween, StepFits, Fits, IsKept}
+use Rattle.im_checkpoint.proofs.Copies.{IsPrepared}
 use Rattle.im_engine.specs.State.{EngineState}
 use Rattle.im_engine.specs.Run.{Answered, calls_for}
 use Rattle.im_engine.proofs.Accepting.{Answers, accepted_answers}
@@ -45,24 +46,24 @@ fits_longer c m new j longer_j command it is more = record {
   step = subst (λ (x : JournalState). StepFits c.header x c.step) (sym more) (step_longer c.header j c.step it.step);
 }
   where
-    later : (h : Header) (j : JournalState) (taken : Taken) → IsBetween h j taken → IsBetween h (longer j) taken
-    later h j taken it = record { from = it.from; to = (let to : taken.count ≤ j.count = it.to in omega arith) }
+    later : (h : Header) (j : JournalState) (count : ℕ) → IsBetween h j count → IsBetween h (longer j) count
+    later h j count it = record { from = it.from; to = (let to : count ≤ j.count = it.to in omega arith) }
 
     step_longer : (h : Header) (j : JournalState) (s : Step) → StepFits h j s → StepFits h (longer j) s
     step_longer h j NoCheckpoint it = tt
-    step_longer h j (PagesLeft taken left) it = later h j taken it
-    step_longer h j (PagesDone taken) it = later h j taken it
-    step_longer h j (Synced taken) it = later h j taken it
+    step_longer h j (PagesLeft count left) it = later h j count it
+    step_longer h j (PagesDone count) it = later h j count it
+    step_longer h j (Synced count) it = later h j count it
 
--- a disk that keeps a memory keeps it with a command more, once that is appended
-module _ (c : CheckpointState) (m : Contents) (j : JournalState) (now : Moment) (kept : IsKept c m j now) (command : Command) (accepted : is_accepted m command ≡ true) where
-  pub kept_with_it : (new : Contents) → new ≡ (step m command).contents → (longer_j : JournalState) → longer_j ≡ longer j → (after : Moment) → SameBut (slot_at j.ring j.count) 64 now.bytes after.bytes → after.ranges ≡ []
-      → ((file : List ℕ) → Left after file → Appended j command now file) → AllHold longer_j after → IsKept c new longer_j after
-  kept_with_it new is longer_j more after but calm added holds =
-      subst (λ (x : Contents). IsKept c x longer_j after) (sym is)
-      (subst (λ (x : JournalState). IsKept c (step m command).contents x after) (sym more)
-      (kept_longer c m j now kept command accepted after but calm (added after.bytes (left_now after))
-      (subst (λ (x : JournalState). Holds x after.bytes) more (holds after.bytes (left_now after)))))
+-- a disk that keeps a memory keeps it with a command more, once that is appended and the pages that it names are prepared
+module _ (c : CheckpointState) (x : Paged) (m : Contents) (j : JournalState) (now : Moment) (kept : IsKept c x m j now) (command : Command) (accepted : is_accepted m command ≡ true) where
+  pub kept_with_it : (y : Paged) → IsPrepared c.header.sizes (left_in c.step) x y → (new : Contents) → new ≡ (step m command).contents → (longer_j : JournalState) → longer_j ≡ longer j → (after : Moment)
+      → SameBut (slot_at j.ring j.count) 64 now.bytes after.bytes → after.ranges ≡ [] → ((file : List ℕ) → Left after file → Appended j command now file) → AllHold longer_j after → IsKept c y new longer_j after
+  kept_with_it y prepared new is longer_j more after but calm added holds =
+      subst (λ (z : Contents). IsKept c y z longer_j after) (sym is)
+      (subst (λ (z : JournalState). IsKept c y (step m command).contents z after) (sym more)
+      (kept_longer c x m j now kept command accepted y prepared after but calm (added after.bytes (left_now after))
+      (subst (λ (z : JournalState). Holds z after.bytes) more (holds after.bytes (left_now after)))))
 
 -- an answer to a command, by what the engine is
 

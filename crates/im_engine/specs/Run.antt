@@ -35,7 +35,7 @@ pub record TurnTaken {D : Type 0} (old : EngineState D) (done : TurnDone) (new :
   pub memory : new.memory ≡ old.memory
   pub count : new.count ≡ old.count
   pub alive : new.failed ≡ false
-  pub turned : Turned (checkpoint_in old) (journal_in old) old.memory done (checkpoint_in new) (journal_in new)
+  pub turned : Turned (checkpoint_in old) (journal_in old) done (checkpoint_in new) (journal_in new)
 
 -- an engine's answer to one turn, and what it comes to, on any disk
 pub record TurnAnswered {D : Type 0} (old : EngineState D) (answer : Result TurnDone Refusal) (new : EngineState D) : Type 0 where

@@ -2,10 +2,10 @@
 ghost use Rattle.std.specs.Prelude.{◌≡◌, ◌↔◌, ◌⊎◌, ◌+◌, ◌≤◌, ◌<◌, List, ℕ, length, true, false, IsTrue, Ok, Err};
 ghost use Rattle.std.specs.Prelude.{OnOk, OnErr, IfOk, IfErr, IsErrOf};
 ghost use Rattle.im_types.specs.Window.{ask, bounds};
-ghost use Rattle.im_types.specs.Step.{step, is_accepted};
+ghost use Rattle.im_types.specs.Step.{step, is_accepted, acceptance};
 ghost use Rattle.im_disk.specs.Moment.{Faults};
 ghost use Rattle.im_disk.specs.Since.{LeavesWithin, LeavesNow, LeavesOnly, CallsAtMost, CallsBy};
-ghost use Rattle.im_checkpoint.specs.Keeping.{Fits, IsKept};
+ghost use Rattle.im_checkpoint.specs.Keeping.{Fits, IsKept, paged};
 ghost use Rattle.im_checkpoint.specs.Step.{IsUnderWay, turns_left};
 ghost use Rattle.im_checkpoint.specs.Turns.{most_calls};
 ghost use Rattle.im_engine.specs.Run.{Answered, TurnAnswered, calls_for};
@@ -15,8 +15,30 @@ use im_checkpoint::{Checkpoint, TurnDone};
 use im_disk::Disk;
 use im_journal::Journal;
 use im_memory::Memory;
-use im_types::{Command, Entry, Outcome, Refusal};
+use im_types::{Command, Entry, Outcome, Refusal, Request};
 use std::marker::Model;
+
+// The answer to a repeat.
+fn repeat(memory: &Memory, request: &Request) -> Result<Outcome, Refusal>
+    requires { acceptance memory.now.contents (Command.Request request.now) ≡ Ok false }
+    ensures { result ≡ (step memory.now.contents (Command.Request request.now)).answer }
+{
+    match memory.collect(request.element, request.number) {
+        Ok(entry) => Ok(Outcome::Entry(entry)),
+        Err(refusal) => Err(refusal),
+    }
+}
+
+// The answer to a command that is neither accepted nor refused: a repeat, or a confirmation that forgets nothing.
+fn answer_again(memory: &Memory, command: &Command) -> Result<Outcome, Refusal>
+    requires { acceptance memory.now.contents command.now ≡ Ok false }
+    ensures { result ≡ (step memory.now.contents command.now).answer }
+{
+    match command {
+        Command::Request(request) => repeat(memory, request),
+        Command::Confirm { .. } => Ok(Outcome::Confirmed),
+    }
+}
 
 /// A memory that a disk keeps.
 ///
@@ -34,23 +56,24 @@ pub struct Engine<D: Disk> {
 
 impl<D: Disk> Model for Engine<D> {
     ghost use Rattle.std.specs.Prelude.{◌≡◌, false};
-    ghost use Rattle.im_checkpoint.specs.Keeping.{Fits, IsKept};
+    ghost use Rattle.im_checkpoint.specs.Keeping.{Fits, IsKept, paged};
     ghost use Rattle.im_engine.specs.State.{EngineState};
 
     ghost Value = { EngineState D };
 
     ghost view = { λ e. record {
       disk = e.disk;
-      header = e.checkpoint.header;
-      step = e.checkpoint.step;
-      memory = e.memory;
+      header = e.checkpoint.state.header;
+      step = e.checkpoint.state.step;
+      memory = e.memory.contents;
       count = e.journal.count;
       room = e.journal.room;
       failed = e.failed;
     } };
 
-    ghost invariant = { λ e. Fits e.checkpoint e.memory e.journal
-        × (D.honest e.disk → e.failed ≡ false → IsKept e.checkpoint e.memory e.journal (D.now e.disk)) };
+    ghost invariant = { λ e. Fits e.checkpoint.state e.memory.contents e.journal
+        × (D.honest e.disk → e.failed ≡ false
+        → IsKept e.checkpoint.state (paged e.checkpoint e.memory) e.memory.contents e.journal (D.now e.disk)) };
 }
 
 impl<D: Disk> Engine<D> {
@@ -83,7 +106,7 @@ impl<D: Disk> Engine<D> {
         }
         match self.memory.judge(command) {
             Ok(true) => self.accept(command),
-            Ok(false) => self.memory.step(command),
+            Ok(false) => answer_again(&self.memory, command),
             Err(refusal) => Err(refusal),
         }
     }
@@ -109,6 +132,8 @@ impl<D: Disk> Engine<D> {
             self.failed = true; // The command is there, or not.
             return Err(Refusal::Device);
         }
+        // Of a page that a checkpoint has still to write, what stood there before the command is wanted.
+        self.checkpoint.before(&self.memory, command);
         self.memory.step(command)
     }
 
@@ -119,13 +144,14 @@ impl<D: Disk> Engine<D> {
         journal: Journal,
         memory: Memory,
     ) -> Engine<D>
-        requires fits { Fits checkpoint memory journal }
-        requires kept { D.honest disk → IsKept checkpoint memory journal (D.now disk) }
+        requires fits { Fits checkpoint.state memory.contents journal }
+        requires kept { D.honest disk
+            → IsKept checkpoint.state (paged checkpoint memory) memory.contents journal (D.now disk) }
         ensures state { result ≡ record {
           disk = disk;
-          header = checkpoint.header;
-          step = checkpoint.step;
-          memory = memory;
+          header = checkpoint.state.header;
+          step = checkpoint.state.step;
+          memory = memory.contents;
           count = journal.count;
           room = journal.room;
           failed = false;
@@ -232,7 +258,7 @@ impl<D: Disk> Engine<D> {
 
     /// The memory.
     pub fn memory(&self) -> &Memory
-        ensures { result.now ≡ self.now.memory }
+        ensures { result.now.contents ≡ self.now.memory }
     {
         &self.memory
     }

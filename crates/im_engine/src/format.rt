@@ -11,6 +11,7 @@ ghost use Rattle.im_types.specs.Layout.{sizes_of};
 ghost use Rattle.im_image.specs.Headers.{seen};
 ghost use Rattle.im_image.specs.Fresh.{new_header, new_image};
 ghost use Rattle.im_checkpoint.specs.Step.{NoCheckpoint};
+ghost use Rattle.im_checkpoint.specs.Turns.{IsIdle};
 ghost use Rattle.im_engine.specs.State.{MeansState};
 
 use crate::engine::Engine;
@@ -55,8 +56,8 @@ fn lay_down<D: Disk>(
     disk: &mut D,
     limits: Limits,
 ) -> Result<(Memory, Checkpoint), Refusal>
-    ensures empty { IfOk result (λ r. r.0 ≡ empty_contents limits.cells limits.elements) }
-    ensures idle { IfOk result (λ r. r.1 ≡ record { header = new_header (sizes_of limits); step = NoCheckpoint }) }
+    ensures empty { IfOk result (λ r. r.0.contents ≡ empty_contents limits.cells limits.elements) }
+    ensures idle { IfOk result (λ r. IsIdle (new_header (sizes_of limits)) false r.1) }
     ensures written { OnOk result (D.honest disk.new → (D.now disk.new).bytes ≡ new_image 0xA5 (sizes_of limits)) }
     ensures calm { OnOk result (D.honest disk.new → (D.now disk.new).ranges ≡ []) }
     ensures wrong { IsErrOf result Refusal.WrongLength → D.honest disk.new
@@ -83,7 +84,7 @@ fn lay_down<D: Disk>(
     let Ok(image) = new_image(alloc, limits) else {
         return Err(Refusal::NoMemory);
     };
-    let Ok(checkpoint) = Checkpoint::idle(alloc, &new_header(limits)) else {
+    let Ok(checkpoint) = Checkpoint::idle(alloc, &new_header(limits), false) else {
         return Err(Refusal::NoMemory);
     };
     // A stop in it leaves no image before the whole of the new one is on the disk.

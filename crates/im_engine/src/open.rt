@@ -7,8 +7,9 @@ ghost use Rattle.im_types.specs.Layout.{layout_in_use};
 ghost use Rattle.im_types.specs.Header.{header_of};
 ghost use Rattle.im_types.specs.Meaning.{Reads};
 ghost use Rattle.im_image.specs.Headers.{seen, MayRefuseImage};
-ghost use Rattle.im_checkpoint.specs.Step.{NoCheckpoint};
-ghost use Rattle.im_checkpoint.specs.Keeping.{Fits, IsKept};
+ghost use Rattle.im_checkpoint.specs.Step.{NoCheckpoint, PagedCheckpoint};
+ghost use Rattle.im_checkpoint.specs.Turns.{IsIdle};
+ghost use Rattle.im_checkpoint.specs.Keeping.{Fits, IsKept, paged};
 ghost use Rattle.im_engine.specs.State.{MeansState, IsFirstFault, IsFound};
 
 use crate::engine::Engine;
@@ -22,12 +23,13 @@ use std::alloc::Global;
 fn read_synced<D: Disk>(alloc: Global, disk: &mut D) -> Result<Image, Refusal>
     ensures area { IfOk result (λ i. i.header.area ≤ 1) }
     ensures fits { IfOk result (λ i.
-        Fits (record { header = seen i.header; step = NoCheckpoint }) i.memory i.journal) }
+        Fits (record { header = seen i.header; step = NoCheckpoint }) i.memory.contents i.journal) }
     ensures kept { IfOk result (λ i. D.honest disk.new
-        → IsKept (record { header = seen i.header; step = NoCheckpoint }) i.memory i.journal (D.now disk.new)) }
+        → (c : PagedCheckpoint) → IsIdle (seen i.header) false c
+        → IsKept c.state (paged c i.memory) i.memory.contents i.journal (D.now disk.new)) }
     ensures found { IfOk result (λ i. D.honest disk.new → LeavesNow (D.now disk.new)
         (λ file. (seen i.header ≡ header_of file) × Reads layout_in_use file
-        (Ok (record { contents = i.memory; count = i.journal.count; room = i.journal.room })))) }
+        (Ok (record { contents = i.memory.contents; count = i.journal.count; room = i.journal.room })))) }
     ensures leaves { D.honest disk.new → LeavesWithin D.now D.past disk.old disk.new (Left (D.now disk.old)) }
     ensures fault { IfErr result (λ e. (e ≡ NoMemory) ⊎ (e ≡ Device)
         ⊎ (D.honest disk.new → LeavesNow (D.now disk.new) (IsFirstFault e))) }
@@ -69,7 +71,7 @@ impl<D: Disk> Engine<D> {
         ensures honest { MatchResult result (λ e. D.honest e.disk → D.honest disk) (λ e. D.honest e.1 → D.honest disk) }
     {
         match read_synced(alloc, &mut disk) {
-            Ok(image) => match Checkpoint::idle(alloc, &image.header) {
+            Ok(image) => match Checkpoint::idle(alloc, &image.header, false) {
                 Ok(checkpoint) => Ok(Engine::started(
                     disk,
                     checkpoint,

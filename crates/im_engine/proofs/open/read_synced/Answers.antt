@@ -8,10 +8,10 @@ use Rattle.im_engine.proofs.Opening.{settled, opens_leaves, kept_read}
 use Rattle.im_engine.proofs.open.read_synced.Goals as goal
 
 pub returns-in-Ok-clause-kept : goal.returns-in-Ok-clause-kept
-returns-in-Ok-clause-kept g c = λ h.
+returns-in-Ok-clause-kept g c = λ h checkpoint idle.
     let i = c.in-Ok.image in
     let done = (c.in_default.ensures.tick (c.read_image.ensures.honest h)).now in
-    kept_read (g.D.Disk.now c.args.disk.now) (g.D.Disk.now c.sync.new.self) (g.D.Disk.now c.read_image.new.disk) (seen i.header) i.memory i.journal
+    kept_read (g.D.Disk.now c.args.disk.now) (g.D.Disk.now c.sync.new.self) (g.D.Disk.now c.read_image.new.disk) (seen i.header) i.memory i.journal checkpoint idle
     done (c.read_image.ensures.reads h).now (c.in-Ok.ensures.header h) c.in-Ok.ensures.parts.journal (c.in-Ok.ensures.holds h) (c.in-Ok.ensures.means h)
 
 pub returns-in-Ok-clause-leaves : goal.returns-in-Ok-clause-leaves
@@ -38,5 +38,5 @@ returns-in-Ok-clause-found g c = λ h.
     let synced = c.sync.new.self in
     let sure = (c.in_default.ensures.tick (c.read_image.ensures.honest h)).now in
     settled (g.D.Disk.now c.args.disk.now) (g.D.Disk.now synced) (g.D.Disk.now c.read_image.new.disk)
-    (λ file. (seen i.header ≡ header_of file) × Reads layout_in_use file (Ok (record { contents = i.memory; count = i.journal.count; room = i.journal.room })))
+    (λ file. (seen i.header ≡ header_of file) × Reads layout_in_use file (Ok (record { contents = i.memory.contents; count = i.journal.count; room = i.journal.room })))
     sure (c.read_image.ensures.reads h).now (c.in-Ok.ensures.header h, c.in-Ok.ensures.means h)

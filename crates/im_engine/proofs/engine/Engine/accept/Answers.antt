@@ -1,10 +1,13 @@
-use Rattle.std.proofs.Common.{◌≡◌, true, false, inl, ◌∙◌, ap, subst}
+use Rattle.std.proofs.Common.{◌≡◌, true, false, inl, sym, ◌∙◌, ap, subst}
 use Rattle.im_disk.specs.Since.{LeavesNow, LeavesOnly, CallsBy}
 use Rattle.im_disk.proofs.SinceLemmas.{leaves_start, only_weaker}
 use Rattle.im_types.specs.Step.{is_accepted}
 use Rattle.im_journal.specs.Holding.{MayAppend}
 use Rattle.im_engine.specs.State.{EngineState, MeansState, MeansEither}
 use Rattle.im_engine.proofs.Keeping.{all_mean, all_hold, may_append_means}
+use Rattle.im_checkpoint.specs.Step.{CheckpointState}
+use Rattle.im_checkpoint.specs.Keeping.{Fits, IsKept, paged}
+use Rattle.im_checkpoint.proofs.Copying.{prepared_for}
 use Rattle.im_engine.proofs.Serving.{fits_longer, kept_with_it, calls_after}
 use Rattle.im_engine.proofs.engine.Engine.accept.Goals as goal
 
@@ -14,46 +17,53 @@ returns-then-room-eq0-clause-leaves g c =
     let alive : e.failed ≡ false = ap (λ (s : EngineState g.row.D.Denot). s.failed) c.self.view_is ∙ c.requires.alive in
     subst (λ (s : EngineState g.row.D.Denot). g.D.Disk.honest s.disk → LeavesOnly g.D.Disk.now g.D.Disk.past s.disk s.disk (MeansEither s c.args.command.now)) c.self.view_is (λ h. record {
       within = leaves_start (g.D.Disk.now e.disk) (g.D.Disk.past e.disk) _;
-      after = λ file left. inl (all_mean e.checkpoint e.memory e.journal (g.D.Disk.now e.disk) (c.self.invariant.1 h alive) file left);
+      after = λ file left. inl (all_mean e.checkpoint.state (paged e.checkpoint e.memory) e.memory.contents e.journal (g.D.Disk.now e.disk) (c.self.invariant.1 h alive) file left);
     })
 
 pub returns-then-room-eq0-clause-means : goal.returns-then-room-eq0-clause-means
 returns-then-room-eq0-clause-means g c =
     let e = c.self.inside in
     subst (λ (s : EngineState g.row.D.Denot). g.D.Disk.honest s.disk → s.failed ≡ false → LeavesNow (g.D.Disk.now s.disk) (MeansState s)) c.self.view_is
-    (λ h f. all_mean e.checkpoint e.memory e.journal (g.D.Disk.now e.disk) (c.self.invariant.1 h f))
+    (λ h f. all_mean e.checkpoint.state (paged e.checkpoint e.memory) e.memory.contents e.journal (g.D.Disk.now e.disk) (c.self.invariant.1 h f))
 
 pub append-requires : goal.append-requires
 append-requires g c =
     let e = c.self.inside in
     let alive : e.failed ≡ false = ap (λ (s : EngineState g.row.D.Denot). s.failed) c.self.view_is ∙ c.requires.alive in
-    record { holds = λ h. all_hold e.checkpoint e.memory e.journal (g.D.Disk.now e.disk) (c.self.invariant.1 h alive) }
+    record { holds = λ h. all_hold e.checkpoint.state (paged e.checkpoint e.memory) e.memory.contents e.journal (g.D.Disk.now e.disk) (c.self.invariant.1 h alive) }
 
 pub returns-in-Err-clause-leaves : goal.returns-in-Err-clause-leaves
 returns-in-Err-clause-leaves g c = λ h.
     let e = c.self.inside in
     let alive : e.failed ≡ false = ap (λ (s : EngineState g.row.D.Denot). s.failed) c.self.view_is ∙ c.requires.alive in
-    let accepted : is_accepted e.memory c.args.command.now ≡ true = ap (λ (s : EngineState g.row.D.Denot). is_accepted s.memory c.args.command.now) c.self.view_is ∙ c.requires.accepted in
-    let means = may_append_means e.checkpoint e.memory e.journal (g.D.Disk.now e.disk) (c.self.invariant.1 (c.append.ensures.honest h) alive) c.args.command.now accepted in
+    let accepted : is_accepted e.memory.contents c.args.command.now ≡ true = ap (λ (s : EngineState g.row.D.Denot). is_accepted s.memory c.args.command.now) c.self.view_is ∙ c.requires.accepted in
+    let means = may_append_means e.checkpoint.state (paged e.checkpoint e.memory) e.memory.contents e.journal (g.D.Disk.now e.disk) (c.self.invariant.1 (c.append.ensures.honest h) alive) c.args.command.now accepted in
     subst (λ (s : EngineState g.row.D.Denot). LeavesOnly g.D.Disk.now g.D.Disk.past s.disk c.append.new.disk (MeansEither s c.args.command.now)) c.self.view_is
     (only_weaker g.D.Disk.now g.D.Disk.past e.disk c.append.new.disk (MayAppend e.journal c.args.command.now (g.D.Disk.now e.disk)) _ (c.append.ensures.leaves h) means)
+
+pub before-requires : goal.before-requires
+before-requires g c = record { sizes = record { cells = c.self.invariant.0.cells; elements = c.self.invariant.0.elements } }
 
 pub invariant_of-self-2 : goal.invariant_of-self-2
 invariant_of-self-2 g c =
     let e = c.self.inside in
-    let accepted : is_accepted e.memory c.args.command.now ≡ true = ap (λ (s : EngineState g.row.D.Denot). is_accepted s.memory c.args.command.now) c.self.view_is ∙ c.requires.accepted in
+    let accepted : is_accepted e.memory.contents c.args.command.now ≡ true = ap (λ (s : EngineState g.row.D.Denot). is_accepted s.memory c.args.command.now) c.self.view_is ∙ c.requires.accepted in
+    let y = paged c.before-2.new.self c.step.new.self in
+    let prepared = prepared_for e.checkpoint c.before-2.new.self e.memory c.step.new.self c.args.command.now c.before-2.ensures c.step.ensures.changes c.self.invariant.0.cells c.self.invariant.0.elements in
     let done = c.in_default.ensures in (
-      fits_longer e.checkpoint e.memory c.step.new.self e.journal c.append.new.self c.args.command.now c.self.invariant.0 c.step.ensures.contents done.state,
-      λ h f. kept_with_it e.checkpoint e.memory e.journal (g.D.Disk.now e.disk) (c.self.invariant.1 (c.append.ensures.honest h) f) c.args.command.now accepted
-          c.step.new.self c.step.ensures.contents c.append.new.self done.state (g.D.Disk.now c.append.new.disk) (done.added h).kept (done.added h).calm (done.added h).added (done.added h).holds,
+      subst (λ (s : CheckpointState). Fits s c.step.new.self.contents c.append.new.self) (sym c.before-2.ensures.state)
+          (fits_longer e.checkpoint.state e.memory.contents c.step.new.self.contents e.journal c.append.new.self c.args.command.now c.self.invariant.0 c.step.ensures.contents done.state),
+      λ h f. subst (λ (s : CheckpointState). IsKept s (paged c.before-2.new.self c.step.new.self) c.step.new.self.contents c.append.new.self (g.D.Disk.now c.append.new.disk)) (sym c.before-2.ensures.state)
+          (kept_with_it e.checkpoint.state (paged e.checkpoint e.memory) e.memory.contents e.journal (g.D.Disk.now e.disk) (c.self.invariant.1 (c.append.ensures.honest h) f) c.args.command.now accepted
+          y prepared c.step.new.self.contents c.step.ensures.contents c.append.new.self done.state (g.D.Disk.now c.append.new.disk) (done.added h).kept (done.added h).calm (done.added h).added (done.added h).holds),
     )
 
 pub returns-clause-leaves : goal.returns-clause-leaves
 returns-clause-leaves g c = λ h.
     let e = c.self.inside in
     let alive : e.failed ≡ false = ap (λ (s : EngineState g.row.D.Denot). s.failed) c.self.view_is ∙ c.requires.alive in
-    let accepted : is_accepted e.memory c.args.command.now ≡ true = ap (λ (s : EngineState g.row.D.Denot). is_accepted s.memory c.args.command.now) c.self.view_is ∙ c.requires.accepted in
-    let means = may_append_means e.checkpoint e.memory e.journal (g.D.Disk.now e.disk) (c.self.invariant.1 (c.append.ensures.honest h) alive) c.args.command.now accepted in
+    let accepted : is_accepted e.memory.contents c.args.command.now ≡ true = ap (λ (s : EngineState g.row.D.Denot). is_accepted s.memory c.args.command.now) c.self.view_is ∙ c.requires.accepted in
+    let means = may_append_means e.checkpoint.state (paged e.checkpoint e.memory) e.memory.contents e.journal (g.D.Disk.now e.disk) (c.self.invariant.1 (c.append.ensures.honest h) alive) c.args.command.now accepted in
     subst (λ (s : EngineState g.row.D.Denot). LeavesOnly g.D.Disk.now g.D.Disk.past s.disk c.append.new.disk (MeansEither s c.args.command.now)) c.self.view_is
     (only_weaker g.D.Disk.now g.D.Disk.past e.disk c.append.new.disk (MayAppend e.journal c.args.command.now (g.D.Disk.now e.disk)) _ (c.append.ensures.leaves h) means)
 
@@ -65,8 +75,10 @@ returns-clause-calls g c = λ h.
 pub returns-clause-means : goal.returns-clause-means
 returns-clause-means g c = λ h f.
     let e = c.self.inside in
-    let accepted : is_accepted e.memory c.args.command.now ≡ true = ap (λ (s : EngineState g.row.D.Denot). is_accepted s.memory c.args.command.now) c.self.view_is ∙ c.requires.accepted in
+    let accepted : is_accepted e.memory.contents c.args.command.now ≡ true = ap (λ (s : EngineState g.row.D.Denot). is_accepted s.memory c.args.command.now) c.self.view_is ∙ c.requires.accepted in
+    let y = paged c.before-2.new.self c.step.new.self in
+    let prepared = prepared_for e.checkpoint c.before-2.new.self e.memory c.step.new.self c.args.command.now c.before-2.ensures c.step.ensures.changes c.self.invariant.0.cells c.self.invariant.0.elements in
     let done = c.in_default.ensures in
-    all_mean e.checkpoint c.step.new.self c.append.new.self (g.D.Disk.now c.append.new.disk)
-    (kept_with_it e.checkpoint e.memory e.journal (g.D.Disk.now e.disk) (c.self.invariant.1 (c.append.ensures.honest h) f) c.args.command.now accepted
-    c.step.new.self c.step.ensures.contents c.append.new.self done.state (g.D.Disk.now c.append.new.disk) (done.added h).kept (done.added h).calm (done.added h).added (done.added h).holds)
+    all_mean e.checkpoint.state y c.step.new.self.contents c.append.new.self (g.D.Disk.now c.append.new.disk)
+    (kept_with_it e.checkpoint.state (paged e.checkpoint e.memory) e.memory.contents e.journal (g.D.Disk.now e.disk) (c.self.invariant.1 (c.append.ensures.honest h) f) c.args.command.now accepted
+    y prepared c.step.new.self.contents c.step.ensures.contents c.append.new.self done.state (g.D.Disk.now c.append.new.disk) (done.added h).kept (done.added h).calm (done.added h).added (done.added h).holds)

@@ -1,5 +1,6 @@
 use Rattle.std.proofs.Common.{◌∙◌, ap, subst}
 use Rattle.im_engine.specs.State.{EngineState, MeansState}
+use Rattle.im_checkpoint.specs.Keeping.{paged}
 use Rattle.im_engine.proofs.Keeping.{all_mean}
 use Rattle.im_engine.proofs.engine.Engine.close.Goals as goal
 
@@ -7,4 +8,4 @@ pub returns-clause-means : goal.returns-clause-means
 returns-clause-means g c = λ h f file left.
     let e = c.self.inside in
     subst (λ (s : EngineState g.row.D.Denot). MeansState s file) c.self.view_is
-    (all_mean e.checkpoint e.memory e.journal (g.D.Disk.now e.disk) (c.self.invariant.1 h (ap (λ (s : EngineState g.row.D.Denot). s.failed) c.self.view_is ∙ f)) file left)
+    (all_mean e.checkpoint.state (paged e.checkpoint e.memory) e.memory.contents e.journal (g.D.Disk.now e.disk) (c.self.invariant.1 h (ap (λ (s : EngineState g.row.D.Denot). s.failed) c.self.view_is ∙ f)) file left)

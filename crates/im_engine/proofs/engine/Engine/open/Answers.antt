@@ -7,9 +7,12 @@ use Rattle.im_checkpoint.specs.Step.{CheckpointState}
 use Rattle.im_engine.specs.State.{EngineState, IsFound}
 use Rattle.im_engine.proofs.engine.Engine.open.Goals as goal
 
+pub started-requires-clause-kept : goal.started-requires-clause-kept
+started-requires-clause-kept g c = λ h. c.in-Ok.ensures.kept h c.in-Ok-idle.checkpoint c.in-Ok-idle.ensures.idle
+
 pub returns-in-Ok-idle-clause-found : goal.returns-in-Ok-idle-clause-found
 returns-in-Ok-idle-clause-found g c =
     let i = c.in-Ok.image in
     subst (λ (s : EngineState g.row.D.Denot). g.D.Disk.honest s.disk → LeavesNow (g.D.Disk.now s.disk) (IsFound s)) (sym c.started.ensures.state)
-    (λ h. subst (λ (x : CheckpointState). LeavesNow (g.D.Disk.now c.read_synced.new.disk) (λ file. (x.header ≡ header_of file) × Reads layout_in_use file (Ok (record { contents = i.memory; count = i.journal.count; room = i.journal.room }))))
-    (sym c.in-Ok-idle.ensures.state) (c.in-Ok.ensures.found h))
+    (λ h. subst (λ (x : CheckpointState). LeavesNow (g.D.Disk.now c.read_synced.new.disk) (λ file. (x.header ≡ header_of file) × Reads layout_in_use file (Ok (record { contents = i.memory.contents; count = i.journal.count; room = i.journal.room }))))
+    (sym c.in-Ok-idle.ensures.idle.state) (c.in-Ok.ensures.found h))
