@@ -87,7 +87,7 @@ changed x page = has x.older page || has x.recent page
 abbrev pub changed_lately : Paged → ℕ → Bool
 changed_lately x page = has x.recent page
 
--- a page of the area in force, and of the other one
+-- a page of the area in force
 abbrev pub own_page : Header → List ℕ → ℕ → List ℕ
 own_page h file page = record_at page_bytes (area_of layout_in_use h.sizes h.area file) page
 
@@ -95,6 +95,7 @@ own_page h file page = record_at page_bytes (area_of layout_in_use h.sizes h.are
 abbrev pub other_area : Header → List ℕ → List ℕ
 other_area h file = area_of layout_in_use h.sizes (other h) file
 
+-- a page of it
 abbrev pub other_page : Header → List ℕ → ℕ → List ℕ
 other_page h file page = record_at page_bytes (other_area h file) page
 

@@ -5,29 +5,31 @@ use Rattle.im_types.specs.declared.commands.Command.{Command}
 use Rattle.im_types.specs.declared.sizes.Limits.{Limits}
 use Rattle.im_types.specs.Bytes.{zeros}
 use Rattle.im_types.specs.Sizes.{AreLimits}
-use Rattle.im_types.specs.Contents.{Contents, empty_contents}
-use Rattle.im_types.specs.Layout.{Sizes, layout_in_use, area_bytes, area_pages, area_of, image_length, ring_of}
+use Rattle.im_types.specs.Contents.{Contents, empty_contents, new_window}
+use Rattle.im_types.specs.Layout.{Sizes, layout_in_use, page_bytes, record_at, area_bytes, area_pages, area_of, image_length, ring_of}
 use Rattle.im_types.specs.Header.{Header, header_body, header_fault}
 use Rattle.im_types.specs.Journal.{Tail, tail}
 use Rattle.im_types.specs.Meaning.{IsShown}
-use Rattle.im_types.specs.Pages.{Shows}
+use Rattle.im_types.specs.Pages.{Records, Shows}
 use Rattle.im_meaning.specs.Images.{InForce}
 use Rattle.im_meaning.proofs.Headers.{in_force}
 use Rattle.im_disk.specs.Moment.{Moment, written, synced, overlaid}
 use Rattle.im_types.specs.Layout.{sizes_of}
 use Rattle.im_image.specs.Fresh.{new_header, new_area, new_image}
-use Rattle.im_image.proofs.FreshArea.{length-area, length-zeros}
-use Rattle.im_image.proofs.FreshImage.{new_image_good, new_image_shows, new_header_of, length-image}
+use Rattle.im_image.proofs.FreshArea.{length-area, length-zeros, records_with, area_spelled, new_window_fits}
+use Rattle.im_image.proofs.FreshImage.{new_image_good, new_image_shows, new_header_of, length-image, area_in_place}
 use Rattle.im_journal.specs.Holding.{JournalState, ring_under, Holds, AreClosed}
 use Rattle.im_journal.proofs.Laws.{closed_zeros}
 use Rattle.im_laws.proofs.MemoryLemmas.{empty-memory}
 use Rattle.im_engine.specs.State.{journal_of}
-use Rattle.im_memory.specs.State.{MemoryState}
-use Rattle.im_laws.proofs.Tests.{true_false, or_right}
+use Rattle.im_memory.specs.State.{MemoryState, empty_records}
+use Rattle.im_laws.proofs.Tests.{true_false, or_left, or_right}
 use Rattle.im_pages.specs.PageSets.{has}
 use Rattle.im_checkpoint.specs.Step.{NoCheckpoint, CheckpointState, PagedCheckpoint}
 use Rattle.im_checkpoint.specs.Turns.{IsIdle}
-use Rattle.im_checkpoint.specs.Keeping.{Paged, paged, Fits, Keeps, IsResting, IsKept}
+use Rattle.im_checkpoint.specs.Keeping.{Paged, paged, own_page, Fits, Keeps, IsResting, IsKept}
+use Rattle.im_image.specs.Encoding.{IsAreaPage}
+use Rattle.im_image.proofs.AreaPages.{page_of_area}
 use Rattle.im_checkpoint.proofs.Moments.{kept_calm}
 
 -- the bytes once the gate of a whole image was opened
@@ -96,8 +98,24 @@ rests h x file all = record {
     changed_here : (p : ℕ) → p < area_pages layout_in_use h.sizes → has x.recent p ≡ true
     changed_here p low = ap (λ (set : List Bool). has set p) all ∙ get_or-replicate (area_pages layout_in_use h.sizes) p true true low
 
-module _ (l : Limits) (range : AreLimits l.cells l.elements l.slots) (c : PagedCheckpoint) (c_is : IsIdle (new_header (sizes_of l)) false c)
-    (m : MemoryState) (m_is : m.contents ≡ empty_contents l.cells l.elements) (j : JournalState) (j_is : j ≡ record { ring = ring_under l; first = 0; count = 0; room = l.slots }) where
+-- the pages of a new image's area are those of the empty memory
+empty_are : (s : Sizes) → records_with new_window s ≡ empty_records s.cells s.elements
+unfolding records_with
+empty_are s = refl
+
+new_rests : (s : Sizes) (x : Paged) → x.recent ≡ replicate (area_pages layout_in_use s) false → x.older ≡ replicate (area_pages layout_in_use s) true → x.records ≡ empty_records s.cells s.elements → IsResting (new_header s) x (new_image 0xA5 s)
+new_rests s x none all records = record {
+  own = λ p low out. subst (λ (r : Records). IsAreaPage s r p (own_page (new_header s) (new_image 0xA5 s) p)) (empty_are s ∙ sym records)
+      (subst (λ (area : List ℕ). IsAreaPage s (records_with new_window s) p (record_at page_bytes area p)) (sym (area_in_place s))
+      (page_of_area s (records_with new_window s) (new_area s) (length-area s) (area_spelled new_window s refl new_window_fits) p low));
+  others = λ p low out. absurd (true_false (sym (changed_there p low) ∙ or_left (has x.older p) (has x.recent p) out));
+}
+  where
+    changed_there : (p : ℕ) → p < area_pages layout_in_use s → has x.older p ≡ true
+    changed_there p low = ap (λ (set : List Bool). has set p) all ∙ get_or-replicate (area_pages layout_in_use s) p true true low
+
+module _ (l : Limits) (range : AreLimits l.cells l.elements l.slots) (c : PagedCheckpoint) (c_is : IsIdle (new_header (sizes_of l)) true c)
+    (m : MemoryState) (m_is : m.contents ≡ empty_contents l.cells l.elements) (records_are : m.records ≡ empty_records l.cells l.elements) (j : JournalState) (j_is : j ≡ record { ring = ring_under l; first = 0; count = 0; room = l.slots }) where
   -- a new checkpoint, an empty memory and a fresh journal are of the same sizes
   pub fresh_fits : Fits c.state m.contents j
   unfolding empty_contents
@@ -120,4 +138,4 @@ module _ (l : Limits) (range : AreLimits l.cells l.elements l.slots) (c : PagedC
       (subst (λ (x : JournalState). Keeps (new_header (sizes_of l)) (empty_contents l.cells l.elements) x now.bytes) (sym j_is)
       (subst (λ (x : List ℕ). Keeps (new_header (sizes_of l)) (empty_contents l.cells l.elements) (journal_of (new_header (sizes_of l)) 0 l.slots) x) (sym bytes) keeps)) in
       subst (λ (x : CheckpointState). IsKept x (paged c m) m.contents j now) (sym c_is.state)
-      (kept_calm (record { header = new_header (sizes_of l); step = NoCheckpoint }) (paged c m) m.contents j now calm read (rests (new_header (sizes_of l)) (paged c m) now.bytes c_is.recent))
+      (kept_calm (record { header = new_header (sizes_of l); step = NoCheckpoint }) (paged c m) m.contents j now calm read (subst (λ (file : List ℕ). IsResting (new_header (sizes_of l)) (paged c m) file) (sym bytes) (new_rests (sizes_of l) (paged c m) c_is.recent c_is.older records_are)))

@@ -110,7 +110,8 @@ impl<D: Disk> Engine<D> {
             self.failed = true; // The command is there, or not.
             return Err(Refusal::Device);
         }
-        self.checkpoint.before(&self.memory, command); // No call of the disk: what a stop leaves is as it was.
+        // Of a page that a checkpoint has still to write, what stood there before the command is wanted.
+        self.checkpoint.before(&self.memory, command);
         self.memory.step(command)
     }
 

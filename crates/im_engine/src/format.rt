@@ -1,5 +1,5 @@
 //! How an image is made of a file.
-ghost use Rattle.std.specs.Prelude.{◌≡◌, ◌≢◌, false, ◌⊎◌, [], ◌∷◌, ◌<◌, length, drop};
+ghost use Rattle.std.specs.Prelude.{◌≡◌, ◌≢◌, false, true, ◌⊎◌, [], ◌∷◌, ◌<◌, length, drop};
 ghost use Rattle.std.specs.Prelude.{IfOk, IfErr, OnOk, IsErrOf, MatchResult};
 ghost use Rattle.im_types.specs.declared.refusals.Refusal.TheVariants.{WrongLength, NoMemory, Device};
 ghost use Rattle.im_types.specs.Contents.{empty_contents};
@@ -10,6 +10,7 @@ ghost use Rattle.im_disk.specs.Since.{LeavesNow};
 ghost use Rattle.im_types.specs.Layout.{sizes_of};
 ghost use Rattle.im_image.specs.Headers.{seen};
 ghost use Rattle.im_image.specs.Fresh.{new_header, new_image};
+ghost use Rattle.im_memory.specs.State.{empty_records};
 ghost use Rattle.im_checkpoint.specs.Step.{NoCheckpoint};
 ghost use Rattle.im_checkpoint.specs.Turns.{IsIdle};
 ghost use Rattle.im_engine.specs.State.{MeansState};
@@ -57,7 +58,8 @@ fn lay_down<D: Disk>(
     limits: Limits,
 ) -> Result<(Memory, Checkpoint), Refusal>
     ensures empty { IfOk result (λ r. r.0.contents ≡ empty_contents limits.cells limits.elements) }
-    ensures idle { IfOk result (λ r. IsIdle (new_header (sizes_of limits)) false r.1) }
+    ensures records { IfOk result (λ r. r.0.records ≡ empty_records limits.cells limits.elements) }
+    ensures idle { IfOk result (λ r. IsIdle (new_header (sizes_of limits)) true r.1) }
     ensures written { OnOk result (D.honest disk.new → (D.now disk.new).bytes ≡ new_image 0xA5 (sizes_of limits)) }
     ensures calm { OnOk result (D.honest disk.new → (D.now disk.new).ranges ≡ []) }
     ensures wrong { IsErrOf result Refusal.WrongLength → D.honest disk.new
@@ -84,7 +86,7 @@ fn lay_down<D: Disk>(
     let Ok(image) = new_image(alloc, limits) else {
         return Err(Refusal::NoMemory);
     };
-    let Ok(checkpoint) = Checkpoint::idle(alloc, &new_header(limits), false) else {
+    let Ok(checkpoint) = Checkpoint::idle(alloc, &new_header(limits), true) else {
         return Err(Refusal::NoMemory);
     };
     // A stop in it leaves no image before the whole of the new one is on the disk.

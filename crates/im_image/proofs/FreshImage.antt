@@ -114,7 +114,7 @@ new_image_good s limits =
     ∙ ap (λ (b : Bool). if b then None else Some WrongLength) (same n (image_length layout_in_use s) (length-image s))
 
 -- the area of the header in force is the new one
-area_in_place : (s : Sizes) → area_of layout_in_use s 0 (new_image 0xA5 s) ≡ new_area s
+pub area_in_place : (s : Sizes) → area_of layout_in_use s 0 (new_image 0xA5 s) ≡ new_area s
 area_in_place s =
     ap (λ (at : ℕ). slice_range (new_image 0xA5 s) at (at + area_bytes layout_in_use s)) (begins (area_bytes layout_in_use s))
     ∙ ap (λ (k : ℕ). take k (drop 8192 (new_image 0xA5 s))) (less 8192 (area_bytes layout_in_use s))

@@ -9,3 +9,4 @@ pub mod Encoding
 pub mod Outcomes
 pub mod Counterexamples
 pub mod Outside
+pub mod AreaPages

@@ -24,7 +24,7 @@ row_by_places size spelled Fits none count all bytes row few long many fits plac
 }
 
 -- pages of the parts of an area
-page_of_take : (n i : ℕ) (area : List ℕ) → i < n → record_at page_bytes (take (page_bytes * n) area) i ≡ record_at page_bytes area i
+pub page_of_take : (n i : ℕ) (area : List ℕ) → i < n → record_at page_bytes (take (page_bytes * n) area) i ≡ record_at page_bytes area i
 page_of_take n i area lt =
     record_is page_bytes i (take (page_bytes * n) area)
     ∙ ap (λ (k : ℕ). take page_bytes (drop (page_bytes * i) (take k area))) size
@@ -35,7 +35,7 @@ page_of_take n i area lt =
     size : page_bytes * n ≡ page_bytes * i + (page_bytes * n - page_bytes * i)
     size = omega arith
 
-page_of_drop : (n i : ℕ) (area : List ℕ) → record_at page_bytes (drop (page_bytes * n) area) i ≡ record_at page_bytes area (n + i)
+pub page_of_drop : (n i : ℕ) (area : List ℕ) → record_at page_bytes (drop (page_bytes * n) area) i ≡ record_at page_bytes area (n + i)
 page_of_drop n i area =
     record_is page_bytes i (drop (page_bytes * n) area)
     ∙ ap (take page_bytes) (drop-drop (page_bytes * i) (page_bytes * n) area)
@@ -45,10 +45,10 @@ page_of_drop n i area =
     sum : (a b : ℕ) → page_bytes * a + page_bytes * b ≡ page_bytes * (a + b)
     sum a b = omega arith
 
-length_of_take : (n : ℕ) (area : List ℕ) → page_bytes * n ≤ length area → length (take (page_bytes * n) area) ≡ page_bytes * n
+pub length_of_take : (n : ℕ) (area : List ℕ) → page_bytes * n ≤ length area → length (take (page_bytes * n) area) ≡ page_bytes * n
 length_of_take n area le = length-take-le (page_bytes * n) area le
 
-length_of_drop : (n rest : ℕ) (area : List ℕ) → length area ≡ page_bytes * (n + rest) → length (drop (page_bytes * n) area) ≡ page_bytes * rest
+pub length_of_drop : (n rest : ℕ) (area : List ℕ) → length area ≡ page_bytes * (n + rest) → length (drop (page_bytes * n) area) ≡ page_bytes * rest
 length_of_drop n rest area e = length-drop (page_bytes * n) area ∙ less (length area) e
   where
     less : (a : ℕ) → a ≡ page_bytes * (n + rest) → a - page_bytes * n ≡ page_bytes * rest

@@ -23,7 +23,7 @@ piece n page m at k i part size room is =
     ∙ ap (λ (a : ℕ). take n (drop a part)) (sym is)
 
 -- record k of page i, of pages with so many records of a size
-of_page : (size per i k : ℕ) (part : List ℕ) → k < per → record_at size (record_at (size * per) part i) k ≡ record_at size part (per * i + k)
+pub of_page : (size per i k : ℕ) (part : List ℕ) → k < per → record_at size (record_at (size * per) part i) k ≡ record_at size part (per * i + k)
 of_page size per i k part lt =
     record_is size k (record_at (size * per) part i)
     ∙ piece size (size * per) (size * per - size * k) (size * (per * i + k)) k i part (omega (arith, inside)) (omega (arith, inside)) (at size per i k)
@@ -47,7 +47,7 @@ of_pages size per n part f some has j lt =
     page_below at (inr more) = absurd (omega (arith, at, lt, mul-le-mul_left {m = n} {n = j / per} per more))
 
 -- a record behind others
-record_behind : (size m j : ℕ) (bytes : List ℕ) → record_at size (drop (size * m) bytes) j ≡ record_at size bytes (m + j)
+pub record_behind : (size m j : ℕ) (bytes : List ℕ) → record_at size (drop (size * m) bytes) j ≡ record_at size bytes (m + j)
 record_behind size m j bytes =
     record_is size j (drop (size * m) bytes)
     ∙ ap (take size) (drop-drop (size * j) (size * m) bytes)
