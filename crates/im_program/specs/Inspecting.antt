@@ -1,5 +1,5 @@
 -- What inspecting an image tells. (Own.)
-use Rattle.std.specs.Prelude.{◌≡◌, ℕ, ◌+◌, List, Option, Ok}
+use Rattle.std.specs.Prelude.{ℕ, ◌+◌, List, Option, Ok}
 use Rattle.std.specs.Io.KnownBytes.{Appends}
 use Rattle.im_types.specs.Contents.{Contents}
 use Rattle.im_types.specs.Header.{header_of}

@@ -1,4 +1,3 @@
-use Rattle.std.proofs.Common.{◌≡◌, ℕ, List}
 use Rattle.std.specs.Io.KnownBytes.{Keeps}
 use Rattle.im_program.specs.Inspecting.{Tells}
 use Rattle.im_program.proofs.InspectingLemmas.{done_at_zero, tells_kept}

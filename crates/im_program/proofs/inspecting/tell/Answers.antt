@@ -1,4 +1,4 @@
-use Rattle.std.proofs.Common.{◌≡◌, ◌∙◌, ℕ, List, ap, subst, string_bytes}
+use Rattle.std.proofs.Common.{◌≡◌, ◌∙◌, subst}
 use Rattle.std.specs.Io.KnownBytes.{Appends}
 use Rattle.std.proofs.lemmas.Result.{on_ok_weaker}
 use Rattle.im_image.specs.Headers.{seen}

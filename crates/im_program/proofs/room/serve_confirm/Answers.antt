@@ -1,4 +1,3 @@
-use Rattle.std.proofs.Common.{ap}
 use Rattle.im_program.proofs.ServingLemmas.{confirm_goes, serve_halts}
 use Rattle.im_program.proofs.room.serve_confirm.Goals as goal
 

@@ -1,4 +1,4 @@
-use Rattle.std.proofs.Common.{◌≡◌, ◌∙◌, sym}
+use Rattle.std.proofs.Common.{◌∙◌, sym}
 use Rattle.im_program.proofs.PrintingLemmas.{on_ok_by}
 use Rattle.im_program.proofs.ServingLemmas.{closed, match_ends, match_serves, ended_as, going_as, going_none}
 use Rattle.im_program.proofs.serial.serve_on.Goals as goal

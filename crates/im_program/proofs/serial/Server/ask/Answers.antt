@@ -1,4 +1,4 @@
-use Rattle.std.proofs.Common.{◌≡◌, ◌∙◌, ◌++◌, List, refl, ap}
+use Rattle.std.proofs.Common.{◌∙◌, ◌++◌, List, refl, ap}
 use Rattle.std.specs.Prelude.{Ok, map}
 use Rattle.im_types.specs.Step.{asker}
 use Rattle.im_program.specs.declared.waits.Waited.{Waited}
