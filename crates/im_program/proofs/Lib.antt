@@ -1,3 +1,4 @@
+pub mod PrintingLemmas
 pub mod ServingLemmas
 pub mod ReportLemmas
 pub mod InspectingLemmas

@@ -65,7 +65,7 @@ waiters_more left after who was now all is added rest =
 
 -- ---- windows
 
-not_below : (n base : ℕ) → base ≤ n → nat_lt n base ≡ false
+pub not_below : (n base : ℕ) → base ≤ n → nat_lt n base ≡ false
 not_below n base le = grind (arith, nat_tests)
 
 -- what is kept under a number of a window

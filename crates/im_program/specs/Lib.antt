@@ -1,5 +1,6 @@
 pub mod Words
-pub mod Serving
 pub mod Report
+pub mod Printing
+pub mod Serving
 pub mod Inspecting
 pub mod Working

@@ -1,5 +1,5 @@
 -- What the work comes to that the program is asked for. (Own.)
-use Rattle.std.specs.Prelude.{◌≡◌, ℕ, List, []}
+use Rattle.std.specs.Prelude.{◌≡◌, ℕ, List, [], Option}
 use Rattle.im_types.specs.Sizes.{AreLimits}
 use Rattle.im_disk.specs.Moment.{Moment}
 use Rattle.im_disk.specs.Since.{LeavesNow, ReadsOnly}
@@ -8,11 +8,11 @@ use Rattle.im_program.specs.Inspecting.{Tells}
 use Rattle.im_program.specs.Serving.{ServedFrom}
 use Rattle.im_program.specs.Words.{Task, demonstration, format, serial, inspect}
 
--- A task was done on this disk, with this status: its file held the first moment when it was opened, and what was printed was
--- this text before, and is that one now. No file is opened for the demonstration.
-abbrev pub DoneOn : {D : Type 0} → (D → Moment) → (D → List Moment) → (D → ℕ) → Moment → Task → List ℕ → List ℕ → ℕ → D → Type 0
+-- A task was done on this disk, with this status: its file held the first moment when it was opened, and the writer held
+-- these bytes before, and holds those now. No file is opened for the demonstration.
+abbrev pub DoneOn : {D : Type 0} → (D → Moment) → (D → List Moment) → (D → ℕ) → Moment → Task → Option (List ℕ) → Option (List ℕ) → ℕ → D → Type 0
 DoneOn now past failures first demonstration was is status disk = ⊥
 DoneOn now past failures first (format image cells elements slots) was is status disk =
     (status ≡ 0) × AreLimits cells elements slots × LeavesNow (now disk) (λ file. file ≡ new_image 0xA5 (record { cells = cells; elements = elements; slots = slots }))
-DoneOn now past failures first (serial image script) was is status disk = ServedFrom now past failures first disk status
+DoneOn now past failures first (serial image script) was is status disk = ServedFrom now past failures first disk was is status
 DoneOn now past failures first (inspect image) was is status disk = (status ≡ 0 → Tells first.bytes was is) × ReadsOnly first (now disk) [] (past disk)

@@ -1,9 +1,11 @@
 //! What is printed of requests and refusals.
-ghost use Rattle.std.specs.Prelude.{◌≡◌, ◌++◌, OnOk, codes, decimal, string_bytes};
-ghost use Rattle.im_program.specs.Report.{entry_text, kind_text, line_feed, op_text, reply_text};
+ghost use Rattle.std.specs.Prelude.{◌≡◌, ◌++◌, ℕ, List, Some, OnOk, string_bytes};
+ghost use Rattle.im_program.specs.Printing.{now_line, refused_line, told_line};
+ghost use Rattle.im_program.specs.Report.{entry_text, kind_text, op_text, reply_text};
 
+use crate::waits::Waited;
 use im_types::{Entry, Kind, Op, Refusal, Reply};
-use std::alloc::AllocError;
+use std::alloc::{AllocError, Global};
 
 /// The letter of a kind.
 pub fn kind_text(kind: Kind) -> &'static str
@@ -62,27 +64,63 @@ pub fn add_entry(out: &mut String, entry: Entry) -> Result<(), AllocError>
 }
 
 /// Adds the line `K.N REPLY` of a request that was served.
-pub fn add_line(out: &mut String, element: u16, number: u64, entry: Entry) -> Result<(), AllocError>
-    ensures { OnOk result (string_bytes out.new ≡ string_bytes out.old
-        ++ decimal element ++ codes "." ++ decimal number ++ codes " " ++ entry_text entry ++ line_feed) }
+fn add_line(out: &mut String, element: u16, number: u64, entry: Entry) -> Result<(), AllocError>
+    ensures { OnOk result (string_bytes out.new ≡ string_bytes out.old ++ told_line element number entry) }
 {
-    write!(out, "{element}.{number} ")?;
+    write!(out, "{element}.{number} ")?; // K.N
     add_entry(out, entry)?;
     out.push_str("\n")
 }
 
 /// Adds the line `K.N now REPLY` of a request that had to wait.
-pub fn add_now(out: &mut String, element: u16, number: u64, entry: Entry) -> Result<(), AllocError>
-    ensures { OnOk result (string_bytes out.new ≡ string_bytes out.old
-        ++ decimal element ++ codes "." ++ decimal number ++ codes " now " ++ entry_text entry ++ line_feed) }
+fn add_now(out: &mut String, waited: Waited) -> Result<(), AllocError>
+    ensures { OnOk result (string_bytes out.new ≡ string_bytes out.old ++ now_line (Some waited)) }
 {
+    let element = waited.element;
+    let number = waited.number;
     write!(out, "{element}.{number} now ")?;
-    add_entry(out, entry)?;
+    add_entry(out, waited.entry)?;
     out.push_str("\n")
 }
 
-/// Adds the line `refused N NAME`.
-pub fn add_refusal(out: &mut String, refusal: Refusal) -> Result<(), AllocError> {
+/// Makes the line `K.N REPLY` of a request that was served.
+pub fn make_line(
+    line: &mut String,
+    element: u16,
+    number: u64,
+    entry: Entry,
+) -> Result<(), AllocError>
+    ensures { OnOk result (string_bytes line.new ≡ told_line element number entry) }
+{
+    line.clear();
+    add_line(line, element, number, entry)
+}
+
+/// Makes the line `K.N now REPLY` of a request that had to wait, if there is one.
+pub fn make_now(line: &mut String, waited: Option<Waited>) -> Result<(), AllocError>
+    ensures { OnOk result (string_bytes line.new ≡ now_line waited) }
+{
+    line.clear();
+    match waited {
+        Some(waited) => add_now(line, waited),
+        None => Ok(()),
+    }
+}
+
+// Makes the line of a refusal with this name.
+fn make_named(line: &mut String, refusal: Refusal, name: &str) -> Result<(), AllocError>
+    ensures { OnOk result (string_bytes line.new ≡ refused_line refusal name.now) }
+{
     let number = refusal.number();
-    writeln!(out, "refused {number} {refusal}")
+    line.clear();
+    writeln!(line, "refused {number} {name}")
+}
+
+/// The line `refused N NAME`.
+pub fn make_refusal(alloc: Global, line: &mut String, refusal: Refusal) -> Result<(), AllocError>
+    ensures { OnOk result ((name : List ℕ) × (string_bytes line.new ≡ refused_line refusal name)) }
+{
+    let mut name = String::new(alloc);
+    write!(name, "{refusal}")?;
+    make_named(line, refusal, name.as_str())
 }

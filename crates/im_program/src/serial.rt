@@ -1,29 +1,25 @@
 //! A script's requests, served one after another.
-ghost use Rattle.std.specs.Prelude.{◌≡◌, ◌⊎◌, ◌≤◌, false, OnOk, OnErr, string_bytes};
+ghost use Rattle.std.specs.Prelude.{◌≡◌, ◌⊎◌, ◌≤◌, ◌++◌, ℕ, [], false, Ok, OnOk, OnErr, IfOk, IsOk, MatchResult, length, map};
+ghost use Rattle.im_types.specs.Window.{bounds};
 ghost use Rattle.im_disk.specs.Since.{LeavesNow};
 ghost use Rattle.im_engine.specs.State.{MeansState};
-ghost use Rattle.im_program.specs.Serving.{Closed, NotOpened, OnlyPuts, Served};
+ghost use Rattle.im_program.specs.Printing.{PrintsMore, PrintsNows, PrintsOn, now_line, nows, told_line, waits_if};
+ghost use Rattle.im_program.specs.Printing.{who_of};
+ghost use Rattle.im_program.specs.Serving.{Closed, Ends, GoesOn, Halts, NotOpened, Served, Serves, at};
 
-use crate::replies::{add_line, add_now, add_refusal};
-use im_checkpoint::TurnDone;
+use crate::ending::{end, finish};
+use crate::lines::Lines;
+use crate::observer::{Observer, Progress};
+use crate::reasons::Reason;
+use crate::replies::{make_line, make_now};
+use crate::room::{confirm, first_waiting, make_room, next_number};
+use crate::waits::{Places, Waited, learn, learn_all, note, tell_earlier, waited_at};
 use im_disk::Disk;
 use im_engine::Engine;
 use im_script::Script;
-use im_types::layout::MOST_AREA_PAGES;
 use im_types::{Command, Entry, Op, Outcome, Refusal, Reply, Request, WINDOW};
-use std::alloc::Global;
-
-/// A request that had to wait, with its entry as last kept.
-#[derive(Clone, Copy, Debug, PartialEq, Eq)]
-struct Waited {
-    element: u16,
-    number: u64,
-    entry: Entry,
-}
-
-// As many turns as two checkpoints take at the largest sizes, each with its beginning, its pages, its sync, its header
-// and a sweep. The rest of one that is under way and a whole one end with room, or with nothing left to do.
-const MOST_TURNS: usize = 2 * (MOST_AREA_PAGES + 4);
+use std::alloc::{AllocError, Global};
+use std::io::Write;
 
 /// An engine that serves a script.
 #[derive(Drop)]
@@ -33,215 +29,436 @@ struct Server<D: Disk> {
     bases: Vec<u32>,
     /// The requests that had to wait, in their order.
     waited: Vec<Waited>,
+    /// Where each of them stands, while it is kept.
+    places: Places,
+    /// What is printed.
+    lines: Lines,
+    /// The line that is made.
+    line: String,
+    progress: Progress,
 }
 
 impl<D: Disk> Server<D> {
-    /// Notes what is now kept for the requests that had to wait.
-    fn learn(&mut self)
-        ensures same { self.new.engine ≡ self.old.engine }
+    // Confirms the entries of a full window up to the first that still waits.
+    fn make_place<N: Observer>(&mut self, element: u16, observer: &mut N) -> Result<(), Refusal>
+        ensures goes { MatchResult result
+            (λ _. GoesOn D.now D.past D.failures D.honest self.old.engine self.new.engine)
+            (λ _. Halts D.now D.past D.failures D.honest self.old.engine self.new.engine) }
+        ensures lines { self.new.lines ≡ self.old.lines }
+        ensures names { map who_of self.new.waited.items ≡ map who_of self.old.waited.items }
     {
-        let memory = self.engine.memory();
-        for waited in self.waited.iter_mut() {
-            if let Some(kept) = memory.kept(waited.element, waited.number) {
-                waited.entry = kept.entry;
-            }
-        }
-    }
-
-    /// The first number from `base` on, and before `next`, whose entry still waits. `next`, where none does.
-    fn first_waiting(&self, element: u16, base: u64, next: u64) -> u64 {
-        for number in base..next {
-            if self.engine.collect(element, number) == Ok(Entry::Waiting) {
-                return number;
-            }
-        }
-        next
-    }
-
-    /// Serves one command.
-    fn serve_one(&mut self, command: &Command) -> Result<Outcome, Refusal>
-        ensures puts { OnlyPuts D.now D.past D.failures D.honest self.old.engine self.new.engine }
-    {
-        self.engine.serve(command)
-    }
-
-    /// Takes turns of a checkpoint while there is no room for a command, and something is left to do.
-    fn make_room(&mut self) -> Result<(), Refusal>
-        ensures puts { OnlyPuts D.now D.past D.failures D.honest self.old.engine self.new.engine }
-    {
-        for _turn in 0..MOST_TURNS {
-            if self.engine.room() > 0 {
-                return Ok(());
-            }
-            if let TurnDone::Idle = self.take_turn()? {
-                return Ok(());
-            }
-        }
-        Ok(())
-    }
-
-    /// Takes one turn of a checkpoint.
-    fn take_turn(&mut self) -> Result<TurnDone, Refusal>
-        ensures puts { OnlyPuts D.now D.past D.failures D.honest self.old.engine self.new.engine }
-    {
-        self.engine.turn()
-    }
-
-    /// Confirms the entries of a full window up to the first that still waits.
-    fn make_place(&mut self, element: u16) -> Result<(), Refusal>
-        ensures puts { OnlyPuts D.now D.past D.failures D.honest self.old.engine self.new.engine }
-    {
-        let (base, next) = self.engine.window(element)?;
+        let (base, next) = match self.engine.window(element) {
+            Ok(bounds) => bounds,
+            Err(refusal) => return Err(refusal),
+        };
         if next.saturating_sub(base) < WINDOW {
             return Ok(());
         }
-        let upto = self.first_waiting(element, base, next);
-        self.learn();
-        self.make_room()?;
-        self.serve_one(&Command::Confirm { element, upto })?;
-        Ok(())
-    }
-
-    /// Serves an element's next request, and answers its number.
-    fn serve_next(&mut self, element: u16, op: Op) -> Result<u64, Refusal>
-        ensures puts { OnlyPuts D.now D.past D.failures D.honest self.old.engine self.new.engine }
-    {
-        self.make_place(element)?;
-        let (_, number) = self.engine.window(element)?;
-        self.make_room()?;
-        self.serve_one(&Command::Request(Request {
+        let upto = first_waiting(&self.engine, element, base, next);
+        learn(
+            self.waited.as_mut_slice(),
+            &mut self.places,
+            self.engine.memory(),
             element,
-            number,
-            op,
-        }))?;
-        Ok(number)
+            (base, upto),
+            observer,
+        );
+        confirm(&mut self.engine, &mut self.progress, element, upto)
     }
 
-    /// Serves an element's next request, and prints what is kept for it.
-    fn request(&mut self, element: u16, op: Op, out: &mut String) -> Result<Entry, Refusal>
-        ensures puts { OnlyPuts D.now D.past D.failures D.honest self.old.engine self.new.engine }
+    // Has a place in an element's window, and room in the journal, for its next request.
+    fn prepare<N: Observer>(&mut self, element: u16, observer: &mut N) -> Result<(), Refusal>
+        ensures goes { MatchResult result
+            (λ _. GoesOn D.now D.past D.failures D.honest self.old.engine self.new.engine)
+            (λ _. Halts D.now D.past D.failures D.honest self.old.engine self.new.engine) }
+        ensures lines { self.new.lines ≡ self.old.lines }
+        ensures names { map who_of self.new.waited.items ≡ map who_of self.old.waited.items }
     {
-        let number = self.serve_next(element, op)?;
-        let entry = self.engine.collect(element, number)?;
-        add_line(out, element, number, entry).map_err(|_| Refusal::NoMemory)?;
-        if entry == Entry::Waiting {
-            let waited = Waited {
-                element,
-                number,
-                entry,
-            };
-            self.waited.push(waited).map_err(|_| Refusal::NoMemory)?;
-        }
-        Ok(entry)
+        self.make_place(element, observer)?;
+        make_room(&mut self.engine, &mut self.progress)
     }
 
-    /// Makes the blocks of the setup. `BadScript` where one can't be made.
-    fn set_up(&mut self, script: &Script, out: &mut String) -> Result<(), Refusal>
-        ensures puts { OnlyPuts D.now D.past D.failures D.honest self.old.engine self.new.engine }
+    // Prints what a request was answered.
+    fn print<W: Write>(&mut self, who: (u16, u64), entry: Entry, out: &mut W) -> Result<(), Reason>
+        ensures engine { self.new.engine ≡ self.old.engine }
+        ensures names { self.new.waited.items ≡ self.old.waited.items }
+        ensures more { MatchResult result
+            (λ _. PrintsMore (W.contents out.old) self.old.lines (W.contents out.new) self.new.lines
+            (told_line who.0 who.1 entry))
+            (λ _. PrintsOn (W.contents out.old) self.old.lines (W.contents out.new) self.new.lines) }
+    {
+        let (element, number) = who;
+        match make_line(&mut self.line, element, number, entry) {
+            Ok(()) => self.lines.push(out, self.line.as_str()),
+            Err(_) => Err(Reason::Memory),
+        }
+    }
+
+    // Notes a request that has to wait.
+    fn note(&mut self, who: (u16, u64), entry: Entry) -> Result<(), Reason>
+        ensures engine { self.new.engine ≡ self.old.engine }
+        ensures lines { self.new.lines ≡ self.old.lines }
+        ensures names { MatchResult result
+            (λ _. map who_of self.new.waited.items ≡ map who_of self.old.waited.items
+            ++ waits_if (record { element = who.0; number = who.1 }) entry)
+            (λ _. map who_of self.new.waited.items ≡ map who_of self.old.waited.items) }
+    {
+        let (element, number) = who;
+        match note(&mut self.waited, &mut self.places, element, number, entry) {
+            Ok(()) => Ok(()),
+            Err(_) => Err(Reason::Memory),
+        }
+    }
+
+    // Serves an element's request with its next number, and prints what is kept for it.
+    fn ask<W: Write>(&mut self, request: Request, out: &mut W) -> Result<Entry, Reason>
+        requires next { self.old.engine.failed ≡ false → (base : ℕ)
+            × (bounds self.old.engine.memory.windows request.element ≡ Ok (base, request.number)) }
+        ensures serves { MatchResult result
+            (λ _. Serves D.now D.past D.failures D.honest
+            (at self.old.engine (W.contents out.old) self.old.lines self.old.waited.items)
+            (at self.new.engine (W.contents out.new) self.new.lines self.new.waited.items))
+            (λ _. Ends D.now D.past D.failures D.honest
+            (at self.old.engine (W.contents out.old) self.old.lines self.old.waited.items)
+            (at self.new.engine (W.contents out.new) self.new.lines self.new.waited.items)) }
+    {
+        let who = (request.element, request.number);
+        match self.engine.serve(&Command::Request(request)) {
+            Ok(Outcome::Entry(entry)) => match self.print(who, entry, out) {
+                Ok(()) => match self.note(who, entry) {
+                    Ok(()) => Ok(entry),
+                    Err(reason) => Err(reason),
+                },
+                Err(reason) => Err(reason),
+            },
+            Ok(Outcome::Confirmed) => Err(Reason::Request(who.0, Refusal::Failed)), // No request is answered so.
+            Err(refusal) => Err(Reason::Request(who.0, refusal)),
+        }
+    }
+
+    // Serves an element's next request, for which there is room, and prints what is kept for it.
+    fn ask_next<W: Write>(&mut self, element: u16, op: Op, out: &mut W) -> Result<Entry, Reason>
+        ensures serves { MatchResult result
+            (λ _. Serves D.now D.past D.failures D.honest
+            (at self.old.engine (W.contents out.old) self.old.lines self.old.waited.items)
+            (at self.new.engine (W.contents out.new) self.new.lines self.new.waited.items))
+            (λ _. Ends D.now D.past D.failures D.honest
+            (at self.old.engine (W.contents out.old) self.old.lines self.old.waited.items)
+            (at self.new.engine (W.contents out.new) self.new.lines self.new.waited.items)) }
+    {
+        match next_number(&self.engine, element) {
+            Ok(number) => self.ask(
+                Request {
+                    element,
+                    number,
+                    op,
+                },
+                out,
+            ),
+            Err(refusal) => Err(Reason::Request(element, refusal)),
+        }
+    }
+
+    // Serves an element's next request, and prints what is kept for it.
+    fn request<W: Write, N: Observer>(
+        &mut self,
+        element: u16,
+        op: Op,
+        out: &mut W,
+        observer: &mut N,
+    ) -> Result<Entry, Reason>
+        ensures serves { MatchResult result
+            (λ _. Serves D.now D.past D.failures D.honest
+            (at self.old.engine (W.contents out.old) self.old.lines self.old.waited.items)
+            (at self.new.engine (W.contents out.new) self.new.lines self.new.waited.items))
+            (λ _. Ends D.now D.past D.failures D.honest
+            (at self.old.engine (W.contents out.old) self.old.lines self.old.waited.items)
+            (at self.new.engine (W.contents out.new) self.new.lines self.new.waited.items)) }
+    {
+        match self.prepare(element, observer) {
+            Ok(()) => {
+                follow(&mut self.progress, self.engine.room(), observer);
+                self.ask_next(element, op, out)
+            }
+            Err(refusal) => Err(Reason::Request(element, refusal)),
+        }
+    }
+
+    // Makes the blocks of the setup.
+    fn set_up<W: Write, N: Observer>(
+        &mut self,
+        script: &Script,
+        out: &mut W,
+        observer: &mut N,
+    ) -> Result<(), Reason>
+        ensures serves { MatchResult result
+            (λ _. Serves D.now D.past D.failures D.honest
+            (at self.old.engine (W.contents out.old) self.old.lines self.old.waited.items)
+            (at self.new.engine (W.contents out.new) self.new.lines self.new.waited.items))
+            (λ _. Ends D.now D.past D.failures D.honest
+            (at self.old.engine (W.contents out.old) self.old.lines self.old.waited.items)
+            (at self.new.engine (W.contents out.new) self.new.lines self.new.waited.items)) }
     {
         for block in &script.setup {
-            let entry = self.request(0, Op::Alloc(block.kind, block.length), out)?;
-            let Entry::Answered(Reply::Base(base)) = entry else {
-                return Err(Refusal::BadScript);
+            let entry = match self.request(0, Op::Alloc(block.kind, block.length), out, observer) {
+                Ok(entry) => entry,
+                Err(reason) => return Err(reason),
             };
-            self.bases.push(base).map_err(|_| Refusal::NoMemory)?;
+            let Entry::Answered(Reply::Base(base)) = entry else {
+                return Err(Reason::Block(self.bases.len().saturating_add(1)));
+            };
+            if self.bases.push(base).is_err() {
+                return Err(Reason::Memory);
+            }
         }
         Ok(())
     }
 
-    /// Serves the requests of the parts.
-    fn serve_lines(&mut self, script: &Script, out: &mut String) -> Result<(), Refusal>
-        ensures puts { OnlyPuts D.now D.past D.failures D.honest self.old.engine self.new.engine }
+    // Serves the requests of the parts.
+    fn serve_lines<W: Write, N: Observer>(
+        &mut self,
+        script: &Script,
+        out: &mut W,
+        observer: &mut N,
+    ) -> Result<(), Reason>
+        ensures serves { MatchResult result
+            (λ _. Serves D.now D.past D.failures D.honest
+            (at self.old.engine (W.contents out.old) self.old.lines self.old.waited.items)
+            (at self.new.engine (W.contents out.new) self.new.lines self.new.waited.items))
+            (λ _. Ends D.now D.past D.failures D.honest
+            (at self.old.engine (W.contents out.old) self.old.lines self.old.waited.items)
+            (at self.new.engine (W.contents out.new) self.new.lines self.new.waited.items)) }
     {
         for line in &script.lines {
             let Some(op) = line.action.op(self.bases.as_slice()) else {
-                return Err(Refusal::BadScript);
+                return Err(Reason::Place(line.element));
             };
-            self.request(line.element, op, out)?;
+            let _entry = match self.request(line.element, op, out, observer) {
+                Ok(entry) => entry,
+                Err(reason) => return Err(reason),
+            };
         }
         Ok(())
     }
 
-    /// Serves the whole script, until a request is refused.
-    fn serve(&mut self, script: &Script, out: &mut String) -> Result<(), Refusal>
-        ensures puts { OnlyPuts D.now D.past D.failures D.honest self.old.engine self.new.engine }
+    // Serves the whole script, until a request is refused.
+    fn serve<W: Write, N: Observer>(
+        &mut self,
+        script: &Script,
+        out: &mut W,
+        observer: &mut N,
+    ) -> Result<(), Reason>
+        ensures serves { MatchResult result
+            (λ _. Serves D.now D.past D.failures D.honest
+            (at self.old.engine (W.contents out.old) self.old.lines self.old.waited.items)
+            (at self.new.engine (W.contents out.new) self.new.lines self.new.waited.items))
+            (λ _. Ends D.now D.past D.failures D.honest
+            (at self.old.engine (W.contents out.old) self.old.lines self.old.waited.items)
+            (at self.new.engine (W.contents out.new) self.new.lines self.new.waited.items)) }
     {
-        self.set_up(script, out)?;
-        self.serve_lines(script, out)
+        self.set_up(script, out, observer)?;
+        self.serve_lines(script, out, observer)
     }
 
-    /// Prints what became of the requests that had to wait.
-    fn tell(&mut self, out: &mut String) -> Result<(), Refusal>
-        ensures same { self.new.engine ≡ self.old.engine }
+    // Learns what is kept at the end for the requests that had to wait, and tells of those that waited before.
+    fn learn_all<N: Observer>(&mut self, observer: &mut N)
+        ensures engine { self.new.engine ≡ self.old.engine }
+        ensures lines { self.new.lines ≡ self.old.lines }
+        ensures names { map who_of self.new.waited.items ≡ map who_of self.old.waited.items }
     {
-        self.learn();
-        for waited in &self.waited {
-            add_now(out, waited.element, waited.number, waited.entry).map_err(
-                |_| Refusal::NoMemory,
-            )?;
-        }
-        Ok(())
+        learn_all(self.waited.as_mut_slice(), self.engine.memory());
+        tell_earlier(&mut self.places, self.engine.memory(), observer);
+    }
+
+    // Prints what became of the requests that had to wait.
+    fn tell<W: Write>(&mut self, out: &mut W) -> Result<(), Reason>
+        ensures engine { self.new.engine ≡ self.old.engine }
+        ensures waited { self.new.waited ≡ self.old.waited }
+        ensures all { OnOk result (PrintsMore (W.contents out.old) self.old.lines (W.contents out.new) self.new.lines
+            (nows self.old.waited.items (length self.old.waited.items))) }
+        ensures some { PrintsNows (W.contents out.old) self.old.lines (W.contents out.new) self.new.lines
+            self.old.waited.items }
+    {
+        print_nows(self.waited.as_slice(), &mut self.line, &mut self.lines, out)
     }
 }
 
-/// The status of work that is done or refused. A refusal is printed.
-pub fn end(done: Result<(), Refusal>, out: &mut String) -> u8
-    ensures done { OnOk done (result ≡ 0) }
-    ensures refused { OnErr done (result ≡ 1) }
-    ensures same { OnOk done (string_bytes out.new ≡ string_bytes out.old) }
+// Tells how far the work has come, before one request more.
+fn follow<N: Observer>(progress: &mut Progress, room: u32, observer: &mut N) {
+    progress.room = room;
+    observer.progressed(*progress);
+    progress.served = progress.served.saturating_add(1);
+}
+
+// Prints what became of the requests that had to wait.
+fn print_nows<W: Write>(
+    waited: &[Waited],
+    line: &mut String,
+    lines: &mut Lines,
+    out: &mut W,
+) -> Result<(), Reason>
+    ensures all { OnOk result (PrintsMore (W.contents out.old) lines.old (W.contents out.new) lines.new
+        (nows waited.now (length waited.now))) }
+    ensures some { PrintsNows (W.contents out.old) lines.old (W.contents out.new) lines.new waited.now }
 {
-    match done {
-        Ok(()) => 0,
-        Err(refusal) => {
-            let _printed = add_refusal(out, refusal);
-            1
-        }
+    for at in 0..waited.len() {
+        push_now(waited_at(waited, at), line, lines, out)?;
+    }
+    Ok(())
+}
+
+// Prints what became of one that had to wait.
+fn push_now<W: Write>(
+    waited: Option<Waited>,
+    line: &mut String,
+    lines: &mut Lines,
+    out: &mut W,
+) -> Result<(), Reason>
+    ensures more { MatchResult result
+        (λ _. PrintsMore (W.contents out.old) lines.old (W.contents out.new) lines.new (now_line waited))
+        (λ _. PrintsOn (W.contents out.old) lines.old (W.contents out.new) lines.new) }
+{
+    match make_now(line, waited) {
+        Ok(()) => lines.push(out, line.as_str()),
+        Err(_) => Err(Reason::Memory),
     }
 }
 
-/// Serves a script on the image of a disk, and gives the disk back. The text that it prints is added to `out`: the line
-/// `K.N REPLY` for each request, in order, K being its element and N its number, then `K.N now REPLY` for each that had
-/// to wait, with its entry as last kept, and at last `refused N NAME` where something was refused. That ends the
-/// script. Before a request of an element whose window is full, its entries before the first that still waits are
-/// confirmed.
-/// Before each request and each confirmation turns of a checkpoint are taken while there is no room for a command.
+// What serving takes besides the engine.
+#[derive(Drop)]
+struct Desk {
+    places: Places,
+    lines: Lines,
+    line: String,
+}
+
+// The most bytes of a line.
+const LINE: usize = 64;
+
+// Takes all room that serving needs, but for the list of those that have to wait.
+fn make_desk(alloc: Global) -> Result<Desk, AllocError>
+    ensures pending { IfOk result (λ desk. desk.lines.pending.items ≡ []) }
+{
+    Ok(Desk {
+        places: Places::new(alloc)?,
+        lines: Lines::new(alloc)?,
+        line: String::with_capacity(alloc, LINE)?,
+    })
+}
+
+/// Serves a script on the image of a disk, and gives the disk back. What it prints goes to `out`: the line `K.N REPLY`
+/// for each request, in order, K being its element and N its number, then `K.N now REPLY` for each that had to wait,
+/// with its entry as last kept, and at last `refused N NAME` where something was refused. That ends the script. Before
+/// a request of an element whose window is full, its entries before the first that still waits are confirmed. Of
+/// a request that waited when the image was opened the observer is told what it is answered, before its entry is
+/// confirmed, and at the end at the latest. Before each request and each confirmation turns of a checkpoint are taken
+/// while there is no room for a command.
+///
+/// Each line is written whole once its command is on the disk, in batches of at most 4,096 bytes, and the rest at the
+/// end. A write that fails ends the script: nothing more is served or written.
 ///
 /// The status is 0, or 1 where something was refused: the image, at opening; a request; `BadScript` where a block of
-/// the setup can't be made; `NoMemory` where `alloc`, or `out`, refused the room for what is kept of the script.
+/// the setup can't be made; `NoMemory` where `alloc` refused the room for what is kept of the script; or where a write
+/// failed. The observer is told why.
 ///
 /// Where the image isn't opened, a crash leaves nothing that it couldn't leave before. From the opening on, a crash
 /// leaves the memory after a beginning of the accepted commands that were put on the image, and at the end after all of
 /// them, or after all but the last where a call of the disk failed. Where the status is 0, it leaves the memory after
-/// all of them.
-pub fn serial_on<D: Disk>(alloc: Global, disk: D, script: &Script, out: &mut String) -> (u8, D)
+/// all of them. Each command whose line was written is among those that every file has which a crash leaves: what was
+/// written is at each return a beginning of the lines of such commands, then of those that had to wait, then of the
+/// refusal; and where the status is 0, all of it.
+pub fn serial_on<D: Disk, W: Write, N: Observer>(
+    alloc: Global,
+    disk: D,
+    script: &Script,
+    out: &mut W,
+    observer: &mut N,
+) -> (u8, D)
     ensures status { result.0 ≤ 1 }
-    ensures served { D.honest result.1 → NotOpened D.now D.past disk result.1 result.0
-        ⊎ Served D.now D.past D.failures disk result.1 result.0 }
+    ensures served { D.honest result.1
+        → NotOpened D.now D.past disk result.1 (W.contents out.old) (W.contents out.new) result.0
+        ⊎ Served D.now D.past D.failures disk result.1 (W.contents out.old) (W.contents out.new) result.0 }
     ensures honest { D.honest result.1 → D.honest disk }
 {
+    let desk = match make_desk(alloc) {
+        Ok(desk) => desk,
+        Err(_) => return (end(alloc, Err(Reason::Memory), out, observer), disk),
+    };
     match Engine::open(alloc, disk) {
-        Ok(engine) => serve_on(alloc, engine, script, out),
-        Err((refusal, disk)) => (end(Err(refusal), out), disk),
+        Ok(engine) => serve_on(alloc, engine, desk, script, out, observer),
+        Err((refusal, disk)) => (end(alloc, Err(Reason::Image(refusal)), out, observer), disk),
     }
 }
 
-/// Serves a script on an engine, and gives its disk back.
-fn serve_on<D: Disk>(alloc: Global, engine: Engine<D>, script: &Script, out: &mut String) -> (u8, D)
+// Serves a script on an engine, and gives its disk back.
+fn serve_on<D: Disk, W: Write, N: Observer>(
+    alloc: Global,
+    engine: Engine<D>,
+    desk: Desk,
+    script: &Script,
+    out: &mut W,
+    observer: &mut N,
+) -> (u8, D)
     requires works { engine.failed ≡ false }
     requires means { D.honest engine.disk → LeavesNow (D.now engine.disk) (MeansState engine) }
+    requires pending { desk.lines.pending.items ≡ [] }
     ensures status { result.0 ≤ 1 }
-    ensures closed { D.honest result.1 → Closed D.now D.past D.failures engine result.1 result.0 }
+    ensures closed { D.honest result.1
+        → Closed D.now D.past D.failures engine result.1 (W.contents out.old) (W.contents out.new) result.0 }
     ensures honest { D.honest result.1 → D.honest engine.disk }
 {
+    let Desk {
+        mut places,
+        lines,
+        line,
+    } = desk;
+    places.mark_earlier(engine.memory());
     let mut server = Server {
         engine,
         bases: Vec::new(alloc),
         waited: Vec::new(alloc),
+        places,
+        lines,
+        line,
+        progress: Progress {
+            served: 0,
+            room: 0,
+            checkpoints: 0,
+        },
     };
-    let served = server.serve(script, out);
+    let served = server.serve(script, out, observer);
+    server.learn_all(observer);
     let told = server.tell(out);
-    let status = end(served.and(told), out);
+    let status = finish(
+        alloc,
+        both(served, told),
+        &mut server.lines,
+        &mut server.line,
+        out,
+        observer,
+    );
     // Where the disk failed, a refusal was printed: the status is 1 already.
     let failed = server.engine.failed();
-    (if failed { 1 } else { status }, server.engine.close())
+    (status_at(failed, status), server.engine.close())
+}
+
+// What was refused first, if anything was.
+fn both(served: Result<(), Reason>, told: Result<(), Reason>) -> Result<(), Reason>
+    ensures served { IsOk result → IsOk served }
+    ensures told { IsOk result → IsOk told }
+{
+    match served {
+        Ok(()) => told,
+        Err(reason) => Err(reason),
+    }
+}
+
+// The status, which is 1 where the disk failed.
+fn status_at(failed: bool, status: u8) -> u8
+    requires { status ≤ 1 }
+    ensures few { result ≤ 1 }
+    ensures works { result ≡ 0 → failed ≡ false }
+    ensures status { result ≡ 0 → status ≡ 0 }
+{
+    if failed { 1 } else { status }
 }

@@ -1,26 +1,32 @@
 //! The work that the program is asked for.
-ghost use Rattle.std.specs.Prelude.{◌≡◌, ◌⊎◌, ◌↔◌, ◌≤◌, [], IsOk, IfOk, IfErr, IfSome, IfNone, string_bytes};
+ghost use Rattle.std.specs.Prelude.{◌≡◌, ◌⊎◌, ◌↔◌, ◌≤◌, ℕ, List, [], IsOk, IfOk, IfErr, OnErr, IfSome, IfNone};
+ghost use Rattle.std.specs.Io.KnownBytes.{Keeps};
 ghost use Rattle.im_types.specs.declared.refusals.Refusal.TheVariants.{BadScript, Device, NoMemory, WrongLength};
 ghost use Rattle.im_types.specs.Layout.{sizes_of};
 ghost use Rattle.im_types.specs.Sizes.{AreLimits};
 ghost use Rattle.im_disk.specs.Since.{LeavesNow, ReadsOnly};
 ghost use Rattle.im_image.specs.Fresh.{new_image};
 ghost use Rattle.im_program.specs.Inspecting.{Tells};
+ghost use Rattle.im_program.specs.Printing.{Begins, IsLast};
 ghost use Rattle.im_program.specs.Serving.{ServedFrom};
 ghost use Rattle.im_program.specs.Words.{demonstration, task_of};
 ghost use Rattle.im_program.specs.Working.{DoneOn};
 
+use crate::console::Console;
+use crate::ending::put_refusal;
 use crate::inspecting::inspect_on;
-use crate::serial::{end, serial_on};
+use crate::observer::Observer;
+use crate::reasons::Reason;
+use crate::serial::serial_on;
 use crate::words::{DEFAULT_CELLS, DEFAULT_ELEMENTS, DEFAULT_SLOTS, Work};
 use im_disk::{Disk, FileDisk, MemDisk, OpenFault, Start};
 use im_engine::Engine;
 use im_image::image_length;
-use im_script::{Script, read_script};
-use im_types::{Limits, Refusal};
+use im_script::{Script, ScriptFault, read_script};
+use im_types::{Limits, MAX_CELLS, MAX_ELEMENTS, Refusal};
 use std::alloc::Global;
-use std::fs::{self, File};
-use std::io::{self, Eprint};
+use std::fs::{self, File, OpenOptions};
+use std::io::{self, Eprint, ErrorKind, Input, Read, Write};
 use std::rt::Files;
 
 /// The script that is served where no work is named.
@@ -44,28 +50,65 @@ fn limits_of(cells: u32, elements: u32, slots: u32) -> Result<Limits, Refusal>
     Limits::new(cells, elements, slots).ok_or(Refusal::BadLimits)
 }
 
-/// The refusal of an image that isn't made or opened. Where another program has it, a line on standard error says so.
-fn refusal_of<R: Eprint>(rt: &R, image: &str, fault: OpenFault) -> Refusal
+// Which of the numbers is out of its range, the first one first.
+fn limits_reason(cells: u32, elements: u32, slots: u32) -> Reason {
+    if cells == 0 || cells > MAX_CELLS {
+        Reason::Cells(cells)
+    } else if elements == 0 || elements > MAX_ELEMENTS as u32 {
+        Reason::Elements(elements)
+    } else {
+        Reason::Slots(slots)
+    }
+}
+
+// What the system says of a file that can't be opened.
+fn kind_of<R: Files<File = File>>(rt: &R, path: &str) -> Option<ErrorKind> {
+    let data = match fs::metadata(rt, path) {
+        Ok(data) => data,
+        Err(error) => return Some(error.kind()),
+    };
+    if data.is_dir() {
+        return Some(ErrorKind::IsADirectory);
+    }
+    if !data.is_file() {
+        return Some(ErrorKind::Unsupported); // A FIFO would be waited for.
+    }
+    match OpenOptions::new().read(true).write(true).open(rt, path) {
+        Ok(_) => None,
+        Err(error) => Some(error.kind()),
+    }
+}
+
+// The refusal of an image that isn't made or opened. The observer is told why.
+fn refusal_of<R: Files<File = File>, N: Observer>(
+    rt: &R,
+    image: &str,
+    fault: OpenFault,
+    observer: &mut N,
+) -> Refusal
     ensures { result ≡ Refusal.Device }
 {
-    if let OpenFault::InUse = fault {
-        let _printed = eprintln!(rt; "imem: {image} is in use by another program");
-    }
+    let kind = match fault {
+        OpenFault::InUse => None,
+        OpenFault::Device => kind_of(rt, image),
+    };
+    observer.refused(Reason::File(fault, kind));
     Refusal::from(fault)
 }
 
 /// Makes an image of a file, and gives its disk back: the file is made, or an older one's bytes are lost. As long as
 /// the file was honest, each file that a crash may leave is the new image, byte for byte.
 ///
-/// Refused are, with nothing changed: `Device` where another opening has the file's lock, which a line on standard
-/// error says too, or where what is at the path is no regular file. `Device` where another call of the system fails,
-/// and what [`Engine::format`] refuses: then the file may hold no image, and an older one is lost.
+/// Refused are, with nothing changed: `Device` where another opening has the file's lock, or where what is at the path
+/// is no regular file. `Device` where another call of the system fails, and what [`Engine::format`] refuses: then the
+/// file may hold no image, and an older one is lost. The observer is told why.
 ///
 /// That an image is ever made is no clause: none knows what a folder holds.
-pub fn format_file<R: Files<File = File> + AllocGlobal + Eprint, S: Start>(
+pub fn format_file<R: Files<File = File> + AllocGlobal, S: Start, N: Observer>(
     rt: &R,
     image: &str,
     limits: Limits,
+    observer: &mut N,
     start: S,
 ) -> Result<FileDisk<S>, Refusal>
     ensures made { IfOk result (λ disk. ⟦<FileDisk<S> as Disk>⟧.honest disk →
@@ -74,94 +117,131 @@ pub fn format_file<R: Files<File = File> + AllocGlobal + Eprint, S: Start>(
 {
     let disk = match FileDisk::create(rt, image, image_length(limits), start) {
         Ok(disk) => disk,
-        Err(fault) => return Err(refusal_of(rt, image, fault)),
+        Err(fault) => return Err(refusal_of(rt, image, fault, observer)),
     };
     match Engine::format(rt.alloc(), disk, limits) {
         Ok(engine) => Ok(engine.close()),
-        Err((refusal, _)) => Err(refusal), // The file is made, and holds no image or a torn one.
+        Err((refusal, _)) => Err(told(refusal, observer)), // The file is made, and holds no image or a torn one.
     }
 }
 
-/// Reads the script of a file. `BadScript` where the file can't be read.
-fn read_file<R: Files<File = File> + AllocGlobal>(rt: &R, script: &str) -> Result<Script, Refusal>
+// The refusal of an image that was made or opened. The observer is told why.
+fn told<N: Observer>(refusal: Refusal, observer: &mut N) -> Refusal
+    ensures { result ≡ refusal }
+{
+    observer.refused(Reason::Image(refusal));
+    refusal
+}
+
+// The text of a script: that of a file, or of standard input where the path is `-`.
+fn read_text<R: Files<File = File> + AllocGlobal + Input>(
+    rt: &R,
+    script: &str,
+) -> io::Result<Vec<u8>> {
+    if script != "-" {
+        return fs::read(rt, script);
+    }
+    let mut text = Vec::new(rt.alloc());
+    rt.reader().read_to_end(&mut text)?;
+    Ok(text)
+}
+
+// The refusal of a script. The observer is told why.
+fn refuse_script<N: Observer>(reason: Reason, observer: &mut N) -> Refusal
+    ensures { (result ≡ BadScript) ⊎ (result ≡ NoMemory) }
+{
+    observer.refused(reason);
+    match reason {
+        Reason::ScriptFile(ErrorKind::OutOfMemory) | Reason::Script(ScriptFault::NoMemory) => {
+            Refusal::NoMemory
+        }
+        _ => Refusal::BadScript,
+    }
+}
+
+// Reads the script of a file. `BadScript` where the file can't be read.
+fn read_file<R: Files<File = File> + AllocGlobal + Input, N: Observer>(
+    rt: &R,
+    script: &str,
+    observer: &mut N,
+) -> Result<Script, Refusal>
     ensures { IfErr result (λ refusal. (refusal ≡ BadScript) ⊎ (refusal ≡ NoMemory)) }
 {
-    match fs::read(rt, script) {
-        Ok(text) => match read_script(rt.alloc(), text.as_slice()) {
-            Ok(script) => Ok(script),
-            Err(fault) => Err(fault.refusal()),
-        },
-        Err(error) => Err(if error.kind() == io::ErrorKind::OutOfMemory {
-            Refusal::NoMemory
-        } else {
-            Refusal::BadScript
-        }),
+    let text = match read_text(rt, script) {
+        Ok(text) => text,
+        Err(error) => return Err(refuse_script(Reason::ScriptFile(error.kind()), observer)),
+    };
+    match read_script(rt.alloc(), text.as_slice()) {
+        Ok(script) => Ok(script),
+        Err(fault) => Err(refuse_script(Reason::Script(fault), observer)),
     }
 }
 
 /// Serves the script of a file on the image of another, and gives the image's disk back, with the status and the lines
-/// of [`serial_on`]. The script is read first.
+/// of [`serial_on`]. The script is read first; the path `-` is standard input.
 ///
 /// Whatever the image held when it was opened (`S`): as long as the file was honest, a crash at any moment since then
 /// leaves what [`serial_on`] says.
 ///
 /// Refused are, with nothing printed and the image as it was: `BadScript` for a script that can't be read or isn't in
 /// the grammar, and `NoMemory` for one that there is no room for; `Device` for an image that can't be opened: it is no
-/// regular file, another opening has its lock, which a line on standard error says too, or a call of the system fails.
-/// What [`serial_on`] refuses is its status and its last line.
+/// regular file, another opening has its lock, or a call of the system fails. The observer is told why. What
+/// [`serial_on`] refuses is its status and its last line.
 ///
 /// That an image is ever opened is no clause: none knows what a folder holds.
-pub fn serve_file<R: Files<File = File> + AllocGlobal + Eprint, S: Start>(
+pub fn serve_file<R: Files<File = File> + AllocGlobal + Input, S: Start, W: Write, N: Observer>(
     rt: &R,
     image: &str,
     script: &str,
-    out: &mut String,
+    out: &mut W,
+    observer: &mut N,
     start: S,
 ) -> Result<(u8, FileDisk<S>), Refusal>
     ensures status { IfOk result (λ r. r.0 ≤ 1) }
     ensures served { IfOk result (λ r. ⟦<FileDisk<S> as Disk>⟧.honest r.1 →
         ServedFrom ⟦<FileDisk<S> as Disk>⟧.now ⟦<FileDisk<S> as Disk>⟧.past ⟦<FileDisk<S> as Disk>⟧.failures
-        S.first r.1 r.0) }
+        S.first r.1 (W.contents out.old) (W.contents out.new) r.0) }
     ensures refused { IfErr result (λ refusal. (refusal ≡ BadScript) ⊎ (refusal ≡ NoMemory) ⊎ (refusal ≡ Device)) }
-    ensures same { IfErr result (λ _. out.new ≡ out.old) }
+    ensures same { OnErr result (Keeps (W.contents out.old) (W.contents out.new)) }
 {
-    let script = match read_file(rt, script) {
+    let script = match read_file(rt, script, observer) {
         Ok(script) => script,
         Err(refusal) => return Err(refusal),
     };
     match FileDisk::open(rt, image, start) {
-        Ok(disk) => Ok(serial_on(rt.alloc(), disk, &script, out)),
-        Err(fault) => Err(refusal_of(rt, image, fault)),
+        Ok(disk) => Ok(serial_on(rt.alloc(), disk, &script, out, observer)),
+        Err(fault) => Err(refusal_of(rt, image, fault, observer)),
     }
 }
 
 /// Tells what the image of a file means, and gives its disk back, with the status and the lines of [`inspect_on`].
 ///
 /// Whatever the image held when it was opened (`S`): where the file was honest and the status is 0, the report of those
-/// bytes is added to `out`; and a crash leaves nothing that it couldn't leave then.
+/// bytes is written to `out`; and a crash leaves nothing that it couldn't leave then.
 ///
 /// Refused is, with nothing printed and the image as it was, `Device` for an image that can't be opened: it is no
-/// regular file, an opening that writes has its lock, which a line on standard error says too, or a call of the system
-/// fails. What [`inspect_on`] refuses is its status and its last line.
+/// regular file, an opening that writes has its lock, or a call of the system fails. The observer is told why. What
+/// [`inspect_on`] refuses is its status and its last line.
 ///
 /// That an image is ever opened is no clause: none knows what a folder holds.
-pub fn inspect_file<R: Files<File = File> + AllocGlobal + Eprint, S: Start>(
+pub fn inspect_file<R: Files<File = File> + AllocGlobal, S: Start, W: Write, N: Observer>(
     rt: &R,
     image: &str,
-    out: &mut String,
+    out: &mut W,
+    observer: &mut N,
     start: S,
 ) -> Result<(u8, FileDisk<S>), Refusal>
     ensures status { IfOk result (λ r. r.0 ≤ 1) }
     ensures told { IfOk result (λ r. ⟦<FileDisk<S> as Disk>⟧.honest r.1 → r.0 ≡ 0 →
-        Tells S.first.bytes (string_bytes out.old) (string_bytes out.new)) }
+        Tells S.first.bytes (W.contents out.old) (W.contents out.new)) }
     ensures reads { IfOk result (λ r. ⟦<FileDisk<S> as Disk>⟧.honest r.1 →
         ReadsOnly S.first (⟦<FileDisk<S> as Disk>⟧.now r.1) [] (⟦<FileDisk<S> as Disk>⟧.past r.1)) }
     ensures refused { IfErr result (λ refusal. refusal ≡ Device) }
-    ensures same { IfErr result (λ _. out.new ≡ out.old) }
+    ensures same { OnErr result (Keeps (W.contents out.old) (W.contents out.new)) }
 {
     match FileDisk::open_to_read(rt, image, start) {
-        Ok(disk) => Ok(inspect_on(rt.alloc(), disk, out)),
-        Err(fault) => Err(refusal_of(rt, image, fault)),
+        Ok(disk) => Ok(inspect_on(rt.alloc(), disk, out, observer)),
+        Err(fault) => Err(refusal_of(rt, image, fault, observer)),
     }
 }
 
@@ -178,25 +258,33 @@ fn usual_image(alloc: Global) -> Result<MemDisk, Refusal> {
 }
 
 /// Serves a short script on an image in memory.
-fn demonstrate(alloc: Global, out: &mut String) -> Result<u8, Refusal>
+fn demonstrate<W: Write, N: Observer>(
+    alloc: Global,
+    out: &mut W,
+    observer: &mut N,
+) -> Result<u8, Refusal>
     ensures status { IfOk result (λ status. status ≤ 1) }
 {
     let script = match read_script(alloc, DEMONSTRATION.as_bytes()) {
         Ok(script) => script,
         Err(fault) => return Err(fault.refusal()),
     };
-    let disk = usual_image(alloc)?;
-    let (status, _) = serial_on(alloc, disk, &script, out);
+    let disk = match usual_image(alloc) {
+        Ok(disk) => disk,
+        Err(refusal) => return Err(told(refusal, observer)),
+    };
+    let (status, _) = serial_on(alloc, disk, &script, out, observer);
     Ok(status)
 }
 
 /// Makes the image that the words ask for. `BadLimits` where a number is out of its range; then no file is made.
-fn format_image<R: Files<File = File> + AllocGlobal + Eprint, S: Start>(
+fn format_image<R: Files<File = File> + AllocGlobal, S: Start, N: Observer>(
     rt: &R,
     image: &str,
     cells: u32,
     elements: u32,
     slots: u32,
+    observer: &mut N,
     start: S,
 ) -> Result<FileDisk<S>, Refusal>
     ensures limits { IfOk result (λ _. AreLimits cells elements slots) }
@@ -206,26 +294,30 @@ fn format_image<R: Files<File = File> + AllocGlobal + Eprint, S: Start>(
 {
     let limits = match limits_of(cells, elements, slots) {
         Ok(limits) => limits,
-        Err(refusal) => return Err(refusal),
+        Err(refusal) => {
+            observer.refused(limits_reason(cells, elements, slots));
+            return Err(refusal);
+        }
     };
-    format_file(rt, image, limits, start)
+    format_file(rt, image, limits, observer, start)
 }
 
 /// Does the work. The status, and the disk of the file that was opened for it, if one was.
-fn do_work<R: Files<File = File> + AllocGlobal + Eprint, S: Start>(
+fn do_work<R: Files<File = File> + AllocGlobal + Input, S: Start, W: Write, N: Observer>(
     rt: &R,
     work: &Work,
-    out: &mut String,
+    out: &mut W,
+    observer: &mut N,
     start: S,
 ) -> Result<(u8, Option<FileDisk<S>>), Refusal>
     ensures status { IfOk result (λ r. r.0 ≤ 1) }
     ensures done { IfOk result (λ r. IfSome r.1 (λ disk. ⟦<FileDisk<S> as Disk>⟧.honest disk →
         DoneOn ⟦<FileDisk<S> as Disk>⟧.now ⟦<FileDisk<S> as Disk>⟧.past ⟦<FileDisk<S> as Disk>⟧.failures S.first
-        (task_of work.now) (string_bytes out.old) (string_bytes out.new) r.0 disk)) }
+        (task_of work.now) (W.contents out.old) (W.contents out.new) r.0 disk)) }
     ensures none { IfOk result (λ r. IfNone r.1 (task_of work.now ≡ demonstration)) }
 {
     match *work {
-        Work::Demonstration => match demonstrate(rt.alloc(), out) {
+        Work::Demonstration => match demonstrate(rt.alloc(), out, observer) {
             Ok(status) => Ok((status, None)),
             Err(refusal) => Err(refusal),
         },
@@ -234,51 +326,59 @@ fn do_work<R: Files<File = File> + AllocGlobal + Eprint, S: Start>(
             cells,
             elements,
             slots,
-        } => match format_image(rt, image, cells, elements, slots, start) {
+        } => match format_image(rt, image, cells, elements, slots, observer, start) {
             Ok(disk) => Ok((0, Some(disk))),
             Err(refusal) => Err(refusal),
         },
-        Work::Serial { image, script } => match serve_file(rt, image, script, out, start) {
+        Work::Serial { image, script } => match serve_file(
+            rt, image, script, out, observer, start,
+        ) {
             Ok((status, disk)) => Ok((status, Some(disk))),
             Err(refusal) => Err(refusal),
         },
-        Work::Inspect { image } => match inspect_file(rt, image, out, start) {
+        Work::Inspect { image } => match inspect_file(rt, image, out, observer, start) {
             Ok((status, disk)) => Ok((status, Some(disk))),
             Err(refusal) => Err(refusal),
         },
     }
 }
 
-/// Does the work, and answers the status that the program ends with: 0, or 1 where something was refused; and the disk
-/// of the image, where its file was made or opened. What it prints is added to `out`, a refusal as its last line
-/// `refused N NAME`.
+/// Does the work, and answers the status that the program ends with: 0, or 1 where something was refused or a write of
+/// the output failed; and the disk of the image, where its file was made or opened. What it prints goes to `out`, a
+/// refusal as its last line `refused N NAME`. Standard error has one line of reason for a refusal, and a line
+/// `K.N now REPLY` for a request that waited when the image was opened and whose entry is confirmed; and, where
+/// `is_watched`, how far a long script has come.
 ///
 /// Refused are: `BadLimits` for an image with a number out of its range, and then no file is made; and what
 /// [`format_file`], [`serve_file`] and [`inspect_file`] refuse. Where there is a disk, its status and what was printed
 /// are those of the one that was called; where there is none, the status is 1, but for the demonstration.
 ///
 /// `start` stands for what the image holds when it is opened. It is used up, and no code reads it.
-pub fn act<R: Files<File = File> + AllocGlobal + Eprint, S: Start>(
+pub fn act<R: Files<File = File> + AllocGlobal + Input + Eprint, S: Start, W: Write>(
     rt: &R,
     work: &Work,
-    out: &mut String,
+    out: &mut W,
+    is_watched: bool,
     start: S,
 ) -> (u8, Option<FileDisk<S>>)
     ensures status { result.0 ≤ 1 }
     ensures done { IfSome result.1 (λ disk. ⟦<FileDisk<S> as Disk>⟧.honest disk →
         DoneOn ⟦<FileDisk<S> as Disk>⟧.now ⟦<FileDisk<S> as Disk>⟧.past ⟦<FileDisk<S> as Disk>⟧.failures S.first
-        (task_of work.now) (string_bytes out.old) (string_bytes out.new) result.0 disk) }
+        (task_of work.now) (W.contents out.old) (W.contents out.new) result.0 disk) }
     ensures none { IfNone result.1 ((task_of work.now ≡ demonstration) ⊎ (result.0 ≡ 1)) }
 {
-    match do_work(rt, work, out, start) {
+    let mut console = Console::new(rt, *work, is_watched);
+    match do_work(rt, work, out, &mut console, start) {
         Ok(done) => done,
-        Err(refusal) => (end(Err(refusal), out), None),
+        Err(refusal) => (refuse(rt.alloc(), refusal, out), None),
     }
 }
 
-/// Prints a refusal, and answers its status, 1.
-pub fn refuse(refusal: Refusal, out: &mut String) -> u8
-    ensures { result ≡ 1 }
+/// Prints the line of a refusal, and answers its status, 1.
+pub fn refuse<W: Write>(alloc: Global, refusal: Refusal, out: &mut W) -> u8
+    ensures status { result ≡ 1 }
+    ensures last { (last : List ℕ) × (IsLast last × Begins (W.contents out.old) (W.contents out.new) last) }
 {
-    end(Err(refusal), out)
+    put_refusal(alloc, refusal, out);
+    1 // Whatever was printed.
 }

@@ -34,9 +34,9 @@ impl Model for Kept {
 
     ghost Value = { Contents };
 
-    ghost view = { λ k. k.memory };
+    ghost view = { λ k. k.memory.contents };
 
-    ghost invariant = { λ k. Fits k.checkpoint k.memory k.journal };
+    ghost invariant = { λ k. Fits k.checkpoint.state k.memory.contents k.journal };
 }
 
 impl Kept {
@@ -52,7 +52,7 @@ impl Kept {
         Ok(Kept {
             memory: Memory::new(alloc, limits)?,
             journal: Journal::fresh(limits),
-            checkpoint: Checkpoint::idle(alloc, &header)?,
+            checkpoint: Checkpoint::idle(alloc, &header, true)?,
         })
     }
 
@@ -64,6 +64,7 @@ impl Kept {
     // Puts a command on the disk, and then it acts.
     fn serve(&mut self, disk: &mut Blind, command: &Command) -> Result<Outcome, Refusal> {
         self.journal.append(disk, command)?;
+        self.checkpoint.before(&self.memory, command);
         self.memory.step(command)
     }
 

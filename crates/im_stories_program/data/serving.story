@@ -219,3 +219,85 @@ read element 1 / fetch 0 / = 0 blocks, 1 parts, 1 requests
 serve = 1
 printed = 1 lines
 printed 0 = refused 13 NoHeader
+
+# A writer that fails ends the script with status 1, and the image has what was served
+disk 327680 = 327680 bytes
+format 4096 16 256 = formatted
+read element 1 / fetch 0 / fetch 1 / fetch 2 / = 0 blocks, 1 parts, 3 requests
+-- Three lines of 11 bytes each.
+serve to 15 bytes = 1
+printed = 1 lines, and one that doesn't end
+printed 0 = 1.1 nocell
+told = 1 lines
+told 0 = the output can't be written: broken pipe
+count = 3
+serve to 33 bytes = 0
+printed = 3 lines
+told = 0 lines
+inspect to 10 bytes = 1
+printed = 1 lines
+printed 0 = version 1
+told 0 = the output can't be written: broken pipe
+
+# Lines are written in batches of at most 4096 bytes, and where one can't be written no more is served
+disk 327680 = 327680 bytes
+format 4096 16 256 = formatted
+script element 1 / = 1 lines
+repeat 400 fetch 9 / = 401 lines
+read = 0 blocks, 1 parts, 400 requests
+-- 9 lines of 11 bytes, 90 of 12 and 224 of 13 are 4091; 20 confirmations stand between 324 requests.
+serve to 0 bytes = 1
+printed = 0 lines
+told = 1 lines
+told 0 = the output can't be written: broken pipe
+count = 344
+serve to 4091 bytes = 1
+printed = 323 lines
+count = 1013
+
+# An answer that an earlier script waited for is told before its entry is confirmed
+disk 327680 = 327680 bytes
+format 4096 16 256 = formatted
+read setup / alloc x i 1 / element 1 / fetch x / = 1 blocks, 1 parts, 1 requests
+serve = 0
+printed 1 = 1.1 waiting
+printed 2 = 1.1 now waiting
+told = 0 lines
+script element 2 / store 0 42 / element 1 / = 3 lines
+repeat 16 fetch 9 / = 19 lines
+read = 0 blocks, 2 parts, 17 requests
+serve = 0
+printed = 17 lines
+told = 1 lines
+told 0 = 1.1 now value 42
+progress = 16 served, room 237, 0 checkpoints
+-- Once.
+serve = 0
+told = 0 lines
+
+# It is told by the script that answers it, at the end at the latest
+disk 327680 = 327680 bytes
+format 4096 16 256 = formatted
+read setup / alloc x i 1 / element 1 / fetch x / = 1 blocks, 1 parts, 1 requests
+serve = 0
+read element 3 / fetch 9 / = 0 blocks, 1 parts, 1 requests
+serve = 0
+told = 0 lines
+read element 2 / store 0 42 / = 0 blocks, 1 parts, 1 requests
+serve = 0
+printed = 1 lines
+told = 1 lines
+told 0 = 1.1 now value 42
+serve = 0
+told = 0 lines
+
+# What a refusal is told of
+disk 327680 = 327680 bytes
+format 4096 16 256 = formatted
+read setup / alloc x i 1 / alloc y i 5000 / element 1 / fetch x / = 2 blocks, 1 parts, 1 requests
+serve = 1
+told = 1 lines
+told 0 = block 2 of the setup can't be made
+read element 16 / fetch 0 / = 0 blocks, 1 parts, 1 requests
+serve = 1
+told 0 = a request of element 16: the image has no such element

@@ -2,9 +2,11 @@
 
 use crate::Desk;
 use crate::command_lines::{spelled, texts};
+use crate::writers::{Notes, Paper};
 use anyhow::{Result, anyhow};
 use im_disk::Unknown;
-use im_program::{act, read_words};
+use im_program::{act, format_file, inspect_file, read_words, serve_file};
+use im_types::Limits;
 use std::{fs, io};
 
 // Does what a command line asks for, and tells the status.
@@ -15,10 +17,36 @@ fn run(desk: &mut Desk, words: &[&str], said: &mut String) -> Result<()> {
     let Ok(work) = read_words(alloc, texts.as_slice()) else {
         return Err(anyhow!("the words ask for no work"));
     };
-    let mut out = String::new(alloc);
-    let (status, _disk) = act(desk.rt, &work, &mut out, Unknown);
-    desk.printed.set(out);
+    let mut out = Paper::new(alloc, usize::MAX);
+    let (status, _disk) = act(desk.rt, &work, &mut out, false, Unknown);
+    desk.printed.set(out.into_text()?, Notes::new(alloc));
     Ok(write!(said, "{status}")?)
+}
+
+// Why a call on files is refused, by what is told beside the output.
+fn set_told(desk: &mut Desk, is_ok: bool, notes: Notes, said: &mut String) -> Result<()> {
+    desk.printed.set(String::new(desk.rt.alloc()), notes);
+    Ok(said.push_str(if is_ok { "done" } else { "refused" })?)
+}
+
+// Serves a file's script, or tells of an image, or makes one.
+fn attempt(desk: &mut Desk, words: &[&str], said: &mut String) -> Result<bool> {
+    let rt = desk.rt;
+    let mut out = Paper::new(rt.alloc(), usize::MAX);
+    let mut notes = Notes::new(rt.alloc());
+    let is_ok = match words {
+        ["serial", image, script] => {
+            serve_file(rt, image, script, &mut out, &mut notes, Unknown).is_ok()
+        }
+        ["inspect", image] => inspect_file(rt, image, &mut out, &mut notes, Unknown).is_ok(),
+        ["format", image] => match Limits::new(1, 1, 16) {
+            Some(limits) => format_file(rt, image, limits, &mut notes, Unknown).is_ok(),
+            None => false,
+        },
+        _ => return Ok(false),
+    };
+    set_told(desk, is_ok, notes, said)?;
+    Ok(true)
 }
 
 // Makes a file of the script that was put together.
@@ -61,6 +89,7 @@ fn file(desk: &Desk, file: &str, said: &mut String) -> Result<()> {
 pub fn tell(desk: &mut Desk, words: &[&str], said: &mut String) -> Result<bool> {
     match words {
         ["run", command @ ..] => run(desk, command, said)?,
+        ["try", call @ ..] => return attempt(desk, call, said),
         ["save", name] => save(desk, name, said)?,
         ["keep", name] => keep(desk, name, said)?,
         ["load", name] => load(desk, name, said)?,

@@ -9,6 +9,7 @@ mod printed;
 mod scripts;
 mod serving;
 mod spelling;
+mod writers;
 
 use anyhow::{Result, anyhow};
 use command_lines::CommandLine;

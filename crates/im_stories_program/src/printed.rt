@@ -1,14 +1,24 @@
 //! What was printed, line by line.
 
 use crate::spelling::line_ends;
+use crate::writers::Notes;
 use anyhow::{Result, anyhow};
 use im_story::{name, place};
 use std::alloc::Global;
 
-/// The text that the last work printed.
+/// The text that the last work printed, and what was told beside it.
 #[derive(Drop)]
 pub struct Printed {
     out: String,
+    notes: Notes,
+}
+
+// The line at this place of a text, from 0.
+fn line_of(text: &str, at: usize) -> Option<&str> {
+    match text.split('\n').nth(at) {
+        Some(line) if at < line_ends(text.as_bytes()) => Some(line),
+        _ => None,
+    }
 }
 
 impl Printed {
@@ -16,12 +26,14 @@ impl Printed {
     pub fn new(alloc: Global) -> Printed {
         Printed {
             out: String::new(alloc),
+            notes: Notes::new(alloc),
         }
     }
 
-    /// Takes what was printed.
-    pub fn set(&mut self, out: String) {
+    /// Takes what was printed and told.
+    pub fn set(&mut self, out: String, notes: Notes) {
         self.out = out;
+        self.notes = notes;
     }
 
     // How many lines end in the text.
@@ -31,9 +43,9 @@ impl Printed {
 
     // The line at this place, from 0.
     fn line(&self, at: usize) -> Result<&str> {
-        match self.out.as_str().split('\n').nth(at) {
-            Some(line) if at < self.count() => Ok(line),
-            _ => Err(anyhow!("no line {at} was printed")),
+        match line_of(self.out.as_str(), at) {
+            Some(line) => Ok(line),
+            None => Err(anyhow!("no line {at} was printed")),
         }
     }
 
@@ -87,6 +99,20 @@ impl Printed {
         }
     }
 
+    // How many lines were told beside the output.
+    fn add_told(&self, said: &mut String) -> Result<()> {
+        let count = line_ends(self.notes.text.as_str().as_bytes());
+        Ok(write!(said, "{count} lines")?)
+    }
+
+    // Adds a line that was told beside the output.
+    fn add_note(&self, at: usize, said: &mut String) -> Result<()> {
+        match line_of(self.notes.text.as_str(), at) {
+            Some(line) => Ok(said.push_str(line)?),
+            None => Err(anyhow!("no line {at} was told")),
+        }
+    }
+
     /// Makes a call on what was printed. Whether the words are one.
     pub fn tell(&mut self, alloc: Global, words: &[&str], said: &mut String) -> Result<bool> {
         match words {
@@ -95,6 +121,9 @@ impl Printed {
             ["printed", first, "to", last] => {
                 self.add_run(alloc, place(first)?, place(last)?, said)?
             }
+            ["told"] => self.add_told(said)?,
+            ["told", at] => self.add_note(place(at)?, said)?,
+            ["progress"] => self.notes.add_progress(said)?,
             _ => return Ok(false),
         }
         Ok(true)

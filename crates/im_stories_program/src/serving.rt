@@ -1,46 +1,65 @@
 //! Scripts served on the image in memory, and what is told of it. A fuse stops the disk after so many calls, or fails
-//! one.
+//! one; a writer may take so many bytes alone.
 
 use crate::Desk;
 use crate::images::Image;
-use anyhow::Result;
+use crate::writers::{Notes, Paper};
+use anyhow::{Result, anyhow};
 use im_disk::{FuseDisk, Mode};
 use im_program::{inspect_on, refuse, serial_on};
 use im_script::{Script, read_script};
-use im_story::number;
+use im_story::{number, place};
 use im_types::{LAST, Refusal};
 use std::alloc::Global;
 
-// Serves a script on an image, whose disk passes so many calls and then fails. The status, and how many calls it was
-// asked.
+// How the disk and the writer behave: the disk passes so many calls and then fails, the writer takes so many bytes.
+#[derive(Clone, Copy)]
+struct Ends {
+    passes: u64,
+    mode: Mode,
+    bytes: usize,
+}
+
+const ENDLESS: Ends = Ends {
+    passes: LAST,
+    mode: Mode::Stop,
+    bytes: usize::MAX,
+};
+
+// Serves a script on an image. The status, and how many calls the disk was asked.
 fn serve_on(
     alloc: Global,
     image: &mut Image,
     script: &Script,
-    fuse: (u64, Mode),
-    out: &mut String,
+    ends: Ends,
+    out: &mut Paper,
+    notes: &mut Notes,
 ) -> Result<(u8, u64)> {
-    let (passes, mode) = fuse;
-    let disk = FuseDisk::new(image.take()?, passes, mode);
-    let (status, disk) = serial_on(alloc, disk, script, out);
+    let disk = FuseDisk::new(image.take()?, ends.passes, ends.mode);
+    let (status, disk) = serial_on(alloc, disk, script, out, notes);
     let calls = disk.calls();
     image.set(disk.into_inner());
     Ok((status, calls))
 }
 
-fn serve(alloc: Global, desk: &mut Desk, fuse: (u64, Mode), said: &mut String) -> Result<()> {
+fn serve(alloc: Global, desk: &mut Desk, ends: Ends, said: &mut String) -> Result<()> {
     let script = desk.scripts.script()?;
-    let mut out = String::new(alloc);
-    let (status, _) = serve_on(alloc, &mut desk.image, script, fuse, &mut out)?;
-    desk.printed.set(out);
+    let mut out = Paper::new(alloc, ends.bytes);
+    let mut notes = Notes::new(alloc);
+    let (status, _) = serve_on(alloc, &mut desk.image, script, ends, &mut out, &mut notes)?;
+    desk.printed.set(out.into_text()?, notes);
     Ok(write!(said, "{status}")?)
 }
 
 // How many calls an opening of an image makes: those of a script with no request.
 fn opening_calls(alloc: Global, image: &mut Image) -> Result<u64> {
-    let script = read_script(alloc, "".as_bytes())?;
-    let mut out = String::new(alloc);
-    let (_, calls) = serve_on(alloc, image, &script, (LAST, Mode::Stop), &mut out)?;
+    let script = match read_script(alloc, "".as_bytes()) {
+        Ok(script) => script,
+        Err(_) => return Err(anyhow!("the empty script is refused")),
+    };
+    let mut out = Paper::new(alloc, 0);
+    let mut notes = Notes::new(alloc);
+    let (_, calls) = serve_on(alloc, image, &script, ENDLESS, &mut out, &mut notes)?;
     Ok(calls)
 }
 
@@ -53,30 +72,42 @@ fn serve_past(
     said: &mut String,
 ) -> Result<()> {
     let passes = opening_calls(alloc, &mut desk.image)?.saturating_add(calls);
-    serve(alloc, desk, (passes, mode), said)
+    let ends = Ends {
+        passes,
+        mode,
+        ..ENDLESS
+    };
+    serve(alloc, desk, ends, said)
 }
 
-fn inspect(alloc: Global, desk: &mut Desk, passes: u64, said: &mut String) -> Result<()> {
-    let disk = FuseDisk::new(desk.image.take()?, passes, Mode::Stop);
-    let mut out = String::new(alloc);
-    let (status, disk) = inspect_on(alloc, disk, &mut out);
+// Serves with a writer that takes so many bytes, and then fails.
+fn serve_to(alloc: Global, desk: &mut Desk, bytes: usize, said: &mut String) -> Result<()> {
+    serve(alloc, desk, Ends { bytes, ..ENDLESS }, said)
+}
+
+fn inspect(alloc: Global, desk: &mut Desk, ends: Ends, said: &mut String) -> Result<()> {
+    let disk = FuseDisk::new(desk.image.take()?, ends.passes, ends.mode);
+    let mut out = Paper::new(alloc, ends.bytes);
+    let mut notes = Notes::new(alloc);
+    let (status, disk) = inspect_on(alloc, disk, &mut out, &mut notes);
     desk.image.set(disk.into_inner());
-    desk.printed.set(out);
+    desk.printed.set(out.into_text()?, notes);
     Ok(write!(said, "{status}")?)
 }
 
 // Prints that there was no memory.
 fn refuse_memory(alloc: Global, desk: &mut Desk, said: &mut String) -> Result<()> {
-    let mut out = String::new(alloc);
-    let status = refuse(Refusal::NoMemory, &mut out);
-    desk.printed.set(out);
+    let mut out = Paper::new(alloc, usize::MAX);
+    let status = refuse(alloc, Refusal::NoMemory, &mut out);
+    desk.printed.set(out.into_text()?, Notes::new(alloc));
     Ok(write!(said, "{status}")?)
 }
 
 /// Serves, or tells of the image. Whether the words ask for it.
 pub fn tell(alloc: Global, desk: &mut Desk, words: &[&str], said: &mut String) -> Result<bool> {
     match words {
-        ["serve"] => serve(alloc, desk, (LAST, Mode::Stop), said)?,
+        ["serve"] => serve(alloc, desk, ENDLESS, said)?,
+        ["serve", "to", bytes, "bytes"] => serve_to(alloc, desk, place(bytes)?, said)?,
         ["serve", calls, "calls", "past", "the", "opening"] => {
             serve_past(alloc, desk, number(calls)?, Mode::Stop, said)?
         }
@@ -98,8 +129,15 @@ pub fn tell(alloc: Global, desk: &mut Desk, words: &[&str], said: &mut String) -
                 said,
             )?
         }
-        ["inspect"] => inspect(alloc, desk, LAST, said)?,
-        ["inspect", calls, "calls"] => inspect(alloc, desk, number(calls)?, said)?,
+        ["inspect"] => inspect(alloc, desk, ENDLESS, said)?,
+        ["inspect", calls, "calls"] => {
+            let passes = number(calls)?;
+            inspect(alloc, desk, Ends { passes, ..ENDLESS }, said)?
+        }
+        ["inspect", "to", bytes, "bytes"] => {
+            let bytes = place(bytes)?;
+            inspect(alloc, desk, Ends { bytes, ..ENDLESS }, said)?
+        }
         ["refuse", "NoMemory"] => refuse_memory(alloc, desk, said)?,
         _ => return Ok(false),
     }

@@ -7,6 +7,7 @@ use im_disk::Unknown;
 use im_program::{WordFault, act, read_words, refuse};
 use im_types::Refusal;
 use std::alloc::{AllocError, Global};
+use std::io::{IsTerminal, Write};
 use std::process::ExitCode;
 use std::{env, io};
 
@@ -22,15 +23,15 @@ fn status_after(printed: io::Result<()>, status: u8) -> u8
 }
 
 /// Does what the words ask for.
-fn run(rt: &HostRuntime, words: &[&str], out: &mut String) -> u8
+fn run<W: Write>(rt: &HostRuntime, words: &[&str], out: &mut W) -> u8
     ensures { result ≤ 2 }
 {
     match read_words(rt.alloc(), words) {
         Ok(work) => {
-            let (status, _disk) = act(rt, &work, out, Unknown);
+            let (status, _disk) = act(rt, &work, out, rt.stderr().is_terminal(), Unknown);
             status
         }
-        Err(WordFault::NoMemory) => refuse(Refusal::NoMemory, out),
+        Err(WordFault::NoMemory) => refuse(rt.alloc(), Refusal::NoMemory, out),
         Err(WordFault::Bad(error)) => {
             let printed = error.print(rt);
             if error.use_stderr() {
@@ -48,18 +49,18 @@ fn texts<'a>(alloc: Global, words: &'a [String]) -> Result<Vec<&'a str>, AllocEr
 }
 
 /// Says why the command line can't be read.
-fn no_words(rt: &HostRuntime, error: &io::Error, out: &mut String) -> u8
+fn no_words<W: Write>(rt: &HostRuntime, error: &io::Error, out: &mut W) -> u8
     ensures { result ≤ 2 }
 {
     if error.kind() == io::ErrorKind::OutOfMemory {
-        return refuse(Refusal::NoMemory, out);
+        return refuse(rt.alloc(), Refusal::NoMemory, out);
     }
     let _printed = rt.eprintln("error: each word of the command line has to be UTF-8 text");
     2
 }
 
 /// Reads the command line, and does what it asks for.
-fn start(rt: &HostRuntime, out: &mut String) -> u8
+fn start<W: Write>(rt: &HostRuntime, out: &mut W) -> u8
     ensures { result ≤ 2 }
 {
     let words = match env::args(rt) {
@@ -67,16 +68,15 @@ fn start(rt: &HostRuntime, out: &mut String) -> u8
         Err(error) => return no_words(rt, &error, out),
     };
     let Ok(words) = words.collect::<Vec<String>>(rt.alloc()) else {
-        return refuse(Refusal::NoMemory, out);
+        return refuse(rt.alloc(), Refusal::NoMemory, out);
     };
     match texts(rt.alloc(), words.as_slice()) {
         Ok(texts) => run(rt, texts.as_slice(), out),
-        Err(_) => refuse(Refusal::NoMemory, out),
+        Err(_) => refuse(rt.alloc(), Refusal::NoMemory, out),
     }
 }
 
 fn main(rt: HostRuntime) -> ExitCode {
-    let mut out = String::new(rt.alloc());
-    let status = start(&rt, &mut out);
-    ExitCode::from(status_after(rt.print(out.as_str()), status))
+    let mut out = io::writer(&rt);
+    ExitCode::from(start(&rt, &mut out))
 }

@@ -1,10 +1,15 @@
-use Rattle.std.proofs.Common.{string_bytes}
+use Rattle.std.proofs.Common.{◌≡◌, ◌∙◌, subst}
+use Rattle.std.specs.Io.KnownBytes.{Appends}
+use Rattle.std.proofs.lemmas.Result.{on_ok_weaker}
 use Rattle.im_image.specs.Headers.{seen}
+use Rattle.im_program.specs.Report.{report_text}
 use Rattle.im_program.proofs.InspectingLemmas.{tells}
 use Rattle.im_program.proofs.inspecting.tell.Goals as goal
 
-pub returns-in-Ok-add_report-clause-told : goal.returns-in-Ok-add_report-clause-told
-returns-in-Ok-add_report-clause-told g c = λ honest.
+pub returns-in-Ok-text_of-clause-told : goal.returns-in-Ok-text_of-clause-told
+returns-in-Ok-text_of-clause-told g c = on_ok_weaker c.put_through.result (λ whole. λ honest.
     let report = c.in-Ok.report in
-    tells (g.D.Disk.now c.args.disk.now).bytes (seen report.header) report.run report.room report.memory.contents (string_bytes c.args.out.now) (string_bytes c.add_report.new.out)
-    (c.in-Ok.ensures.header honest) (c.in-Ok.ensures.means honest) c.in-Ok-add_report.ensures
+    let was = g.W.Write.contents c.args.out.now in
+    let is = g.W.Write.contents c.put_through.new.out in
+    let text : c.as_str.result.now ≡ report_text (seen report.header) report.run report.room report.memory.contents = c.as_str.ensures.value ∙ c.in-Ok-text_of.ensures in
+    tells (g.D.Disk.now c.args.disk.now).bytes (seen report.header) report.run report.room report.memory.contents was is (c.in-Ok.ensures.header honest) (c.in-Ok.ensures.means honest) (subst (Appends was is) text whole)) c.put_through.ensures.whole

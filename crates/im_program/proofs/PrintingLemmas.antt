@@ -1,0 +1,135 @@
+-- Lines on their way to a writer, and the lines of commands. (Own.)
+use Rattle.std.proofs.Common.{◌≡◌, ◌∙◌, inl, inr, ℕ, Bool, true, false, List, [], ◌∷◌, ◌++◌, length, take, drop, refl, sym, ap, ap₂, subst, append_assoc, append-nil, take-append-drop}
+use Rattle.std.specs.Prelude.{◌⊎◌, OnOk, IsOk, Option, None, Some, Result, Ok, Err}
+use Rattle.std.specs.Io.KnownBytes.{Appends, Keeps}
+use Rattle.std.proofs.KnownBytes.{Appends-trans, Appends-nil}
+use Rattle.im_types.specs.declared.commands.Command.{Command}
+use Rattle.im_types.specs.declared.operations.Waiter.{Waiter}
+use Rattle.im_types.specs.Contents.{Contents}
+use Rattle.im_types.specs.Step.{step}
+use Rattle.im_types.specs.Run.{after}
+use Rattle.im_program.specs.declared.lines.Lines.{Lines}
+use Rattle.im_types.specs.declared.refusals.Refusal.{Refusal}
+use Rattle.im_program.specs.Printing.{Begins, IsLast, Prints, refused_line, reply_line, replies, waits_by, waits}
+
+-- ---- writers
+
+-- nothing more is there
+pub appends_kept : (a b c : Option (List ℕ)) (bs : List ℕ) → Appends a b bs → Keeps b c → Appends a c bs
+appends_kept None b c bs p q = tt
+appends_kept (Some x) None c bs p q = absurd p
+appends_kept (Some x) (Some y) None bs p q = absurd q
+appends_kept (Some x) (Some y) (Some z) bs p q = q ∙ p
+
+-- ---- what is printed
+
+-- a part of what was kept back is written
+pub prints_written : (start was is : Option (List ℕ)) (before after : Lines) (n : ℕ) (text : List ℕ) → before.broken ≡ false → Appends was is (take n before.pending.items)
+    → (after.broken ≡ false → after.pending.items ≡ drop n before.pending.items) → Prints start was before text → Prints start is after text
+prints_written start was is before after n text works there left it =
+    let pending = before.pending.items in
+    record {
+      written = it.written ++ take n pending;
+      rest = drop n pending;
+      split = it.split ∙ ap (λ xs. it.written ++ xs) (it.back works ∙ sym (take-append-drop n pending)) ∙ sym (append_assoc it.written (take n pending) (drop n pending));
+      there = Appends-trans start was is it.written (take n pending) it.there there;
+      back = λ still. sym (left still);
+    }
+
+-- nothing is written
+pub prints_kept : (start was is : Option (List ℕ)) (before after : Lines) (text : List ℕ) → Keeps was is
+    → (after.broken ≡ false → (before.broken ≡ false) × (after.pending.items ≡ before.pending.items)) → Prints start was before text → Prints start is after text
+prints_kept start was is before after text keeps same it = record {
+  written = it.written;
+  rest = it.rest;
+  split = it.split;
+  there = appends_kept start was is it.written it.there keeps;
+  back = λ still. it.back (same still).0 ∙ sym (same still).1;
+}
+
+-- a line is kept back
+pub prints_pushed : (start is : Option (List ℕ)) (before after : Lines) (text line : List ℕ) → before.broken ≡ false → after.pending.items ≡ before.pending.items ++ line
+    → Prints start is before text → Prints start is after (text ++ line)
+prints_pushed start is before after text line works pushed it = record {
+  written = it.written;
+  rest = it.rest ++ line;
+  split = ap (λ xs. xs ++ line) it.split ∙ append_assoc it.written it.rest line;
+  there = it.there;
+  back = λ still. ap (λ xs. xs ++ line) (it.back works) ∙ sym pushed;
+}
+
+-- all of it is written
+pub prints_all : (start is : Option (List ℕ)) (lines : Lines) (text : List ℕ) → lines.broken ≡ false → lines.pending.items ≡ [] → Prints start is lines text → Appends start is text
+prints_all start is lines text works none it =
+    subst (Appends start is) (sym (it.split ∙ ap (λ xs. it.written ++ xs) (it.back works ∙ none) ∙ append-nil it.written)) it.there
+
+pub take-prefix : {A : Type 0} (xs ys : List A) → take (length xs) (xs ++ ys) ≡ xs
+take-prefix [] ys = refl
+take-prefix (x ∷ xs) ys = ap (λ l. x ∷ l) (take-prefix xs ys)
+
+pub take-all : {A : Type 0} (xs : List A) → take (length xs) xs ≡ xs
+take-all [] = refl
+take-all (x ∷ xs) = ap (λ l. x ∷ l) (take-all xs)
+
+-- a beginning of it is written
+pub prints_begins : (start is : Option (List ℕ)) (lines : Lines) (text : List ℕ) → Prints start is lines text → Begins start is text
+prints_begins start is lines text it =
+    (length it.written, subst (Appends start is) (sym (ap (take (length it.written)) it.split ∙ take-prefix it.written it.rest)) it.there)
+
+-- nothing is printed yet
+pub prints_none : (start : Option (List ℕ)) (lines : Lines) → lines.pending.items ≡ [] → Prints start start lines []
+prints_none start lines none = record { written = []; rest = []; split = refl; there = Appends-nil start; back = λ works. sym none }
+
+-- ---- lines of commands
+
+pub replies-append : (m : Contents) (put more : List Command) → replies m (put ++ more) ≡ replies m put ++ replies (after m put) more
+replies-append m [] more = refl
+replies-append m (c ∷ put) more =
+    let line = reply_line c (step m c).answer in
+    ap (λ xs. line ++ xs) (replies-append (step m c).contents put more) ∙ sym (append_assoc line (replies (step m c).contents put) (replies (after (step m c).contents put) more))
+
+pub waits-append : (m : Contents) (put more : List Command) → waits m (put ++ more) ≡ waits m put ++ waits (after m put) more
+waits-append m [] more = refl
+waits-append m (c ∷ put) more =
+    let who = waits_by c (step m c).answer in
+    ap (λ xs. who ++ xs) (waits-append (step m c).contents put more) ∙ sym (append_assoc who (waits (step m c).contents put) (waits (after (step m c).contents put) more))
+
+-- one command more
+pub replies_more : (m : Contents) (put : List Command) (c : Command) (text line : List ℕ) → text ≡ replies m put → reply_line c (step (after m put) c).answer ≡ line
+    → text ++ line ≡ replies m (put ++ c ∷ [])
+replies_more m put c text line so_far is =
+    ap₂ (λ xs ys. xs ++ ys) so_far (sym is ∙ sym (append-nil (reply_line c (step (after m put) c).answer))) ∙ sym (replies-append m put (c ∷ []))
+
+pub waits_more : (m : Contents) (put : List Command) (c : Command) (names who : List Waiter) → names ≡ waits m put → waits_by c (step (after m put) c).answer ≡ who
+    → names ++ who ≡ waits m (put ++ c ∷ [])
+waits_more m put c names who so_far is =
+    ap₂ (λ xs ys. xs ++ ys) so_far (sym is ∙ sym (append-nil (waits_by c (step (after m put) c).answer))) ∙ sym (waits-append m put (c ∷ []))
+
+-- ---- results
+
+pub on_ok_is : {T E : Type 0} (r : Result T E) (x : T) (P : Type 0) → OnOk r P → r ≡ Ok x → P
+on_ok_is (Ok y) x P holds is = holds
+on_ok_is (Err e) x P holds is = absurd (cc)
+
+pub true_false : (b : Bool) → b ≡ true → b ≡ false → ⊥
+true_false b t f = absurd (cc)
+
+pub on_ok_by : {T E : Type 0} (r : Result T E) (P : Type 0) → OnOk r P → IsOk r → P
+on_ok_by (Ok y) P holds ok = holds
+on_ok_by (Err e) P holds ok = absurd (true_false false ok refl)
+
+pub drop_all : (n : ℕ) (xs : List ℕ) → n ≡ length xs → drop n xs ≡ []
+drop_all n xs is = ap (λ n. drop n xs) is ∙ whole xs
+  where
+    whole : (xs : List ℕ) → drop (length xs) xs ≡ []
+    whole [] = refl
+    whole (x ∷ xs) = whole xs
+
+-- the line of a refusal was printed, or not
+pub last_printed : (start is : Option (List ℕ)) (lines : Lines) (text line : List ℕ) (refusal : Refusal) (name : List ℕ) → line ≡ refused_line refusal name
+    → Prints start is lines text ⊎ Prints start is lines (text ++ line) → (last : List ℕ) × (IsLast last × Prints start is lines (text ++ last))
+last_printed start is lines text line refusal name same (inl it) = ([], (inl refl, subst (Prints start is lines) (sym (append-nil text)) it))
+last_printed start is lines text line refusal name same (inr it) = (line, (inr (refusal, (name, same)), it))
+
+pub none_printed : (start is : Option (List ℕ)) (lines : Lines) (text : List ℕ) → Prints start is lines text → (last : List ℕ) × (IsLast last × Prints start is lines (text ++ last))
+none_printed start is lines text it = ([], (inl refl, subst (Prints start is lines) (sym (append-nil text)) it))

@@ -1,0 +1,89 @@
+//! What a person is told on standard error.
+
+use crate::observer::{Observer, Progress};
+use crate::reasons::Reason;
+use crate::replies::make_now;
+use crate::waits::Waited;
+use crate::words::Work;
+use im_disk::OpenFault;
+use im_types::Entry;
+use std::alloc::Global;
+use std::io::Eprint;
+
+// How many requests are served between two lines of progress.
+const STRIDE: u64 = 4_096;
+
+/// Standard error, for the work on these files.
+#[derive(Drop)]
+pub struct Console<'a, R> {
+    rt: &'a R,
+    alloc: Global,
+    image: &'a str,
+    script: &'a str,
+    is_watched: bool,
+}
+
+impl<'a, R: Eprint + AllocGlobal> Console<'a, R> {
+    /// For a work's files. Progress is told where somebody watches.
+    pub fn new(rt: &'a R, work: Work<'a>, is_watched: bool) -> Console<'a, R> {
+        let (image, script) = match work {
+            Work::Demonstration => ("", ""),
+            Work::Format { image, .. } | Work::Inspect { image } => (image, ""),
+            Work::Serial { image, script } => (image, script),
+        };
+        Console {
+            rt,
+            alloc: rt.alloc(),
+            image,
+            script,
+            is_watched,
+        }
+    }
+
+    // Which file the reason speaks of.
+    fn path(&self, reason: Reason) -> &'a str {
+        if reason.is_of_script() {
+            self.script
+        } else {
+            self.image
+        }
+    }
+}
+
+impl<R: Eprint + AllocGlobal> Observer for Console<'_, R> {
+    fn answered(&mut self, element: u16, number: u64, entry: Entry) {
+        let waited = Waited {
+            element,
+            number,
+            entry,
+        };
+        let mut line = String::new(self.alloc);
+        if make_now(&mut line, Some(waited)).is_ok() {
+            let _printed = self.rt.eprint(line.as_str());
+        }
+    }
+
+    fn progressed(&mut self, progress: Progress) {
+        let Progress {
+            served,
+            room,
+            checkpoints,
+        } = progress;
+        if self.is_watched && served % STRIDE == 0 {
+            let _printed = eprintln!(self.rt;
+                "imem: {served} requests served, room for {room}, {checkpoints} checkpoints"
+            );
+        }
+    }
+
+    fn refused(&mut self, reason: Reason) {
+        let path = self.path(reason);
+        let _printed = match reason {
+            Reason::File(OpenFault::InUse, _) => {
+                eprintln!(self.rt; "imem: {path} is in use by another program")
+            }
+            Reason::Output(_) | Reason::Memory => eprintln!(self.rt; "imem: {reason}"),
+            _ => eprintln!(self.rt; "imem: {path}: {reason}"),
+        };
+    }
+}

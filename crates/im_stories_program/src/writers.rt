@@ -1,0 +1,113 @@
+//! Writers in memory, and who is told of the work beside its output.
+
+use anyhow::{Result, anyhow};
+use im_program::{Observer, Progress, Reason};
+use im_types::{Entry, Reply};
+use std::alloc::{AllocError, Global};
+use std::io;
+use std::io::{ErrorKind, Write};
+
+/// A writer that takes so many bytes, and then fails.
+#[derive(Drop)]
+pub struct Paper {
+    text: Vec<u8>,
+    room: usize,
+}
+
+impl Paper {
+    /// Nothing was written.
+    pub fn new(alloc: Global, room: usize) -> Paper {
+        Paper {
+            text: Vec::new(alloc),
+            room,
+        }
+    }
+
+    /// What was written.
+    pub fn into_text(self) -> Result<String> {
+        match String::from_utf8(self.text) {
+            Ok(text) => Ok(text),
+            Err(_) => Err(anyhow!("no text was written")),
+        }
+    }
+}
+
+impl Write for Paper {
+    fn write(&mut self, buf: &[u8]) -> io::Result<usize> {
+        let count = buf.len().min(self.room);
+        if count == 0 && !buf.is_empty() {
+            return Err(ErrorKind::BrokenPipe.into());
+        }
+        self.text.extend_from_slice(&buf[..count])?;
+        self.room -= count;
+        Ok(count)
+    }
+
+    fn flush(&mut self) -> io::Result<()> {
+        Ok(())
+    }
+}
+
+/// What was told beside the output, a line each.
+#[derive(Drop)]
+pub struct Notes {
+    /// The lines. Where there was no memory for one, it is missing.
+    pub text: String,
+    progress: Option<Progress>,
+}
+
+fn add_value(text: &mut String, entry: Entry) -> Result<(), AllocError> {
+    match entry {
+        Entry::Answered(Reply::Value(value)) => write!(text, "value {value}"),
+        Entry::Answered(_) => text.push_str("answered"),
+        Entry::Waiting => text.push_str("waiting"),
+    }
+}
+
+impl Notes {
+    /// Nothing was told.
+    pub fn new(alloc: Global) -> Notes {
+        Notes {
+            text: String::new(alloc),
+            progress: None,
+        }
+    }
+
+    fn add_now(&mut self, element: u16, number: u64, entry: Entry) -> Result<(), AllocError> {
+        write!(self.text, "{element}.{number} now ")?;
+        add_value(&mut self.text, entry)?;
+        self.text.push_str("\n")
+    }
+
+    /// How far the work came, as it was told last.
+    pub fn add_progress(&self, said: &mut String) -> Result<(), AllocError> {
+        match self.progress {
+            Some(progress) => {
+                let Progress {
+                    served,
+                    room,
+                    checkpoints,
+                } = progress;
+                write!(
+                    said,
+                    "{served} served, room {room}, {checkpoints} checkpoints"
+                )
+            }
+            None => said.push_str("none"),
+        }
+    }
+}
+
+impl Observer for Notes {
+    fn answered(&mut self, element: u16, number: u64, entry: Entry) {
+        let _noted = self.add_now(element, number, entry);
+    }
+
+    fn progressed(&mut self, progress: Progress) {
+        self.progress = Some(progress);
+    }
+
+    fn refused(&mut self, reason: Reason) {
+        let _noted = writeln!(self.text, "{reason}");
+    }
+}
