@@ -11,7 +11,7 @@ use Rattle.im_types.specs.Header.{Header, header_place, is_open_header}
 use Rattle.im_types.specs.Pages.{Records, Shows}
 use Rattle.im_laws.proofs.Tests.{true_or_false, or_left, or_right}
 use Rattle.im_pages.specs.PageSets.{has, union, pages_from}
-use Rattle.im_pages.proofs.SetLemmas.{length-union, read-union, listed, lists-each}
+use Rattle.im_pages.proofs.SetLemmas.{length-union, read-union, listed, lists-each, contains_rest, contains_more}
 use Rattle.im_image.specs.Encoding.{IsAreaPage, SameOn}
 use Rattle.im_image.proofs.Encoding.{area-shows}
 use Rattle.im_meaning.specs.Images.{other}
@@ -24,13 +24,6 @@ SameOn-itself s r p = record { to = λ bytes it. it; from = λ bytes it. it }
 
 SameOn-then : (s : Sizes) (r q t : Records) (p : ℕ) → SameOn s r q p → SameOn s q t p → SameOn s r t p
 SameOn-then s r q t p a b = record { to = λ bytes it. b.to bytes (a.to bytes it); from = λ bytes it. a.from bytes (b.from bytes it) }
-
-contains_rest : (i : ℕ) (left : List ℕ) (p : ℕ) → Contains (i ∷ left) p → (i ≡ p) ⊎ Contains left p
-contains_rest i left p (zero, lt, is) = inl is
-contains_rest i left p (suc k, lt, is) = inr (k, omega (arith, lt), is)
-
-contains_more : (i : ℕ) (left : List ℕ) (p : ℕ) → Contains left p → Contains (i ∷ left) p
-contains_more i left p (k, lt, is) = (suc k, omega (arith, lt), is)
 
 contains_none : (p : ℕ) → Contains [] p → ⊥
 contains_none p (k, lt, is) = omega (arith, lt)

@@ -30,14 +30,6 @@ pub record HasCopied (s : Sizes) (r : Records) (named left recent : List Bool) (
   pub copied : (page : ℕ) → from ≤ page → page < at → page < area_pages layout_in_use s → has named page ≡ true → has left page ≡ true → has recent page ≡ false → IsAreaPage s r page (record_at page_bytes new page)
   pub stay : (page : ℕ) → page < area_pages layout_in_use s → has recent page ≡ true → record_at page_bytes new page ≡ record_at page_bytes old page
 
-pub copied_none : (s : Sizes) (r : Records) (named left recent : List Bool) (from : ℕ) (old : List ℕ) → HasCopied s r named left recent from from old old
-copied_none s r named left recent from old = record {
-  begun = omega arith;
-  space = refl;
-  copied = λ page low high. absurd (omega arith);
-  stay = λ page lt there. refl;
-}
-
 module _ (s : Sizes) (r : Records) (named left recent : List Bool) (from at i : ℕ) (old mid new : List ℕ) (it : HasCopied s r named left recent from at old mid) (next : IsNext named at i) (space : length new ≡ length mid)
     (copied : has left i ≡ true → has recent i ≡ false → IsAreaPage s r i (record_at page_bytes new i))
     (stay : (page : ℕ) → page < area_pages layout_in_use s → (page ≡ i → has recent i ≡ true) → record_at page_bytes new page ≡ record_at page_bytes mid page) where

@@ -108,9 +108,6 @@ module _ (h : Header) (m : Contents) (j : JournalState) (file : List ℕ) (it : 
   pub still_means : (d : List ℕ) → Still d → MeansWith m j d
   still_means d s = means_of h m j it.shown it.commands it.there d s.image it.accepts it.count enough
 
-  pub still_itself : Still file
-  still_itself = record { image = it.image; journal = it.journal }
-
   abbrev pub keeps_at : (d : List ℕ) → Still d → Keeps h m j d
   keeps_at d s = record {
     shown = it.shown;

@@ -6,15 +6,10 @@ use Rattle.im_disk.specs.Moment.{Moment}
 use Rattle.im_journal.specs.Holding.{JournalState}
 use Rattle.im_memory.specs.State.{MemoryState}
 use Rattle.im_pages.specs.PageSets.{has, union, pages_from, IsNext}
-use Rattle.im_pages.proofs.SetLemmas.{from-next}
 use Rattle.im_checkpoint.specs.declared.checkpoint.Step.{Step as Mark}
 use Rattle.im_checkpoint.specs.declared.checkpoint.Step.TheVariants.{NoCheckpoint as None_yet, PagesLeft as Some_left, PagesDone as All_written, Synced as On_disk}
 use Rattle.im_checkpoint.specs.Step.{Step, NoCheckpoint, PagesLeft, PagesDone, Synced, PagedCheckpoint, with_left, left_in, step_of, IsPagesLeft, IsPagesDone, IsSynced}
 use Rattle.im_checkpoint.specs.Keeping.{paged, IsKept}
-
--- a page of the set comes first among those from it on
-pub first_is : (set : List Bool) (page : ℕ) → page < length set → has set page ≡ true → pages_from page set ≡ page ∷ pages_from (page + 1) set
-first_is set page low there = from-next set page page (record { from = omega arith; inside = low; there = there; between = λ p from to. absurd (omega arith) })
 
 -- a set with no page adds none
 pub union_none : (set : List Bool) → union (replicate (length set) false) set ≡ set

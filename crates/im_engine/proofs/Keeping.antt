@@ -12,13 +12,9 @@ use Rattle.im_types.specs.Meaning.{accept_each}
 use Rattle.im_disk.specs.Moment.{Moment, Left}
 use Rattle.im_disk.specs.Since.{SameBut, LeavesNow}
 use Rattle.im_journal.specs.Holding.{JournalState, Holds, AllHold, room_after, longer, longer_tail, Appended, MayAppend}
-use Rattle.im_laws.proofs.Tests.{true_false, true_or_false}
-use Rattle.im_pages.specs.PageSets.{has}
-use Rattle.im_pages.specs.Places.{AgreeOnPage}
 use Rattle.im_memory.specs.State.{MemoryState}
 use Rattle.im_memory.specs.Touched.{touched, ChangesOnly}
 use Rattle.im_image.specs.Reading.{HasSizes}
-use Rattle.im_image.proofs.Outside.{outside-stays}
 use Rattle.im_meaning.specs.Images.{other, IsImage}
 use Rattle.im_meaning.proofs.Writes.{write_in_journal}
 use Rattle.im_types.specs.Pages.{Records}
@@ -29,6 +25,7 @@ use Rattle.im_checkpoint.proofs.Headers.{area_before, place_to}
 use Rattle.im_checkpoint.proofs.Files.{Still, still_in_area, means_of, enough, size}
 use Rattle.im_checkpoint.proofs.Moments.{kept_calm, means_left}
 use Rattle.im_checkpoint.proofs.Copies.{IsPrepared, step_named, step_moved, taken_longer}
+use Rattle.im_checkpoint.proofs.Copying.{prepared_for}
 
 -- one command more
 
@@ -155,15 +152,7 @@ module _ (c : CheckpointState) (x : Paged) (m : Contents) (j : JournalState) (no
 -- before a command acts, its pages were named
 module _ (c d : PagedCheckpoint) (m n : MemoryState) (command : Command) (prepares : Prepares c m command d) (sizes : HasSizes c.state.header.sizes m.contents) (changes : ChangesOnly (touched m command) m.records n.records) where
   prepared : IsPrepared c.state.header.sizes (left_in c.state.step) (paged c m) (paged d n)
-  prepared = record {
-    older = prepares.older;
-    kept = λ p low out. ⊎_elim (λ there. absurd (true_false (sym (prepares.kept p there) ∙ out))) (λ none. none) (true_or_false (has c.recent p));
-    same = λ p low out. outside-stays c.state.header.sizes m.records n.records p
-        (subst (λ (cells : ℕ). AgreeOnPage cells c.state.header.sizes.elements m.records n.records p) sizes.cells
-        (subst (λ (elements : ℕ). AgreeOnPage (length m.contents.cells) elements m.records n.records p) sizes.elements (prepares.others n.records changes p out)));
-    copied = λ p low among fresh now. prepares.copied p low among fresh now;
-    stay = λ p low before. prepares.stay p low before;
-  }
+  prepared = prepared_for c d m n command prepares changes sizes.cells sizes.elements
 
   -- so what is known of the file stays known once it acted
   pub kept_prepared : (contents : Contents) (j : JournalState) (now : Moment) → IsKept c.state (paged c m) contents j now → IsKept d.state (paged d n) contents j now

@@ -216,12 +216,3 @@ area-shows s r m area count shows long pages =
     record { records = r; spelled = area_of_pages s r (they-fit s r page count pages) area long (are-pages s r page count pages); shown = shows }
 
 -- a page more of an area
-pub one-page-more : (s : Sizes) (r : Records) (old new page : List ℕ) (n : ℕ) → length page ≡ 4096 → 4096 * n + 4096 ≤ length old → new ≡ placed (4096 * n) page old → IsAreaPage s r n page
-    → ((i : ℕ) → i < n → IsAreaPage s r i (record_at 4096 old i)) → (i : ℕ) → i < n + 1 → IsAreaPage s r i (record_at 4096 new i)
-one-page-more s r old new page n long room put here before i lt = ⊎_elim
-    (λ (less : i < n). subst (IsAreaPage s r i) (sym (others_are 4096 n i page old new long room (apart 4096 i n (λ e. omega arith)) put)) (before i less))
-    (λ (from : n ≤ i).
-    let same : n ≡ i = omega arith in
-    let is : IsAreaPage s r n (record_at 4096 new n) = subst (IsAreaPage s r n) (sym (here_is 4096 n page old new long room put)) here in
-    subst (λ i. IsAreaPage s r i (record_at 4096 new i)) same is)
-    (cases_lt i n)

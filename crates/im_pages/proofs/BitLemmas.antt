@@ -9,9 +9,6 @@ use Rattle.std.proofs.lemmas.Nat.{and_le_l}
 use Rattle.std.proofs.lemmas.Nat.Bits.{bit_at-zero, bit_at-lt, bit_at_or, bit_at_and, bit_at_ones, bit_at_set_same, bit_at_set_other, bit_at_mask_inside, bit_at_mask_below, ones_shl, bit_at-trailing_zeros}
 use Rattle.im_pages.specs.Words.{is_set, bits_from, bits_of, AreClear, IsFirstSet}
 
-below_or_from : (a b : ℕ) → (a < b) ⊎ (b ≤ a)
-below_or_from a b = grind (arith)
-
 -- ---- a list of bits
 
 pub length-bits : (words : List ℕ) (at n : ℕ) → length (bits_from words at n) ≡ n
@@ -167,7 +164,7 @@ passes words from at it bit low high = ⊎_elim
     let small : bit - 64 * at < 64 = omega arith in
     let is : 64 * at + (bit - 64 * at) ≡ bit = omega arith in
     ap (is_set words) (sym is) ∙ sym (it.own (bit - 64 * at) small (omega arith)) ∙ ap (λ x. x == 1) (bit_at-zero (bit - 64 * at)))
-    (below_or_from bit (64 * at))
+    (cases_lt bit (64 * at))
 
 pub looks_on : (words : List ℕ) (from at : ℕ) → Looks words from at 0 → at + 1 < length words → get_or words (at + 1) 0 < 2 ^ 64 → Looks words from (at + 1) (get_or words (at + 1) 0)
 looks_on words from at it lt fit = record {
@@ -189,7 +186,7 @@ found words from at word it some = record {
       let small : bit - 64 * at < 64 = omega (arith, tz-small) in
       let is : 64 * at + (bit - 64 * at) ≡ bit = omega arith in
       ap (is_set words) (sym is) ∙ sym (it.own (bit - 64 * at) small (omega arith)) ∙ ap (λ x. x == 1) (lowest.2 (bit - 64 * at) (omega arith)))
-      (below_or_from bit (64 * at));
+      (cases_lt bit (64 * at));
 }
   where
     tz : ℕ
@@ -202,7 +199,7 @@ found words from at word it some = record {
     tz-small = lowest.0
 
     behind : from ≤ 64 * at + tz
-    behind = ⊎_elim (λ before. absurd (omega (arith, it.low tz tz-small before, lowest.1))) (λ le. le) (below_or_from (64 * at + tz) from)
+    behind = ⊎_elim (λ before. absurd (omega (arith, it.low tz tz-small before, lowest.1))) (λ le. le) (cases_lt (64 * at + tz) from)
 
 -- ---- what a set's words become
 

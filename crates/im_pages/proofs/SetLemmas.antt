@@ -57,7 +57,7 @@ union-set old other new n each =
 step_out : (pages : List Bool) (page : ℕ) → page < length pages → has pages page ≡ false → pages_from page pages ≡ pages_from (page + 1) pages
 step_out pages page lt out = ap (pages_of page) (drop_more pages page true lt) ∙ ap (λ (b : Bool). pages_of page (b ∷ drop (page + 1) pages)) out
 
-step_in : (pages : List Bool) (page : ℕ) → page < length pages → has pages page ≡ true → pages_from page pages ≡ page ∷ pages_from (page + 1) pages
+pub step_in : (pages : List Bool) (page : ℕ) → page < length pages → has pages page ≡ true → pages_from page pages ≡ page ∷ pages_from (page + 1) pages
 step_in pages page lt there = ap (pages_of page) (drop_more pages page true lt) ∙ ap (λ (b : Bool). pages_of page (b ∷ drop (page + 1) pages)) there
 
 from-past : (pages : List Bool) (page : ℕ) → length pages ≤ page → pages_from page pages ≡ []
@@ -90,11 +90,11 @@ from-none pages page none = ⊎_elim
 
 -- a page of the list, from its head on
 
-contains_rest : (i : ℕ) (left : List ℕ) (p : ℕ) → Contains (i ∷ left) p → (i ≡ p) ⊎ Contains left p
+pub contains_rest : (i : ℕ) (left : List ℕ) (p : ℕ) → Contains (i ∷ left) p → (i ≡ p) ⊎ Contains left p
 contains_rest i left p (zero, lt, is) = inl is
 contains_rest i left p (suc k, lt, is) = inr (k, omega (arith, lt), is)
 
-contains_more : (i : ℕ) (left : List ℕ) (p : ℕ) → Contains left p → Contains (i ∷ left) p
+pub contains_more : (i : ℕ) (left : List ℕ) (p : ℕ) → Contains left p → Contains (i ∷ left) p
 contains_more i left p (k, lt, is) = (suc k, omega (arith, lt), is)
 
 record IsOf (page : ℕ) (pages : List Bool) (p : ℕ) : Type 0 where
@@ -160,7 +160,3 @@ few-from (true ∷ pages) page = omega (arith, few-from pages (page + 1))
 few-from (false ∷ pages) page = omega (arith, few-from pages (page + 1))
 
 -- and as many are listed as it has
-pub size-listed : (pages : List Bool) (page : ℕ) → length (pages_of page pages) ≡ size_of pages
-size-listed [] page = refl
-size-listed (true ∷ pages) page = ap suc (size-listed pages (page + 1))
-size-listed (false ∷ pages) page = size-listed pages (page + 1)

@@ -36,28 +36,6 @@ prints_written start was is before after n text works there left it =
       back = λ still. sym (left still);
     }
 
--- nothing is written
-pub prints_kept : (start was is : Option (List ℕ)) (before after : Lines) (text : List ℕ) → Keeps was is
-    → (after.broken ≡ false → (before.broken ≡ false) × (after.pending.items ≡ before.pending.items)) → Prints start was before text → Prints start is after text
-prints_kept start was is before after text keeps same it = record {
-  written = it.written;
-  rest = it.rest;
-  split = it.split;
-  there = appends_kept start was is it.written it.there keeps;
-  back = λ still. it.back (same still).0 ∙ sym (same still).1;
-}
-
--- a line is kept back
-pub prints_pushed : (start is : Option (List ℕ)) (before after : Lines) (text line : List ℕ) → before.broken ≡ false → after.pending.items ≡ before.pending.items ++ line
-    → Prints start is before text → Prints start is after (text ++ line)
-prints_pushed start is before after text line works pushed it = record {
-  written = it.written;
-  rest = it.rest ++ line;
-  split = ap (λ xs. xs ++ line) it.split ∙ append_assoc it.written it.rest line;
-  there = it.there;
-  back = λ still. ap (λ xs. xs ++ line) (it.back works) ∙ sym pushed;
-}
-
 -- all of it is written
 pub prints_all : (start is : Option (List ℕ)) (lines : Lines) (text : List ℕ) → lines.broken ≡ false → lines.pending.items ≡ [] → Prints start is lines text → Appends start is text
 prints_all start is lines text works none it =
@@ -130,6 +108,3 @@ pub last_printed : (start is : Option (List ℕ)) (lines : Lines) (text line : L
     → Prints start is lines text ⊎ Prints start is lines (text ++ line) → (last : List ℕ) × (IsLast last × Prints start is lines (text ++ last))
 last_printed start is lines text line refusal name same (inl it) = ([], (inl refl, subst (Prints start is lines) (sym (append-nil text)) it))
 last_printed start is lines text line refusal name same (inr it) = (line, (inr (refusal, (name, same)), it))
-
-pub none_printed : (start is : Option (List ℕ)) (lines : Lines) (text : List ℕ) → Prints start is lines text → (last : List ℕ) × (IsLast last × Prints start is lines (text ++ last))
-none_printed start is lines text it = ([], (inl refl, subst (Prints start is lines) (sym (append-nil text)) it))

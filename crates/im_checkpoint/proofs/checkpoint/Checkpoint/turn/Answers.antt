@@ -6,7 +6,8 @@ use Rattle.im_pages.specs.PageSets.{pages_from}
 use Rattle.im_image.specs.Headers.{seen}
 use Rattle.im_checkpoint.specs.declared.checkpoint.Step.{Step as Mark}
 use Rattle.im_checkpoint.specs.Step.{PagedCheckpoint, PagesLeft, step_of, IsPagesLeft, IsPagesDone, IsSynced}
-use Rattle.im_checkpoint.proofs.PageLists.{first_is, mark_left, step_left, step_done, step_synced, header_is, kept_synced}
+use Rattle.im_pages.proofs.SetLemmas.{step_in}
+use Rattle.im_checkpoint.proofs.PageLists.{mark_left, step_left, step_done, step_synced, header_is, kept_synced}
 use Rattle.im_checkpoint.proofs.Turning.{other_closed}
 use Rattle.im_checkpoint.proofs.Fitting.{once_more, comes_rest, comes_page, comes_synced, comes_in_force}
 use Rattle.im_checkpoint.proofs.checkpoint.Checkpoint.turn.Goals as goal
@@ -23,7 +24,7 @@ returns-in-PagesLeft-clause-turned g c =
     let e = c.self.inside in
     let is : IsPagesLeft c.args.self.now.state.step = search rules in
     let mark = mark_left c.args.self.now (seen e.header) e.step e.count (pages_from e.next e.left) e.recent e.older e.copies.items c.self.view_is is in
-    let step = step_left c.args.self.now (seen e.header) e.step e.count (pages_from e.next e.left) e.recent e.older e.copies.items c.self.view_is is ∙ ap (PagesLeft e.count) (first_is e.left e.next (c.self.invariant.next_low mark) (c.self.invariant.next_left mark)) in
+    let step = step_left c.args.self.now (seen e.header) e.step e.count (pages_from e.next e.left) e.recent e.older e.copies.items c.self.view_is is ∙ ap (PagesLeft e.count) (step_in e.left e.next (c.self.invariant.next_low mark) (c.self.invariant.next_left mark)) in
     once_more c.write_page.result c.write_page.ensures.turned (λ answer it.
     comes_page c.args.self.now c.args.journal.now c.args.memory.now.contents answer c.write_page.new.self c.args.journal.now (it.0 c.args.journal.now) it.1 c.requires.fits e.count e.next (pages_from (e.next + 1) e.left) step)
 

@@ -5,7 +5,8 @@ use Rattle.im_image.specs.Headers.{seen}
 use Rattle.im_checkpoint.specs.Step.{Step, PagesLeft, CheckpointState}
 use Rattle.im_checkpoint.specs.Keeping.{Paged, IsKept}
 use Rattle.im_checkpoint.proofs.Copies.{IsPageFor}
-use Rattle.im_checkpoint.proofs.PageLists.{first_is, mark_left, kept_left}
+use Rattle.im_pages.proofs.SetLemmas.{step_in}
+use Rattle.im_checkpoint.proofs.PageLists.{mark_left, kept_left}
 use Rattle.im_checkpoint.proofs.Moments.{page_now, page_leaves, page_done}
 use Rattle.im_checkpoint.proofs.checkpoint.Checkpoint.write_page.Goals as goal
 
@@ -17,7 +18,7 @@ returns-in-Err-clause-keeps g c = λ h m j kept.
     let rest : List ℕ = pages_from (e.next + 1) e.left in
     let at : CheckpointState = record { header = seen e.header; step = PagesLeft e.count (e.next ∷ pages_from (e.next + 1) e.left) } in
     let before : IsKept at x m j (g.D.Disk.now c.args.disk.now) =
-    subst (λ (l : List ℕ). IsKept (record { header = seen e.header; step = PagesLeft e.count l }) x m j (g.D.Disk.now c.args.disk.now)) (first_is e.left e.next (c.self.invariant.next_low mark) (c.self.invariant.next_left mark))
+    subst (λ (l : List ℕ). IsKept (record { header = seen e.header; step = PagesLeft e.count l }) x m j (g.D.Disk.now c.args.disk.now)) (step_in e.left e.next (c.self.invariant.next_low mark) (c.self.invariant.next_left mark))
     (kept_left c.args.self.now (seen e.header) e.step e.count (pages_from e.next e.left) e.recent e.older e.copies.items c.self.view_is c.args.memory.now m j (g.D.Disk.now c.args.disk.now) kept c.requires.step) in
     let page : IsPageFor (seen e.header).sizes x e.next c.page_for.new.page = record {
       copy = λ yes. c.page_for.ensures.copy yes ∙ ap (λ (l : List ℕ). record_at page_bytes l e.next) c.as_slice.ensures.value;
@@ -40,7 +41,7 @@ returns-clause-keeps g c = λ h m j kept.
     let rest : List ℕ = pages_from (e.next + 1) e.left in
     let at : CheckpointState = record { header = seen e.header; step = PagesLeft e.count (e.next ∷ pages_from (e.next + 1) e.left) } in
     let before : IsKept at x m j (g.D.Disk.now c.args.disk.now) =
-    subst (λ (l : List ℕ). IsKept (record { header = seen e.header; step = PagesLeft e.count l }) x m j (g.D.Disk.now c.args.disk.now)) (first_is e.left e.next (c.self.invariant.next_low mark) (c.self.invariant.next_left mark))
+    subst (λ (l : List ℕ). IsKept (record { header = seen e.header; step = PagesLeft e.count l }) x m j (g.D.Disk.now c.args.disk.now)) (step_in e.left e.next (c.self.invariant.next_low mark) (c.self.invariant.next_left mark))
     (kept_left c.args.self.now (seen e.header) e.step e.count (pages_from e.next e.left) e.recent e.older e.copies.items c.self.view_is c.args.memory.now m j (g.D.Disk.now c.args.disk.now) kept c.requires.step) in
     let page : IsPageFor (seen e.header).sizes x e.next c.page_for.new.page = record {
       copy = λ yes. c.page_for.ensures.copy yes ∙ ap (λ (l : List ℕ). record_at page_bytes l e.next) c.as_slice.ensures.value;
