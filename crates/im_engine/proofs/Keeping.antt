@@ -132,7 +132,7 @@ module _ (c : CheckpointState) (x : Paged) (m : Contents) (j : JournalState) (no
             journal = holds;
           },
           taken_longer c.header kept.read.shown kept.read.commands (kept.read.commands ++ command ∷ []) x c.step file (taken_still c.header kept.read.shown kept.read.commands command)
-          (step_moved c.header x now.bytes file (area c.header.area kept.read.image.in_force.number) (area (other c.header) (omega arith)) kept.read.shown kept.read.commands c.step place kept.step),
+              (step_moved c.header x now.bytes file (area c.header.area kept.read.image.in_force.number) (area (other c.header) (omega arith)) kept.read.shown kept.read.commands c.step place kept.step),
         )
 
   module _ (command : Command) (accepted : is_accepted m command ≡ true) where

@@ -46,7 +46,7 @@ invariant_of-self-2 g c =
     let accepted : is_accepted e.memory.contents c.args.command.now ≡ true = ap (λ (s : EngineState g.row.D.Denot). is_accepted s.memory c.args.command.now) c.self.view_is ∙ c.requires.accepted in
     let done = c.in_default.ensures in (
       subst (λ (s : CheckpointState). Fits s c.step.new.self.contents c.append.new.self) (sym c.before-2.ensures.state)
-      (fits_longer e.checkpoint.state e.memory.contents c.step.new.self.contents e.journal c.append.new.self c.args.command.now c.self.invariant.0 c.step.ensures.contents done.state),
+          (fits_longer e.checkpoint.state e.memory.contents c.step.new.self.contents e.journal c.append.new.self c.args.command.now c.self.invariant.0 c.step.ensures.contents done.state),
       λ h f. kept_prepared e.checkpoint c.before-2.new.self e.memory c.step.new.self c.args.command.now c.before-2.ensures
           (record { cells = c.self.invariant.0.cells; elements = c.self.invariant.0.elements }) c.step.ensures.changes
           c.step.new.self.contents c.append.new.self (g.D.Disk.now c.append.new.disk)

@@ -50,7 +50,7 @@ returns-in-Ok-false-clause-means g c =
     let un : is_accepted e.memory.contents c.args.command.now ≡ false = accepts e.memory.contents c.args.command.now false c.judge.result c.judge.ensures (c.in-Ok-false.is ∙ ap (λ b. Ok b) c.in-Ok-false.field-0-test) in
     let same : c.step.new.self ≡ e.memory = c.step.ensures.unaccepted un in
     λ h f. all_mean e.checkpoint.state (paged e.checkpoint c.step.new.self) c.step.new.self.contents e.journal (g.D.Disk.now e.disk)
-        (subst (λ (m : MemoryState). IsKept e.checkpoint.state (paged e.checkpoint m) m.contents e.journal (g.D.Disk.now e.disk)) (sym same) (c.self.invariant.1 h f))
+    (subst (λ (m : MemoryState). IsKept e.checkpoint.state (paged e.checkpoint m) m.contents e.journal (g.D.Disk.now e.disk)) (sym same) (c.self.invariant.1 h f))
 
 pub returns-in-Err-clause-doubt : goal.returns-in-Err-clause-doubt
 returns-in-Err-clause-doubt g c =
