@@ -76,6 +76,12 @@ module _ {X : Type 0} (told : Contents → Command → List X) (all : Contents �
       ap₂ (λ xs ys. xs ++ ys) is (sym last_is ∙ sym (append-nil (told (after m put) c)) ∙ ap (λ xs. told (after m put) c ++ xs) (sym (none (step (after m put) c).contents)) ∙ sym (first (after m put) c []))
       ∙ sym (all-append m put (c ∷ []))
 
+pub replies-append : (m : Contents) (put more : List Command) → replies m (put ++ more) ≡ replies m put ++ replies (after m put) more
+replies-append = all-append (λ m c. reply_line c (step m c).answer) replies (λ m. refl) (λ m c put. refl)
+
+pub waits-append : (m : Contents) (put more : List Command) → waits m (put ++ more) ≡ waits m put ++ waits (after m put) more
+waits-append = all-append (λ m c. waits_by c (step m c).answer) waits (λ m. refl) (λ m c put. refl)
+
 -- one command more
 pub replies_more : (m : Contents) (put : List Command) (c : Command) (text line : List ℕ) → text ≡ replies m put → reply_line c (step (after m put) c).answer ≡ line
     → text ++ line ≡ replies m (put ++ c ∷ [])
