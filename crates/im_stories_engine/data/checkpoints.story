@@ -5,7 +5,3 @@ format 4096 16 16 = formatted
 16 times 1.1 fetch 0 = 16 nocell
 in each turn stop kept = 65x16
 in each turn stop lost = 65x16
-in each turn stop 00 = 65x16
-in each turn stop a5 = 65x16
--- One fault in any of them, with no crash: the same disk is opened again.
-in each turn once = 65x16
