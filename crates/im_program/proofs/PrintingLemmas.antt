@@ -63,7 +63,7 @@ prints_none start lines none = record { written = []; rest = []; split = refl; t
 -- what is told of each command, where a list tells all of it in order
 module _ {X : Type 0} (told : Contents → Command → List X) (all : Contents → List Command → List X) (none : (m : Contents) → all m [] ≡ [])
     (first : (m : Contents) (c : Command) (put : List Command) → all m (c ∷ put) ≡ told m c ++ all (step m c).contents put) where
-  all-append : (m : Contents) (put more : List Command) → all m (put ++ more) ≡ all m put ++ all (after m put) more
+  pub all-append : (m : Contents) (put more : List Command) → all m (put ++ more) ≡ all m put ++ all (after m put) more
   all-append m [] more = sym (ap (λ xs. xs ++ all m more) (none m))
   all-append m (c ∷ put) more =
       let rest = all (step m c).contents put in
@@ -71,16 +71,10 @@ module _ {X : Type 0} (told : Contents → Command → List X) (all : Contents �
       first m c (put ++ more) ∙ ap (λ xs. told m c ++ xs) (all-append (step m c).contents put more)
       ∙ sym (append_assoc (told m c) rest later) ∙ ap (λ xs. xs ++ later) (sym (first m c put))
 
-  one_more : (m : Contents) (put : List Command) (c : Command) (so_far last : List X) → so_far ≡ all m put → told (after m put) c ≡ last → so_far ++ last ≡ all m (put ++ c ∷ [])
+  pub one_more : (m : Contents) (put : List Command) (c : Command) (so_far last : List X) → so_far ≡ all m put → told (after m put) c ≡ last → so_far ++ last ≡ all m (put ++ c ∷ [])
   one_more m put c so_far last is last_is =
       ap₂ (λ xs ys. xs ++ ys) is (sym last_is ∙ sym (append-nil (told (after m put) c)) ∙ ap (λ xs. told (after m put) c ++ xs) (sym (none (step (after m put) c).contents)) ∙ sym (first (after m put) c []))
       ∙ sym (all-append m put (c ∷ []))
-
-pub replies-append : (m : Contents) (put more : List Command) → replies m (put ++ more) ≡ replies m put ++ replies (after m put) more
-replies-append = all-append (λ m c. reply_line c (step m c).answer) replies (λ m. refl) (λ m c put. refl)
-
-pub waits-append : (m : Contents) (put more : List Command) → waits m (put ++ more) ≡ waits m put ++ waits (after m put) more
-waits-append = all-append (λ m c. waits_by c (step m c).answer) waits (λ m. refl) (λ m c put. refl)
 
 -- one command more
 pub replies_more : (m : Contents) (put : List Command) (c : Command) (text line : List ℕ) → text ≡ replies m put → reply_line c (step (after m put) c).answer ≡ line

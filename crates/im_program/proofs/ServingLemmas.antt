@@ -31,7 +31,7 @@ use Rattle.im_program.specs.declared.lines.Lines.{Lines}
 use Rattle.im_program.specs.declared.waits.Waited.{Waited}
 use Rattle.im_program.specs.Printing.{Begins, IsLast, Prints, PrintsMore, PrintsNows, PrintsOn, nows, replies, reply_line, told_line, waits, waits_by, waits_if, who_of}
 use Rattle.im_program.specs.Serving.{HasPut, MeansAtLeast, GoesWith, HaltsWith, Goes, Halted, GoesOn, Halts, Server, at, Going, Ended, Serves, Ends, Told, Closed, Served}
-use Rattle.im_program.proofs.PrintingLemmas.{replies-append, waits-append, replies_more, waits_more, prints_begins, prints_none, take-all, take-prefix, true_false}
+use Rattle.im_program.proofs.PrintingLemmas.{all-append, replies_more, waits_more, prints_begins, prints_none, take-all, take-prefix, true_false}
 use Rattle.im_program.proofs.ReportLemmas.{bounds_found, HasBounds, not_below}
 
 -- ---- accepted commands
@@ -241,12 +241,12 @@ module _ {D : Type 0} (now : D → Moment) (past : D → List Moment) (failures 
   }
     where
       same_lines : (b p : Bool) → replies start.memory put ≡ replies start.memory (put ++ (if b && p then Confirm element upto ∷ [] else []))
-      same_lines true true = sym (append-nil (replies start.memory put)) ∙ sym (replies-append start.memory put (Confirm element upto ∷ []))
+      same_lines true true = sym (append-nil (replies start.memory put)) ∙ sym (all-append (λ m d. reply_line d (step m d).answer) replies (λ m. refl) (λ m d put. refl) start.memory put (Confirm element upto ∷ []))
       same_lines true false = ap (replies start.memory) (sym (append-nil put))
       same_lines false p = ap (replies start.memory) (sym (append-nil put))
 
       same_waits : (b p : Bool) → waits start.memory put ≡ waits start.memory (put ++ (if b && p then Confirm element upto ∷ [] else []))
-      same_waits true true = sym (append-nil (waits start.memory put)) ∙ sym (waits-append start.memory put (Confirm element upto ∷ []))
+      same_waits true true = sym (append-nil (waits start.memory put)) ∙ sym (all-append (λ m d. waits_by d (step m d).answer) waits (λ m. refl) (λ m d put. refl) start.memory put (Confirm element upto ∷ []))
       same_waits true false = ap (waits start.memory) (sym (append-nil put))
       same_waits false p = ap (waits start.memory) (sym (append-nil put))
 
