@@ -33,33 +33,37 @@ close = closed
 calls = 133
 
 # A run wraps the journal three times
+-- After the format all pages of the other area are written. From then on only those that changed since the area's last
+-- checkpoint began: the sessions of elements 1 to 3 stand on page 33.
 format 4096 16 16 = formatted
 plan 16 times 1.1 fetch 0 = 16 events
 plan 47 turns = 63 events
 plan 16 times 2.1 fetch 0 = 79 events
-plan 47 turns = 126 events
-plan 16 times 3.1 fetch 0 = 142 events
-plan 47 turns = 189 events
-plan 4.1 fetch 0 = 190 events
-plan 4.2 fetch 0 = 191 events
-run = 191 answers
+plan 11 turns = 90 events
+plan 16 times 3.1 fetch 0 = 106 events
+plan 11 turns = 117 events
+plan 4.1 fetch 0 = 118 events
+plan 4.2 fetch 0 = 119 events
+run = 119 answers
 answers 0 to 62 = 16 nocell, began, page 0 to 36, synced, in force, 6 swept, idle
-answers 63 to 125 = 16 nocell, began, page 0 to 36, synced, in force, 6 swept, idle
-answers 126 to 188 = 16 nocell, began, page 0 to 36, synced, in force, 6 swept, idle
-answers 189 to 190 = 2 nocell
+answers 63 to 89 = 16 nocell, began, page 33, synced, in force, 6 swept, idle
+answers 90 to 116 = 16 nocell, began, page 33, synced, in force, 6 swept, idle
+answers 117 to 118 = 2 nocell
 close = closed
 open = opened
 count = 50
 room = 14
+-- After an opening every page of both areas counts as changed.
+turns 45 = began, page 0 to 36, synced, in force, swept, 4 idle; room 40x14 5x16
 
 # The third header is in force after three checkpoints
 format 4096 16 16 = formatted
 16 times 1.1 fetch 0 = 16 nocell
 turns 46 = began, page 0 to 36, synced, in force, 6 swept; room 40x0 3 6 9 12 15 16
 16 times 2.1 fetch 0 = 16 nocell
-turns 46 = began, page 0 to 36, synced, in force, 6 swept; room 40x0 3 6 9 12 15 16
+turns 10 = began, page 33, synced, in force, 6 swept; room 4x0 3 6 9 12 15 16
 16 times 3.1 fetch 0 = 16 nocell
-turns 46 = began, page 0 to 36, synced, in force, 6 swept; room 40x0 3 6 9 12 15 16
+turns 10 = began, page 33, synced, in force, 6 swept; room 4x0 3 6 9 12 15 16
 4.1 fetch 0 = nocell
 close = closed
 -- The gate and the area of the other header, its generation and its count.
@@ -69,6 +73,27 @@ bytes 4112 1 = 30
 -- The gate of the first slot, and its sequence number.
 bytes 311296 1 = a5
 bytes 311304 1 = 30
+
+# A page is written as it was when the checkpoint began
+-- A store acts behind the first turn, on the page of cells and on both pages of sessions that are still to be written.
+-- The area has the memory of two commands; the third is in the journal.
+format 4096 16 256 = formatted
+0.1 alloc i 1 = base 0
+1.1 fetch 0 = waiting
+turn = began
+2.1 store 0 7 = stored
+turns 39 = page 0 to 36, synced, in force; room 39x253
+close = closed
+crash lost = crashed
+-- The header in force: its gate and area, its generation and its count.
+bytes 4096 2 = a501
+bytes 4104 1 = 02
+bytes 4112 1 = 02
+open = opened
+count = 3
+cell 0 = full 7 in block 0 of 1 i
+collect 1.1 = value 7
+room = 253
 
 # A run answers as its commands do one by one
 format 3 6 32 = formatted
