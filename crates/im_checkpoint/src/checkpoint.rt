@@ -3,7 +3,7 @@
 //! | state | the turn | its answer | the next state |
 //! |---|---|---|---|
 //! | no checkpoint, old slots to be swept | closes the gates of three at most | `Swept` | no checkpoint |
-//! | no checkpoint, none to be swept, new commands | takes the pages that changed, and the count | `Began` | pages left |
+//! | no checkpoint, none to be swept, new commands | takes the changed pages and the count | `Began` | pages left |
 //! | no checkpoint, none of either | nothing | `Idle` | no checkpoint |
 //! | pages left | writes the next page into the other area | `Page` | pages left; after the last, pages done |
 //! | pages done | syncs the pages, and closes the other header's gate | `Synced` | synced |
@@ -12,10 +12,12 @@
 //! The other area is the one that isn't in force, and new commands are those since the header's count. The pages that
 //! changed are those that a command named since the other area's last checkpoint began; where there are none, all pages
 //! are done at once. Nothing is copied then: a page that is left is copied by [`Checkpoint::before`], before the first
-//! command that changes it. A turn that answers `Device` leaves the state as it was. After generation [`LAST`] no checkpoint begins. The table is `Turned`
+//! command that changes it. A turn that answers `Device` leaves the state as it was. After generation [`LAST`] no
+//! checkpoint begins. The table is `Turned`
 //! (`specs/Turns.antt`); what holds of the disk in each state, and what a stop leaves, is `IsKept`
 //! (`specs/Keeping.antt`), told in docs/CRASH.md.
-ghost use Rattle.std.specs.Prelude.{◌≡◌, ◌≢◌, ◌⊎◌, ◌+◌, ◌*◌, ◌<◌, ◌≤◌, ℕ, true, false, not, length, min, replicate, ◌==◌};
+ghost use Rattle.std.specs.Prelude.{◌≡◌, ◌≢◌, ◌⊎◌, ◌+◌, ◌*◌, ◌<◌, ◌≤◌, ℕ};
+ghost use Rattle.std.specs.Prelude.{true, false, not, length, min, replicate, ◌==◌};
 ghost use Rattle.std.specs.Prelude.{OnOk, OnErr, IfOk, IfErr};
 ghost use Rattle.im_types.specs.declared.refusals.Refusal.TheVariants.{NoMemory, Device};
 ghost use Rattle.im_types.specs.Contents.{Contents};
@@ -30,11 +32,13 @@ ghost use Rattle.im_meaning.specs.Images.{other};
 ghost use Rattle.im_pages.specs.PageSets.{has, union, pages_from, IsNext};
 ghost use Rattle.im_image.specs.Headers.{seen};
 ghost use Rattle.im_image.specs.Encoding.{IsAreaPage};
-ghost use Rattle.im_checkpoint.specs.Step.{NoCheckpoint, PagesLeft, CheckpointState, PagedCheckpoint, with_left, step_of};
+ghost use Rattle.im_checkpoint.specs.Step.{NoCheckpoint, PagesLeft, CheckpointState, PagedCheckpoint};
+ghost use Rattle.im_checkpoint.specs.Step.{with_left, step_of};
 ghost use Rattle.im_checkpoint.specs.Step.{IsPagesLeft, IsPagesDone, IsSynced};
 ghost use Rattle.im_checkpoint.specs.Turns.{Turned, Moved, Begins, IsIdle, is_due, most_calls};
 ghost use Rattle.im_image.specs.Reading.{HasSizes};
-ghost use Rattle.im_checkpoint.specs.Keeping.{Paged, paged, Fits, IsKept, Prepares, IsAtRest, IsReady, ComesTo, KeepsMeaning};
+ghost use Rattle.im_checkpoint.specs.Keeping.{Paged, paged, Fits, IsKept, Prepares};
+ghost use Rattle.im_checkpoint.specs.Keeping.{IsAtRest, IsReady, ComesTo, KeepsMeaning};
 
 use crate::header::{close_other, next_header, open_next};
 use im_disk::Disk;
@@ -109,7 +113,8 @@ impl Model for Checkpoint {
       copies = c.copies.items;
     } };
 
-    ghost invariant = { λ c. IsCheckpoint (seen c.header) c.step c.recent c.older c.left c.named c.next c.copies.items };
+    ghost invariant = { λ c.
+        IsCheckpoint (seen c.header) c.step c.recent c.older c.left c.named c.next c.copies.items };
 }
 
 // All pages of an area, or none of them.
@@ -241,8 +246,8 @@ fn sweep<D: Disk>(disk: &mut D, journal: &mut Journal) -> Result<TurnDone, Refus
 
 impl Checkpoint {
     /// No checkpoint yet, with this header in force. All pages of both areas count as changed; where the image was just
-    /// formatted, those of the other area alone. It takes the sets of pages, and the space for an area: `NoMemory` where
-    /// that is refused.
+    /// formatted, those of the other area alone. It takes the sets of pages, and the space for an area: `NoMemory`
+    /// where that is refused.
     pub fn idle(alloc: Global, header: &Header, formatted: bool) -> Result<Checkpoint, Refusal>
         requires { header.now.area ≤ 1 }
         ensures idle { IfOk result (λ c. IsIdle (seen header.now) formatted c) }
@@ -308,8 +313,8 @@ impl Checkpoint {
     }
 
     /// To be called before a command that the memory accepts acts. Each page on which it may change a record counts as
-    /// changed in both areas from now on, and those of them that a checkpoint under way has still to write are copied as
-    /// they are, unless they were before. It takes no memory, and makes no call of the disk.
+    /// changed in both areas from now on, and those of them that a checkpoint under way has still to write are copied
+    /// as they are, unless they were before. It takes no memory, and makes no call of the disk.
     pub fn before(&mut self, memory: &Memory, command: &Command)
         requires sizes { HasSizes self.old.state.header.sizes memory.now.contents }
         ensures { Prepares self.old memory.now command.now self.new }
@@ -449,8 +454,8 @@ impl Checkpoint {
         journal: &mut Journal,
     ) -> Result<TurnDone, Refusal>
         requires rests { IsAtRest self.old.state memory.now.contents journal.old }
-        requires kept { D.honest disk.old → IsKept self.old.state (paged self.old memory.now) memory.now.contents journal.old
-            (D.now disk.old) }
+        requires kept { D.honest disk.old
+            → IsKept self.old.state (paged self.old memory.now) memory.now.contents journal.old (D.now disk.old) }
         ensures turned { IfOk result (λ answer. Turned self.old.state journal.old answer self.new.state journal.new
             × Moved self.old answer self.new) }
         ensures same { OnErr result ((self.new ≡ self.old) × (journal.new ≡ journal.old)) }
@@ -471,8 +476,8 @@ impl Checkpoint {
         Ok(TurnDone::Idle)
     }
 
-    /// One turn, by what was done so far: it takes the pages that changed, writes one of them, puts them on the disk, puts
-    /// the header of their area in force, or closes the gates of slots whose commands the area in force holds, three at
+    /// One turn, by what was done so far: it takes the pages that changed, writes one of them, puts them on the disk,
+    /// puts the header of their area in force, or closes the gates of slots whose commands the area in force holds, three at
     /// most. `Idle` where there is none of it to do. It makes at most four device calls and takes no memory. The memory
     /// and the journal are those that the header's image means.
     ///
@@ -485,8 +490,8 @@ impl Checkpoint {
         journal: &mut Journal,
     ) -> Result<TurnDone, Refusal>
         requires fits { Fits self.old.state memory.now.contents journal.old }
-        requires kept { D.honest disk.old → IsKept self.old.state (paged self.old memory.now) memory.now.contents journal.old
-            (D.now disk.old) }
+        requires kept { D.honest disk.old
+            → IsKept self.old.state (paged self.old memory.now) memory.now.contents journal.old (D.now disk.old) }
         // What it answers, and what it comes to: the table of turns, and how far a checkpoint still has to go.
         ensures turned { IfOk result (λ answer. ComesTo self.old journal.old memory.now.contents answer self.new
             journal.new) }

@@ -64,7 +64,8 @@ pub(crate) fn close_other<D: Disk>(disk: &mut D, header: &Header) -> Result<(), 
 pub(crate) fn open_next<D: Disk>(disk: &mut D, next: &Header) -> Result<(), DeviceFault>
     requires area { next.now.area ≤ 1 }
     requires closed { D.honest disk.old → IsClosed (4096 * next.now.area) 64 (D.now disk.old) }
-    ensures leaves { D.honest disk.new → (h : definition.Header) (count : ℕ) (x : Paged) (m : Contents) (j : JournalState)
+    ensures leaves { D.honest disk.new
+        → (h : definition.Header) (count : ℕ) (x : Paged) (m : Contents) (j : JournalState)
         → seen next.now ≡ next_header h count
         → IsKept (record { header = h; step = Synced count }) x m j (D.now disk.old)
         → LeavesOnly D.now D.past disk.old disk.new (MeansWith m j) }

@@ -150,3 +150,6 @@ AgreeBut-inside slots arena a but = omega (arith, but.lists, cell_at-within slot
     cell_at-within [] a v e = absurd (cc)
     cell_at-within (slot ∷ slots) zero v e = omega arith
     cell_at-within (slot ∷ slots) (suc a) v e = let h : a < length slots = cell_at-within slots a v e in omega arith
+
+-- the joined cells after a slot and a list are written, for who writes them
+pub ruleset there = (held_there, cells_there, joined_there, same_there)

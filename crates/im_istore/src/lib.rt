@@ -41,7 +41,7 @@ pub fn look(table: &CellTable, a: u32, kind: Kind) -> Result<Cell, Reply>
 
 /// Reads the cell at an address for `who`: a full one gives its value, and where there is none yet, `who` waits behind
 /// those who wait. It takes a node where `who` waits.
-#[tactic(auto, using(crate::proofs::Cells::held_there, crate::proofs::Cells::cells_there, crate::proofs::Cells::joined_there, crate::proofs::Cells::same_there))]
+#[tactic(auto, using(crate::proofs::Cells::there))]
 pub fn fetch(table: &mut CellTable, arena: &mut Arena, a: u32, who: Waiter) -> Entry
     requires agree { Agree table.old arena.old }
     requires room { 0 < free arena.old.held }
@@ -75,7 +75,7 @@ pub fn fetch(table: &mut CellTable, arena: &mut Arena, a: u32, who: Waiter) -> E
 /// Writes the cell at an address. After `Stored` its readers, if there are any, still stand on its list:
 /// [`next_reader`] hands them out, and each of them gets the value. A cell that has a value keeps it, and is clashed.
 /// The two are for who answers each reader at once; what they come to, [`store_and_drain`] says.
-#[tactic(auto, using(crate::proofs::Cells::held_there, crate::proofs::Cells::cells_there, crate::proofs::Cells::joined_there, crate::proofs::Cells::same_there))]
+#[tactic(auto, using(crate::proofs::Cells::there))]
 pub fn store(table: &mut CellTable, arena: &Arena, a: u32, value: u64) -> Reply
     requires { Agree table.old arena.now }
 

@@ -1,5 +1,6 @@
 //! A memory, and one command on it.
-ghost use Rattle.std.specs.Prelude.{◌≡◌, ◌*◌, ◌≤◌, List, [], ◌∷◌, ◌++◌, length, IfOk, IfErr, OnErr, Ok, false, slice_get};
+ghost use Rattle.std.specs.Prelude.{◌≡◌, ◌*◌, ◌≤◌, List, [], ◌∷◌, ◌++◌, length};
+ghost use Rattle.std.specs.Prelude.{IfOk, IfErr, OnErr, Ok, false, slice_get};
 ghost use Rattle.im_types.specs.declared.commands.Judged.TheVariants.{Fresh};
 ghost use Rattle.im_types.specs.declared.commands.Command.{Command};
 ghost use Rattle.im_types.specs.Contents.{empty_contents, held_at, block_at, waiters_at, kept_for};
@@ -170,7 +171,8 @@ impl Memory {
         ensures contents { self.new.contents ≡ (step self.old.contents (Command.Confirm element upto)).contents }
         ensures was_memory { let m = self.old.contents in IsMemory (length m.cells) (length m.windows) m }
         ensures refused { OnErr result (self.new ≡ self.old) }
-        ensures unaccepted { is_accepted self.old.contents (Command.Confirm element upto) ≡ false → self.new ≡ self.old }
+        ensures unaccepted { is_accepted self.old.contents (Command.Confirm element upto) ≡ false
+            → self.new ≡ self.old }
         ensures changes { let command = Command.Confirm element upto in
             ChangesOnly (touched self.old command) self.old.records self.new.records }
     {

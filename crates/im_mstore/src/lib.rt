@@ -38,7 +38,7 @@ fn open_cell(arena: &Arena, list: u32) -> Cell
 
 /// Takes the value of the cell at an address for `who`, and leaves the cell empty; where there is no value yet, `who`
 /// waits behind those who wait. It takes a node where `who` waits.
-#[tactic(auto, using(im_istore::proofs::Cells::held_there, im_istore::proofs::Cells::cells_there, im_istore::proofs::Cells::joined_there, im_istore::proofs::Cells::same_there))]
+#[tactic(auto, using(im_istore::proofs::Cells::there))]
 pub fn take(table: &mut CellTable, arena: &mut Arena, a: u32, who: Waiter) -> Entry
     requires agree { Agree table.old arena.old }
     requires room { 0 < free arena.old.held }
@@ -74,7 +74,7 @@ pub fn take(table: &mut CellTable, arena: &mut Arena, a: u32, who: Waiter) -> En
 
 /// Gives a value to the first of those who wait for the cell at an address, who comes with the answer and whose node is
 /// given back; where nobody waits, the cell keeps the value. A cell that has a value keeps that, and is clashed.
-#[tactic(auto, using(im_istore::proofs::Cells::held_there, im_istore::proofs::Cells::cells_there, im_istore::proofs::Cells::joined_there, im_istore::proofs::Cells::same_there))]
+#[tactic(auto, using(im_istore::proofs::Cells::there))]
 pub fn put(table: &mut CellTable, arena: &mut Arena, a: u32, value: u64) -> (Reply, Option<Waiter>)
     requires { Agree table.old arena.old }
 

@@ -14,7 +14,8 @@ use std::io::Write;
 // Prints a last line behind the others, if it can be printed.
 fn push_through<W: Write>(lines: &mut Lines, line: &str, out: &mut W)
     ensures { (start : Option (List ℕ)) (text : List ℕ) → Prints start (W.contents out.old) lines.old text
-        → Prints start (W.contents out.new) lines.new text ⊎ Prints start (W.contents out.new) lines.new (text ++ line.now) }
+        → Prints start (W.contents out.new) lines.new text
+        ⊎ Prints start (W.contents out.new) lines.new (text ++ line.now) }
 {
     match lines.push(out, line) {
         Ok(()) => {

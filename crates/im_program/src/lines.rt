@@ -101,7 +101,7 @@ impl Lines {
         }
     }
 
-    /// Writes what is kept back, and has the writer put it through. After a fault of the writer nothing more is written.
+    /// Writes what is kept back, and has the writer put it through. After a fault of the writer no more is written.
     pub fn flush<W: Write>(&mut self, out: &mut W) -> Result<(), Reason>
         ensures on { PrintsOn (W.contents out.old) self.old (W.contents out.new) self.new }
         ensures pending { OnOk result (self.new.pending.items ≡ []) }

@@ -1,5 +1,6 @@
 //! A script's requests, served one after another.
-ghost use Rattle.std.specs.Prelude.{◌≡◌, ◌⊎◌, ◌≤◌, ◌++◌, ℕ, [], false, Ok, OnOk, OnErr, IfOk, IsOk, MatchResult, length, map};
+ghost use Rattle.std.specs.Prelude.{◌≡◌, ◌⊎◌, ◌≤◌, ◌++◌, ℕ, [], false, Ok};
+ghost use Rattle.std.specs.Prelude.{OnOk, OnErr, IfOk, IsOk, MatchResult, length, map};
 ghost use Rattle.im_types.specs.Window.{bounds};
 ghost use Rattle.im_disk.specs.Since.{LeavesNow};
 ghost use Rattle.im_engine.specs.State.{MeansState};
