@@ -18,6 +18,10 @@ refusal BadRecord = refused 16 BadRecord
 refusal BadLimits = refused 17 BadLimits
 refusal BadScript = refused 18 BadScript
 refusal Stalled = refused 19 Stalled
+refusal OffPlan = refused 20 OffPlan
+refusal OldVersion = refused 21 OldVersion
+refusal NotBlank = refused 22 NotBlank
+refusal BadPlan = refused 23 BadPlan
 refusal PaneGone = refused 24 PaneGone
 
 # A memory has 1 to 65,536 cells, 1 to 64 elements, and 16 to 4,096 slots of its journal

@@ -26,7 +26,7 @@ pub fn tell_limits(sizes: &[&str], said: &mut String) -> Result<Option<Limits>> 
     Ok(limits)
 }
 
-const REFUSALS: [Refusal; 20] = [
+const REFUSALS: [Refusal; 24] = [
     Refusal::Gap,
     Refusal::Forgotten,
     Refusal::WindowFull,
@@ -46,6 +46,10 @@ const REFUSALS: [Refusal; 20] = [
     Refusal::BadLimits,
     Refusal::BadScript,
     Refusal::Stalled,
+    Refusal::OffPlan,
+    Refusal::OldVersion,
+    Refusal::NotBlank,
+    Refusal::BadPlan,
     Refusal::PaneGone,
 ];
 

@@ -63,6 +63,18 @@ pub enum Refusal {
     /// Everyone waits, and nobody is left to answer.
     #[error("Stalled")]
     Stalled,
+    /// The plan of this run has no such request.
+    #[error("OffPlan")]
+    OffPlan,
+    /// The image has an older layout: it is migrated before it is served.
+    #[error("OldVersion")]
+    OldVersion,
+    /// The file that would be written holds an image.
+    #[error("NotBlank")]
+    NotBlank,
+    /// The requests make no plan, or the plan doesn't fit the memory.
+    #[error("BadPlan")]
+    BadPlan,
     /// The published cells can no longer be read.
     #[error("PaneGone")]
     PaneGone,
@@ -71,7 +83,7 @@ pub enum Refusal {
 impl Refusal {
     ghost use Rattle.im_types.specs.Refusals.{number_of};
 
-    /// The refusal's number, 1 to 19 or 24.
+    /// The refusal's number, 1 to 24.
     pub fn number(self) -> u8
         ensures { result ≡ number_of self }
     {
@@ -95,6 +107,10 @@ impl Refusal {
             Refusal::BadLimits => 17,
             Refusal::BadScript => 18,
             Refusal::Stalled => 19,
+            Refusal::OffPlan => 20,
+            Refusal::OldVersion => 21,
+            Refusal::NotBlank => 22,
+            Refusal::BadPlan => 23,
             Refusal::PaneGone => 24,
         }
     }
