@@ -477,9 +477,9 @@ impl Checkpoint {
     }
 
     /// One turn, by what was done so far: it takes the pages that changed, writes one of them, puts them on the disk,
-    /// puts the header of their area in force, or closes the gates of slots whose commands the area in force holds, three at
-    /// most. `Idle` where there is none of it to do. It makes at most four device calls and takes no memory. The memory
-    /// and the journal are those that the header's image means.
+    /// puts the header of their area in force, or closes the gates of slots whose commands the area in force holds,
+    /// three at most. `Idle` where there is none of it to do. It makes at most four device calls and takes no memory.
+    /// The memory and the journal are those that the header's image means.
     ///
     /// `Device` where a call of the disk failed: the checkpoint and the journal are as they were, but the disk may be
     /// further, so the image has to be opened again.

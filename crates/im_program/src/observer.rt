@@ -16,7 +16,8 @@ pub struct Progress {
 
 /// A person who follows the work. What is told here is no part of the output.
 pub trait Observer {
-    /// Is told the answer of a request that waited when the image was opened, before its entry is confirmed or at the end.
+    /// Is told the answer of a request that waited when the image was opened, before its entry is confirmed or at the
+    /// end.
     fn answered(&mut self, element: u16, number: u64, entry: Entry);
 
     /// Is told how far the work has come, before each request.
