@@ -12,6 +12,7 @@ pub mod Memory
 pub mod History
 pub mod Plan
 pub mod Trace
+pub mod Changes
 pub mod Bytes
 pub mod Slot
 pub mod Journal

@@ -4,6 +4,7 @@
 #![tactic(auto)]
 
 mod cells;
+mod changes;
 pub mod codes;
 mod commands;
 pub mod layout;
@@ -13,6 +14,7 @@ mod refusals;
 mod sizes;
 
 pub use cells::Cell;
+pub use changes::Change;
 pub use commands::{Call, Command, Judged, Line, Outcome, Request};
 pub use operations::{Block, Entry, Kept, Kind, Op, Reply, Waiter};
 pub use records::{CellRecord, NodeRecord, PresenceTag};

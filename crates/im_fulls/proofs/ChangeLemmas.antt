@@ -1,0 +1,290 @@
+-- Each operation changes the full cells as its change says.
+use Rattle.std.proofs.Common.{◌≡◌, ◌≢◌, ◌⊎◌, inl, inr, ⊎_elim, ℕ, zero, suc, ◌+◌, ◌<◌, ◌≤◌, List, [], ◌∷◌, ◌++◌, set, take, drop, Some, None, Bool, true, false, cond, refl, sym, ap, ◌∙◌, arith, length}
+use Rattle.std.specs.Prelude.{Option, nat_lt, ◌==◌}
+use Rattle.std.specs.List.{list_any}
+use Rattle.std.proofs.lemmas.Bool.{cases_eq}
+use Rattle.std.proofs.lemmas.Bool.Decides.{nat_tests}
+use Rattle.im_types.proofs.Tests.{false_true}
+use Rattle.im_types.specs.declared.operations.Op.{Op}
+use Rattle.im_types.specs.declared.operations.Op.TheVariants.{Alloc, Release, Fetch, Store, Take, Put}
+use Rattle.im_types.specs.declared.operations.Kind.{Kind}
+use Rattle.im_types.specs.declared.operations.Kind.TheVariants.{I, M}
+use Rattle.im_types.specs.declared.operations.Block.{Block}
+use Rattle.im_types.specs.declared.operations.Waiter.{Waiter}
+use Rattle.im_types.specs.declared.operations.Reply.TheVariants.{BadLength, WrongKind, StillWaiting, Released}
+use Rattle.im_types.specs.declared.operations.Entry.TheVariants.{Answered}
+use Rattle.im_types.specs.declared.commands.Command.{Command}
+use Rattle.im_types.specs.declared.commands.Command.TheVariants.{Request as Asks, Confirm}
+use Rattle.im_types.specs.declared.commands.Call.{Call}
+use Rattle.im_types.specs.declared.commands.Call.TheVariants.{Command as Commands, Collect}
+use Rattle.im_types.specs.declared.commands.Line.{Line}
+use Rattle.im_types.specs.Contents.{CellState, Empty, Full, Clashed, Held, Contents, held_at, full_value, full_in, full_at}
+use Rattle.im_types.specs.Place.{place, fill}
+use Rattle.im_types.specs.Act.{Served, only_tells, fetch, store, take_from, put, same_kind, serve_cell, at_cell, new_cell, allocate, allocate_at, release_block, block_with_base, is_waiting_cell, act}
+use Rattle.im_types.specs.Step.{Stepped, asker, step, step_request, is_accepted}
+use Rattle.im_types.specs.Run.{accepted}
+use Rattle.im_types.specs.Trace.{contents_after, end_of}
+use Rattle.im_laws.specs.Traces.{command_in, commands_of}
+use Rattle.im_laws.proofs.OpLemmas.{same_kind-equal}
+use Rattle.im_laws.proofs.PlaceLemmas.{get_or-fill, place-free}
+use Rattle.im_laws.proofs.AgreementLemmas.{held_at-set, held_at-within}
+use Rattle.im_laws.proofs.AcceptLemmas.{accepted-fresh, unaccepted-leaves}
+use Rattle.im_laws.proofs.JudgeLemmas.{confirm-cells}
+use Rattle.im_types.specs.declared.changes.Change.{Change}
+use Rattle.im_types.specs.declared.changes.Change.TheVariants.{Same, Gone}
+use Rattle.im_types.specs.Changes.{is_among, changed, store_change, store_change_in, release_change, change_of, change_by, changes_at, changes_in, changes_of, value_after, fill_at, fills_from, opening, shown_by}
+
+-- the value at an address of these cells
+abbrev pub value_at : List (Option Held) → ℕ → Option ℕ
+value_at cells a = full_in (held_at cells a)
+
+module _ (cells : List (Option Held)) (b : ℕ) where
+  -- a change at one address leaves the others
+  module _ (a : ℕ) (held : Held) (at : held_at cells a ≡ Some held) (new : CellState) where
+    written : b ≡ a → value_at (set cells a (Some (record { block = held.block; state = new }))) b ≡ full_value held.block.kind new
+    written same = ⊎_elim
+        (λ h. ap full_in h.1)
+        (λ h. absurd (h.0 same))
+        (held_at-set cells a b (Some (record { block = held.block; state = new })) (held_at-within cells a held at))
+
+    unwritten : b ≢ a → value_at (set cells a (Some (record { block = held.block; state = new }))) b ≡ value_at cells b
+    unwritten other = ⊎_elim
+        (λ h. absurd (other h.0))
+        (λ h. ap full_in h.1)
+        (held_at-set cells a b (Some (record { block = held.block; state = new })) (held_at-within cells a held at))
+
+  same-value : (a : ℕ) (held : Held) → held_at cells a ≡ Some held → b ≡ a → value_at cells b ≡ full_value held.block.kind held.state
+  same-value a held at same = ap (value_at cells) same ∙ ap full_in at
+
+  -- an operation that fills and empties no I cell
+  leaves-cell : (kind : Kind) (f : CellState → Served) → ((s : CellState) → full_value kind (f s).state ≡ full_value kind s) → (a : ℕ)
+      → value_at (at_cell kind f cells a (held_at cells a)).cells b ≡ value_at cells b
+  leaves-cell kind f same a = by_held (held_at cells a) refl
+    where
+      by_kind : (held : Held) → held_at cells a ≡ Some held → (t : Bool) → same_kind kind held.block.kind ≡ t
+          → value_at (cond t (serve_cell cells a held.block (f held.state)) (only_tells cells WrongKind)).cells b ≡ value_at cells b
+      by_kind held at false k = refl
+      by_kind held at true k = ⊎_elim
+          (λ e. written a held at (f held.state).state e
+          ∙ ap (λ k. full_value k (f held.state).state) (sym (same_kind-equal kind held.block.kind k)) ∙ same held.state ∙ ap (λ k. full_value k held.state) (same_kind-equal kind held.block.kind k)
+          ∙ sym (same-value a held at e))
+          (λ n. unwritten a held at (f held.state).state n)
+          (cases_eq b a)
+
+      by_held : (o : Option Held) → held_at cells a ≡ o → value_at (at_cell kind f cells a o).cells b ≡ value_at cells b
+      by_held None at = refl
+      by_held (Some held) at = by_kind held at (same_kind kind held.block.kind) refl
+
+  -- a store
+  changed-other : (a v : ℕ) (s : CellState) → b ≢ a → changed b (value_at cells b) (store_change a v s) ≡ value_at cells b
+  changed-other a v (Empty readers) n = let t : (b == a) ≡ false = grind (arith, nat_tests) in ap (λ t. cond t (Some v) (value_at cells b)) t
+  changed-other a v (Full w) n = ap (λ t. cond t None (value_at cells b)) (not_among (nat_lt b a) refl)
+    where
+      not_among : (t : Bool) → nat_lt b a ≡ t → cond t false (nat_lt b (a + 1)) ≡ false
+      not_among true t = refl
+      not_among false t = grind (arith, nat_tests)
+  changed-other a v (Clashed w) n = refl
+
+  changed-same : (a v : ℕ) (held : Held) → held_at cells a ≡ Some held → held.block.kind ≡ I → b ≡ a → (s : CellState) → held.state ≡ s
+      → full_value I (store v s).state ≡ changed b (value_at cells b) (store_change a v s)
+  changed-same a v held at kind e (Empty readers) s = let t : (b == a) ≡ true = grind (arith, nat_tests) in sym (ap (λ t. cond t (Some v) (value_at cells b)) t)
+  changed-same a v held at kind e (Full w) s = sym (ap (λ t. cond t None (value_at cells b)) (among (nat_lt b a) refl))
+    where
+      among : (t : Bool) → nat_lt b a ≡ t → cond t false (nat_lt b (a + 1)) ≡ true
+      among true t = absurd (false_true (let f : nat_lt b a ≡ false = grind (arith, nat_tests) in sym f ∙ t))
+      among false t = grind (arith, nat_tests)
+  changed-same a v held at kind e (Clashed w) s = sym (same-value a held at e ∙ ap (λ k. full_value k held.state) kind ∙ ap (full_value I) s)
+
+  stores-cell : (a v : ℕ)
+      → value_at (at_cell I (store v) cells a (held_at cells a)).cells b ≡ changed b (value_at cells b) (store_change_in a v (held_at cells a))
+  stores-cell a v = by_held (held_at cells a) refl
+    where
+      by_kind : (held : Held) → held_at cells a ≡ Some held → (t : Bool) → same_kind I held.block.kind ≡ t
+          → value_at (cond t (serve_cell cells a held.block (store v held.state)) (only_tells cells WrongKind)).cells b
+          ≡ changed b (value_at cells b) (cond t (store_change a v held.state) Same)
+      by_kind held at false k = refl
+      by_kind held at true k =
+          let kind = sym (same_kind-equal I held.block.kind k) in
+          ⊎_elim
+          (λ e. written a held at (store v held.state).state e ∙ ap (λ k. full_value k (store v held.state).state) kind ∙ changed-same a v held at kind e held.state refl)
+          (λ n. unwritten a held at (store v held.state).state n ∙ sym (changed-other a v held.state n))
+          (cases_eq b a)
+
+      by_held : (o : Option Held) → held_at cells a ≡ o
+          → value_at (at_cell I (store v) cells a o).cells b ≡ changed b (value_at cells b) (store_change_in a v o)
+      by_held None at = refl
+      by_held (Some held) at = by_kind held at (same_kind I held.block.kind) refl
+
+  -- a new block's cells are empty, as they were
+  allocates : (kind : Kind) (n : ℕ) → value_at (allocate cells kind n).cells b ≡ value_at cells b
+  allocates kind n = by_test (n == 0)
+    where
+      new_none : (k : Kind) → full_value k (Empty []) ≡ None
+      new_none I = refl
+      new_none M = refl
+
+      by_place : (o : Option ℕ) → place n cells ≡ o → value_at (allocate_at cells kind n o).cells b ≡ value_at cells b
+      by_place None e = refl
+      by_place (Some base) e = ⊎_elim
+          (λ same. ap full_in same)
+          (λ h. ap full_in h.2 ∙ new_none kind ∙ sym (ap full_in (place-free n cells base e b h.0 h.1)))
+          (get_or-fill cells base n (new_cell base n kind) b)
+
+      by_test : (t : Bool) → value_at (cond t (only_tells cells BadLength) (allocate_at cells kind n (place n cells))).cells b ≡ value_at cells b
+      by_test true = refl
+      by_test false = by_place (place n cells) refl
+
+-- cells that are freed
+freed : (cells : List (Option Held)) (base n b : ℕ) → base ≤ b → b < base + n → held_at (fill cells base n None) b ≡ None
+freed [] base n b lo hi = refl
+freed (c ∷ cells) zero zero b lo hi = absurd (omega arith)
+freed (c ∷ cells) zero (suc n) zero lo hi = refl
+freed (c ∷ cells) zero (suc n) (suc b) lo hi = freed cells zero n b (omega arith) (omega arith)
+freed (c ∷ cells) (suc base) n zero lo hi = absurd (omega arith)
+freed (c ∷ cells) (suc base) n (suc b) lo hi = freed cells base n b (omega arith) (omega arith)
+
+frees : (cells : List (Option Held)) (base n b : ℕ) → value_at (fill cells base n None) b ≡ cond (is_among base n b) None (value_at cells b)
+frees cells base n b = by_low (nat_lt b base) refl
+  where
+    outside : (b < base) ⊎ (base + n ≤ b) → value_at (fill cells base n None) b ≡ value_at cells b
+    outside out = ⊎_elim
+        (λ same. ap full_in same)
+        (λ h. let low = h.0 in let high = h.1 in absurd (⊎_elim (λ (x : b < base). omega arith) (λ (x : base + n ≤ b). omega arith) out))
+        (get_or-fill cells base n None b)
+
+    by_high : base ≤ b → (t : Bool) → nat_lt b (base + n) ≡ t → value_at (fill cells base n None) b ≡ cond t None (value_at cells b)
+    by_high low true t = ap full_in (freed cells base n b low (grind (arith, nat_tests)))
+    by_high low false t = outside (inr (grind (arith, nat_tests)))
+
+    by_low : (t : Bool) → nat_lt b base ≡ t → value_at (fill cells base n None) b ≡ cond (cond t false (nat_lt b (base + n))) None (value_at cells b)
+    by_low true t = outside (inl (grind (arith, nat_tests)))
+    by_low false t = by_high (grind (arith, nat_tests)) (nat_lt b (base + n)) refl
+
+releases-block : (cells : List (Option Held)) (a b : ℕ) (o : Option Block)
+    → value_at (release_block cells a o).cells b ≡ changed b (value_at cells b) (release_change cells a o)
+releases-block cells a b None = refl
+releases-block cells a b (Some block) = by_test (list_any is_waiting_cell (take block.length (drop a cells)))
+  where
+    by_test : (t : Bool)
+        → value_at (cond t (only_tells cells StillWaiting) (record { cells = fill cells a block.length None; entry = Answered Released; resumed = [] })).cells b
+        ≡ changed b (value_at cells b) (cond t Same (Gone a block.length))
+    by_test true = refl
+    by_test false = frees cells a block.length b
+
+fetch-leaves : (who : Waiter) (s : CellState) → full_value I (fetch who s).state ≡ full_value I s
+fetch-leaves who (Empty waiters) = refl
+fetch-leaves who (Full v) = refl
+fetch-leaves who (Clashed v) = refl
+
+-- each operation
+pub act-changes : (cells : List (Option Held)) (who : Waiter) (op : Op) (b : ℕ)
+    → value_at (act cells who op).cells b ≡ changed b (value_at cells b) (change_of cells op)
+act-changes cells who (Alloc kind n) b = allocates cells b kind n
+act-changes cells who (Release a) b = releases-block cells a b (block_with_base a (held_at cells a))
+act-changes cells who (Fetch a) b = leaves-cell cells b I (fetch who) (fetch-leaves who) a
+act-changes cells who (Store a v) b = stores-cell cells b a v
+act-changes cells who (Take a) b = leaves-cell cells b M (take_from who) (λ s. refl) a
+act-changes cells who (Put a v) b = leaves-cell cells b M (put v) (λ s. refl) a
+
+-- each command
+pub step-changes : (m : Contents) (command : Command) (a : ℕ)
+    → full_at (step m command).contents a ≡ value_after a (full_at m a) (changes_at m command)
+step-changes m command a = by_test (is_accepted m command) refl
+  where
+    by_command : (command : Command) → is_accepted m command ≡ true → full_at (step m command).contents a ≡ changed a (full_at m a) (change_by m command)
+    by_command (Asks r) e = ap (λ (s : Stepped). full_at s.contents a) (ap (step_request m r) (accepted-fresh m r e)) ∙ act-changes m.cells (asker r) r.op a
+    by_command (Confirm element upto) e = ap (λ cells. full_in (held_at cells a)) (confirm-cells m element upto)
+
+    by_test : (t : Bool) → is_accepted m command ≡ t
+        → full_at (step m command).contents a ≡ value_after a (full_at m a) (cond t (change_by m command ∷ []) [])
+    by_test true e = by_command command e
+    by_test false e = ap (λ m. full_at m a) (unaccepted-leaves m command e)
+
+-- changes one after another
+value_after-append : (a : ℕ) (value : Option ℕ) (earlier later : List Change)
+    → value_after a value (earlier ++ later) ≡ value_after a (value_after a value earlier) later
+value_after-append a value [] later = refl
+value_after-append a value (change ∷ earlier) later = value_after-append a (changed a value change) earlier later
+
+pub run-changes : (m : Contents) (trace : List Line) (a : ℕ) → full_at (end_of m trace) a ≡ value_after a (full_at m a) (changes_of m trace)
+run-changes m [] a = refl
+run-changes m (line ∷ trace) a =
+    run-changes (contents_after m line.call) trace a
+    ∙ ap (λ value. value_after a value (changes_of (contents_after m line.call) trace)) (by_call line.call)
+    ∙ sym (value_after-append a (full_at m a) (changes_in m line.call) (changes_of (contents_after m line.call) trace))
+  where
+    by_call : (call : Call) → full_at (contents_after m call) a ≡ value_after a (full_at m a) (changes_in m call)
+    by_call (Commands command) = step-changes m command a
+    by_call (Collect element number) = refl
+
+append-nil : (xs : List Change) → xs ++ [] ≡ xs
+append-nil [] = refl
+append-nil (x ∷ xs) = ap (λ xs. x ∷ xs) (append-nil xs)
+
+append-append : (xs ys zs : List Change) → (xs ++ ys) ++ zs ≡ xs ++ (ys ++ zs)
+append-append [] ys zs = refl
+append-append (x ∷ xs) ys zs = ap (λ xs. x ∷ xs) (append-append xs ys zs)
+
+pub changes_of-push : (m : Contents) (trace : List Line) (line : Line)
+    → changes_of m (trace ++ line ∷ []) ≡ changes_of m trace ++ changes_in (end_of m trace) line.call
+changes_of-push m [] line = append-nil (changes_in m line.call)
+changes_of-push m (first ∷ trace) line =
+    ap (λ changes. changes_in m first.call ++ changes) (changes_of-push (contents_after m first.call) trace line)
+    ∙ sym (append-append (changes_in m first.call) (changes_of (contents_after m first.call) trace) (changes_in (end_of (contents_after m first.call) trace) line.call))
+
+-- one for each accepted command
+pub length-changes_of : (m : Contents) (trace : List Line) → length (changes_of m trace) ≡ length (accepted m (commands_of trace))
+length-changes_of m [] = refl
+length-changes_of m (line ∷ trace) = by_call line.call (length-changes_of (contents_after m line.call) trace)
+  where
+    by_test : (t : Bool) (command : Command) (changes : List Change) (others : List Command)
+        → length changes ≡ length others
+        → length (cond t (change_by m command ∷ []) [] ++ changes) ≡ length (cond t (command ∷ others) others)
+    by_test true command changes others e = ap suc e
+    by_test false command changes others e = e
+
+    by_call : (call : Call) → length (changes_of (contents_after m call) trace) ≡ length (accepted (contents_after m call) (commands_of trace))
+        → length (changes_in m call ++ changes_of (contents_after m call) trace) ≡ length (accepted m (command_in call ++ commands_of trace))
+    by_call (Commands command) e = by_test (is_accepted m command) command (changes_of (step m command).contents trace) (accepted (step m command).contents (commands_of trace)) e
+    by_call (Collect element number) e = e
+
+-- cells that are filled
+later-fills : (a base : ℕ) (value : Option ℕ) (cells : List (Option Held)) → a < base → value_after a value (fills_from base cells) ≡ value
+later-fills a base value [] h = refl
+later-fills a base value (cell ∷ cells) h =
+    value_after-append a value (fill_at base (full_in cell)) (fills_from (suc base) cells)
+    ∙ later-fills a (suc base) (value_after a value (fill_at base (full_in cell))) cells (omega arith)
+    ∙ other (full_in cell)
+  where
+    other : (o : Option ℕ) → value_after a value (fill_at base o) ≡ value
+    other None = refl
+    other (Some v) = let t : (a == base) ≡ false = grind (arith, nat_tests) in ap (λ t. cond t (Some v) value) t
+
+fills : (base i : ℕ) (cells : List (Option Held)) → value_after (base + i) None (fills_from base cells) ≡ value_at cells i
+fills base i [] = refl
+fills base zero (cell ∷ cells) =
+    value_after-append (base + 0) None (fill_at base (full_in cell)) (fills_from (suc base) cells)
+    ∙ later-fills (base + 0) (suc base) (value_after (base + 0) None (fill_at base (full_in cell))) cells (omega arith)
+    ∙ here-filled (full_in cell)
+  where
+    here-filled : (o : Option ℕ) → value_after (base + 0) None (fill_at base o) ≡ o
+    here-filled None = refl
+    here-filled (Some v) = let t : (base + 0 == base) ≡ true = grind (arith, nat_tests) in ap (λ t. cond t (Some v) None) t
+fills base (suc i) (cell ∷ cells) =
+    value_after-append (base + suc i) None (fill_at base (full_in cell)) (fills_from (suc base) cells)
+    ∙ ap (λ value. value_after (base + suc i) value (fills_from (suc base) cells)) (not_here (full_in cell))
+    ∙ ap (λ a. value_after a None (fills_from (suc base) cells)) (let e : base + suc i ≡ suc base + i = omega arith in e)
+    ∙ fills (suc base) i cells
+  where
+    not_here : (o : Option ℕ) → value_after (base + suc i) None (fill_at base o) ≡ None
+    not_here None = refl
+    not_here (Some v) = let t : (base + suc i == base) ≡ false = grind (arith, nat_tests) in ap (λ t. cond t (Some v) None) t
+
+pub opening-fills : (m : Contents) (a : ℕ) → value_after a None (opening m) ≡ full_at m a
+opening-fills m a = ap (λ a. value_after a None (opening m)) (let e : a ≡ 0 + a = omega arith in e) ∙ fills 0 a m.cells
+
+pub shown-fills : (m : Contents) (trace : List Line) (a : ℕ) → value_after a None (shown_by m trace) ≡ full_at (end_of m trace) a
+shown-fills m trace a =
+    value_after-append a None (opening m) (changes_of m trace)
+    ∙ ap (λ value. value_after a value (changes_of m trace)) (opening-fills m a)
+    ∙ sym (run-changes m trace a)

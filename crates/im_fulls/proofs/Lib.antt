@@ -1,0 +1,4 @@
+pub mod ChangeLemmas
+pub mod GroupLemmas
+pub mod BelowLemmas
+mod Counterexamples

@@ -1,0 +1,2 @@
+pub mod RuleLemmas
+pub mod MessageLemmas

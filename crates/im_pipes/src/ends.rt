@@ -1,0 +1,233 @@
+//! The two ends of a pipe.
+ghost use Rattle.std.specs.Prelude.{◌≡◌, ◌<◌, ◌++◌, ◌∷◌, [], true, false, IfOk, OnOk, IfErr, OnErr, IsOkUnless};
+ghost use Rattle.std.specs.Prelude.{MatchResult, MatchOption};
+ghost use mathlib.Core.List.{IsPrefix};
+ghost use Rattle.crossbeam_channel.specs.Claims.{view, IsSeatAt};
+ghost use Rattle.crossbeam_channel.specs.Ends.{sends_on, receives_on};
+ghost use Rattle.im_types.specs.declared.refusals.Refusal.TheVariants.{NoMemory};
+ghost use Rattle.im_pipes.specs.Ends.{AreNewEnds, Receives};
+ghost use Rattle.im_pipes.specs.Rule.{with_sent, with_received};
+
+use crate::rule::{InOrder, Log, Sent, Taken, TwoEnds, Whole};
+use crossbeam_channel::{Pass, RuledReceiver, RuledSender, bounded_with};
+use im_types::Refusal;
+use std::alloc::{AllocError, Global};
+use std::marker::Model;
+use std::sync::Wait;
+
+/// The end of a pipe that sends. Contracts see which pipe it is, and what was sent.
+#[derive(Drop)]
+pub struct Inlet<T: Drop> {
+    sender: RuledSender<Option<T>, Log<T>, InOrder>,
+    pass: Pass<Option<T>, Log<T>>,
+}
+
+impl<T: Drop> Model for Inlet<T> {
+    ghost use Rattle.std.specs.Prelude.{◌≡◌, [], true, false};
+    ghost use Rattle.crossbeam_channel.specs.Claims.{view as known, IsSeatAt};
+    ghost use Rattle.crossbeam_channel.specs.Ends.{sends_on};
+    ghost use Rattle.im_pipes.specs.Ends.{PipeEnd, items_of, messages_of, pipe_of};
+    ghost use Rattle.im_pipes.specs.Rule.{log};
+
+    ghost Value = { PipeEnd T };
+
+    ghost view = { λ s. record { pipe = pipe_of s.pass; items = items_of (known s.pass).sent; ended = false } };
+
+    ghost invariant = { λ s. IsSeatAt (sends_on s.sender) s.pass
+        × (known s.pass ≡ log true false (messages_of false (items_of (known s.pass).sent)) []) };
+}
+
+/// What was sent through an inlet that finished, and whether the end mark was.
+#[derive(Drop)]
+pub struct Finished<T: Drop> {
+    sender: RuledSender<Option<T>, Log<T>, InOrder>,
+    pass: Pass<Option<T>, Log<T>>,
+    marked: bool,
+}
+
+impl<T: Drop> Model for Finished<T> {
+    ghost use Rattle.std.specs.Prelude.{◌≡◌, [], true, false};
+    ghost use Rattle.crossbeam_channel.specs.Claims.{view as known, IsSeatAt};
+    ghost use Rattle.crossbeam_channel.specs.Ends.{sends_on};
+    ghost use Rattle.im_pipes.specs.Ends.{PipeEnd, items_of, messages_of, pipe_of};
+    ghost use Rattle.im_pipes.specs.Rule.{log};
+
+    ghost Value = { PipeEnd T };
+
+    ghost view = { λ s. record { pipe = pipe_of s.pass; items = items_of (known s.pass).sent; ended = s.marked } };
+
+    ghost invariant = { λ s. IsSeatAt (sends_on s.sender) s.pass
+        × (known s.pass ≡ log true false (messages_of s.marked (items_of (known s.pass).sent)) []) };
+}
+
+/// The end of a pipe that receives. Contracts see which pipe it is, what was received, and whether the end mark was.
+#[derive(Drop)]
+pub struct Outlet<T: Drop> {
+    receiver: RuledReceiver<Option<T>, Log<T>, InOrder>,
+    pass: Pass<Option<T>, Log<T>>,
+    ended: bool,
+}
+
+impl<T: Drop> Model for Outlet<T> {
+    ghost use Rattle.std.specs.Prelude.{◌≡◌, [], true, false};
+    ghost use Rattle.crossbeam_channel.specs.Claims.{view as known, IsSeatAt};
+    ghost use Rattle.crossbeam_channel.specs.Ends.{receives_on};
+    ghost use Rattle.im_pipes.specs.Ends.{PipeEnd, items_of, messages_of, pipe_of};
+    ghost use Rattle.im_pipes.specs.Rule.{log};
+
+    ghost Value = { PipeEnd T };
+
+    ghost view = { λ s. record { pipe = pipe_of s.pass; items = items_of (known s.pass).received; ended = s.ended } };
+
+    ghost invariant = { λ s. IsSeatAt (receives_on s.receiver) s.pass
+        × (known s.pass ≡ log false true [] (messages_of s.ended (items_of (known s.pass).received))) };
+}
+
+/// What came out of a pipe.
+#[derive(Drop)]
+pub enum Received<T> {
+    /// The next item.
+    Item(T),
+    /// The end mark: nothing comes after it.
+    End,
+    /// Nothing: the pipe is empty, and nobody is left who could send.
+    Gone,
+}
+
+/// The two ends of a new pipe, which holds at most so many messages, above 0: items, and one end mark. `NoMemory`
+/// where there is no room for it. (Own.)
+pub fn pipe<T: Drop>(alloc: Global, capacity: usize) -> Result<(Inlet<T>, Outlet<T>), Refusal>
+    requires { 0 < capacity }
+    ensures found { IfOk result (λ ends. AreNewEnds ends.0 ends.1) }
+    ensures only { IsOkUnless result NoMemory }
+{
+    new_ends(alloc, capacity).map_err(|_| Refusal::NoMemory)
+}
+
+fn new_ends<T: Drop>(alloc: Global, capacity: usize) -> Result<(Inlet<T>, Outlet<T>), AllocError>
+    requires { 0 < capacity }
+    ensures found { IfOk result (λ ends. AreNewEnds ends.0 ends.1) }
+{
+    let (sender, receiver, mut pass) = bounded_with::<Option<T>, Log<T>, InOrder, Global>(
+        alloc, capacity,
+    )?;
+    let receives = sender.another::<TwoEnds>(&mut pass);
+    Ok((
+        Inlet { sender, pass },
+        Outlet {
+            receiver,
+            pass: receives,
+            ended: false,
+        },
+    ))
+}
+
+// Sends a message, an item or the end mark. It comes back where the channel hands it back.
+fn put<T: Drop, R: Wait>(
+    rt: &R,
+    sender: &RuledSender<Option<T>, Log<T>, InOrder>,
+    pass: &mut Pass<Option<T>, Log<T>>,
+    message: Option<T>,
+) -> Result<(), Option<T>>
+    requires seat { IsSeatAt (sends_on sender.now) pass.old }
+    requires sends { (view pass.old).sends ≡ true }
+    ensures seat { IsSeatAt (sends_on sender.now) pass.new }
+    ensures sent { MatchResult result (λ _. view pass.new ≡ with_sent (view pass.old) message) (λ back. (back ≡ message) × (view pass.new ≡ view pass.old)) }
+{
+    match sender.send_as::<Sent, R>(rt, pass, message) {
+        Ok(()) => Ok(()),
+        Err(error) => Err(error.into_inner()),
+    }
+}
+
+// Receives a message.
+fn take<T: Drop, R: Wait>(
+    rt: &R,
+    receiver: &RuledReceiver<Option<T>, Log<T>, InOrder>,
+    pass: &mut Pass<Option<T>, Log<T>>,
+) -> Option<Option<T>>
+    requires seat { IsSeatAt (receives_on receiver.now) pass.old }
+    requires receives { (view pass.old).receives ≡ true }
+    ensures seat { IsSeatAt (receives_on receiver.now) pass.new }
+    ensures received { MatchOption result (view pass.new ≡ view pass.old) (λ message. view pass.new ≡ with_received (view pass.old) message) }
+{
+    match receiver.recv_as::<Taken, R>(rt, pass) {
+        Ok(message) => Some(message),
+        Err(_) => None,
+    }
+}
+
+impl<T: Drop> Inlet<T> {
+    /// Sends an item, and waits while the pipe is full. Where the channel hands it back, as after the outlet's end,
+    /// the item comes back and nothing was sent. (Own.)
+    pub fn send<R: Wait>(&mut self, rt: &R, item: T) -> Result<(), T>
+        ensures same { self.new.pipe ≡ self.old.pipe }
+        ensures contents { MatchResult result (λ _. self.new.items ≡ self.old.items ++ item ∷ []) (λ _. self.new.items ≡ self.old.items) }
+        ensures refused { IfErr result (λ back. back ≡ item) }
+    {
+        match put(rt, &self.sender, &mut self.pass, Some(item)) {
+            Ok(()) => Ok(()),
+            Err(message) => Err(message.unwrap()),
+        }
+    }
+
+    /// Sends the end mark, if the channel takes it, and waits while the pipe is full. (Own.)
+    pub fn finish<R: Wait>(self, rt: &R) -> Finished<T>
+        ensures same { result.pipe ≡ self.pipe }
+        ensures contents { result.items ≡ self.items }
+    {
+        let Inlet { sender, mut pass } = self;
+        match put(rt, &sender, &mut pass, None) {
+            Ok(()) => Finished {
+                sender,
+                pass,
+                marked: true,
+            },
+            Err(_) => Finished {
+                sender,
+                pass,
+                marked: false,
+            },
+        }
+    }
+}
+
+impl<T: Drop> Outlet<T> {
+    /// Receives the next item or the end mark, and waits while the pipe is empty. `Gone`, and nothing was received,
+    /// where the channel fails, as after the end of an inlet that didn't finish. (Own.)
+    pub fn receive<R: Wait>(&mut self, rt: &R) -> Received<T>
+        requires { self.old.ended ≡ false }
+        ensures same { self.new.pipe ≡ self.old.pipe }
+        ensures contents { Receives self.old result self.new }
+    {
+        match take(rt, &self.receiver, &mut self.pass) {
+            Some(Some(item)) => Received::Item(item),
+            Some(None) => {
+                self.ended = true;
+                Received::End
+            }
+            None => Received::Gone,
+        }
+    }
+
+    /// What both ends know together: what was received is a beginning of what was sent, in order, each item once; and
+    /// after the end mark it is all of it. It takes both ends of one pipe, and does nothing. (Own.)
+    pub fn whole(self, finished: Finished<T>)
+        requires { self.pipe ≡ finished.pipe }
+        ensures begins { IsPrefix self.items finished.items }
+        ensures whole { self.ended ≡ true → self.items ≡ finished.items }
+    {
+        let Outlet {
+            receiver: _receiver,
+            pass: receives,
+            ended: _,
+        } = self;
+        let Finished {
+            sender,
+            mut pass,
+            marked: _,
+        } = finished;
+        sender.absorb::<TwoEnds>(&mut pass, receives);
+        sender.learn_as::<Whole>(&mut pass);
+    }
+}

@@ -1,0 +1,9 @@
+//! A pipe from one sender to one receiver: a channel of bounded capacity under a rule, by which what was received is
+//! at each moment a beginning of what was sent, in order, each item once.
+#![tactic(auto)]
+
+mod ends;
+mod rule;
+
+pub use ends::{Finished, Inlet, Outlet, Received, pipe};
+pub use rule::Log;
