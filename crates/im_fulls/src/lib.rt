@@ -12,7 +12,8 @@ ghost use Rattle.im_types.specs.Contents.{Contents, HasBlocks, full_at};
 ghost use Rattle.im_types.specs.Step.{step};
 ghost use Rattle.im_types.specs.Run.{accepted};
 ghost use Rattle.im_types.specs.Trace.{IsLegal, end_of};
-ghost use Rattle.im_types.specs.Changes.{value_after, is_below, change_by, changes_at, changes_in, changes_of, opening, shown_by};
+ghost use Rattle.im_types.specs.Changes.{value_after, is_below, change_by, changes_at, changes_in, changes_of};
+ghost use Rattle.im_types.specs.Changes.{opening, shown_by};
 ghost use Rattle.im_laws.specs.Traces.{commands_of};
 ghost use Rattle.im_laws.specs.Examples.{sixteen_cells};
 ghost use Rattle.im_fulls.specs.Examples.{stored_and_released, five_changes};
@@ -26,8 +27,8 @@ pub fn changes_give_the_full_cells()
         → full_at (end_of m trace) a ≡ value_after a (full_at m a) (changes_of m trace) }
 {}
 
-/// What is shown after a trace, which is the full cells of the memory that was opened and then the trace's changes, gives
-/// at each address the value of the full cell of the memory at the trace's end.
+/// What is shown after a trace, which is the full cells of the memory that was opened and then the trace's changes,
+/// gives at each address the value of the full cell of the memory at the trace's end.
 pub fn shown_changes_are_the_full_cells()
     ensures { (m : Contents) (trace : List Line) (a : ℕ)
         → value_after a None (shown_by m trace) ≡ full_at (end_of m trace) a }

@@ -132,7 +132,8 @@ fn put<T: Drop, R: Wait>(
     requires seat { IsSeatAt (sends_on sender.now) pass.old }
     requires sends { (view pass.old).sends ≡ true }
     ensures seat { IsSeatAt (sends_on sender.now) pass.new }
-    ensures sent { MatchResult result (λ _. view pass.new ≡ with_sent (view pass.old) message) (λ back. (back ≡ message) × (view pass.new ≡ view pass.old)) }
+    ensures sent { MatchResult result (λ _. view pass.new ≡ with_sent (view pass.old) message)
+        (λ back. (back ≡ message) × (view pass.new ≡ view pass.old)) }
 {
     match sender.send_as::<Sent, R>(rt, pass, message) {
         Ok(()) => Ok(()),
@@ -149,7 +150,8 @@ fn take<T: Drop, R: Wait>(
     requires seat { IsSeatAt (receives_on receiver.now) pass.old }
     requires receives { (view pass.old).receives ≡ true }
     ensures seat { IsSeatAt (receives_on receiver.now) pass.new }
-    ensures received { MatchOption result (view pass.new ≡ view pass.old) (λ message. view pass.new ≡ with_received (view pass.old) message) }
+    ensures received { MatchOption result (view pass.new ≡ view pass.old)
+        (λ message. view pass.new ≡ with_received (view pass.old) message) }
 {
     match receiver.recv_as::<Taken, R>(rt, pass) {
         Ok(message) => Some(message),
@@ -162,7 +164,8 @@ impl<T: Drop> Inlet<T> {
     /// the item comes back and nothing was sent. (Own.)
     pub fn send<R: Wait>(&mut self, rt: &R, item: T) -> Result<(), T>
         ensures same { self.new.pipe ≡ self.old.pipe }
-        ensures contents { MatchResult result (λ _. self.new.items ≡ self.old.items ++ item ∷ []) (λ _. self.new.items ≡ self.old.items) }
+        ensures contents { MatchResult result (λ _. self.new.items ≡ self.old.items ++ item ∷ [])
+            (λ _. self.new.items ≡ self.old.items) }
         ensures refused { IfErr result (λ back. back ≡ item) }
     {
         match put(rt, &self.sender, &mut self.pass, Some(item)) {
