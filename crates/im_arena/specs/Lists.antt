@@ -1,6 +1,6 @@
 -- What contracts see of an arena: the waiters on its lists, and, for who shows the table of nodes, how the nodes are
 -- linked. (Own.)
-use Rattle.std.specs.Prelude.{◌≡◌, ◌≢◌, ◌↔◌, ℕ, ◌+◌, ◌-◌, ◌<◌, List, [], ◌∷◌, length, Option, None, Some, slice_get, slice_set, slice_index_or}
+use Rattle.std.specs.Prelude.{◌≡◌, ◌≢◌, ◌↔◌, ℕ, ◌+◌, ◌-◌, ◌<◌, List, [], ◌∷◌, ◌++◌, drop, length, Option, None, Some, slice_get, slice_set, slice_index_or}
 use Rattle.std.specs.List.{sum_by}
 use Rattle.im_types.specs.declared.TheConstants.{NONE}
 use Rattle.im_types.specs.declared.operations.Waiter.{Waiter}
@@ -37,6 +37,12 @@ with_list held list waiters = record { nodes = held.nodes; lists = slice_set hel
 -- how many nodes hold no waiter
 abbrev pub free : Lists → ℕ
 free held = held.nodes - sum_by length held.lists
+
+-- the first waiter of one list is off it, this one stands at the end of another, and the other lists are as before
+pub record IsHandedOver (from to : ℕ) (waiter : Waiter) (old new : Lists) : Type 0 where
+  pub rest : list_at new from ≡ drop 1 (list_at old from)
+  pub behind : list_at new to ≡ list_at old to ++ waiter ∷ []
+  pub others : (list : ℕ) → list ≢ from → list ≢ to → list_at new list ≡ list_at old list
 
 -- how a free node reads
 abbrev pub free_record : NodeRecord

@@ -1,6 +1,6 @@
 //! Calls on two lists, one after the other, by the public calls of an arena alone.
 ghost use Rattle.std.specs.Prelude.{◌≡◌, ◌≢◌, ℕ, ◌<◌, ◌∷◌, ◌++◌, [], length, drop, slice_get, IfSome, IfNone};
-ghost use Rattle.im_arena.specs.Lists.{list_at, free};
+ghost use Rattle.im_arena.specs.Lists.{list_at, free, IsHandedOver};
 
 use crate::Arena;
 use im_types::Waiter;
@@ -13,9 +13,7 @@ pub fn hand_over(arena: &mut Arena, from: u32, to: u32, waiter: Waiter) -> Optio
     requires apart { from ≢ to }
     requires room { 0 < free arena.old.held }
     ensures first { result ≡ slice_get (list_at arena.old.held from) 0 }
-    ensures rest { list_at arena.new.held from ≡ drop 1 (list_at arena.old.held from) }
-    ensures behind { IfSome result (λ _. list_at arena.new.held to ≡ list_at arena.old.held to ++ waiter ∷ []) }
-    ensures others { (list : ℕ) → list ≢ from → list ≢ to → list_at arena.new.held list ≡ list_at arena.old.held list }
+    ensures lists { IfSome result (λ _. IsHandedOver from to waiter arena.old.held arena.new.held) }
     ensures none { IfNone result (arena.new ≡ arena.old) }
 {
     let first = arena.pop_front(from)?;

@@ -19,7 +19,7 @@ ghost use Rattle.im_arena.specs.Lists.{list_at, with_list, free, IsPopped};
 ghost use Rattle.im_istore.specs.Joined.{cells_of};
 ghost use Rattle.im_istore.specs.Agreement.{Agree, AgreeBut};
 ghost use Rattle.im_istore.specs.Access.{access_in, askers_of, replies_to};
-ghost use Rattle.im_istore.specs.Records.{LeavesLinks};
+ghost use Rattle.im_istore.specs.Records.{LeavesCells, LeavesRest};
 
 use im_arena::Arena;
 use im_cell::CellTable;
@@ -50,12 +50,10 @@ pub fn fetch(table: &mut CellTable, arena: &mut Arena, a: u32, who: Waiter) -> E
     ensures nobody { (act (cells_of table.old arena.old) who (Fetch a)).resumed ≡ [] }
 
     ensures agree { Agree table.new arena.new }
-    ensures nodes { arena.new.held.nodes ≡ arena.old.held.nodes }
 
-    // What stays: the other cells, and all cells but where `who` waits.
-    ensures others { (b : ℕ) → b ≢ a → slice_get table.new b ≡ slice_get table.old b }
+    // What stays; and all cells do but where `who` waits.
+    ensures kept { LeavesRest I a result table.old table.new arena.old arena.new }
     ensures same { result ≢ Waiting → table.new ≡ table.old }
-    ensures links { LeavesLinks result a arena.old arena.new }
 {
     let cell = match look(table, a, Kind::I) {
         Ok(cell) => cell,
@@ -95,9 +93,7 @@ pub fn store(table: &mut CellTable, arena: &Arena, a: u32, value: u64) -> Reply
         → (act (cells_of table.old arena.now) who (Store a value)).resumed ≡ [] }
     ensures agree { result ≢ Stored → Agree table.new arena.now }
 
-    // What stays: the other cells, and all cells where this one may not be stored to.
-    ensures others { (b : ℕ) → b ≢ a → slice_get table.new b ≡ slice_get table.old b }
-    ensures same { (reply : Reply) → access_in I (slot_at table.old a) ≡ Err reply → table.new ≡ table.old }
+    ensures kept { LeavesCells I a table.old table.new }
 {
     let cell = match look(table, a, Kind::I) {
         Ok(cell) => cell,

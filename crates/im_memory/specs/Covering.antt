@@ -13,7 +13,7 @@ use Rattle.im_types.specs.Act.{act}
 use Rattle.im_types.specs.Step.{asker}
 use Rattle.im_types.specs.Pages.{Records}
 use Rattle.im_pages.specs.Places.{page_of_cell, page_of_node, page_of_session, AgreeOnPage}
-use Rattle.im_pages.specs.PageSets.{has, with_page}
+use Rattle.im_pages.specs.PageSets.{has, with_page, IsWithin}
 use Rattle.im_memory.specs.State.{MemoryState}
 use Rattle.im_memory.specs.Touched.{Places, Touched, at_kind, touched, ChangesOnly}
 
@@ -21,6 +21,11 @@ use Rattle.im_memory.specs.Touched.{Places, Touched, at_kind, touched, ChangesOn
 abbrev pub AreIn : (ℕ → ℕ) → List Bool → List ℕ → Type 0
 AreIn page set [] = Unit {0}
 AreIn page set (x ∷ xs) = (has set (page x) ≡ true) × AreIn page set xs
+
+-- a set of the same length has each page that was in it
+pub record Grows (old new : List Bool) : Type 0 where
+  pub kept : IsWithin old new
+  pub length : length new ≡ length old
 
 -- the pages of these cells and nodes are in the set, in an area of so many cells
 pub record HasPlaces (cells : ℕ) (p : Places) (set : List Bool) : Type 0 where

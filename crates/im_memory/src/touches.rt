@@ -17,7 +17,7 @@ ghost use Rattle.im_pages.specs.Places as pages_of;
 ghost use Rattle.im_pages.specs.PageSets.{has, with_page, size_of, IsWithin};
 ghost use Rattle.im_memory.specs.Touched.{addresses, next_at, nodes_from, elements_in};
 ghost use Rattle.im_memory.specs.Changing.{places_in};
-ghost use Rattle.im_memory.specs.Covering.{AreIn, HasPlaces, Covers, KeepsOutside, IsAlone, most_by, most_pages};
+ghost use Rattle.im_memory.specs.Covering.{AreIn, HasPlaces, Grows, Covers, KeepsOutside, IsAlone, most_by, most_pages};
 
 use crate::memory::Memory;
 use crate::records::are_threaded;
@@ -138,8 +138,7 @@ fn touch_readers(arena: &Arena, elements: u16, a: u32, pages: &mut PageSet)
 fn touch_fetch(table: &CellTable, arena: &Arena, a: u32, pages: &mut PageSet)
     requires { Agree table.now arena.now }
     ensures places { HasPlaces (length arena.now.held.lists) (places_in table.now arena.now (Op.Fetch a)) pages.new }
-    ensures kept { IsWithin pages.old pages.new }
-    ensures length { length pages.new ≡ length pages.old }
+    ensures grows { Grows pages.old pages.new }
     ensures few { size_of pages.new ≤ size_of pages.old
         + most_by (length pages.old) (cells_of table.now arena.now) (Op.Fetch a) }
     ensures refused { (told : Told) → access_in I (slot_at table.now a) ≡ Err told → pages.new ≡ pages.old }
@@ -162,8 +161,7 @@ fn touch_fetch(table: &CellTable, arena: &Arena, a: u32, pages: &mut PageSet)
 fn touch_take(table: &CellTable, arena: &Arena, a: u32, pages: &mut PageSet)
     requires { Agree table.now arena.now }
     ensures places { HasPlaces (length arena.now.held.lists) (places_in table.now arena.now (Op.Take a)) pages.new }
-    ensures kept { IsWithin pages.old pages.new }
-    ensures length { length pages.new ≡ length pages.old }
+    ensures grows { Grows pages.old pages.new }
     ensures few { size_of pages.new ≤ size_of pages.old
         + most_by (length pages.old) (cells_of table.now arena.now) (Op.Take a) }
     ensures refused { (told : Told) → access_in M (slot_at table.now a) ≡ Err told → pages.new ≡ pages.old }
@@ -195,8 +193,7 @@ fn touch_store(
     ensures sessions { let cells = cells_of table.now arena.now in
         AreIn (pages_of.page_of_session (length arena.now.held.lists) elements) pages.new
         (elements_in (at_cell I (store value) cells a (held_at cells a)).resumed) }
-    ensures kept { IsWithin pages.old pages.new }
-    ensures length { length pages.new ≡ length pages.old }
+    ensures grows { Grows pages.old pages.new }
     ensures few { size_of pages.new ≤ size_of pages.old
         + most_by (length pages.old) (cells_of table.now arena.now) (Op.Store a value) }
     ensures refused { (told : Told) → access_in I (slot_at table.now a) ≡ Err told → pages.new ≡ pages.old }
@@ -245,8 +242,7 @@ fn touch_put(
     ensures sessions { let cells = cells_of table.now arena.now in
         AreIn (pages_of.page_of_session (length arena.now.held.lists) elements) pages.new
         (elements_in (at_cell M (put value) cells a (held_at cells a)).resumed) }
-    ensures kept { IsWithin pages.old pages.new }
-    ensures length { length pages.new ≡ length pages.old }
+    ensures grows { Grows pages.old pages.new }
     ensures few { size_of pages.new ≤ size_of pages.old
         + most_by (length pages.old) (cells_of table.now arena.now) (Op.Put a value) }
     ensures refused { (told : Told) → access_in M (slot_at table.now a) ≡ Err told → pages.new ≡ pages.old }
@@ -265,8 +261,7 @@ fn touch_alloc(table: &CellTable, arena: &Arena, kind: Kind, n: u32, pages: &mut
     requires { length table.now ≤ MAX_CELLS }
     ensures places { let op = Op.Alloc kind n in
         HasPlaces (length arena.now.held.lists) (places_in table.now arena.now op) pages.new }
-    ensures kept { IsWithin pages.old pages.new }
-    ensures length { length pages.new ≡ length pages.old }
+    ensures grows { Grows pages.old pages.new }
 {
     if n == 0 {
         return;
@@ -281,8 +276,7 @@ fn touch_release(table: &CellTable, arena: &Arena, a: u32, pages: &mut PageSet)
     requires { length table.now ≤ MAX_CELLS }
     ensures places { let op = Op.Release a in
         HasPlaces (length arena.now.held.lists) (places_in table.now arena.now op) pages.new }
-    ensures kept { IsWithin pages.old pages.new }
-    ensures length { length pages.new ≡ length pages.old }
+    ensures grows { Grows pages.old pages.new }
 {
     if let Some(block) = table.block_of(a) {
         if block.base == a {
@@ -300,8 +294,7 @@ fn touch_op(table: &CellTable, arena: &Arena, elements: u16, op: Op, pages: &mut
     ensures sessions { (who : Asker) →
         AreIn (pages_of.page_of_session (length arena.now.held.lists) elements) pages.new
         (elements_in (act (cells_of table.now arena.now) who op).resumed) }
-    ensures kept { IsWithin pages.old pages.new }
-    ensures length { length pages.new ≡ length pages.old }
+    ensures grows { Grows pages.old pages.new }
     ensures few { size_of pages.new ≤ size_of pages.old
         + most_by (length pages.old) (cells_of table.now arena.now) op }
     ensures alone { (who : Asker) → (act (cells_of table.now arena.now) who op).entry ≡ Answered NoCell

@@ -16,7 +16,7 @@ ghost use Rattle.im_arena.specs.Lists.{list_at, free, IsPopped};
 ghost use Rattle.im_istore.specs.Joined.{cells_of};
 ghost use Rattle.im_istore.specs.Agreement.{Agree};
 ghost use Rattle.im_istore.specs.Access.{access_in, replies_to};
-ghost use Rattle.im_istore.specs.Records.{LeavesLinks};
+ghost use Rattle.im_istore.specs.Records.{LeavesCells, LeavesRest};
 ghost use Rattle.im_mstore.specs.Access.{open_cell};
 
 use im_arena::Arena;
@@ -47,12 +47,7 @@ pub fn take(table: &mut CellTable, arena: &mut Arena, a: u32, who: Waiter) -> En
     ensures nobody { (act (cells_of table.old arena.old) who (Take a)).resumed ≡ [] }
 
     ensures agree { Agree table.new arena.new }
-    ensures nodes { arena.new.held.nodes ≡ arena.old.held.nodes }
-
-    // What stays: the other cells, and all cells where this one may not be taken from.
-    ensures others { (b : ℕ) → b ≢ a → slice_get table.new b ≡ slice_get table.old b }
-    ensures same { (reply : Reply) → access_in M (slot_at table.old a) ≡ Err reply → table.new ≡ table.old }
-    ensures links { LeavesLinks result a arena.old arena.new }
+    ensures kept { LeavesRest M a result table.old table.new arena.old arena.new }
 {
     let cell = match look(table, a, Kind::M) {
         Ok(cell) => cell,
@@ -88,9 +83,8 @@ pub fn put(table: &mut CellTable, arena: &mut Arena, a: u32, value: u64) -> (Rep
     ensures agree { Agree table.new arena.new }
     ensures nodes { arena.new.held.nodes ≡ arena.old.held.nodes }
 
-    // What stays: the other cells, and all cells where this one may not be put to.
-    ensures others { (b : ℕ) → b ≢ a → slice_get table.new b ≡ slice_get table.old b }
-    ensures same { (reply : Reply) → access_in M (slot_at table.old a) ≡ Err reply → table.new ≡ table.old }
+    // What stays.
+    ensures kept { LeavesCells M a table.old table.new }
     ensures links { MatchOption result.1 (arena.new ≡ arena.old) (λ _. IsPopped a arena.old arena.new) }
 {
     let cell = match look(table, a, Kind::M) {

@@ -33,8 +33,8 @@ returns-in-Stored-clause-among c =
 
 pub returns-in-Stored-clause-changes : goal.returns-in-Stored-clause-changes
 returns-in-Stored-clause-changes c =
-    store-change c.args.table.now c.store-reply.new.table c.args.arena.now c.args.a c.args.value c.store-reply.ensures.others c.store-reply.ensures.same
+    store-change c.args.table.now c.store-reply.new.table c.args.arena.now c.args.a c.args.value c.store-reply.ensures.kept.others c.store-reply.ensures.kept.refused
 
 pub returns-in_default-clause-changes : goal.returns-in_default-clause-changes
 returns-in_default-clause-changes c =
-    store-change c.args.table.now c.store-reply.new.table c.args.arena.now c.args.a c.args.value c.store-reply.ensures.others c.store-reply.ensures.same
+    store-change c.args.table.now c.store-reply.new.table c.args.arena.now c.args.a c.args.value c.store-reply.ensures.kept.others c.store-reply.ensures.kept.refused

@@ -1,4 +1,4 @@
-use Rattle.std.proofs.Common.{ap, sym, ◌≡◌, ◌∙◌, false}
+use Rattle.std.proofs.Common.{ap, ◌≡◌, ◌∙◌, false}
 use Rattle.im_types.specs.declared.commands.Command.TheVariants.{Confirm}
 use Rattle.im_types.specs.Step.{is_accepted}
 use Rattle.im_memory.specs.State.{MemoryState, state_of}
