@@ -159,19 +159,29 @@ fn refuse_script<N: Observer>(reason: Reason, observer: &mut N) -> Refusal
     }
 }
 
-// Reads the script of a file. `BadScript` where the file can't be read.
+// The text of a script's file. `BadScript` where the file can't be read.
 fn read_file<R: Files<File = File> + AllocGlobal + Input, N: Observer>(
     rt: &R,
     script: &str,
     observer: &mut N,
-) -> Result<Script, Refusal>
+) -> Result<Vec<u8>, Refusal>
     ensures { IfErr result (λ refusal. (refusal ≡ BadScript) ⊎ (refusal ≡ NoMemory)) }
 {
-    let text = match read_text(rt, script) {
-        Ok(text) => text,
-        Err(error) => return Err(refuse_script(Reason::ScriptFile(error.kind()), observer)),
-    };
-    match read_script(rt.alloc(), text.as_slice()) {
+    match read_text(rt, script) {
+        Ok(text) => Ok(text),
+        Err(error) => Err(refuse_script(Reason::ScriptFile(error.kind()), observer)),
+    }
+}
+
+// The script that a text is. `BadScript` where it isn't in the grammar.
+fn script_in<'a, N: Observer>(
+    alloc: Global,
+    text: &'a [u8],
+    observer: &mut N,
+) -> Result<Script<'a>, Refusal>
+    ensures { IfErr result (λ refusal. (refusal ≡ BadScript) ⊎ (refusal ≡ NoMemory)) }
+{
+    match read_script(alloc, text) {
         Ok(script) => Ok(script),
         Err(fault) => Err(refuse_script(Reason::Script(fault), observer)),
     }
@@ -204,7 +214,11 @@ pub fn serve_file<R: Files<File = File> + AllocGlobal + Input, S: Start, W: Writ
     ensures refused { IfErr result (λ refusal. (refusal ≡ BadScript) ⊎ (refusal ≡ NoMemory) ⊎ (refusal ≡ Device)) }
     ensures same { OnErr result (Keeps (W.contents out.old) (W.contents out.new)) }
 {
-    let script = match read_file(rt, script, observer) {
+    let text = match read_file(rt, script, observer) {
+        Ok(text) => text,
+        Err(refusal) => return Err(refusal),
+    };
+    let script = match script_in(rt.alloc(), text.as_slice(), observer) {
         Ok(script) => script,
         Err(refusal) => return Err(refusal),
     };
