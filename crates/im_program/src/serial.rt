@@ -8,6 +8,7 @@ ghost use Rattle.im_program.specs.Printing.{PrintsMore, PrintsNows, PrintsOn, no
 ghost use Rattle.im_program.specs.Printing.{who_of};
 ghost use Rattle.im_program.specs.Serving.{Closed, Ends, GoesOn, Halts, NotOpened, Served, Serves, at};
 
+use crate::diagnosis::diagnose;
 use crate::ending::{end, finish};
 use crate::lines::Lines;
 use crate::observer::{Observer, Progress};
@@ -421,7 +422,10 @@ pub fn serial_on<D: Disk, W: Write, N: Observer>(
     };
     match Engine::open(alloc, disk) {
         Ok(engine) => serve_on(alloc, engine, desk, script, out, observer),
-        Err((refusal, disk)) => (end(alloc, Err(Reason::Image(refusal)), out, observer), disk),
+        Err((refusal, mut disk)) => {
+            let reason = diagnose(alloc, &mut disk, refusal);
+            (end(alloc, Err(reason), out, observer), disk)
+        }
     }
 }
 

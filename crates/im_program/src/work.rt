@@ -13,6 +13,7 @@ ghost use Rattle.im_program.specs.Words.{demonstration, task_of};
 ghost use Rattle.im_program.specs.Working.{DoneOn};
 
 use crate::console::Console;
+use crate::damage::Damage;
 use crate::ending::put_refusal;
 use crate::inspecting::inspect_on;
 use crate::observer::Observer;
@@ -129,7 +130,7 @@ pub fn format_file<R: Files<File = File> + AllocGlobal, S: Start, N: Observer>(
 fn told<N: Observer>(refusal: Refusal, observer: &mut N) -> Refusal
     ensures { result ≡ refusal }
 {
-    observer.refused(Reason::Image(refusal));
+    observer.refused(Reason::Image(refusal, Damage::Unknown)); // No image that can be read.
     refusal
 }
 
