@@ -2,3 +2,4 @@ pub mod PrintingLemmas
 pub mod ServingLemmas
 pub mod ReportLemmas
 pub mod InspectingLemmas
+pub mod ReadingLemmas

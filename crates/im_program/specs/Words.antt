@@ -29,9 +29,13 @@ serial_app = with_rule (with_rule (new_app (codes "serial")) (path_rule (codes "
 abbrev pub inspect_app : App
 inspect_app = with_rule (new_app (codes "inspect")) (path_rule (codes "IMAGE"))
 
+-- a command that has a version to tell
+abbrev pub with_version : App → App
+with_version app = record app { top = record app.top { has_version = true } }
+
 -- imem, alone or with one of its subcommands
 abbrev pub imem_app : App
-imem_app = with_subcommand (with_subcommand (with_subcommand (new_app (codes "imem")) format_app.top) serial_app.top) inspect_app.top
+imem_app = with_subcommand (with_subcommand (with_subcommand (with_version (new_app (codes "imem"))) format_app.top) serial_app.top) inspect_app.top
 
 -- ---- what is asked for
 

@@ -43,7 +43,11 @@ impl<'a, R: Eprint + AllocGlobal> Console<'a, R> {
     // Which file the reason speaks of.
     fn path(&self, reason: Reason) -> &'a str {
         if reason.is_of_script() {
-            self.script
+            if self.script == "-" {
+                "standard input"
+            } else {
+                self.script
+            }
         } else {
             self.image
         }

@@ -5,6 +5,7 @@ ghost use Rattle.im_disk.specs.Since.{ReadsOnly};
 ghost use Rattle.im_program.specs.Inspecting.{Tells};
 ghost use Rattle.im_program.specs.Report.{report_text};
 
+use crate::diagnosis::diagnose;
 use crate::ending::end;
 use crate::lines::put_through;
 use crate::observer::Observer;
@@ -37,7 +38,7 @@ fn tell<D: Disk, W: Write>(alloc: Global, disk: &mut D, out: &mut W) -> Result<(
 {
     let report = match inspect(alloc, disk) {
         Ok(report) => report,
-        Err(refusal) => return Err(Reason::Image(refusal)),
+        Err(refusal) => return Err(diagnose(alloc, disk, refusal)),
     };
     match text_of(alloc, &report) {
         Ok(text) => put_through(out, text.as_str()),

@@ -3,6 +3,8 @@
 #![tactic(auto)]
 
 mod console;
+mod damage;
+mod diagnosis;
 mod ending;
 mod inspecting;
 mod lines;
@@ -16,6 +18,7 @@ mod waits;
 mod words;
 mod work;
 
+pub use damage::{Damage, HeaderField, RecordOf, SlotFault};
 pub use inspecting::inspect_on;
 pub use lines::BATCH;
 pub use observer::{Observer, Progress};

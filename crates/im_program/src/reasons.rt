@@ -1,5 +1,6 @@
 //! Why work is refused, for a person to read.
 
+use crate::damage::Damage;
 use im_disk::OpenFault;
 use im_script::ScriptFault;
 use im_types::{MAX_CELLS, MAX_ELEMENTS, MAX_SLOTS, MIN_SLOTS, Refusal};
@@ -20,10 +21,8 @@ pub enum Reason {
     Script(ScriptFault),
     /// The image's file can't be made or opened: with the system's reason, where it tells one.
     File(OpenFault, Option<ErrorKind>),
-    /// The file is no image, or one that is damaged, or one that can't be read or written.
-    Image(Refusal),
-    /// The file has not the length of an image: how many bytes it has.
-    Length(u64),
+    /// The file is no image, or one that is damaged, and where; or one that can't be read or written.
+    Image(Refusal, Damage),
     /// So many cells were asked for.
     Cells(u32),
     /// So many elements were asked for.
@@ -83,9 +82,8 @@ impl Reason {
             Reason::Script(fault) => Some(fault.refusal()),
             Reason::ScriptFile(_) | Reason::Block(_) | Reason::Place(_) => Some(Refusal::BadScript),
             Reason::File(_, _) => Some(Refusal::Device),
-            Reason::Length(_) => Some(Refusal::WrongLength),
             Reason::Cells(_) | Reason::Elements(_) | Reason::Slots(_) => Some(Refusal::BadLimits),
-            Reason::Image(refusal) | Reason::Request(_, refusal) => Some(refusal),
+            Reason::Image(refusal, _) | Reason::Request(_, refusal) => Some(refusal),
         }
     }
 
@@ -107,10 +105,8 @@ impl Display for Reason {
             Reason::Script(fault) => write!(f, "{fault}"),
             Reason::File(OpenFault::InUse, _) => write!(f, "it is in use by another program"),
             Reason::File(OpenFault::Device, kind) => f.write_str(file_words(kind)),
-            Reason::Image(refusal) => f.write_str(words(refusal)),
-            Reason::Length(found) => {
-                write!(f, "its {found} bytes are not the length of an image")
-            }
+            Reason::Image(refusal, Damage::Unknown) => f.write_str(words(refusal)),
+            Reason::Image(_, damage) => write!(f, "{damage}"),
             Reason::Cells(cells) => write!(f, "{cells} cells: there may be 1 to {MAX_CELLS}"),
             Reason::Elements(elements) => {
                 write!(f, "{elements} elements: there may be 1 to {MAX_ELEMENTS}")

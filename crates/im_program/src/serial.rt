@@ -8,6 +8,7 @@ ghost use Rattle.im_program.specs.Printing.{PrintsMore, PrintsNows, PrintsOn, no
 ghost use Rattle.im_program.specs.Printing.{who_of};
 ghost use Rattle.im_program.specs.Serving.{Closed, Ends, GoesOn, Halts, NotOpened, Served, Serves, at};
 
+use crate::diagnosis::diagnose;
 use crate::ending::{end, finish};
 use crate::lines::Lines;
 use crate::observer::{Observer, Progress};
@@ -17,7 +18,7 @@ use crate::room::{confirm, first_waiting, make_room, next_number};
 use crate::waits::{Places, Waited, learn, learn_all, note, tell_earlier, waited_at};
 use im_disk::Disk;
 use im_engine::Engine;
-use im_script::Script;
+use im_script::{Allocation, Reader, Said, Script, ScriptLine, split_line};
 use im_types::{Command, Entry, Op, Outcome, Refusal, Reply, Request, WINDOW};
 use std::alloc::{AllocError, Global};
 use std::io::Write;
@@ -185,10 +186,10 @@ impl<D: Disk> Server<D> {
         }
     }
 
-    // Makes the blocks of the setup.
-    fn set_up<W: Write, N: Observer>(
+    // Makes a block of the setup.
+    fn make_block<W: Write, N: Observer>(
         &mut self,
-        script: &Script,
+        block: Allocation,
         out: &mut W,
         observer: &mut N,
     ) -> Result<(), Reason>
@@ -200,65 +201,99 @@ impl<D: Disk> Server<D> {
             (at self.old.engine (W.contents out.old) self.old.lines self.old.waited.items)
             (at self.new.engine (W.contents out.new) self.new.lines self.new.waited.items)) }
     {
-        for block in &script.setup {
-            let entry = match self.request(0, Op::Alloc(block.kind, block.length), out, observer) {
-                Ok(entry) => entry,
+        let entry = match self.request(0, Op::Alloc(block.kind, block.length), out, observer) {
+            Ok(entry) => entry,
+            Err(reason) => return Err(reason),
+        };
+        let Entry::Answered(Reply::Base(base)) = entry else {
+            return Err(Reason::Block(self.bases.len().saturating_add(1)));
+        };
+        if self.bases.push(base).is_err() {
+            return Err(Reason::Memory);
+        }
+        Ok(())
+    }
+
+    // Serves a request of a part.
+    fn serve_line<W: Write, N: Observer>(
+        &mut self,
+        line: ScriptLine,
+        out: &mut W,
+        observer: &mut N,
+    ) -> Result<(), Reason>
+        ensures serves { MatchResult result
+            (λ _. Serves D.now D.past D.failures D.honest
+            (at self.old.engine (W.contents out.old) self.old.lines self.old.waited.items)
+            (at self.new.engine (W.contents out.new) self.new.lines self.new.waited.items))
+            (λ _. Ends D.now D.past D.failures D.honest
+            (at self.old.engine (W.contents out.old) self.old.lines self.old.waited.items)
+            (at self.new.engine (W.contents out.new) self.new.lines self.new.waited.items)) }
+    {
+        let Some(op) = line.action.op(self.bases.as_slice()) else {
+            return Err(Reason::Place(line.element));
+        };
+        match self.request(line.element, op, out, observer) {
+            Ok(_entry) => Ok(()),
+            Err(reason) => Err(reason),
+        }
+    }
+
+    // Serves what a line says.
+    fn serve_said<W: Write, N: Observer>(
+        &mut self,
+        said: Said,
+        out: &mut W,
+        observer: &mut N,
+    ) -> Result<(), Reason>
+        ensures serves { MatchResult result
+            (λ _. Serves D.now D.past D.failures D.honest
+            (at self.old.engine (W.contents out.old) self.old.lines self.old.waited.items)
+            (at self.new.engine (W.contents out.new) self.new.lines self.new.waited.items))
+            (λ _. Ends D.now D.past D.failures D.honest
+            (at self.old.engine (W.contents out.old) self.old.lines self.old.waited.items)
+            (at self.new.engine (W.contents out.new) self.new.lines self.new.waited.items)) }
+    {
+        match said {
+            Said::Nothing | Said::Begins(_) => Ok(()),
+            Said::Block(block) => self.make_block(block, out, observer),
+            Said::Asks(line) => self.serve_line(line, out, observer),
+        }
+    }
+
+    // Serves the whole script, line by line as they are read, until a request is refused.
+    fn serve<W: Write, N: Observer>(
+        &mut self,
+        alloc: Global,
+        script: &Script<'_>,
+        out: &mut W,
+        observer: &mut N,
+    ) -> Result<(), Reason>
+        ensures serves { MatchResult result
+            (λ _. Serves D.now D.past D.failures D.honest
+            (at self.old.engine (W.contents out.old) self.old.lines self.old.waited.items)
+            (at self.new.engine (W.contents out.new) self.new.lines self.new.waited.items))
+            (λ _. Ends D.now D.past D.failures D.honest
+            (at self.old.engine (W.contents out.old) self.old.lines self.old.waited.items)
+            (at self.new.engine (W.contents out.new) self.new.lines self.new.waited.items)) }
+    {
+        let mut reader = Reader::new(alloc);
+        let mut rest = Some(script.text());
+        for number in 1..usize::MAX {
+            let Some(text) = rest else {
+                return Ok(());
+            };
+            let (line, behind) = split_line(text);
+            rest = behind;
+            let said = match reader.read(alloc, number, line) {
+                Ok(said) => said,
+                Err(fault) => return Err(Reason::Script(fault)), // There was no memory for it.
+            };
+            match self.serve_said(said, out, observer) {
+                Ok(()) => {}
                 Err(reason) => return Err(reason),
-            };
-            let Entry::Answered(Reply::Base(base)) = entry else {
-                return Err(Reason::Block(self.bases.len().saturating_add(1)));
-            };
-            if self.bases.push(base).is_err() {
-                return Err(Reason::Memory);
             }
         }
         Ok(())
-    }
-
-    // Serves the requests of the parts.
-    fn serve_lines<W: Write, N: Observer>(
-        &mut self,
-        script: &Script,
-        out: &mut W,
-        observer: &mut N,
-    ) -> Result<(), Reason>
-        ensures serves { MatchResult result
-            (λ _. Serves D.now D.past D.failures D.honest
-            (at self.old.engine (W.contents out.old) self.old.lines self.old.waited.items)
-            (at self.new.engine (W.contents out.new) self.new.lines self.new.waited.items))
-            (λ _. Ends D.now D.past D.failures D.honest
-            (at self.old.engine (W.contents out.old) self.old.lines self.old.waited.items)
-            (at self.new.engine (W.contents out.new) self.new.lines self.new.waited.items)) }
-    {
-        for line in &script.lines {
-            let Some(op) = line.action.op(self.bases.as_slice()) else {
-                return Err(Reason::Place(line.element));
-            };
-            let _entry = match self.request(line.element, op, out, observer) {
-                Ok(entry) => entry,
-                Err(reason) => return Err(reason),
-            };
-        }
-        Ok(())
-    }
-
-    // Serves the whole script, until a request is refused.
-    fn serve<W: Write, N: Observer>(
-        &mut self,
-        script: &Script,
-        out: &mut W,
-        observer: &mut N,
-    ) -> Result<(), Reason>
-        ensures serves { MatchResult result
-            (λ _. Serves D.now D.past D.failures D.honest
-            (at self.old.engine (W.contents out.old) self.old.lines self.old.waited.items)
-            (at self.new.engine (W.contents out.new) self.new.lines self.new.waited.items))
-            (λ _. Ends D.now D.past D.failures D.honest
-            (at self.old.engine (W.contents out.old) self.old.lines self.old.waited.items)
-            (at self.new.engine (W.contents out.new) self.new.lines self.new.waited.items)) }
-    {
-        self.set_up(script, out, observer)?;
-        self.serve_lines(script, out, observer)
     }
 
     // Learns what is kept at the end for the requests that had to wait, and tells of those that waited before.
@@ -371,7 +406,7 @@ fn make_desk(alloc: Global) -> Result<Desk, AllocError>
 pub fn serial_on<D: Disk, W: Write, N: Observer>(
     alloc: Global,
     disk: D,
-    script: &Script,
+    script: &Script<'_>,
     out: &mut W,
     observer: &mut N,
 ) -> (u8, D)
@@ -387,7 +422,10 @@ pub fn serial_on<D: Disk, W: Write, N: Observer>(
     };
     match Engine::open(alloc, disk) {
         Ok(engine) => serve_on(alloc, engine, desk, script, out, observer),
-        Err((refusal, disk)) => (end(alloc, Err(Reason::Image(refusal)), out, observer), disk),
+        Err((refusal, mut disk)) => {
+            let reason = diagnose(alloc, &mut disk, refusal);
+            (end(alloc, Err(reason), out, observer), disk)
+        }
     }
 }
 
@@ -396,7 +434,7 @@ fn serve_on<D: Disk, W: Write, N: Observer>(
     alloc: Global,
     engine: Engine<D>,
     desk: Desk,
-    script: &Script,
+    script: &Script<'_>,
     out: &mut W,
     observer: &mut N,
 ) -> (u8, D)
@@ -427,7 +465,7 @@ fn serve_on<D: Disk, W: Write, N: Observer>(
             checkpoints: 0,
         },
     };
-    let served = server.serve(script, out, observer);
+    let served = server.serve(alloc, script, out, observer);
     server.learn_all(observer);
     let told = server.tell(out);
     let status = finish(

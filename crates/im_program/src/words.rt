@@ -61,6 +61,9 @@ pub enum WordFault {
     Bad(Error),
 }
 
+/// What `--version` prints behind the program's name: its version, and that of the layout which it writes.
+const VERSION: &str = "0.1.0, image layout 1";
+
 const ABOUT: &str = "A durable memory of I-structure and M-structure cells, kept in an image file.";
 
 const EXAMPLES: &str =
@@ -77,8 +80,6 @@ advisory: it keeps no other program from writing the file, nor one that makes an
 
 Exit status: 0 done; 1 refused, with 'refused N NAME' as the last line; 2 a bad command line.";
 
-const BAD_NUMBER: &str = "--cells, --elements and --slots take decimal numbers below 4294967296";
-
 const FORMAT: &str =
     "Make an image: an empty memory of this size, in a new file or over an old one";
 
@@ -87,13 +88,16 @@ const FORMAT_EXAMPLES: &str =
 
 Example: an image of 4,096 cells, 16 elements and 256 journal slots, and a small one
   imem format a.img
-  imem format small.img --cells 64 --elements 2 --slots 16";
+  imem format small.img --cells 64 --elements 2 --slots 16
+
+Exit status: 0 the image is made; 1 refused, with 'refused N NAME' as the last line; 2 a bad command line.";
 
 const SERIAL: &str = "Serve the requests of a script, in their order, and print each reply";
 
 const SERIAL_EXAMPLES: &str =
     "Each request prints 'K.N REPLY', K being its element and N its number. At the end each one that had
-to wait prints 'K.N now REPLY'. The image keeps all of it for the next run.
+to wait prints 'K.N now REPLY'. The image keeps all of it for the next run. SCRIPT is a file, or - for
+standard input, which is read to its end before the image is opened.
 
 A script has one line for each request; '#' begins a line of comment:
   setup                 at most once, first: blocks with names, made by element 0
@@ -109,7 +113,10 @@ PLACE is an address, NAME or NAME+OFFSET.
 
 Example: the lines 'setup', 'alloc x i 1', 'element 1', 'fetch x', 'element 2', 'store x 5' in the
 file fetch.script, served on the image a.img
-  imem serial a.img fetch.script";
+  imem serial a.img fetch.script
+
+Exit status: 0 all was served; 1 something was refused, with 'refused N NAME' as the last line, or the
+output can't be written; 2 a bad command line. Standard error has one line more about a refusal.";
 
 const INSPECT: &str = "Print what an image means, and change nothing";
 
@@ -127,7 +134,10 @@ const INSPECT_EXAMPLES: &str = "The lines, in this order:
 An image that isn't whole is refused: 'refused N NAME' names its first fault.
 
 Example: the image a.img after 'imem format a.img'
-  imem inspect a.img";
+  imem inspect a.img
+
+Exit status: 0 all was told; 1 refused, with 'refused N NAME' as the last line; 2 a bad command line.
+Standard error says where an image is damaged.";
 
 /// An option that takes a number.
 fn number_option<'a>(alloc: Global, id: &'a str, help: &'a str) -> Arg<'a>
@@ -185,7 +195,11 @@ fn serial_command<'a>(alloc: Global) -> Result<Command<'a>, AllocError>
         .about(SERIAL)
         .after_help(SERIAL_EXAMPLES);
     let image = path_argument(alloc, "IMAGE", "The image, made by 'imem format'");
-    let script = path_argument(alloc, "SCRIPT", "The file of requests");
+    let script = path_argument(
+        alloc,
+        "SCRIPT",
+        "The file of requests, or - for standard input",
+    );
     let one = empty.arg(image)?;
     let two = one.arg(script)?;
     Ok(two)
@@ -209,6 +223,7 @@ fn imem_command<'a>(alloc: Global) -> Result<Command<'a>, AllocError>
     ensures app { IfOk result (λ c. app_of c ≡ imem_app) }
 {
     let empty = Command::new(alloc, "imem")
+        .version(VERSION)
         .about(ABOUT)
         .after_help(EXAMPLES);
     let format = format_command(alloc)?;
@@ -302,19 +317,42 @@ fn fault(error: Error) -> WordFault
     }
 }
 
-/// The fault of a number that is none.
-fn bad_number(alloc: Global) -> WordFault {
-    match imem_command(alloc) {
-        Ok(mut command) => match command.error(ErrorKind::ValueValidation, BAD_NUMBER) {
-            Ok(error) => WordFault::Bad(error),
-            Err(_) => WordFault::NoMemory,
-        },
+/// The first option of `format` whose text is no decimal number of a u32, with its text.
+fn bad_option<'a>(found: &ArgMatches<'a>) -> Option<(&'static str, &'a str)> {
+    for id in ["cells", "elements", "slots"] {
+        let Some(text) = found.get_str(id) else {
+            continue;
+        };
+        if read_u32(text.as_bytes()).is_none() {
+            return Some((id, text));
+        }
+    }
+    None
+}
+
+/// The fault of a number that is none, with the usage of `format`.
+fn bad_number(alloc: Global, matches: &ArgMatches<'_>) -> Result<Error, AllocError> {
+    let (id, text) = match matches.subcommand() {
+        Some((_, found)) => bad_option(found).unwrap_or(("cells", "")),
+        None => ("cells", ""),
+    };
+    let message = format!(in alloc;
+        "invalid value {text:?} for '--{id} <N>': a decimal number below 4294967296 is expected"
+    )?;
+    let mut command = format_command(alloc)?.bin_name("imem format")?;
+    command.error(ErrorKind::ValueValidation, message.as_str())
+}
+
+/// The fault of a number that is none, where there is memory for its text.
+fn number_fault(alloc: Global, matches: &ArgMatches<'_>) -> WordFault {
+    match bad_number(alloc, matches) {
+        Ok(error) => WordFault::Bad(error),
         Err(_) => WordFault::NoMemory,
     }
 }
 
 /// Reads the words of a command line, the program's own name first. [`WordFault::Bad`] has what clap found, or that a
-/// number is not written in decimal digits below 2^32; `--help` is such a fault too, with status 0.
+/// number is not written in decimal digits below 2^32; `--help` and `--version` are such faults too, with status 0.
 pub fn read_words<'a>(alloc: Global, words: &'a [&'a str]) -> Result<Work<'a>, WordFault>
     ensures work { IfOk result (λ work. asked (texts words.entry.now) ≡ Some (task_of work)) }
     ensures sound { IsOk result → fault_of imem_app (texts words.entry.now) ≡ [] }
@@ -331,6 +369,6 @@ pub fn read_words<'a>(alloc: Global, words: &'a [&'a str]) -> Result<Work<'a>, W
     };
     match work_of(&matches) {
         Some(work) => Ok(work),
-        None => Err(bad_number(alloc)),
+        None => Err(number_fault(alloc, &matches)),
     }
 }

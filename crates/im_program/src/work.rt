@@ -13,6 +13,7 @@ ghost use Rattle.im_program.specs.Words.{demonstration, task_of};
 ghost use Rattle.im_program.specs.Working.{DoneOn};
 
 use crate::console::Console;
+use crate::damage::Damage;
 use crate::ending::put_refusal;
 use crate::inspecting::inspect_on;
 use crate::observer::Observer;
@@ -129,7 +130,7 @@ pub fn format_file<R: Files<File = File> + AllocGlobal, S: Start, N: Observer>(
 fn told<N: Observer>(refusal: Refusal, observer: &mut N) -> Refusal
     ensures { result ≡ refusal }
 {
-    observer.refused(Reason::Image(refusal));
+    observer.refused(Reason::Image(refusal, Damage::Unknown)); // No image that can be read.
     refusal
 }
 
@@ -159,19 +160,29 @@ fn refuse_script<N: Observer>(reason: Reason, observer: &mut N) -> Refusal
     }
 }
 
-// Reads the script of a file. `BadScript` where the file can't be read.
+// The text of a script's file. `BadScript` where the file can't be read.
 fn read_file<R: Files<File = File> + AllocGlobal + Input, N: Observer>(
     rt: &R,
     script: &str,
     observer: &mut N,
-) -> Result<Script, Refusal>
+) -> Result<Vec<u8>, Refusal>
     ensures { IfErr result (λ refusal. (refusal ≡ BadScript) ⊎ (refusal ≡ NoMemory)) }
 {
-    let text = match read_text(rt, script) {
-        Ok(text) => text,
-        Err(error) => return Err(refuse_script(Reason::ScriptFile(error.kind()), observer)),
-    };
-    match read_script(rt.alloc(), text.as_slice()) {
+    match read_text(rt, script) {
+        Ok(text) => Ok(text),
+        Err(error) => Err(refuse_script(Reason::ScriptFile(error.kind()), observer)),
+    }
+}
+
+// The script that a text is. `BadScript` where it isn't in the grammar.
+fn script_in<'a, N: Observer>(
+    alloc: Global,
+    text: &'a [u8],
+    observer: &mut N,
+) -> Result<Script<'a>, Refusal>
+    ensures { IfErr result (λ refusal. (refusal ≡ BadScript) ⊎ (refusal ≡ NoMemory)) }
+{
+    match read_script(alloc, text) {
         Ok(script) => Ok(script),
         Err(fault) => Err(refuse_script(Reason::Script(fault), observer)),
     }
@@ -204,7 +215,11 @@ pub fn serve_file<R: Files<File = File> + AllocGlobal + Input, S: Start, W: Writ
     ensures refused { IfErr result (λ refusal. (refusal ≡ BadScript) ⊎ (refusal ≡ NoMemory) ⊎ (refusal ≡ Device)) }
     ensures same { OnErr result (Keeps (W.contents out.old) (W.contents out.new)) }
 {
-    let script = match read_file(rt, script, observer) {
+    let text = match read_file(rt, script, observer) {
+        Ok(text) => text,
+        Err(refusal) => return Err(refusal),
+    };
+    let script = match script_in(rt.alloc(), text.as_slice(), observer) {
         Ok(script) => script,
         Err(refusal) => return Err(refusal),
     };

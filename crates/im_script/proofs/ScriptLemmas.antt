@@ -1,39 +1,64 @@
 -- A script read line by line. (Own.)
-use Rattle.std.proofs.Common.{◌≡◌, ◌∙◌, ◌++◌, ℕ, ◌+◌, ◌<◌, ◌≤◌, List, [], ◌∷◌, arith, refl, sym, ap, subst, length, take, drop, get_or, inl, inr}
-use Rattle.std.specs.Prelude.{⊤, ◌⊎◌, Option, Some, None, Result, Ok, Err, IfErr, IfSome}
+use Rattle.std.proofs.Common.{◌≡◌, ◌∙◌, eq-eqb, ◌++◌, ◌==◌, false, All, ℕ, ◌+◌, ◌<◌, ◌≤◌, List, [], ◌∷◌, arith, refl, sym, ap, subst, length, take, drop, get_or, inl, inr}
+use Rattle.std.specs.Prelude.{◌⊎◌, Option, Some, None, Result, Ok, Err, IfErr, IfSome, IsSome}
 use Rattle.std.specs.Option.{option_map, option_and_then}
 use Rattle.std.proofs.lemmas.List.{take_more, take_all, take-append-drop, length-take-le, drop_more}
-use Rattle.im_script.specs.Script.{Draft, counted, lines_after, lines_of, new_draft, script_of}
+use Rattle.std.proofs.lemmas.List.Splits.{slice_split_at}
+use Rattle.std.proofs.lemmas.Bool.{ne_eqb}
+use Rattle.std.proofs.lemmas.List.Elements.{All-append, All-cons, All-nil}
+use Rattle.im_script.specs.Script.{Draft, counted, lines_after, lines_of, lines_say, new_draft, script_of}
+use Rattle.im_script.specs.declared.script.Said.{Said}
 use Rattle.im_script.specs.declared.faults.ScriptFault.{ScriptFault}
 use Rattle.im_script.specs.declared.faults.ScriptFault.TheVariants.{NoMemory, BadLine}
 use Rattle.im_script.specs.declared.script.Script.{Script}
 use Rattle.im_script.specs.Faults.{IsFirstFault, line_of}
 
-lines_past : (o : Option Draft) (xs ys : List (List ℕ)) → ((e : Draft) → lines_after e (xs ++ ys) ≡ option_and_then (λ f. lines_after f ys) (lines_after e xs))
-    → option_and_then (λ e. lines_after e (xs ++ ys)) o ≡ option_and_then (λ f. lines_after f ys) (option_and_then (λ e. lines_after e xs) o)
+lines_past : (o : Option (Draft × Said)) (xs ys : List (List ℕ)) → ((e : Draft) → lines_after e (xs ++ ys) ≡ option_and_then (λ f. lines_after f ys) (lines_after e xs))
+    → option_and_then (λ r. lines_after r.0 (xs ++ ys)) o ≡ option_and_then (λ f. lines_after f ys) (option_and_then (λ r. lines_after r.0 xs) o)
 lines_past None xs ys h = refl
-lines_past (Some e) xs ys h = h e
+lines_past (Some r) xs ys h = h r.0
 
 -- lines behind others
 lines_append : (d : Draft) (xs ys : List (List ℕ)) → lines_after d (xs ++ ys) ≡ option_and_then (λ e. lines_after e ys) (lines_after d xs)
 lines_append d [] ys = refl
 lines_append d (x ∷ xs) ys = lines_past (counted d x) xs ys (λ e. lines_append e xs ys)
 
-one_line : (o : Option Draft) → option_and_then (λ (e : Draft). lines_after e []) o ≡ o
-one_line None = refl
-one_line (Some e) = refl
-
--- the lines up to the one at i say what that one makes of those before it
+-- the lines up to the one at i, behind those before it
 line_at : (d : Draft) (all : List (List ℕ)) (i : ℕ) (line : List ℕ) → i < length all → line ≡ get_or all i line → lines_after new_draft (take i all) ≡ Some d
-    → lines_after new_draft (take (i + 1) all) ≡ counted d line
+    → lines_after new_draft (take (i + 1) all) ≡ option_and_then (λ r. Some r.0) (counted d line)
 line_at d all i line inside is so_far =
     ap (lines_after new_draft) (take_more all i line inside) ∙ ap (λ (l : List ℕ). lines_after new_draft (take i all ++ l ∷ [])) (sym is)
-    ∙ lines_append new_draft (take i all) (line ∷ []) ∙ ap (option_and_then (λ (e : Draft). lines_after e (line ∷ []))) so_far ∙ one_line (counted d line)
+    ∙ lines_append new_draft (take i all) (line ∷ []) ∙ ap (option_and_then (λ (e : Draft). lines_after e (line ∷ []))) so_far
 
 -- a line was read
-pub line_follows : (d e : Draft) (all : List (List ℕ)) (i j : ℕ) (line : List ℕ) → i < length all → line ≡ get_or all i line → j ≡ i + 1 → lines_after new_draft (take i all) ≡ Some d → counted d line ≡ Some e
-    → lines_after new_draft (take j all) ≡ Some e
-line_follows d e all i j line inside is next so_far read = ap (λ (k : ℕ). lines_after new_draft (take k all)) next ∙ line_at d all i line inside is so_far ∙ read
+pub line_follows : (d e : Draft) (said : Said) (all : List (List ℕ)) (i j : ℕ) (line : List ℕ) → i < length all → line ≡ get_or all i line → j ≡ i + 1 → lines_after new_draft (take i all) ≡ Some d
+    → counted d line ≡ Some (e, said) → lines_after new_draft (take j all) ≡ Some e
+line_follows d e said all i j line inside is next so_far read =
+    ap (λ (k : ℕ). lines_after new_draft (take k all)) next ∙ line_at d all i line inside is so_far ∙ ap (option_and_then (λ (r : Draft × Said). Some r.0)) read
+
+some_mapped : {A B : Type 0} (o : Option A) (f : A → B) → IsSome o → IsSome (option_map f o)
+some_mapped None f h = h
+some_mapped (Some x) f h = refl
+
+-- lines that are all in the grammar say something
+say_more : (o : Option (Draft × Said)) (e : Draft) (lines : List (List ℕ)) → ((d : Draft) → lines_after d lines ≡ Some e → IsSome (lines_say d lines))
+    → option_and_then (λ r. lines_after r.0 lines) o ≡ Some e → IsSome (option_and_then (λ r. option_map (λ rest. r.1 ∷ rest) (lines_say r.0 lines)) o)
+say_more None e lines h is = absurd (cc)
+say_more (Some r) e lines h is = some_mapped (lines_say r.0 lines) (λ rest. r.1 ∷ rest) (h r.0 is)
+
+they_say : (d e : Draft) (lines : List (List ℕ)) → lines_after d lines ≡ Some e → IsSome (lines_say d lines)
+they_say d e [] is = refl
+they_say d e (line ∷ lines) is = say_more (counted d line) e lines (λ f. they_say f e lines) is
+
+-- lines that aren't say nothing
+none_past : (o : Option (Draft × Said)) (lines : List (List ℕ)) → ((d : Draft) → lines_after d lines ≡ None → lines_say d lines ≡ None)
+    → option_and_then (λ r. lines_after r.0 lines) o ≡ None → option_and_then (λ r. option_map (λ rest. r.1 ∷ rest) (lines_say r.0 lines)) o ≡ None
+none_past None lines h is = refl
+none_past (Some r) lines h is = ap (option_map (λ (rest : List Said). r.1 ∷ rest)) (h r.0 is)
+
+they_say_none : (d : Draft) (lines : List (List ℕ)) → lines_after d lines ≡ None → lines_say d lines ≡ None
+they_say_none d [] is = absurd (cc)
+they_say_none d (line ∷ lines) is = none_past (counted d line) lines (λ e. they_say_none e lines) is
 
 -- the lines of a text, taken apart at one of them
 split_at : (all : List (List ℕ)) (i : ℕ) (line : List ℕ) → i < length all → line ≡ get_or all i line → all ≡ take i all ++ line ∷ drop (i + 1) all
@@ -57,14 +82,13 @@ first_fault text d i n line inside is so_far none number = record {
 
 -- and then the text is no script
 pub no_script : (text : List ℕ) (n : ℕ) → IsFirstFault text n → script_of text ≡ None
-no_script text n f =
-    ap (option_map (λ (d : Draft). d.script))
+no_script text n f = they_say_none new_draft (lines_of text)
     (ap (lines_after new_draft) f.lines ∙ lines_append new_draft f.before (f.line ∷ f.rest) ∙ ap (option_and_then (λ (e : Draft). lines_after e (f.line ∷ f.rest))) f.read
-    ∙ ap (option_and_then (λ (e : Draft). lines_after e f.rest)) f.bad)
+    ∙ ap (option_and_then (λ (r : Draft × Said). lines_after r.0 f.rest)) f.bad)
 
 -- no line is left
-pub script_is : (text : List ℕ) (d : Draft) (i : ℕ) → length (lines_of text) ≤ i → lines_after new_draft (take i (lines_of text)) ≡ Some d → script_of text ≡ Some d.script
-script_is text d i past so_far = ap (option_map (λ (e : Draft). e.script)) (ap (lines_after new_draft) (sym (take_all i (lines_of text) past)) ∙ so_far)
+pub script_is : (text : List ℕ) (d : Draft) (i : ℕ) → length (lines_of text) ≤ i → lines_after new_draft (take i (lines_of text)) ≡ Some d → IsSome (script_of text)
+script_is text d i past so_far = they_say new_draft d (lines_of text) (ap (lines_after new_draft) (sym (take_all i (lines_of text) past)) ∙ so_far)
 
 -- what a line's fault says of the text
 first_told : (text : List ℕ) (d : Draft) (i n : ℕ) (line : List ℕ) (f : ScriptFault) → i < length (lines_of text) → line ≡ get_or (lines_of text) i line → lines_after new_draft (take i (lines_of text)) ≡ Some d
@@ -73,11 +97,11 @@ first_told text d i n line NoMemory inside is so_far number h = h
 first_told text d i n line (BadLine at fault) inside is so_far number h = first_fault text d i at line inside is so_far h.1 (h.0 ∙ number)
 
 -- the same, of the answer that passes it on
-pub passes_first : (text : List ℕ) (d : Draft) (i n : ℕ) (line : List ℕ) (f : ScriptFault) (r : Result ⊤ ScriptFault) (s : Result Script ScriptFault) → i < length (lines_of text) → line ≡ get_or (lines_of text) i line
+pub passes_first : (text : List ℕ) (d : Draft) (i n : ℕ) (line : List ℕ) (f : ScriptFault) (r : Result Said ScriptFault) (s : Result Script ScriptFault) → i < length (lines_of text) → line ≡ get_or (lines_of text) i line
     → lines_after new_draft (take i (lines_of text)) ≡ Some d → n ≡ i + 1 → r ≡ Err f → s ≡ Err f → IfErr r (λ g. IfSome (line_of g) (λ at. (at ≡ n) × (counted d line ≡ None)))
     → IfErr s (λ g. IfSome (line_of g) (IsFirstFault text))
 passes_first text d i n line f r s inside is so_far number was now h =
-    let P : Result ⊤ ScriptFault → Type 0 = λ t. IfErr t (λ g. IfSome (line_of g) (λ at. (at ≡ n) × (counted d line ≡ None))) in
+    let P : Result Said ScriptFault → Type 0 = λ t. IfErr t (λ g. IfSome (line_of g) (λ at. (at ≡ n) × (counted d line ≡ None))) in
     let Q : Result Script ScriptFault → Type 0 = λ t. IfErr t (λ g. IfSome (line_of g) (IsFirstFault text)) in
     subst Q (sym now) (first_told text d i n line f inside is so_far number (subst P was h))
 
@@ -89,3 +113,16 @@ told_bad text (BadLine at fault) h = inr (no_script text at h)
 pub passes_bad : (text : List ℕ) (s : Result Script ScriptFault) → IfErr s (λ g. IfSome (line_of g) (IsFirstFault text)) → IfErr s (λ g. (g ≡ NoMemory) ⊎ (script_of text ≡ None))
 passes_bad text (Ok script) h = h
 passes_bad text (Err fault) h = told_bad text fault h
+
+-- a line ends at the first line feed
+pub line_ends : (text : List ℕ) (i : ℕ) → i < length text → get_or text i 0 ≡ 10 → All (λ byte. (byte == 10) ≡ false) (take i text) → lines_of text ≡ take i text ∷ lines_of (drop (i + 1) text)
+line_ends text i inside is none =
+    ap lines_of (sym (take-append-drop i text) ∙ ap (λ (rest : List ℕ). take i text ++ rest) (drop_more text i 0 inside))
+    ∙ slice_split_at (λ byte. byte == 10) (take i text) (get_or text i 0) (drop (i + 1) text) none (eq-eqb (get_or text i 0) 10 is)
+
+-- one byte more that ends no line
+pub no_end : (text : List ℕ) (i : ℕ) → i < length text → (get_or text i 0 ≡ 10 → ⊥) → All (λ byte. (byte == 10) ≡ false) (take i text) → All (λ byte. (byte == 10) ≡ false) (take (i + 1) text)
+no_end text i inside other none =
+    subst (All (λ byte. (byte == 10) ≡ false)) (sym (take_more text i 0 inside))
+    (All-append (λ byte. (byte == 10) ≡ false) (take i text) (get_or text i 0 ∷ []) none
+    (All-cons (λ byte. (byte == 10) ≡ false) (get_or text i 0) [] (ne_eqb (get_or text i 0) 10 other) (All-nil (λ byte. (byte == 10) ≡ false))))

@@ -11,7 +11,7 @@ mod script;
 pub use faults::{Expected, LineFault, Quoted, ScriptFault};
 pub use grammar::read_u32;
 pub use places::{Action, Place};
-pub use script::{Allocation, Script, ScriptLine, read_script};
+pub use script::{Allocation, Reader, Said, Script, ScriptLine, read_script, split_line};
 
 /// The most bytes of a name.
 pub const MAX_NAME: usize = 16;

@@ -1,8 +1,9 @@
 //! Scripts, read line by line.
-ghost use Rattle.std.specs.Prelude.{◌≡◌, ◌⊎◌, None, Some, IfOk, IfErr, IfSome, OnOk};
+ghost use Rattle.std.specs.Prelude.{◌≡◌, ◌⊎◌, ◌∷◌, [], ℕ, List, None, Some, IfOk, IfErr, IfSome, IsSome, OnOk};
 ghost use Rattle.im_script.specs.declared.faults.ScriptFault.TheVariants.{NoMemory};
 ghost use Rattle.im_script.specs.Faults.{IsFirstFault, line_of};
-ghost use Rattle.im_script.specs.Script.{contents_of, script_of};
+ghost use Rattle.std.specs.Option.{option_map_or};
+ghost use Rattle.im_script.specs.Script.{lines_of, script_of};
 
 use crate::explaining::explain;
 use crate::faults::ScriptFault;
@@ -12,6 +13,7 @@ use crate::places::Action;
 use im_types::{Kind, Refusal};
 use indexmap::IndexSet;
 use std::alloc::Global;
+use std::marker::Model;
 
 /// The most that an element's number is in a script.
 pub const LAST_ELEMENT: u64 = 63;
@@ -34,15 +36,39 @@ pub struct ScriptLine {
     pub action: Action,
 }
 
-/// A script that was read.
+/// What a line of a script says.
+#[derive(Clone, Copy, Debug, PartialEq, Eq)]
+pub enum Said {
+    /// Nothing to be served: it is empty or a remark, or begins the setup.
+    Nothing,
+    /// The setup makes a block. A place names one by its index among them.
+    Block(Allocation),
+    /// A part of this element begins.
+    Begins(u16),
+    /// A request.
+    Asks(ScriptLine),
+}
+
+/// A text that is a script: each of its lines is in the grammar where it stands. It borrows the text, and keeps nothing
+/// of it.
 #[derive(Debug, Drop)]
-pub struct Script {
-    /// The blocks that are made first, by element 0. A place names one by its index here.
-    pub setup: Vec<Allocation>,
-    /// The elements of the parts, in order. A part may be without requests, and an element may have several parts.
-    pub parts: Vec<u16>,
-    /// The requests of all parts, in order.
-    pub lines: Vec<ScriptLine>,
+pub struct Script<'a> {
+    text: &'a [u8],
+}
+
+impl<'a> Model for Script<'a> {
+    ghost Value = { List ℕ };
+
+    ghost view = { λ s. s.text.now };
+}
+
+impl<'a> Script<'a> {
+    /// The text, for a [`Reader`] to go over its lines.
+    pub fn text(&self) -> &'a [u8]
+        ensures { result.now ≡ self.now }
+    {
+        self.text
+    }
 }
 
 /// Where in a script a line stands.
@@ -56,15 +82,13 @@ pub enum Stage {
     Part(u16),
 }
 
-/// The script as far as it was read, with the names that the setup gave.
+/// Reads the lines of a text, one after another. It keeps where the next one stands, and the names that the setup gave.
 #[derive(Drop)]
 pub struct Reader<'a> {
     /// Where the next line stands.
     pub stage: Stage,
     /// The name of each block of the setup.
     pub names: IndexSet<&'a [u8]>,
-    /// What was read.
-    pub script: Script,
 }
 
 impl<'a> Reader<'a> {
@@ -73,77 +97,62 @@ impl<'a> Reader<'a> {
     ghost use Rattle.im_script.specs.Script.{named, new_draft};
 
     /// Nothing was read.
-    fn new(alloc: Global) -> Reader<'a>
+    pub fn new(alloc: Global) -> Reader<'a>
         ensures { draft_of result ≡ new_draft }
     {
         Reader {
             stage: Stage::Start,
             names: IndexSet::new(alloc),
-            script: Script {
-                setup: Vec::new(alloc),
-                parts: Vec::new(alloc),
-                lines: Vec::new(alloc),
-            },
         }
     }
 
     /// Reads the first line that counts, where no part begins there.
-    fn begin_setup(&mut self, words: &[&'a [u8]]) -> Result<(), Refusal>
+    fn begin_setup(&mut self, words: &[&'a [u8]]) -> Result<Said, Refusal>
         ensures { Follows result (begun_setup (draft_of self.old) (texts words.now)) (draft_of self.new) }
     {
         if !is_setup(words) {
             return Err(Refusal::BadScript);
         }
         self.stage = Stage::Setup;
-        Ok(())
+        Ok(Said::Nothing)
     }
 
     /// Reads a line that begins a part, by its number.
-    fn begin_part(&mut self, number: &[u8]) -> Result<(), Refusal>
+    fn begin_part(&mut self, number: &[u8]) -> Result<Said, Refusal>
         ensures { Follows result (begun_part (draft_of self.old) number.now) (draft_of self.new) }
     {
         let Some(element) = read_number(number, LAST_ELEMENT) else {
             return Err(Refusal::BadScript);
         };
         let element = element as u16;
-        self.script
-            .parts
-            .push(element)
-            .map_err(|_| Refusal::NoMemory)?;
         self.stage = Stage::Part(element);
-        Ok(())
+        Ok(Said::Begins(element))
     }
 
     /// Reads a line of the setup.
     #[tactic(auto, using(crate::proofs::PlaceLemmas::texts_insert))]
-    fn name_block(&mut self, words: &[&'a [u8]]) -> Result<(), Refusal>
+    fn name_block(&mut self, words: &[&'a [u8]]) -> Result<Said, Refusal>
         ensures { Follows result (named (draft_of self.old) (texts words.now)) (draft_of self.new) }
     {
         let Some((name, block)) = read_named_block(&self.names, words) else {
             return Err(Refusal::BadScript);
         };
         self.names.insert(name).map_err(|_| Refusal::NoMemory)?;
-        self.script
-            .setup
-            .push(block)
-            .map_err(|_| Refusal::NoMemory)?;
-        Ok(())
+        Ok(Said::Block(block))
     }
 
     /// Reads a line of a part.
-    fn ask(&mut self, element: u16, words: &[&'a [u8]]) -> Result<(), Refusal>
+    fn ask(&mut self, element: u16, words: &[&'a [u8]]) -> Result<Said, Refusal>
         ensures { Follows result (asked (draft_of self.old) element (texts words.now)) (draft_of self.new) }
     {
-        let Some(action) = read_action(&self.names, words) else {
-            return Err(Refusal::BadScript);
-        };
-        let line = ScriptLine { element, action };
-        self.script.lines.push(line).map_err(|_| Refusal::NoMemory)?;
-        Ok(())
+        match read_action(&self.names, words) {
+            Some(action) => Ok(Said::Asks(ScriptLine { element, action })),
+            None => Err(Refusal::BadScript),
+        }
     }
 
     /// Reads a line that counts, by its words.
-    fn read_words(&mut self, words: &[&'a [u8]]) -> Result<(), Refusal>
+    fn read_words(&mut self, words: &[&'a [u8]]) -> Result<Said, Refusal>
         ensures { Follows result (line_after (draft_of self.old) (texts words.now)) (draft_of self.new) }
     {
         if let Some(number) = read_part(words) {
@@ -157,7 +166,7 @@ impl<'a> Reader<'a> {
     }
 
     /// Reads a line.
-    fn read_line(&mut self, alloc: Global, line: &'a [u8]) -> Result<(), Refusal>
+    fn read_line(&mut self, alloc: Global, line: &'a [u8]) -> Result<Said, Refusal>
         ensures { Follows result (counted (draft_of self.old) line.entry.now) (draft_of self.new) }
     {
         if !is_plain(line) {
@@ -165,7 +174,7 @@ impl<'a> Reader<'a> {
         }
         let words = split_words(alloc, line).map_err(|_| Refusal::NoMemory)?;
         if words.is_empty() || words[0].first() == Some(&b'#') {
-            return Ok(());
+            return Ok(Said::Nothing);
         }
         self.read_words(words.as_slice())
     }
@@ -183,29 +192,43 @@ impl<'a> Reader<'a> {
         }
     }
 
-    /// Reads the line with this number.
-    fn read_numbered(
+    /// Reads the line with this number, from 1: what it says where it stands. Its fault has the number, and where in the
+    /// line it is; `NoMemory` comes where a growth was refused. A reader that answered a fault is of no use any more.
+    pub fn read(
         &mut self,
         alloc: Global,
         number: usize,
         line: &'a [u8],
-    ) -> Result<(), ScriptFault>
-        ensures ok { OnOk result (counted (draft_of self.old) line.entry.now ≡ Some (draft_of self.new)) }
+    ) -> Result<Said, ScriptFault>
+        ensures ok { IfOk result (λ said. counted (draft_of self.old) line.entry.now ≡ Some (draft_of self.new, said)) }
         ensures bad { IfErr result (λ fault. IfSome (line_of fault)
             (λ at. (at ≡ number) × (counted (draft_of self.old) line.entry.now ≡ None))) }
     {
         match self.read_line(alloc, line) {
-            Ok(()) => Ok(()),
+            Ok(said) => Ok(said),
             Err(Refusal::BadScript) => Err(self.fault(alloc, number, line)),
             Err(_) => Err(ScriptFault::NoMemory),
         }
     }
 }
 
-/// Reads a script. The fault of a text that is none is its first line that isn't in the grammar where it stands;
-/// `NoMemory` comes where a growth was refused.
-pub fn read_script(alloc: Global, text: &[u8]) -> Result<Script, ScriptFault>
-    ensures ok { IfOk result (λ script. script_of text.now ≡ Some (contents_of script)) }
+/// The first line of a text, and the text behind its line feed; none where the text ends with the line.
+pub fn split_line(text: &[u8]) -> (&[u8], Option<&[u8]>)
+    ensures { lines_of text.now ≡ result.0.now ∷ option_map_or (λ rest. lines_of rest.now) result.1 [] }
+{
+    for (at, byte) in text.iter().enumerate() {
+        if *byte == b'\n' {
+            return (&text[..at], Some(&text[at + 1..]));
+        }
+    }
+    (text, None)
+}
+
+/// Reads a text, and answers that it is a script. The fault of a text that is none is its first line that isn't in the
+/// grammar where it stands; `NoMemory` comes where a growth was refused. Beside the setup's names no memory is kept.
+pub fn read_script(alloc: Global, text: &[u8]) -> Result<Script<'_>, ScriptFault>
+    ensures text { IfOk result (λ script. script ≡ text.now) }
+    ensures ok { OnOk result (IsSome (script_of text.now)) }
     ensures bad { IfErr result (λ fault. (fault ≡ NoMemory) ⊎ (script_of text.now ≡ None)) }
     ensures first { IfErr result (λ fault. IfSome (line_of fault) (IsFirstFault text.now)) }
 {
@@ -213,7 +236,7 @@ pub fn read_script(alloc: Global, text: &[u8]) -> Result<Script, ScriptFault>
     let mut number = 0;
     for line in text.split(|byte| *byte == b'\n') {
         number += 1;
-        reader.read_numbered(alloc, number, line)?;
+        reader.read(alloc, number, line)?;
     }
-    Ok(reader.script)
+    Ok(Script { text })
 }

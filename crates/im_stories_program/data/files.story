@@ -179,3 +179,21 @@ run imem inspect /dev/full = 1
 printed = 1 lines
 printed 0 = refused 8 Device
 remove fetch.script = removed
+
+# Of a file that can't be opened or read the system's reason is told
+try serial no_such_folder/a.img no_such_folder/s = refused
+told = 1 lines
+told 0 = the script can't be read: entity not found
+try inspect no_such_folder/a.img = refused
+told 0 = there is no such file
+try format no_such_folder/a.img = refused
+told 0 = there is no such file
+try inspect . = refused
+told 0 = it is a folder
+try format /dev/full = refused
+told 0 = a call of the system failed
+script element 1 / read 0 / = 2 lines
+save bad.script = 17 bytes
+try serial no_such_folder/a.img bad.script = refused
+told 0 = line 2: 'read', where element, alloc, fetch, store, take, put or release is expected
+remove bad.script = removed

@@ -156,6 +156,7 @@ write 12320 00 00 00 00 = ff ff ff ff
 inspect = 1
 printed = 1 lines
 printed 0 = refused 15 BadPage
+told 0 = page 0 of the area in force: the list of those who wait at cell 0 leads astray
 
 # In an image of the default sizes too those who wait are told in their order
 -- The same memory. Its cells have 32 pages, its nodes one, and its windows four.
@@ -304,6 +305,7 @@ write 0 00 = a5
 inspect = 1
 printed = 1 lines
 printed 0 = refused 13 NoHeader
+told 0 = neither header is open: it is no image, or one that was never made whole
 -- The version.
 disk 33792 = 33792 bytes
 format 1 1 16 = formatted
@@ -311,6 +313,7 @@ write 2 09 = 01
 inspect = 1
 printed = 1 lines
 printed 0 = refused 14 BadHeader
+told 0 = header 0: its version is 9, where 1 is read here
 -- A byte that has to be zero.
 disk 33792 = 33792 bytes
 format 1 1 16 = formatted
@@ -318,34 +321,40 @@ write 36 01 = 00
 inspect = 1
 printed = 1 lines
 printed 0 = refused 14 BadHeader
+told 0 = header 0: a byte that has to be 0 isn't
 write 36 00 = 01
 -- The other area.
 write 1 01 = 00
 inspect = 1
 printed = 1 lines
 printed 0 = refused 14 BadHeader
+told 0 = header 0: its area is 1
 write 1 00 = 01
 -- No generation, and one past the last.
 write 8 00 = 01
 inspect = 1
 printed = 1 lines
 printed 0 = refused 14 BadHeader
+told 0 = header 0: its generation is 0
 write 8 01 = 00
 write 15 40 = 00
 inspect = 1
 printed = 1 lines
 printed 0 = refused 14 BadHeader
+told 0 = header 0: its generation is 4611686018427387905
 write 15 00 = 40
 -- No cell, and a slot too few.
 write 24 00 = 01
 inspect = 1
 printed = 1 lines
 printed 0 = refused 14 BadHeader
+told 0 = header 0: its limits are 0 cells, 1 elements, 16 slots
 write 24 01 = 00
 write 32 0f = 10
 inspect = 1
 printed = 1 lines
 printed 0 = refused 14 BadHeader
+told 0 = header 0: its limits are 1 cells, 1 elements, 15 slots
 write 32 10 = 0f
 
 # A header of other sizes is refused
@@ -356,6 +365,7 @@ write 32 11 = 10
 inspect = 1
 printed = 1 lines
 printed 0 = refused 12 WrongLength
+told 0 = it has 33792 bytes, where its header wants 33856
 -- The same pages have room for 2 cells, but no record of the second.
 disk 33792 = 33792 bytes
 format 1 1 16 = formatted
@@ -363,18 +373,21 @@ write 24 02 = 01
 inspect = 1
 printed = 1 lines
 printed 0 = refused 15 BadPage
+told 0 = page 0 of the area in force: the record of cell 1
 write 24 01 = 02
 -- Or for 2 elements, but no window of the second.
 write 28 02 = 01
 inspect = 1
 printed = 1 lines
 printed 0 = refused 15 BadPage
+told 0 = page 2 of the area in force: the record of the window of element 1
 write 28 01 = 02
 -- 129 cells have two pages.
 write 24 81 = 01
 inspect = 1
 printed = 1 lines
 printed 0 = refused 12 WrongLength
+told 0 = it has 33792 bytes, where its header wants 41984
 write 24 01 = 81
 
 # A block past the last cell, and a window of too many entries, are refused
@@ -386,6 +399,7 @@ write 8200 02 00 00 00 = ff ff ff ff
 inspect = 1
 printed = 1 lines
 printed 0 = refused 15 BadPage
+told 0 = page 0 of the area in force: the record of cell 0
 -- A block of one I cell is a good one.
 write 8200 01 00 00 00 = 02 00 00 00
 inspect = 0
@@ -402,6 +416,7 @@ write 16392 11 = 00
 inspect = 1
 printed = 1 lines
 printed 0 = refused 15 BadPage
+told 0 = page 2 of the area in force: the record of the window of element 0
 
 # A free cell's link to another hole may be any address, its own too
 disk 33792 = 33792 bytes
@@ -464,6 +479,7 @@ write 33096 05 = 00
 inspect = 1
 printed = 1 lines
 printed 0 = refused 16 BadRecord
+told 0 = slot 5 of the journal: behind the run its command is 5, which isn't below 0
 -- Where the pages have 21 commands it is an old one, and stands where the next would.
 disk 33792 = 33792 bytes
 format 1 1 16 = formatted
@@ -482,6 +498,7 @@ write 33224 c8 = 00
 inspect = 1
 printed = 1 lines
 printed 0 = refused 16 BadRecord
+told 0 = slot 7 of the journal: behind the run its command is 200, which isn't below 21
 
 # An image of another length is refused
 disk 327680 = 327680 bytes
@@ -490,10 +507,12 @@ cut 327679 = 327679 bytes
 inspect = 1
 printed = 1 lines
 printed 0 = refused 12 WrongLength
+told 0 = it has 327679 bytes, where its header wants 327680
 cut 100 = 100 bytes
 inspect = 1
 printed = 1 lines
 printed 0 = refused 12 WrongLength
+told 0 = it has 100 bytes, where its two headers alone take 8192
 -- A byte more than the least image has, which the header of that image stands in.
 disk 33793 = 33793 bytes
 format 1 1 16 = refused 12 WrongLength
@@ -507,6 +526,7 @@ write 32 10 00 00 00 00 00 00 00 = 00 00 00 00 00 00 00 00
 inspect = 1
 printed = 1 lines
 printed 0 = refused 12 WrongLength
+told 0 = it has 33793 bytes, where its header wants 33792
 
 # A command with no such operation is refused
 disk 327680 = 327680 bytes
@@ -519,6 +539,7 @@ write 311362 09 = 04
 inspect = 1
 printed = 1 lines
 printed 0 = refused 16 BadRecord
+told 0 = slot 1 of the journal: the bytes of command 1 spell none
 
 # A disk that fails is refused
 disk 327680 = 327680 bytes
@@ -526,3 +547,54 @@ format 4096 16 256 = formatted
 inspect 1 calls = 1
 printed = 1 lines
 printed 0 = refused 8 Device
+
+# Where an image is damaged is told beside the output
+-- Two headers of one generation.
+disk 33792 = 33792 bytes
+format 1 1 16 = formatted
+write 4096 a5 01 01 00 49 4d 45 4d = 00 00 00 00 00 00 00 00
+write 4104 01 = 00
+inspect = 1
+printed 0 = refused 14 BadHeader
+told 0 = headers 0 and 1 are both open with generation 1
+-- Header 1 alone in force, without its letters, and with a count past the last.
+write 4104 02 = 01
+write 4100 48 = 49
+inspect = 1
+printed 0 = refused 14 BadHeader
+told 0 = header 1: the letters IMEM are missing
+write 4100 49 = 48
+write 4112 01 00 00 00 00 00 00 40 = 00 00 00 00 00 00 00 00
+inspect = 1
+printed 0 = refused 14 BadHeader
+told 0 = header 1: its count is 4611686018427387905
+-- A byte behind the cell's record, and a byte behind the nodes'.
+disk 33792 = 33792 bytes
+format 1 1 16 = formatted
+write 8224 01 = 00
+inspect = 1
+printed 0 = refused 15 BadPage
+told 0 = page 0 of the area in force: a byte behind the last record isn't 0
+write 8224 00 = 01
+write 12544 01 = 00
+inspect = 1
+printed 0 = refused 15 BadPage
+told 0 = page 1 of the area in force: a byte behind the last record isn't 0
+write 12544 00 = 01
+-- A node that leads past the last.
+write 12304 10 00 00 00 = ff ff ff ff
+inspect = 1
+printed 0 = refused 15 BadPage
+told 0 = page 1 of the area in force: the record of waiter node 1
+-- Two cells of a block of two, the second of which says that it is a block of its own.
+disk 33792 = 33792 bytes
+format 2 1 16 = formatted
+read element 0 / alloc i 2 / = 0 blocks, 1 parts, 1 requests
+serve = 0
+-- A command that the memory before it doesn't accept: element 0 asks for number 2 first.
+write 32784 02 = 01
+inspect = 1
+printed 0 = refused 16 BadRecord
+told 0 = slot 0 of the journal: the memory before command 0 doesn't accept it
+serve = 1
+told 0 = slot 0 of the journal: the memory before command 0 doesn't accept it

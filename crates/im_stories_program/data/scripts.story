@@ -171,3 +171,25 @@ u32 0004294967295 = 4294967295
 u32 4294967296 = none
 u32 "" = none
 u32 +5 = none
+
+# A fault tells the line, the word and what is expected there
+read element 1 / # a remark / read 0 / = refused 18 BadScript
+fault = line 3: 'read', where element, alloc, fetch, store, take, put or release is expected
+read element 64 / = refused 18 BadScript
+fault = line 1: '64', where an element's number from 0 to 63 is expected
+read element 1 / fetch / = refused 18 BadScript
+fault = line 2: the line ends, where an address from 0 to 4294967295 or a name of the setup is expected
+read element 1 / store 0 1 2 / = refused 18 BadScript
+fault = line 2: '2', where the end of the line is expected
+read setup / alloc x i 1 / element 1 / fetch x+1048576 / = refused 18 BadScript
+fault = line 4: 'x+1048576', where an offset from 0 to 1048575 behind the name's plus is expected
+read setup / alloc x i 1 / alloc x i 1 / = refused 18 BadScript
+fault = line 3: 'x', where a name that is not given yet is expected
+read setup / alloc X i 1 / = refused 18 BadScript
+fault = line 2: 'X', where a name of 1 to 16 characters a to z and 0 to 9, the first a letter is expected
+read element 1 / alloc q 1 / = refused 18 BadScript
+fault = line 2: 'q', where i or m is expected
+read fetch 0 / = refused 18 BadScript
+fault = line 1: 'fetch', where setup or element is expected
+read element 1 / # caf\xe9 / = refused 18 BadScript
+fault = line 2: 'caf\xe9', where ASCII is expected

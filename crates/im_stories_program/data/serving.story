@@ -302,3 +302,21 @@ told 0 = block 2 of the setup can't be made
 read element 16 / fetch 0 / = 0 blocks, 1 parts, 1 requests
 serve = 1
 told 0 = a request of element 16: the image has no such element
+-- Sixteen fetches that wait leave no place for one more.
+disk 34816 = 34816 bytes
+format 1 2 32 = formatted
+script setup / alloc x i 1 / element 1 / = 3 lines
+repeat 17 fetch 0 / = 20 lines
+read = 1 blocks, 1 parts, 17 requests
+serve = 1
+printed = 34 lines
+printed 33 = refused 3 WindowFull
+told 0 = a request of element 1: all 16 places of its window wait
+
+# A reason names what is out of its range, and the range
+reason cells 65537 = 65537 cells: there may be 1 to 65536
+reason elements 65 = 65 elements: there may be 1 to 64
+reason slots 15 = 15 slots: there may be 16 to 4096
+reason no memory = there is not enough memory
+reason in use = it is in use by another program
+reason place of element 3 = a place in a part of element 3 lies past the last address

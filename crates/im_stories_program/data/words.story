@@ -7,6 +7,7 @@ imem format a.img --cells 0 = make a.img of 0 cells, 16 elements, 256 slots
 -- The greatest number, with zeros before it.
 imem format a.img --cells 0004294967295 = make a.img of 4294967295 cells, 16 elements, 256 slots
 imem serial a.img s = serve s on a.img
+imem serial a.img - = serve - on a.img
 imem inspect a.img = tell of a.img
 
 # Bad words are refused with status 2, and what is said names them
@@ -22,10 +23,22 @@ imem serial a.img = status 2
 says SCRIPT = yes
 imem inspect = status 2
 says IMAGE = yes
+-- The usage is that of the subcommand.
+says Usage: imem inspect <IMAGE> = yes
+imem serial a.img s t = status 2
+says 't' = yes
+says Usage: imem serial <IMAGE> <SCRIPT> = yes
+imem mend = status 2
+says Usage: imem [COMMAND] = yes
 
 # An option takes decimal digits alone, of a number below 2^32
 imem format a.img --cells 4294967296 = status 2
 says 4294967296 = yes
+says for '--cells <N>' = yes
+says Usage: imem format [OPTIONS] <IMAGE> = yes
+-- The first option at fault is named, with its word.
+imem format a.img --slots 1e3 --cells 64 --elements two = status 2
+says "two" for '--elements <N>' = yes
 imem format a.img --cells +5 = status 2
 says 4294967296 = yes
 imem format a.img --cells 0x5 = status 2
@@ -47,3 +60,16 @@ imem serial --help = status 0
 says Serve the requests of a script = yes
 imem inspect --help = status 0
 says imem inspect a.img = yes
+says Exit status: 0 all was told = yes
+imem serial --help = status 0
+says standard input = yes
+says store PLACE VALUE = yes
+says Exit status: 0 all was served = yes
+imem format --help = status 0
+says Exit status: 0 the image is made = yes
+
+# The version is told with the layout that is written
+imem --version = status 0
+says imem 0.1.0, image layout 1 = yes
+imem -V = status 0
+imem inspect --version = status 2

@@ -2,7 +2,9 @@
 
 use crate::spelling::{add_text, add_word, line_ends};
 use anyhow::{Result, anyhow};
-use im_script::{Action, Allocation, Place, Script, ScriptLine, read_script, read_u32};
+use im_script::{
+    Action, Allocation, Place, Reader, Said, Script, ScriptLine, read_script, read_u32,
+};
 use im_story::{add_refusal, address, place};
 use im_types::{Kind, Op};
 use std::alloc::{AllocError, Global};
@@ -13,10 +15,54 @@ use std::mem;
 pub struct Scripts {
     /// Its text, as far as it was put together.
     text: Vec<u8>,
-    /// What was read last.
-    read: Option<Script>,
+    /// The text that was read last.
+    read: Option<Vec<u8>>,
+    /// What its lines say.
+    lists: Lists,
+    /// Why a text was refused.
+    fault: String,
     /// The bases of the setup's blocks.
     bases: Vec<u32>,
+}
+
+/// What the lines of a script say, each kind in order.
+#[derive(Drop)]
+struct Lists {
+    blocks: Vec<Allocation>,
+    parts: Vec<u16>,
+    requests: Vec<ScriptLine>,
+}
+
+impl Lists {
+    fn new(alloc: Global) -> Lists {
+        Lists {
+            blocks: Vec::new(alloc),
+            parts: Vec::new(alloc),
+            requests: Vec::new(alloc),
+        }
+    }
+
+    fn add(&mut self, said: Said) -> Result<(), AllocError> {
+        match said {
+            Said::Nothing => Ok(()),
+            Said::Block(block) => Ok(self.blocks.push(block)?),
+            Said::Begins(element) => Ok(self.parts.push(element)?),
+            Said::Asks(line) => Ok(self.requests.push(line)?),
+        }
+    }
+
+    // Goes over the lines of a script once more.
+    fn of(alloc: Global, script: &Script<'_>) -> Result<Lists> {
+        let mut lists = Lists::new(alloc);
+        let mut reader = Reader::new(alloc);
+        for line in script.text().split(|byte| *byte == b'\n') {
+            match reader.read(alloc, 1, line) {
+                Ok(said) => lists.add(said)?,
+                Err(fault) => return Err(anyhow!("{fault}, though the text is a script")),
+            }
+        }
+        Ok(lists)
+    }
 }
 
 fn letter(kind: Kind) -> &'static str {
@@ -121,15 +167,20 @@ impl Scripts {
         Scripts {
             text: Vec::new(alloc),
             read: None,
+            lists: Lists::new(alloc),
+            fault: String::new(alloc),
             bases: Vec::new(alloc),
         }
     }
 
     /// The script that was read last.
-    pub fn script(&self) -> Result<&Script> {
-        match &self.read {
-            Some(script) => Ok(script),
-            None => Err(anyhow!("no script was read")),
+    pub fn script(&self, alloc: Global) -> Result<Script<'_>> {
+        let Some(text) = &self.read else {
+            return Err(anyhow!("no script was read"));
+        };
+        match read_script(alloc, text.as_slice()) {
+            Ok(script) => Ok(script),
+            Err(fault) => Err(anyhow!("{fault}, though it was read before")),
         }
     }
 
@@ -151,16 +202,22 @@ impl Scripts {
     fn read(&mut self, alloc: Global, words: &[&str], said: &mut String) -> Result<()> {
         let mut text = self.take_text(alloc);
         add_text(&mut text, words)?;
-        match read_script(alloc, text.as_slice()) {
-            Ok(script) => {
-                let blocks = script.setup.len();
-                let parts = script.parts.len();
-                let requests = script.lines.len();
-                self.read = Some(script);
+        let read = match read_script(alloc, text.as_slice()) {
+            Ok(script) => Ok(Lists::of(alloc, &script)?),
+            Err(fault) => Err(fault),
+        };
+        match read {
+            Ok(lists) => {
+                let blocks = lists.blocks.len();
+                let parts = lists.parts.len();
+                let requests = lists.requests.len();
+                self.lists = lists;
+                self.read = Some(text);
                 write!(said, "{blocks} blocks, {parts} parts, {requests} requests")?;
             }
             Err(fault) => {
                 self.read = None;
+                self.fault = format!(in alloc; "{fault}")?;
                 add_refusal(said, fault.refusal())?;
             }
         }
@@ -168,7 +225,7 @@ impl Scripts {
     }
 
     fn line(&self, word: &str) -> Result<ScriptLine> {
-        match self.script()?.lines.get(place(word)?) {
+        match self.lists.requests.get(place(word)?) {
             Some(line) => Ok(*line),
             None => Err(anyhow!("no such request")),
         }
@@ -209,8 +266,9 @@ impl Scripts {
             ["script", lines @ ..] => self.write(1, lines, said)?,
             ["repeat", times, lines @ ..] => self.write(address(times)?, lines, said)?,
             ["read", lines @ ..] => self.read(alloc, lines, said)?,
-            ["blocks"] => add_blocks(said, self.script()?.setup.as_slice())?,
-            ["parts"] => add_parts(said, self.script()?.parts.as_slice())?,
+            ["fault"] => said.push_str(self.fault.as_str())?,
+            ["blocks"] => add_blocks(said, self.lists.blocks.as_slice())?,
+            ["parts"] => add_parts(said, self.lists.parts.as_slice())?,
             ["request", at] => self.request(at, said)?,
             ["bases", bases @ ..] => self.set_bases(alloc, bases, said)?,
             ["address", at] => self.address(at, said)?,

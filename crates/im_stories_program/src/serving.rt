@@ -5,10 +5,10 @@ use crate::Desk;
 use crate::images::Image;
 use crate::writers::{Notes, Paper};
 use anyhow::{Result, anyhow};
-use im_disk::{FuseDisk, Mode};
-use im_program::{inspect_on, refuse, serial_on};
+use im_disk::{FuseDisk, Mode, OpenFault};
+use im_program::{Reason, inspect_on, refuse, serial_on};
 use im_script::{Script, read_script};
-use im_story::{number, place};
+use im_story::{address, element, number, place};
 use im_types::{LAST, Refusal};
 use std::alloc::Global;
 
@@ -30,7 +30,7 @@ const ENDLESS: Ends = Ends {
 fn serve_on(
     alloc: Global,
     image: &mut Image,
-    script: &Script,
+    script: &Script<'_>,
     ends: Ends,
     out: &mut Paper,
     notes: &mut Notes,
@@ -43,10 +43,10 @@ fn serve_on(
 }
 
 fn serve(alloc: Global, desk: &mut Desk, ends: Ends, said: &mut String) -> Result<()> {
-    let script = desk.scripts.script()?;
+    let script = desk.scripts.script(alloc)?;
     let mut out = Paper::new(alloc, ends.bytes);
     let mut notes = Notes::new(alloc);
-    let (status, _) = serve_on(alloc, &mut desk.image, script, ends, &mut out, &mut notes)?;
+    let (status, _) = serve_on(alloc, &mut desk.image, &script, ends, &mut out, &mut notes)?;
     desk.printed.set(out.into_text()?, notes);
     Ok(write!(said, "{status}")?)
 }
@@ -103,6 +103,20 @@ fn refuse_memory(alloc: Global, desk: &mut Desk, said: &mut String) -> Result<()
     Ok(write!(said, "{status}")?)
 }
 
+// Tells what a reason says.
+fn add_reason(said: &mut String, words: &[&str]) -> Result<()> {
+    let reason = match words {
+        ["cells", count] => Reason::Cells(address(count)?),
+        ["elements", count] => Reason::Elements(address(count)?),
+        ["slots", count] => Reason::Slots(address(count)?),
+        ["place", "of", "element", number] => Reason::Place(element(number)?),
+        ["no", "memory"] => Reason::Memory,
+        ["in", "use"] => Reason::File(OpenFault::InUse, None),
+        _ => return Err(anyhow!("no such reason")),
+    };
+    Ok(write!(said, "{reason}")?)
+}
+
 /// Serves, or tells of the image. Whether the words ask for it.
 pub fn tell(alloc: Global, desk: &mut Desk, words: &[&str], said: &mut String) -> Result<bool> {
     match words {
@@ -138,6 +152,7 @@ pub fn tell(alloc: Global, desk: &mut Desk, words: &[&str], said: &mut String) -
             let bytes = place(bytes)?;
             inspect(alloc, desk, Ends { bytes, ..ENDLESS }, said)?
         }
+        ["reason", reason @ ..] => add_reason(said, reason)?,
         ["refuse", "NoMemory"] => refuse_memory(alloc, desk, said)?,
         _ => return Ok(false),
     }

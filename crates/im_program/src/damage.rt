@@ -1,0 +1,460 @@
+//! Where an image is damaged, for a person to read. That it is refused, and why, is proved where it is read; the place
+//! is looked for afterwards, and no more than tested.
+
+use byteorder::{ByteOrder, LittleEndian};
+use im_image::{PAGE, VERSION};
+use im_memory::Memory;
+use im_records::{read_cell, read_node, read_session};
+use im_types::layout::{CELL_RECORD, NODE_RECORD, OPEN, SESSION_RECORD, SLOT};
+use im_types::{Block, CellRecord, LAST, Limits, NONE, NodeRecord, PresenceTag};
+use std::fmt;
+use std::fmt::{Display, Formatter};
+
+/// A field of a header, with what stands there.
+#[derive(Clone, Copy, Debug, PartialEq, Eq)]
+pub enum HeaderField {
+    /// The area that it is the header of, which is its own number.
+    Area(u8),
+    /// The version of the layout.
+    Version(u16),
+    /// The letters IMEM.
+    Letters,
+    /// How many areas were written so far, 1 to [`LAST`].
+    Generation(u64),
+    /// How many commands the area has, 0 to [`LAST`].
+    Count(u64),
+    /// The number of cells, of elements or of slots: one of them is out of its range.
+    Limits(u32, u16, u32),
+    /// The bytes that no field has.
+    Rest,
+}
+
+/// What a record of a page is of.
+#[derive(Clone, Copy, Debug, PartialEq, Eq)]
+pub enum RecordOf {
+    /// The cell at an address.
+    Cell(usize),
+    /// A waiter node, by its number.
+    Node(usize),
+    /// The window of an element.
+    Window(usize),
+}
+
+/// What is wrong with a slot of the journal.
+#[derive(Clone, Copy, Debug, PartialEq, Eq)]
+pub enum SlotFault {
+    /// In the run the command of this number stands here, and the bytes spell none.
+    Unspelled(u64),
+    /// The command of this number stands here, and the memory reached before it doesn't accept it.
+    Refused(u64),
+    /// It lies behind the run with the first number, where only numbers below the second may stand.
+    NotStale(u64, u64),
+}
+
+/// Where an image is damaged. Its text is for a person.
+#[derive(Clone, Copy, Debug, PartialEq, Eq)]
+pub enum Damage {
+    /// The place wasn't found: the refusal alone says what is wrong.
+    Unknown,
+    /// The file has the first number of bytes, where its header wants the second.
+    Length(usize, usize),
+    /// The file has so many bytes, which is shorter than each image.
+    Short(usize),
+    /// Both headers are open under one generation.
+    Twice(u64),
+    /// A field of the header in force, which is this one.
+    Header(u8, HeaderField),
+    /// A record on a page of the area in force isn't spelled as it should be, or leads past the last one: the page, from
+    /// 0 in the area, and the record.
+    Record(usize, RecordOf),
+    /// Behind the last record of a kind a byte of this page isn't zero.
+    Padding(usize),
+    /// A cell's record, on this page, isn't that of the block in which it lies.
+    Blocks(usize, usize),
+    /// The list of those who wait at a cell, on this page, leads astray.
+    List(usize, usize),
+    /// Those who wait at the cells aren't those who wait by the windows.
+    Waiters,
+    /// A slot of the journal.
+    Slot(usize, SlotFault),
+}
+
+impl Display for HeaderField {
+    fn fmt<W: fmt::Write>(&self, f: &mut Formatter<W>) -> fmt::Result {
+        match *self {
+            HeaderField::Area(area) => write!(f, "its area is {area}"),
+            HeaderField::Version(version) => {
+                write!(f, "its version is {version}, where {VERSION} is read here")
+            }
+            HeaderField::Letters => write!(f, "the letters IMEM are missing"),
+            HeaderField::Generation(generation) => write!(f, "its generation is {generation}"),
+            HeaderField::Count(count) => write!(f, "its count is {count}"),
+            HeaderField::Limits(cells, elements, slots) => {
+                write!(
+                    f,
+                    "its limits are {cells} cells, {elements} elements, {slots} slots"
+                )
+            }
+            HeaderField::Rest => write!(f, "a byte that has to be 0 isn't"),
+        }
+    }
+}
+
+impl Display for RecordOf {
+    fn fmt<W: fmt::Write>(&self, f: &mut Formatter<W>) -> fmt::Result {
+        match *self {
+            RecordOf::Cell(address) => write!(f, "cell {address}"),
+            RecordOf::Node(number) => write!(f, "waiter node {number}"),
+            RecordOf::Window(element) => write!(f, "the window of element {element}"),
+        }
+    }
+}
+
+impl Display for SlotFault {
+    fn fmt<W: fmt::Write>(&self, f: &mut Formatter<W>) -> fmt::Result {
+        match *self {
+            SlotFault::Unspelled(sequence) => {
+                write!(f, "the bytes of command {sequence} spell none")
+            }
+            SlotFault::Refused(sequence) => {
+                write!(f, "the memory before command {sequence} doesn't accept it")
+            }
+            SlotFault::NotStale(found, first) => {
+                write!(
+                    f,
+                    "behind the run its command is {found}, which isn't below {first}"
+                )
+            }
+        }
+    }
+}
+
+impl Display for Damage {
+    fn fmt<W: fmt::Write>(&self, f: &mut Formatter<W>) -> fmt::Result {
+        match *self {
+            Damage::Unknown => write!(f, "it is damaged"),
+            Damage::Length(found, wanted) => {
+                write!(f, "it has {found} bytes, where its header wants {wanted}")
+            }
+            Damage::Short(found) => {
+                let least = 2 * PAGE;
+                write!(
+                    f,
+                    "it has {found} bytes, where its two headers alone take {least}"
+                )
+            }
+            Damage::Twice(generation) => {
+                write!(
+                    f,
+                    "headers 0 and 1 are both open with generation {generation}"
+                )
+            }
+            Damage::Header(number, field) => write!(f, "header {number}: {field}"),
+            Damage::Record(page, of) => write!(
+                f,
+                "page {page} of the area in force: the record of {of}"
+            ),
+            Damage::Padding(page) => write!(
+                f,
+                "page {page} of the area in force: a byte behind the last record isn't 0"
+            ),
+            Damage::Blocks(page, address) => write!(
+                f,
+                "page {page} of the area in force: cell {address} isn't of the block in which it lies"
+            ),
+            Damage::List(page, address) => write!(
+                f,
+                "page {page} of the area in force: the list of those who wait at cell {address} leads astray"
+            ),
+            Damage::Waiters => write!(
+                f,
+                "the area in force: those who wait at its cells aren't those who wait by its windows"
+            ),
+            Damage::Slot(slot, fault) => write!(f, "slot {slot} of the journal: {fault}"),
+        }
+    }
+}
+
+// The limits that stand in a header, if they are in range.
+fn limits_in(header: &[u8; 64]) -> Option<Limits> {
+    Limits::new(
+        LittleEndian::read_u32(&header[24..28]),
+        LittleEndian::read_u16(&header[28..30]),
+        LittleEndian::read_u32(&header[32..36]),
+    )
+}
+
+// The first field of a header of this number that isn't as it has to be.
+fn field_in(header: &[u8; 64], number: u8) -> HeaderField {
+    let version = LittleEndian::read_u16(&header[2..4]);
+    let generation = LittleEndian::read_u64(&header[8..16]);
+    let count = LittleEndian::read_u64(&header[16..24]);
+    if &header[4..8] != b"IMEM".as_slice() {
+        HeaderField::Letters
+    } else if version != VERSION {
+        HeaderField::Version(version)
+    } else if header[1] != number {
+        HeaderField::Area(header[1])
+    } else if generation == 0 || generation > LAST {
+        HeaderField::Generation(generation)
+    } else if count > LAST {
+        HeaderField::Count(count)
+    } else if limits_in(header).is_none() {
+        let cells = LittleEndian::read_u32(&header[24..28]);
+        let elements = LittleEndian::read_u16(&header[28..30]);
+        HeaderField::Limits(cells, elements, LittleEndian::read_u32(&header[32..36]))
+    } else {
+        HeaderField::Rest
+    }
+}
+
+// The generation of a header, where its gate is open.
+fn generation_in(header: &[u8; 64]) -> Option<u64> {
+    if header[0] == OPEN {
+        Some(LittleEndian::read_u64(&header[8..16]))
+    } else {
+        None
+    }
+}
+
+/// The number of the header in force of these two.
+pub fn in_force(zero: &[u8; 64], one: &[u8; 64]) -> u8 {
+    match (generation_in(zero), generation_in(one)) {
+        (Some(first), Some(second)) if first < second => 1,
+        (None, Some(_)) => 1,
+        _ => 0,
+    }
+}
+
+/// What is wrong with the header in force of these two.
+pub fn of_headers(zero: &[u8; 64], one: &[u8; 64]) -> Damage {
+    match (generation_in(zero), generation_in(one)) {
+        (Some(first), Some(second)) if first == second => return Damage::Twice(first),
+        _ => {}
+    }
+    let number = in_force(zero, one);
+    Damage::Header(
+        number,
+        field_in(if number == 1 { one } else { zero }, number),
+    )
+}
+
+fn is_link(count: usize, link: u32) -> bool {
+    link == NONE || (link as usize) < count
+}
+
+// Whether the links of a cell's record lead anywhere.
+fn leads(cell: CellRecord, cells: usize, nodes: usize) -> bool {
+    match cell {
+        CellRecord::Free { hole, next } => hole as usize <= cells && is_link(cells, next),
+        CellRecord::Held { block, tag } => {
+            let is_whole = block.base as u64 + block.length as u64 <= cells as u64;
+            match tag {
+                PresenceTag::Waiting { first, last } => {
+                    is_whole && (first as usize) < nodes && (last as usize) < nodes
+                }
+                _ => is_whole,
+            }
+        }
+    }
+}
+
+fn is_cell(bytes: &[u8], cells: usize, nodes: usize) -> bool {
+    match read_cell(bytes) {
+        Some(cell) => leads(cell, cells, nodes),
+        None => false,
+    }
+}
+
+fn is_node(bytes: &[u8], nodes: usize) -> bool {
+    match read_node(bytes) {
+        Some(NodeRecord::Free { next }) | Some(NodeRecord::Listed { next, .. }) => {
+            is_link(nodes, next)
+        }
+        None => false,
+    }
+}
+
+/// The first cell of this part of an area whose record isn't spelled as it should be, or leads past the last one.
+pub fn bad_cell(part: &[u8], cells: usize, nodes: usize) -> Option<usize> {
+    for (at, bytes) in part.chunks(CELL_RECORD).enumerate() {
+        if at < cells && !is_cell(bytes, cells, nodes) {
+            return Some(at);
+        }
+    }
+    None
+}
+
+/// The first waiter node of this part whose record isn't.
+pub fn bad_node(part: &[u8], nodes: usize) -> Option<usize> {
+    for (at, bytes) in part.chunks(NODE_RECORD).enumerate() {
+        if at < nodes && !is_node(bytes, nodes) {
+            return Some(at);
+        }
+    }
+    None
+}
+
+/// The first element of this part whose window isn't.
+pub fn bad_window(part: &[u8], elements: usize) -> Option<usize> {
+    for (at, bytes) in part.chunks(SESSION_RECORD).enumerate() {
+        if at < elements && read_session(bytes).is_none() {
+            return Some(at);
+        }
+    }
+    None
+}
+
+/// The page of this part that has a byte that isn't zero behind so many bytes of records.
+pub fn bad_padding(part: &[u8], records: usize) -> Option<usize> {
+    for (at, byte) in part.iter().enumerate() {
+        if at >= records && *byte != 0 {
+            return Some(at / PAGE);
+        }
+    }
+    None
+}
+
+// The block of a cell, where it lies in one.
+fn block_of(cell: CellRecord) -> Option<Block> {
+    match cell {
+        CellRecord::Held { block, .. } => Some(block),
+        CellRecord::Free { .. } => None,
+    }
+}
+
+// Whether the cell at an address lies in this block.
+fn is_within(block: Block, address: usize) -> bool {
+    let base = block.base as usize;
+    base <= address && address - base < block.length as usize
+}
+
+/// The first cell that doesn't lie in the block that its record or its neighbour's says.
+pub fn bad_block(cells: &[CellRecord]) -> Option<usize> {
+    let mut current: Option<Block> = None;
+    for (address, cell) in cells.iter().enumerate() {
+        let wanted = match current {
+            Some(block) if is_within(block, address) => Some(block),
+            _ => None,
+        };
+        let found = block_of(*cell);
+        let begins = match found {
+            Some(block) => wanted.is_none() && block.base as usize == address && block.length > 0,
+            None => false,
+        };
+        if found != wanted && !begins {
+            return Some(address);
+        }
+        current = found;
+    }
+    None
+}
+
+// Whether the list that begins in one node ends in another, and leads nowhere else.
+fn is_list(nodes: &[NodeRecord], first: u32, last: u32) -> bool {
+    let mut at = first;
+    for _node in nodes {
+        match nodes.get(at as usize) {
+            Some(NodeRecord::Listed { next, .. }) => {
+                if at == last {
+                    return *next == NONE;
+                }
+                at = *next;
+            }
+            _ => return false,
+        }
+    }
+    false
+}
+
+/// The first cell whose list of those who wait leads astray.
+pub fn bad_list(cells: &[CellRecord], nodes: &[NodeRecord]) -> Option<usize> {
+    for (address, cell) in cells.iter().enumerate() {
+        if let CellRecord::Held {
+            tag: PresenceTag::Waiting { first, last },
+            ..
+        } = *cell
+        {
+            if !is_list(nodes, first, last) {
+                return Some(address);
+            }
+        }
+    }
+    None
+}
+
+// The sequence number of a slot.
+fn sequence_in(slot: &[u8]) -> u64 {
+    if slot.len() == SLOT {
+        LittleEndian::read_u64(&slot[8..16])
+    } else {
+        0
+    }
+}
+
+// Whether a slot's gate is open.
+fn is_open(slot: &[u8]) -> bool {
+    slot.first() == Some(&OPEN)
+}
+
+// What is wrong with a slot of the run, the one of this command. The memory takes the command.
+fn take_slot(memory: &mut Memory, slot: &[u8], sequence: u64) -> Option<SlotFault> {
+    let Some(bytes) = slot.as_array::<64>() else {
+        return Some(SlotFault::Unspelled(sequence));
+    };
+    let Some(command) = im_journal::read(bytes) else {
+        return Some(SlotFault::Unspelled(sequence));
+    };
+    if memory.judge(&command) != Ok(true) {
+        return Some(SlotFault::Refused(sequence));
+    }
+    let _answer = memory.step(&command);
+    None
+}
+
+// How far a journal was gone over.
+#[derive(Clone, Copy, Debug, PartialEq, Eq)]
+enum Part {
+    // In the run.
+    Run,
+    // In the room behind it.
+    Room,
+    // From the first open gate behind it on.
+    Rest,
+}
+
+// Where a slot stands, behind one that stood there.
+fn part_of(before: Part, slot: &[u8], sequence: u64) -> Part {
+    match before {
+        Part::Run if is_open(slot) && sequence_in(slot) == sequence => Part::Run,
+        Part::Rest => Part::Rest,
+        _ => if is_open(slot) {
+            Part::Rest
+        } else {
+            Part::Room
+        },
+    }
+}
+
+/// What is wrong with a journal, by its slots, the memory before its run, and the sequence number of the run's first
+/// command.
+pub fn of_journal(ring: &[u8], memory: &mut Memory, slots: u32, first: u64) -> Damage {
+    let slots = slots as usize;
+    let mut part = Part::Run;
+    for past in 0..slots {
+        let sequence = first.saturating_add(past as u64);
+        let place = (sequence % slots as u64) as usize;
+        let slot = ring.get(place * SLOT..place * SLOT + SLOT).unwrap_or(&[]);
+        part = part_of(part, slot, sequence);
+        let number = sequence_in(slot);
+        let fault = match part {
+            Part::Run => take_slot(memory, slot, sequence),
+            Part::Rest if number >= first => Some(SlotFault::NotStale(number, first)),
+            _ => None,
+        };
+        if let Some(fault) = fault {
+            return Damage::Slot(place, fault);
+        }
+    }
+    Damage::Unknown
+}
