@@ -1,10 +1,10 @@
 -- Nodes that are joined anew, row by row.
-use Rattle.std.proofs.Common.{Bool, true, false, ◌≡◌, ◌≢◌, ℕ, ◌+◌, ◌*◌, ◌/◌, ◌<◌, ◌≤◌, List, length, set, inl, inr, refl, sym, ap, ◌∙◌, arith}
+use Rattle.std.proofs.Common.{Bool, true, false, ◌≡◌, ◌≢◌, ℕ, ◌+◌, ◌*◌, ◌/◌, ◌<◌, ◌≤◌, List, length, set, inl, inr, refl, sym, ap, ◌∙◌, arith, length-set}
 use Rattle.std.specs.Prelude.{◌||◌}
 use Rattle.std.proofs.lemmas.Bool.{cases_eq}
 use Rattle.std.proofs.lemmas.List.{get_or-set_same, get_or-set_other}
 use Rattle.im_cell.specs.declared.summaries.Summary.{Summary}
-use Rattle.im_cell.specs.Summaries.{joined, no_cells, node_at, leaves_of, IsJoined}
+use Rattle.im_cell.specs.Summaries.{joined, no_cells, node_at, leaves_of, IsJoined, HasJoined}
 
 -- a node stays joined where it and the two below it stay
 pub joined-kept : (old new : List Summary) (k : ℕ) → node_at new k ≡ node_at old k → node_at new (2 * k) ≡ node_at old (2 * k) → node_at new (2 * k + 1) ≡ node_at old (2 * k + 1)
@@ -51,3 +51,33 @@ pub record RowsFrom (old new : List Summary) (low high : ℕ) : Type 0 where
   pub joins : (k : ℕ) → 0 < k → k < leaves_of old → (low / 2 ≤ k → k ≤ high / 2 → ⊥) → IsJoined new k
   pub kept : (k : ℕ) → leaves_of old ≤ k → node_at new k ≡ node_at old k
   pub inside : high < length old
+
+-- one node is joined anew
+module _ (new : List Summary) (at : ℕ) (v : Summary) (inside : at < length new) (some : 0 < at) (is : v ≡ joined (node_at new (2 * at)) (node_at new (2 * at + 1))) where
+  one : JoinsFrom new (set new at v) at at
+  one = JoinsFrom-next new new at (at + 1) at v refl (omega arith) inside is (record { joins = λ i some low high. absurd (omega arith); others = λ i out. refl })
+
+  -- on the way up from one node, where the node above it is joined anew
+  pub RowsFrom-up : (old : List Summary) (k : ℕ) → k / 2 ≡ at → 2 * leaves_of old ≡ length old → RowsFrom old new k k → RowsFrom old (set new at v) at at
+  RowsFrom-up old k above even r = record {
+    joins = λ i low high out. elim (cases_eq i at) [
+      | inl e ↦ one.joins i low (omega arith) (omega arith)
+      | inr ne ↦ joined-kept new (set new at v) i (one.others i (λ a b. ne (omega arith))) (one.others (2 * i) (λ a b. out (omega arith) (omega arith)))
+          (one.others (2 * i + 1) (λ a b. out (omega arith) (omega arith))) (r.joins i low high (λ a b. ne (omega arith)))
+    ];
+    kept = λ i le. one.others i (λ a b. let o = r.inside in absurd (omega arith)) ∙ r.kept i le;
+    inside = let o = r.inside in omega arith;
+  }
+
+  -- where that changes nothing, all are joined
+  pub HasJoined-up : (old : List Summary) (k : ℕ) → k / 2 ≡ at → length new ≡ length old → node_at (set new at v) at ≡ node_at new at → RowsFrom old new k k → HasJoined (set new at v)
+  HasJoined-up old k above long same r = λ i low high. elim (cases_eq i at) [
+    | inl e ↦ one.joins i low (omega arith) (omega arith)
+    | inr ne ↦ joined-kept new (set new at v) i (stays i) (stays (2 * i)) (stays (2 * i + 1)) (r.joins i low (omega (arith, length-set new at v)) (λ a b. ne (omega arith)))
+  ]
+    where
+      stays : (i : ℕ) → node_at (set new at v) i ≡ node_at new i
+      stays i = elim (cases_eq i at) [
+        | inl e ↦ ap (node_at (set new at v)) e ∙ same ∙ ap (node_at new) (sym e)
+        | inr ne ↦ one.others i (λ a b. ne (omega arith))
+      ]

@@ -7,7 +7,7 @@ use Rattle.im_types.specs.Place.{place}
 use Rattle.im_cell.specs.declared.records.Record.{Record}
 use Rattle.im_cell.specs.declared.summaries.Summary.{Summary}
 use Rattle.im_cell.specs.Records.{slot_of, slots_of, marks_of}
-use Rattle.im_cell.specs.Summaries.{front, back, longest, mark, run_at, node_at, leaves_of, Summarises, IsLeaf}
+use Rattle.im_cell.specs.Summaries.{front, back, longest, mark, run_at, back_in, node_at, leaves_of, Summarises, IsLeaf}
 use Rattle.im_cell.proofs.Splits.{first, across, back-whole, back-part, back-few, back-longest, longest-append}
 
 -- the marks of records
@@ -56,14 +56,13 @@ runs-more records i d run most next further less is join r =
     (subst (λ n. Runs (marks_of records) n (max n most) (i + 1)) (sym is)
     (Runs-next (marks_of records) run most i (slot_of (get_or records i d)) (omega (arith, length-marks records)) (mark-at records i d less) r))
 
-pub Summarises-runs : (records : List Record) (run most i : ℕ) (summary : Summary) → length records ≤ i → summary.length ≡ length records → summary.front ≡ front (marks_of records)
-    → summary.back ≡ run → summary.longest ≡ most → Runs (marks_of records) run most i → Summarises summary (marks_of records)
-Summarises-runs records run most i summary past long first last longest_is r =
+pub Summarises-runs : (records : List Record) (run most i : ℕ) (summary : Summary) → length records ≤ i → summary.front ≡ front (marks_of records)
+    → summary.back ≡ back_in (length records) run → summary.longest ≡ most → Runs (marks_of records) run most i → Summarises summary (marks_of records)
+Summarises-runs records run most i summary past first last longest_is r =
     let all = take_all i (marks_of records) (omega (arith, length-marks records)) in
     record {
-      all = omega (arith, length-marks records);
       first = first;
-      last = last ∙ r.own ∙ ap back all;
+      last = last ∙ ap (λ n. back_in n run) (sym (length-marks records)) ∙ ap (back_in (length (marks_of records))) (r.own ∙ ap back all);
       most = longest_is ∙ r.most_is ∙ ap longest all;
     }
 

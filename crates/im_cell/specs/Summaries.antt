@@ -1,6 +1,7 @@
 -- Summaries of parts of a table: how many free cells there are at either end, and in the longest run. A tree of them leads
 -- to the least place. (Own.)
-use Rattle.std.specs.Prelude.{◌≡◌, ℕ, zero, suc, ◌+◌, ◌*◌, ◌/◌, ◌%◌, ◌^◌, ◌<◌, ◌≤◌, ◌==◌, max, List, [], ◌∷◌, length, take, drop, Bool, true, false, Option, None, Some, slice_index_or, if◌then◌else◌}
+use Rattle.std.specs.Prelude.{◌≡◌, ℕ, zero, suc, ◌+◌, ◌*◌, ◌/◌, ◌%◌, ◌^◌, ◌<◌, ◌≤◌, ◌==◌, max, List, [], ◌∷◌, length, take, drop, Bool, true, false, Option, None, Some, slice_index_or, replicate, if◌then◌else◌}
+use Rattle.im_types.specs.declared.TheConstants.{NONE}
 use Rattle.im_cell.specs.declared.tree.TheConstants.{PART}
 use Rattle.im_cell.specs.declared.summaries.Summary.{Summary}
 
@@ -33,29 +34,44 @@ module _ {X : Type 0} where
   mark None = None
   mark (Some x) = Some true
 
+-- the free cells at the end of so many of them; NONE where those are all
+abbrev pub back_in : ℕ → ℕ → ℕ
+back_in cells run = if run == cells then NONE else run
+
 -- the summary counts these cells
 pub record Summarises (summary : Summary) (cells : List (Option Bool)) : Type 0 where
-  pub all : summary.length ≡ length cells
   pub first : summary.front ≡ front cells
-  pub last : summary.back ≡ back cells
+  pub last : summary.back ≡ back_in (length cells) (back cells)
   pub most : summary.longest ≡ longest cells
 
--- a run at the end of a part, of so many cells, goes on into the next part where it is the whole of its own
-abbrev pub run_on : ℕ → ℕ → ℕ → ℕ
-run_on own whole more = if own == whole then (whole + more) % 2 ^ 32 else own
+-- how many free cells come last, by a summary
+abbrev pub back_of : Summary → ℕ
+back_of summary = if summary.back == NONE then summary.front else summary.back
+
+-- the run at the front of two parts, where so many free cells lie across them: it goes on into the second where the first
+-- is free throughout
+abbrev pub front_on : Summary → ℕ → ℕ
+front_on left across = if left.back == NONE then across else left.front
+
+-- the run at their end
+abbrev pub back_on : Summary → Summary → ℕ → ℕ
+back_on left right across = if right.back == NONE then (if left.back == NONE then NONE else across) else right.back
+
+-- the free cells across two parts
+abbrev pub across_of : Summary → Summary → ℕ
+across_of left right = (back_of left + right.front) % 2 ^ 32
 
 -- the summary of two parts, one behind the other
 abbrev pub joined : Summary → Summary → Summary
 joined left right = record {
-  length = (left.length + right.length) % 2 ^ 32;
-  front = run_on left.front left.length right.front;
-  back = run_on right.back right.length left.back;
-  longest = max (max left.longest right.longest) ((left.back + right.front) % 2 ^ 32);
+  longest = max (max left.longest right.longest) (across_of left right);
+  front = front_on left (across_of left right);
+  back = back_on left right (across_of left right);
 }
 
 -- the summary of no cell
 abbrev pub no_cells : Summary
-no_cells = record { length = 0; front = 0; back = 0; longest = 0 }
+no_cells = record { longest = 0; front = 0; back = NONE }
 
 -- how many free cells end with this one, where so many end before it
 abbrev pub run_at : {X : Type 0} → ℕ → Option X → ℕ
@@ -101,3 +117,11 @@ pub record IsTree (nodes : List Summary) (cells : List (Option Bool)) : Type 0 w
   pub small : leaves_of nodes < 2 ^ 32
   pub leaves : (j : ℕ) → j < leaves_of nodes → IsLeaf nodes cells j
   pub inner : HasJoined nodes
+
+-- nodes for a tree over so many cells, each of them the summary of no cell
+pub record IsRoom (nodes : List Summary) (cells : ℕ) : Type 0 where
+  pub height : ℕ
+  pub blank : nodes ≡ replicate (2 * leaves_at height) no_cells
+  pub inside : cells ≤ PART * leaves_at height
+  pub few : cells < 2 ^ 32
+  pub small : leaves_at height < 2 ^ 32

@@ -6,10 +6,12 @@
 
 mod records;
 mod restoring;
+mod room;
 mod slots;
 mod summaries;
 mod table;
 mod tree;
 
+pub use room::TableRoom;
 pub use slots::Slot;
 pub use table::CellTable;

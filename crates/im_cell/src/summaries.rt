@@ -1,43 +1,67 @@
 //! Summaries of parts of a table: its free cells at either end, and in the longest run.
-ghost use Rattle.std.specs.Prelude.{◌≡◌, ◌<◌, ◌^◌, map, length};
+ghost use Rattle.std.specs.Prelude.{◌≡◌, ◌<◌, ◌^◌, length};
 ghost use Rattle.im_cell.specs.Records.{marks_of};
-ghost use Rattle.im_cell.specs.Summaries.{front, Summarises, run_on, joined};
+ghost use Rattle.im_cell.specs.Summaries.{front, Summarises, back_of, front_on, back_on, back_in, joined};
 
 use crate::records::Record;
+use im_types::NONE;
 
-/// How many cells a part has, and how many free ones are first, last and in its longest run of them.
+/// How many free cells of a part are in its longest run of them, come first and come last. How many cells it has isn't
+/// kept: a part that is free throughout has a mark in place of the last number.
 #[derive(Clone, Copy, Debug, PartialEq, Eq)]
 pub(crate) struct Summary {
-    /// How many cells it has.
-    pub(crate) length: u32,
+    /// How many cells its longest run of free ones has. It stands first, since two summaries differ in it most often.
+    pub(crate) longest: u32,
     /// How many free cells come first.
     pub(crate) front: u32,
-    /// How many free cells come last.
+    /// How many free cells come last; [`NONE`] where each cell is free.
     pub(crate) back: u32,
-    /// How many cells its longest run of free ones has.
-    pub(crate) longest: u32,
 }
 
-// A run at an end of a part, with more cells behind it where it is the whole part.
-fn run_on(own: u32, whole: u32, more: u32) -> u32
-    ensures { result ≡ run_on own whole more }
+/// How many free cells come last.
+pub(crate) fn back_of(summary: Summary) -> u32
+    ensures { result ≡ back_of summary }
 {
-    if own == whole {
-        return whole.wrapping_add(more);
+    if summary.back == NONE {
+        summary.front
+    } else {
+        summary.back
     }
-    own
+}
+
+// The free cells at the front of two parts, where so many lie across them.
+fn front_on(left: Summary, across: u32) -> u32
+    ensures { result ≡ front_on left across }
+{
+    if left.back == NONE {
+        across
+    } else {
+        left.front
+    }
+}
+
+// The free cells at the end of two parts, where so many lie across them.
+fn back_on(left: Summary, right: Summary, across: u32) -> u32
+    ensures { result ≡ back_on left right across }
+{
+    if right.back != NONE {
+        right.back
+    } else if left.back == NONE {
+        NONE
+    } else {
+        across
+    }
 }
 
 /// The summary of two parts, one behind the other. No sum wraps in a tree: none is above its number of cells.
 pub(crate) fn join(left: Summary, right: Summary) -> Summary
     ensures { result ≡ joined left right }
 {
-    let across = left.back.wrapping_add(right.front);
+    let across = back_of(left).wrapping_add(right.front);
     Summary {
-        length: left.length.wrapping_add(right.length),
-        front: run_on(left.front, left.length, right.front),
-        back: run_on(right.back, right.length, left.back),
         longest: left.longest.max(right.longest).max(across),
+        front: front_on(left, across),
+        back: back_on(left, right, across),
     }
 }
 
@@ -56,6 +80,13 @@ fn free_first(records: &[Record]) -> u32
     free
 }
 
+// How many free cells come last, of so many; NONE where all are free.
+fn back_in(cells: usize, run: u32) -> u32
+    ensures { result ≡ back_in cells run }
+{
+    if run as usize == cells { NONE } else { run }
+}
+
 /// The summary of cells in a row.
 pub(crate) fn sum_up(records: &[Record]) -> Summary
     requires { length records.now < 2 ^ 32 }
@@ -68,9 +99,8 @@ pub(crate) fn sum_up(records: &[Record]) -> Summary
         longest = run.max(longest);
     }
     Summary {
-        length: records.len() as u32,
-        front: free_first(records),
-        back: run,
         longest,
+        front: free_first(records),
+        back: back_in(records.len(), run),
     }
 }

@@ -8,9 +8,10 @@ ghost use Rattle.im_cell.specs.Slots.{is_releasable, length_at, HasBlocks};
 
 use crate::records::Record;
 use crate::restoring::restore_cells;
+use crate::room::TableRoom;
 use crate::slots::Slot;
 use crate::summaries::Summary;
-use crate::tree::{any_waiting, fill_cells, find, tree_over};
+use crate::tree::{any_waiting, fill_cells, find, raise, tree_over};
 use im_types::{Block, Cell, CellRecord, Kind, NONE, Refusal};
 use std::alloc::Global;
 use std::marker::Model;
@@ -60,17 +61,28 @@ impl CellTable {
         ensures shown { IfOk result (λ table. table ≡ map shown_slot records.now) }
         ensures err { IfErr result (λ refusal. refusal ≡ Refusal.NoMemory) }
     {
-        let Ok(mut restored) = vec![in alloc; Record::Free; records.len()] else {
-            return Err(Refusal::NoMemory);
-        };
-        restore_cells(restored.as_mut_slice(), records);
-        let Ok(nodes) = tree_over(alloc, restored.as_slice()) else {
-            return Err(Refusal::NoMemory);
-        };
-        Ok(CellTable {
-            records: restored,
+        match TableRoom::new(alloc, records.len() as u32) {
+            Ok(room) => Ok(CellTable::in_room(room, records)),
+            Err(refusal) => Err(refusal),
+        }
+    }
+
+    /// The same in room that was taken before, so that it takes no memory.
+    pub fn in_room(room: TableRoom, records: &[CellRecord]) -> CellTable
+        requires count { length records.now ≡ room }
+        requires blocks { HasBlocks (map shown_slot records.now) }
+        ensures { result ≡ map shown_slot records.now }
+    {
+        let TableRoom {
+            records: mut kept,
+            mut nodes,
+        } = room;
+        restore_cells(kept.as_mut_slice(), records);
+        raise(nodes.as_mut_slice(), kept.as_slice());
+        CellTable {
+            records: kept,
             nodes,
-        })
+        }
     }
 
     /// How many cells the table has.

@@ -1,18 +1,18 @@
 //! The tree of summaries over a table's cells, 16 to a leaf. The least place of a block is found by going down it, and
 //! where cells change, the nodes above them are made anew: a complete binary tree in one list, its root node 1, the
 //! nodes below node k at 2 k and 2 k + 1.
-ghost use Rattle.std.specs.Prelude.{◌≡◌, ℕ, false, slice_set, ◌+◌, ◌*◌, ◌/◌};
+ghost use Rattle.std.specs.Prelude.{◌≡◌, ◌≢◌, ℕ, false, slice_set, ◌+◌, ◌*◌, ◌/◌};
 ghost use Rattle.std.specs.Prelude.{◌<◌, ◌≤◌, ◌^◌, length, take, drop, Some, IfOk};
 ghost use Rattle.std.specs.List.{list_any};
 ghost use Rattle.im_types.specs.Place.{place, fill};
 ghost use Rattle.im_cell.specs.Slots.{is_waiting};
 ghost use Rattle.im_cell.specs.Records.{slot_of, slots_of, marks_of};
 ghost use Rattle.im_cell.specs.Summaries.{joined, node_at, part_at, leaves_at, leaves_of};
-ghost use Rattle.im_cell.specs.Summaries.{longest, IsJoined, HasJoined, IsLeaf, IsTree};
+ghost use Rattle.im_cell.specs.Summaries.{longest, IsJoined, HasJoined, IsLeaf, IsTree, IsRoom};
 
 use crate::records::Record;
-use crate::summaries::{Summary, join, sum_up};
-use im_types::Block;
+use crate::summaries::{Summary, back_of, join, sum_up};
+use im_types::{Block, NONE};
 use std::alloc::{AllocError, Global};
 
 /// How many cells a leaf has.
@@ -64,19 +64,22 @@ pub(crate) fn find(records: &[Record], nodes: &[Summary], n: u32) -> Option<u32>
     let leaves = nodes.len() / 2;
     let mut k = 1;
     let mut base = 0;
+    let mut cells = PART * leaves;
     while k < leaves {
         let left = node(nodes, 2 * k);
         let right = node(nodes, 2 * k + 1);
+        let back = back_of(left);
+        cells /= 2;
         if left.longest >= n {
             k = 2 * k;
-        } else if left.back + right.front >= n {
-            return Some(base + (left.length - left.back));
+        } else if back + right.front >= n {
+            return Some((base + cells) as u32 - back);
         } else {
-            base += left.length;
+            base += cells;
             k = 2 * k + 1;
         }
     }
-    Some(base + find_in_part(part(records, k - leaves), n))
+    Some(base as u32 + find_in_part(part(records, k - leaves), n))
 }
 
 // Sums up the cells of the leaves from `first` to `last`.
@@ -103,8 +106,11 @@ fn join_node(nodes: &mut [Summary], k: usize) -> bool
 {
     let old = node(nodes, k);
     let new = join(node(nodes, 2 * k), node(nodes, 2 * k + 1));
+    if new == old {
+        return false;
+    }
     nodes[k] = new;
-    new != old
+    true
 }
 
 // Joins the nodes below each of the nodes from `first` to `last`; whether that changed any.
@@ -143,6 +149,39 @@ fn renew_rows(nodes: &mut [Summary], first: usize, last: usize)
     }
 }
 
+// The same of the nodes above a single one.
+fn renew_path(nodes: &mut [Summary], from: usize)
+    requires even { 2 * (leaves_of nodes.old) ≡ length nodes.old }
+    requires inside { from < length nodes.old }
+    requires inner { (k : ℕ) → 0 < k → k < leaves_of nodes.old → k ≢ from / 2 → IsJoined nodes.old k }
+    ensures inner { HasJoined nodes.new }
+    ensures leaves { (k : ℕ) → leaves_of nodes.old ≤ k → node_at nodes.new k ≡ node_at nodes.old k }
+{
+    let mut k = from;
+    while k > 1 {
+        k /= 2;
+        if !join_node(nodes, k) {
+            return;
+        }
+    }
+}
+
+// Makes the nodes above those from `first` to `last` anew.
+fn renew_above(nodes: &mut [Summary], first: usize, last: usize)
+    requires even { 2 * (leaves_of nodes.old) ≡ length nodes.old }
+    requires inside { last < length nodes.old }
+    requires inner { (k : ℕ) → 0 < k → k < leaves_of nodes.old → (first / 2 ≤ k → k ≤ last / 2 → ⊥) →
+        IsJoined nodes.old k }
+    ensures inner { HasJoined nodes.new }
+    ensures leaves { (k : ℕ) → leaves_of nodes.old ≤ k → node_at nodes.new k ≡ node_at nodes.old k }
+{
+    if first == last {
+        renew_path(nodes, last);
+    } else {
+        renew_rows(nodes, first, last);
+    }
+}
+
 // Makes the tree anew over the leaves from `first` to `last`.
 fn renew(nodes: &mut [Summary], records: &[Record], first: usize, last: usize)
     requires few { leaves_of nodes.old < 2 ^ 32 }
@@ -157,7 +196,7 @@ fn renew(nodes: &mut [Summary], records: &[Record], first: usize, last: usize)
 {
     let leaves = nodes.len() / 2;
     renew_leaves(nodes, records, first, last);
-    renew_rows(nodes, leaves + first, leaves + last);
+    renew_above(nodes, leaves + first, leaves + last);
 }
 
 // How many leaves a tree over so many cells has: a power of two.
@@ -175,20 +214,35 @@ fn leaves_over(cells: usize) -> usize
     leaves
 }
 
+/// Room for the tree over so many cells.
+pub(crate) fn room_for(alloc: Global, cells: usize) -> Result<Vec<Summary>, AllocError>
+    requires { cells < 2 ^ 32 }
+    ensures { IfOk result (λ nodes. IsRoom nodes.items cells) }
+{
+    let none = Summary {
+        longest: 0,
+        front: 0,
+        back: NONE,
+    };
+    vec![in alloc; none; 2 * leaves_over(cells)]
+}
+
+/// Makes the tree over the cells of a table, in room for it.
+pub(crate) fn raise(nodes: &mut [Summary], records: &[Record])
+    requires { IsRoom nodes.old (length records.now) }
+    ensures { IsTree nodes.new (marks_of records.now) }
+{
+    let leaves = nodes.len() / 2;
+    renew(nodes, records, 0, leaves - 1);
+}
+
 /// The tree over the cells of a table.
 pub(crate) fn tree_over(alloc: Global, records: &[Record]) -> Result<Vec<Summary>, AllocError>
     requires { length records.now < 2 ^ 32 }
     ensures { IfOk result (λ nodes. IsTree nodes.items (marks_of records.now)) }
 {
-    let leaves = leaves_over(records.len());
-    let none = Summary {
-        length: 0,
-        front: 0,
-        back: 0,
-        longest: 0,
-    };
-    let mut nodes = vec![in alloc; none; 2 * leaves]?;
-    renew(nodes.as_mut_slice(), records, 0, leaves - 1);
+    let mut nodes = room_for(alloc, records.len())?;
+    raise(nodes.as_mut_slice(), records);
     Ok(nodes)
 }
 

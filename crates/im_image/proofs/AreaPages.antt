@@ -1,6 +1,6 @@
 -- The pages of an area that spells records.
 use Rattle.std.proofs.Common.{◌≡◌, ◌⊎◌, inl, inr, ℕ, suc, ◌+◌, ◌-◌, ◌*◌, ◌/◌, ◌<◌, ◌≤◌, List, length, take, drop, refl, sym, ap, ◌∙◌, arith}
-use Rattle.std.specs.Prelude.{slice_get, slice_index_or}
+use Rattle.std.specs.Prelude.{slice_get}
 use Rattle.std.proofs.Math.Nat.{mul-suc, mul-sub, mul-le-mul_left}
 use Rattle.std.proofs.lemmas.Bool.{cases_lt}
 use Rattle.std.proofs.lemmas.List.{drop-replicate, take-replicate, length-drop, length-take-le}
@@ -10,7 +10,7 @@ use Rattle.im_types.specs.Layout.{Sizes, layout_in_use, page_bytes, area_bytes, 
 use Rattle.im_types.specs.Pages.{Records, IsRow, SpellsArea}
 use Rattle.im_records.specs.Paging.{bytes_or_zeros}
 use Rattle.im_records.proofs.Pieces.{record_is, of_page, record_behind}
-use Rattle.im_records.proofs.Joining.{page_of_take, page_of_drop, length_of_take, length_of_drop}
+use Rattle.im_records.proofs.Joining.{page_of_take, page_of_drop, length_of_take}
 use Rattle.im_image.specs.Encoding.{Spells, IsAreaPage}
 
 -- a record of zeros

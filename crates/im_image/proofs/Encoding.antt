@@ -16,9 +16,7 @@ use Rattle.im_types.specs.Records.{FitsCell, FitsNode, FitsWindow}
 use Rattle.im_types.specs.Pages.{Records, ShowsRecords, Shows}
 use Rattle.im_laws.proofs.WindowLemmas.{kept_under-from, kept_for-here}
 use Rattle.im_records.specs.Paging.{bytes_or_zeros, ArePages, FitRecords, joined}
-use Rattle.im_records.specs.Placed.{placed}
 use Rattle.im_records.proofs.Joining.{joined_is_area, area_of_pages}
-use Rattle.im_records.proofs.Places.{here_is, others_are, apart}
 use Rattle.im_image.specs.Encoding.{Spells, SpellsCells, SpellsNodes, SpellsSessions, IsAreaPage, AreCounted}
 
 -- records that are put on a page one by one

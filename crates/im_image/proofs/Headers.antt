@@ -47,8 +47,6 @@ pub no_some : {X : Type 0} (o : Option X) → o ≡ None → IsSome o → ⊥
 no_some o e some = false_true (sym (ap is_some e) ∙ some)
 
 -- which header is in force
-pub second_spells : (zero one : List ℕ) (b : Bool) → b ≡ is_second zero one → b ≡ true → spells_header layout_in_use (number_in_force zero one) (place_in_force zero one) ≡ spells_header layout_in_use 1 one
-second_spells zero one b is second = ap (λ (s : Bool). spells_header layout_in_use (if s then 1 else 0) (if s then one else zero)) (sym is ∙ second)
-
-pub first_spells : (zero one : List ℕ) (b : Bool) → b ≡ is_second zero one → b ≡ false → spells_header layout_in_use (number_in_force zero one) (place_in_force zero one) ≡ spells_header layout_in_use 0 zero
-first_spells zero one b is first = ap (λ (s : Bool). spells_header layout_in_use (if s then 1 else 0) (if s then one else zero)) (sym is ∙ first)
+pub place_spells : (zero one : List ℕ) (b c : Bool) → b ≡ is_second zero one → b ≡ c
+    → spells_header layout_in_use (number_in_force zero one) (place_in_force zero one) ≡ spells_header layout_in_use (if c then 1 else 0) (if c then one else zero)
+place_spells zero one b c is same = ap (λ (s : Bool). spells_header layout_in_use (if s then 1 else 0) (if s then one else zero)) (sym is ∙ same)

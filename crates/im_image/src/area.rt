@@ -2,13 +2,13 @@
 ghost use Rattle.std.specs.Prelude.{◌≡◌, ◌⊎◌, ◌*◌, ◌≤◌, ℕ, List, [], length, replicate, slice_get, Some, IfOk, IfErr};
 ghost use Rattle.std.specs.Prelude.{IsErrOf};
 ghost use Rattle.std.specs.List.{sum_by};
-ghost use Rattle.im_types.specs.declared.TheConstants.{WINDOW};
+ghost use Rattle.im_types.specs.declared.TheConstants.{NONE, WINDOW};
 ghost use Rattle.im_types.specs.Chains.{ShowLists};
 ghost use Rattle.im_types.specs.Contents.{Window, Contents};
 ghost use Rattle.im_types.specs.Layout as layout;
 ghost use Rattle.im_types.specs.Layout.{Sizes, layout_in_use, sizes_of};
 ghost use Rattle.im_types.specs.Memory.{IsMemory, IsWindow};
-ghost use Rattle.im_types.specs.Pages.{Shows, cells_shown};
+ghost use Rattle.im_types.specs.Pages.{Records, SpellsArea, Shows, ShowsRecords, cells_shown};
 ghost use Rattle.im_types.specs.Sizes.{AreLimits};
 
 use im_contents::{Lists, read_contents};
@@ -63,7 +63,21 @@ fn restore(
     };
     put_lists(&mut restoring, limits.cells, lists);
     put_windows(&mut restoring, limits.elements, records.windows());
-    restoring.finish(alloc)
+    Ok(restoring.finish())
+}
+
+// The memory that records show.
+fn show(alloc: Global, limits: Limits, records: &AreaRecords) -> Result<Memory, Refusal>
+    requires { length records.now.nodes ≤ NONE }
+    ensures found { IfOk result (λ m. ShowsRecords (sizes_of limits) records.now m.contents) }
+    ensures bad { IsErrOf result Refusal.BadPage → (m : Contents) → ShowsRecords (sizes_of limits) records.now m → ⊥ }
+    ensures only { IfErr result (λ e. (e ≡ Refusal.BadPage) ⊎ (e ≡ Refusal.NoMemory)) }
+{
+    let (cells, nodes, windows) = (records.cells(), records.nodes(), records.windows());
+    match read_contents(alloc, limits, cells, nodes, windows) {
+        Ok(lists) => restore(alloc, limits, records, &lists),
+        Err(refusal) => Err(refusal),
+    }
 }
 
 /// The memory that the pages of an area show. `BadPage` exactly where they show none; `NoMemory` where there is no room
@@ -77,13 +91,33 @@ pub fn decode(alloc: Global, area: &[u8], limits: Limits) -> Result<Memory, Refu
         → ⊥ }
     ensures only { IfErr result (λ e. (e ≡ Refusal.BadPage) ⊎ (e ≡ Refusal.NoMemory)) }
 {
-    let records = match read_area(alloc, area, limits) {
-        Ok(records) => records,
-        Err(refusal) => return Err(refusal),
-    };
-    let (cells, nodes, windows) = (records.cells(), records.nodes(), records.windows());
-    match read_contents(alloc, limits, cells, nodes, windows) {
-        Ok(lists) => restore(alloc, limits, &records, &lists),
+    match read_area(alloc, area, limits) {
+        Ok(records) => show(alloc, limits, &records),
+        Err(refusal) => Err(refusal),
+    }
+}
+
+// The records of an area whose bytes are given back.
+fn read_own(alloc: Global, area: Vec<u8>, limits: Limits) -> Result<AreaRecords, Refusal>
+    requires { length area.items ≡ layout.area_bytes layout_in_use (sizes_of limits) }
+    ensures found { IfOk result (λ r. SpellsArea layout_in_use (sizes_of limits) area.items r) }
+    ensures bad { IsErrOf result Refusal.BadPage → (r : Records)
+        → SpellsArea layout_in_use (sizes_of limits) area.items r → ⊥ }
+    ensures only { IfErr result (λ e. (e ≡ Refusal.BadPage) ⊎ (e ≡ Refusal.NoMemory)) }
+{
+    read_area(alloc, &area, limits)
+}
+
+/// The same of bytes that nobody needs afterwards: they are given back before the memory is made.
+pub(crate) fn decode_own(alloc: Global, area: Vec<u8>, limits: Limits) -> Result<Memory, Refusal>
+    requires { length area.items ≡ layout.area_bytes layout_in_use (sizes_of limits) }
+    ensures found { IfOk result (λ m. Shows layout_in_use (sizes_of limits) area.items m.contents) }
+    ensures bad { IsErrOf result Refusal.BadPage → (m : Contents) → Shows layout_in_use (sizes_of limits) area.items m
+        → ⊥ }
+    ensures only { IfErr result (λ e. (e ≡ Refusal.BadPage) ⊎ (e ≡ Refusal.NoMemory)) }
+{
+    match read_own(alloc, area, limits) {
+        Ok(records) => show(alloc, limits, &records),
         Err(refusal) => Err(refusal),
     }
 }

@@ -9,7 +9,7 @@ ghost use Rattle.im_disk.specs.Since.{OnlyReads};
 ghost use Rattle.im_image.specs.Headers.{seen};
 ghost use Rattle.im_image.specs.Reading.{HasHeader, HasSizes};
 
-use crate::area::decode;
+use crate::area::decode_own;
 use crate::header::Header;
 use im_disk::{DeviceFault, Disk};
 use im_memory::Memory;
@@ -66,8 +66,8 @@ fn read_area<D: Disk>(
 
 /// The memory that the area of a header in force shows. `BadPage` exactly where it shows none.
 ///
-/// It only reads, the area. Memory: as much as the area is long, at most 2,179,072 bytes, its records, and the
-/// memory; `NoMemory` where it is refused. `Device`: the read failed.
+/// It only reads, the area. Memory: its records, and as much as the area is long, at most 2,179,072 bytes, or the
+/// memory, as the bytes are given back before it is made; `NoMemory` where it is refused. `Device`: the read failed.
 pub fn read_memory<D: Disk>(alloc: Global, disk: &mut D, header: &Header) -> Result<Memory, Refusal>
     requires area { header.now.area ≤ 1 }
     requires sound { D.honest disk.old → HasHeader (seen header.now) (D.now disk.old).bytes }
@@ -81,7 +81,7 @@ pub fn read_memory<D: Disk>(alloc: Global, disk: &mut D, header: &Header) -> Res
     ensures honest { D.honest disk.new → D.honest disk.old }
 {
     match read_area(alloc, disk, header.limits, header.area) {
-        Ok(area) => decode(alloc, &area, header.limits),
+        Ok(area) => decode_own(alloc, area, header.limits),
         Err(refusal) => Err(refusal),
     }
 }

@@ -116,8 +116,8 @@ module _ (cells : List CellRecord) (arena : Shown) (windows : List Window) (comp
     whole = λ a block e b from to. sym (block_at-cells slots arena b) ∙ restored-memory.blocks.whole a block (block_at-cells slots arena a ∙ e) b from to;
   }
 
-  pub restored-makes : HaveRoom cells arena windows → MakesMemory slots arena windows
-  restored-makes room = record {
+  pub restored-makes : (count : ℕ) → HaveRoom cells count arena windows → MakesMemory slots arena windows
+  restored-makes count room = record {
     agree = parts-agree;
     memory = subst (λ n. IsMemory n (length windows) (contents_of slots arena windows)) (sym slots-count) restored-memory;
     some_cell = omega (arith, slots-count, room.some_cell);

@@ -1,5 +1,5 @@
 -- A memory that is put together from what records show of it. (Own.)
-use Rattle.std.specs.Prelude.{◌≡◌, ◌*◌, ◌≤◌, List, length}
+use Rattle.std.specs.Prelude.{ℕ, ◌≡◌, ◌*◌, ◌≤◌, List, length}
 use Rattle.im_types.specs.declared.TheConstants.{WINDOW, MAX_CELLS, MAX_ELEMENTS}
 use Rattle.im_types.specs.declared.operations.Waiter.{Waiter}
 use Rattle.im_types.specs.declared.records.CellRecord.{CellRecord}
@@ -26,8 +26,9 @@ pub record AreComplete (p : Parts) : Type 0 where
   pub chained : ShowLists nodes p.cells p.lists
   pub memory : IsMemory (length p.cells) (length p.windows) (contents_shown p)
 
--- there are lists for all cells and nodes for all entries, and not too many of either
-pub record HaveRoom (cells : List CellRecord) (arena : Shown) (windows : List Window) : Type 0 where
+-- there are records and lists for all cells and nodes for all entries, and not too many of either
+pub record HaveRoom (cells : List CellRecord) (room : ℕ) (arena : Shown) (windows : List Window) : Type 0 where
+  pub records : room ≡ length cells
   pub lists : length arena.held.lists ≡ length cells
   pub nodes : arena.held.nodes ≡ WINDOW * length windows
   pub some_cell : 1 ≤ length cells

@@ -10,7 +10,7 @@ ghost use Rattle.im_memory.specs.Restoring.{contents_shown, AreComplete};
 
 use crate::memory::Memory;
 use im_arena::Arena;
-use im_cell::CellTable;
+use im_cell::{CellTable, TableRoom};
 use im_sessions::Sessions;
 use im_types::{CellRecord, Kept, Limits, Refusal, WINDOW, Waiter};
 use std::alloc::Global;
@@ -21,6 +21,7 @@ use std::marker::Model;
 #[derive(Drop)]
 pub struct Restoring<'a> {
     cells: &'a [CellRecord],
+    room: TableRoom,
     arena: Arena,
     sessions: Sessions,
 }
@@ -32,7 +33,7 @@ impl<'a> Model for Restoring<'a> {
 
     ghost view = { λ r. record { cells = r.cells.now; lists = r.arena.held.lists; windows = r.sessions } };
 
-    ghost invariant = { λ r. HaveRoom r.cells.now r.arena r.sessions };
+    ghost invariant = { λ r. HaveRoom r.cells.now r.room r.arena r.sessions };
 }
 
 // Puts these waiters on an empty list, in their order.
@@ -48,8 +49,8 @@ fn push_each(arena: &mut Arena, list: u32, waiters: &[Waiter])
 }
 
 impl<'a> Restoring<'a> {
-    /// The parts of a memory of these sizes: these records of its cells, nobody who waits, and new windows. `NoMemory`
-    /// where there is no room for them.
+    /// The parts of a memory of these sizes: these records of its cells, nobody who waits, and new windows. It takes
+    /// all room that the memory will need; `NoMemory` where that is refused.
     pub fn new(
         alloc: Global,
         limits: Limits,
@@ -64,6 +65,9 @@ impl<'a> Restoring<'a> {
         ensures only { IfErr result (λ refusal. refusal ≡ Refusal.NoMemory) }
     {
         let nodes = WINDOW as u32 * limits.elements as u32;
+        let Ok(room) = TableRoom::new(alloc, limits.cells) else {
+            return Err(Refusal::NoMemory);
+        };
         let Ok(arena) = Arena::new(alloc, nodes, limits.cells) else {
             return Err(Refusal::NoMemory);
         };
@@ -72,6 +76,7 @@ impl<'a> Restoring<'a> {
         };
         Ok(Restoring {
             cells,
+            room,
             arena,
             sessions,
         })
@@ -99,24 +104,21 @@ impl<'a> Restoring<'a> {
         self.sessions.restore(element, base, kept);
     }
 
-    /// The memory that the parts stand for. `NoMemory` where there is no room for the table of its cells.
-    pub fn finish(self, alloc: Global) -> Result<Memory, Refusal>
+    /// The memory that the parts stand for. It takes no memory.
+    pub fn finish(self) -> Memory
         requires { AreComplete self }
-        ensures memory { IfOk result (λ m. m.contents ≡ contents_shown self.entry) }
-        ensures only { IfErr result (λ refusal. refusal ≡ Refusal.NoMemory) }
+        ensures { result.contents ≡ contents_shown self.entry }
     {
         let Restoring {
             cells,
+            room,
             arena,
             sessions,
         } = self;
-        match CellTable::restore(alloc, cells) {
-            Ok(table) => Ok(Memory {
-                table,
-                arena,
-                sessions,
-            }),
-            Err(refusal) => Err(refusal),
+        Memory {
+            table: CellTable::in_room(room, cells),
+            arena,
+            sessions,
         }
     }
 }

@@ -8,4 +8,4 @@ loop-record-preserved c =
     c.loop-record.invariant
 
 pub returns : goal.returns
-returns c = Summarises-runs c.args.records.now c.loop-record.run c.loop-record.longest c.loop-record.record-index _ c.loop-record-test.false refl c.free_first.ensures refl refl c.loop-record.invariant
+returns c = Summarises-runs c.args.records.now c.loop-record.run c.loop-record.longest c.loop-record.record-index _ c.loop-record-test.false c.free_first.ensures c.back_in.ensures refl c.loop-record.invariant
