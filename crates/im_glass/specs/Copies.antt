@@ -8,6 +8,7 @@ use Rattle.im_glass.specs.declared.book.InOrder.{InOrder}
 use Rattle.im_glass.specs.declared.copies.Ahead.{Ahead}
 use Rattle.im_glass.specs.Cells.{written}
 
+-- a beginning of the list of changes
 abbrev pub History : Type 0
 History = Seen Change ℕ InOrder
 
