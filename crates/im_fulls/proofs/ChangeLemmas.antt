@@ -1,5 +1,5 @@
 -- Each operation changes the full cells as its change says.
-use Rattle.std.proofs.Common.{◌≡◌, ◌≢◌, ◌⊎◌, inl, inr, ⊎_elim, ℕ, zero, suc, ◌+◌, ◌<◌, ◌≤◌, List, [], ◌∷◌, ◌++◌, set, take, drop, Some, None, Bool, true, false, cond, refl, sym, ap, ◌∙◌, arith, length}
+use Rattle.std.proofs.Common.{◌≡◌, ◌≢◌, ◌⊎◌, inl, inr, ⊎_elim, ℕ, zero, suc, ◌+◌, ◌<◌, ◌≤◌, List, [], ◌∷◌, ◌++◌, set, take, drop, Some, None, Bool, true, false, cond, refl, sym, ap, ◌∙◌, arith, length, get_or}
 use Rattle.std.specs.Prelude.{Option, nat_lt, ◌==◌}
 use Rattle.std.specs.List.{list_any}
 use Rattle.std.proofs.lemmas.Bool.{cases_eq}
@@ -134,31 +134,40 @@ module _ (cells : List (Option Held)) (b : ℕ) where
       by_test true = refl
       by_test false = by_place (place n cells) refl
 
+-- what is emptied from a base on, place by place
+module _ {X : Type 0} where
+  emptied : (xs : List (Option X)) (base n a : ℕ) → base ≤ a → a < base + n → get_or (fill xs base n None) a None ≡ None
+  emptied [] base n a lo hi = refl
+  emptied (x ∷ xs) zero zero a lo hi = absurd (omega arith)
+  emptied (x ∷ xs) zero (suc n) zero lo hi = refl
+  emptied (x ∷ xs) zero (suc n) (suc a) lo hi = emptied xs zero n a (omega arith) (omega arith)
+  emptied (x ∷ xs) (suc base) n zero lo hi = absurd (omega arith)
+  emptied (x ∷ xs) (suc base) n (suc a) lo hi = emptied xs base n a (omega arith) (omega arith)
+
+  pub get_or-emptied : (xs : List (Option X)) (base n a : ℕ) → get_or (fill xs base n None) a None ≡ cond (is_among base n a) None (get_or xs a None)
+  get_or-emptied xs base n a = by_low (nat_lt a base) refl
+    where
+      outside : (a < base) ⊎ (base + n ≤ a) → get_or (fill xs base n None) a None ≡ get_or xs a None
+      outside out = ⊎_elim
+          (λ same. same)
+          (λ h. let low = h.0 in let high = h.1 in absurd (⊎_elim (λ (x : a < base). omega arith) (λ (x : base + n ≤ a). omega arith) out))
+          (get_or-fill xs base n None a)
+
+      by_high : base ≤ a → (t : Bool) → nat_lt a (base + n) ≡ t → get_or (fill xs base n None) a None ≡ cond t None (get_or xs a None)
+      by_high low true t = emptied xs base n a low (grind (arith, nat_tests))
+      by_high low false t = outside (inr (grind (arith, nat_tests)))
+
+      by_low : (t : Bool) → nat_lt a base ≡ t → get_or (fill xs base n None) a None ≡ cond (cond t false (nat_lt a (base + n))) None (get_or xs a None)
+      by_low true t = outside (inl (grind (arith, nat_tests)))
+      by_low false t = by_high (grind (arith, nat_tests)) (nat_lt a (base + n)) refl
+
 -- cells that are freed
-freed : (cells : List (Option Held)) (base n b : ℕ) → base ≤ b → b < base + n → held_at (fill cells base n None) b ≡ None
-freed [] base n b lo hi = refl
-freed (c ∷ cells) zero zero b lo hi = absurd (omega arith)
-freed (c ∷ cells) zero (suc n) zero lo hi = refl
-freed (c ∷ cells) zero (suc n) (suc b) lo hi = freed cells zero n b (omega arith) (omega arith)
-freed (c ∷ cells) (suc base) n zero lo hi = absurd (omega arith)
-freed (c ∷ cells) (suc base) n (suc b) lo hi = freed cells base n b (omega arith) (omega arith)
-
 frees : (cells : List (Option Held)) (base n b : ℕ) → value_at (fill cells base n None) b ≡ cond (is_among base n b) None (value_at cells b)
-frees cells base n b = by_low (nat_lt b base) refl
+frees cells base n b = ap full_in (get_or-emptied cells base n b) ∙ by_test (is_among base n b)
   where
-    outside : (b < base) ⊎ (base + n ≤ b) → value_at (fill cells base n None) b ≡ value_at cells b
-    outside out = ⊎_elim
-        (λ same. ap full_in same)
-        (λ h. let low = h.0 in let high = h.1 in absurd (⊎_elim (λ (x : b < base). omega arith) (λ (x : base + n ≤ b). omega arith) out))
-        (get_or-fill cells base n None b)
-
-    by_high : base ≤ b → (t : Bool) → nat_lt b (base + n) ≡ t → value_at (fill cells base n None) b ≡ cond t None (value_at cells b)
-    by_high low true t = ap full_in (freed cells base n b low (grind (arith, nat_tests)))
-    by_high low false t = outside (inr (grind (arith, nat_tests)))
-
-    by_low : (t : Bool) → nat_lt b base ≡ t → value_at (fill cells base n None) b ≡ cond (cond t false (nat_lt b (base + n))) None (value_at cells b)
-    by_low true t = outside (inl (grind (arith, nat_tests)))
-    by_low false t = by_high (grind (arith, nat_tests)) (nat_lt b (base + n)) refl
+    by_test : (t : Bool) → full_in (cond t None (held_at cells b)) ≡ cond t None (value_at cells b)
+    by_test true = refl
+    by_test false = refl
 
 releases-block : (cells : List (Option Held)) (a b : ℕ) (o : Option Block)
     → value_at (release_block cells a o).cells b ≡ changed b (value_at cells b) (release_change cells a o)

@@ -1,0 +1,5 @@
+pub mod CellLemmas
+pub mod PrefixLemmas
+pub mod BookLemmas
+pub mod CopyLemmas
+pub mod RuleLemmas

@@ -1,0 +1,18 @@
+use Rattle.std.proofs.Common.{◌∙◌, ◌<◌, ap, sym, subst, set, length, ℕ, List, Option, Some, arith}
+use Rattle.im_glass.proofs.CellLemmas.{cells_length, cells_filled}
+use Rattle.im_glass.proofs.cells.FullCells.fill.Goals as goal
+
+pub index_mut-requires : goal.index_mut-requires
+index_mut-requires c =
+    let below = subst (λ (cells : List (Option ℕ)). c.args.a < length cells) (sym c.self.view_is) c.requires in
+    omega (arith, below, cells_length c.self.inside.full.items c.self.inside.values.items c.self.invariant, c.self.inside.full.ok.0)
+
+pub index_mut-requires-2 : goal.index_mut-requires-2
+index_mut-requires-2 c =
+    let below = subst (λ (cells : List (Option ℕ)). c.args.a < length cells) (sym c.self.view_is) c.requires in
+    omega (arith, below, cells_length c.self.inside.full.items c.self.inside.values.items c.self.invariant, c.self.invariant, c.self.inside.values.ok.0)
+
+pub returns : goal.returns
+returns c =
+    cells_filled c.self.inside.full.items c.self.inside.values.items c.args.a c.args.value
+    ∙ ap (λ (cells : List (Option ℕ)). set cells c.args.a (Some c.args.value)) c.self.view_is

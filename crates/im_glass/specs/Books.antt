@@ -1,0 +1,21 @@
+-- The rule of the book: its one word is how many changes there are. (Own.)
+use Rattle.std.specs.Prelude.{◌≡◌, ◌==◌, ◌<◌, ℕ, true, List, [], ◌∷◌, ◌++◌, length, MatchBool}
+use mathlib.Core.List.{IsPrefix}
+use Rattle.logbook.specs.Pages.{Cell, Step, View, Book, Named}
+use Rattle.im_types.specs.declared.changes.Change.{Change}
+
+-- the first word is the length of the list; a book has two words, of which this one leaves the second at 0
+pub record IsCounted (cells : List Cell) (log : List Change) : Type 0 where
+  pub words : cells ≡ (length log, true) ∷ (0, true) ∷ []
+
+-- the word of a book
+abbrev pub head_of : Book → Named
+head_of book = record { tracked = true; key = 0; book = book }
+
+-- the change was added to all that had been seen; or the list was longer, and was seen
+abbrev pub Adds : Step Change → View Change ℕ → ℕ → View Change ℕ → Type 0
+Adds s old found new = MatchBool (found == s.old) (new.0 ≡ old.0 ++ s.ask ∷ []) (length new.0 ≡ found)
+
+-- the one list goes on where the other ends
+abbrev pub IsLonger : List Change → List Change → Type 0
+IsLonger xs ys = IsPrefix xs ys × (length xs < length ys)

@@ -1,0 +1,22 @@
+-- Cells that are full or not, and what a change makes of them. (Own.)
+use Rattle.std.specs.Prelude.{ℕ, List, [], ◌∷◌, Bool, true, false, Option, Some, None, slice_set}
+use Rattle.im_types.specs.declared.changes.Change.{Change}
+use Rattle.im_types.specs.declared.changes.Change.TheVariants.{Same, Full as Fills, Gone}
+use Rattle.im_types.specs.Place.{fill}
+
+-- a cell, by whether it is full
+abbrev pub cell_of : Bool → ℕ → Option ℕ
+cell_of true value = Some value
+cell_of false value = None
+
+-- each cell with its value, where it is full
+abbrev pub cells_of : List Bool → List ℕ → List (Option ℕ)
+cells_of [] values = []
+cells_of (full ∷ fulls) [] = []
+cells_of (full ∷ fulls) (value ∷ values) = cell_of full value ∷ cells_of fulls values
+
+-- the cells after a change
+abbrev pub written : List (Option ℕ) → Change → List (Option ℕ)
+written cells Same = cells
+written cells (Fills a v) = slice_set cells a (Some v)
+written cells (Gone base n) = fill cells base n None

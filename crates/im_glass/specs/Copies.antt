@@ -1,0 +1,47 @@
+-- What the two copies hold, and what is put ahead of them. (Own.)
+use Rattle.std.specs.Prelude.{◌≡◌, ℕ, if◌then◌else◌, true, List, [], ◌∷◌, ◌++◌, length, fold, Option, None, slice_index_or}
+use Rattle.logbook.specs.Pages.{Book}
+use Rattle.logbook.specs.declared.tokens.Seen.{Seen}
+use Rattle.im_types.specs.declared.changes.Change.{Change}
+use Rattle.im_types.specs.Changes.{value_after, is_below}
+use Rattle.im_glass.specs.declared.book.InOrder.{InOrder}
+use Rattle.im_glass.specs.declared.copies.Ahead.{Ahead}
+use Rattle.im_glass.specs.Cells.{written}
+
+-- a beginning of the list of changes
+abbrev pub History : Type 0
+History = Seen Change ℕ InOrder
+
+-- a copy: the changes, the cells, how many changes
+abbrev pub CopyState : Type 0
+CopyState = History × List (Option ℕ) × ℕ
+
+-- a copy after what was put ahead, where that is of its cells alone
+abbrev pub applied_to : CopyState → Ahead → CopyState
+applied_to s ahead = if is_below (length s.1) ahead.change then (ahead.seen, written s.1 ahead.change, ahead.count) else s
+
+-- a copy after all that was put ahead
+abbrev pub after_all : CopyState → List Ahead → CopyState
+after_all s ahead = fold applied_to s ahead
+
+-- the cells are those after the changes, of which there are so many
+pub record IsKept (s : CopyState) : Type 0 where
+  pub values : (a : ℕ) → slice_index_or s.1 a None ≡ value_after a None s.0.log
+  pub count : s.2 ≡ length s.0.log
+
+-- what is put ahead goes on with the book's changes, one after another, each of these many cells alone
+abbrev pub GoesOn : ℕ → Book → List Change → List Ahead → Type 0
+GoesOn n book changes [] = Unit {0}
+GoesOn n book changes (ahead ∷ rest) =
+    (ahead.seen.book ≡ book) × (ahead.seen.log ≡ changes ++ ahead.change ∷ []) × (ahead.count ≡ length ahead.seen.log)
+    × (is_below n ahead.change ≡ true) × GoesOn n book ahead.seen.log rest
+
+-- what is put ahead changes nothing
+abbrev pub IsIdle : CopyState → List Ahead → Type 0
+IsIdle s [] = Unit {0}
+IsIdle s (ahead ∷ rest) = (applied_to s ahead ≡ s) × IsIdle s rest
+
+-- the changes that are put ahead
+abbrev pub changes_ahead : List Ahead → List Change
+changes_ahead [] = []
+changes_ahead (ahead ∷ rest) = ahead.change ∷ changes_ahead rest

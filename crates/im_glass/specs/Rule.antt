@@ -1,0 +1,33 @@
+-- The rule of the two copies. (Own.)
+use Rattle.std.specs.Prelude.{◌≡◌, ℕ, List, Some, None}
+use mathlib.Core.Option.{some}
+use lib.ListN.{get_elem?}
+use Rattle.logbook.specs.Pages.{Book}
+use Rattle.im_glass.specs.declared.copies.Copy.{Copy}
+use Rattle.im_glass.specs.declared.rule.Known.{Known}
+use Rattle.im_glass.specs.Copies.{History, CopyState, IsKept}
+
+-- a copy, as its state
+abbrev pub state_of : Copy → CopyState
+state_of copy = (copy.seen, copy.cells, copy.count)
+
+-- what it has seen, if anything, is of this book
+abbrev pub IsOf : Known → Book → Type 0
+IsOf known book = (seen : History) → known.seen ≡ Some seen → seen.book ≡ book
+
+-- what is shown is kept, and each who has seen it knows its book
+abbrev pub IsShown : Copy → List Known → Type 0
+IsShown copy knowns =
+    IsKept (state_of copy) × ((seat : ℕ) (known : Known) → get_elem? knowns seat ≡ some known → IsOf known copy.seen.book)
+
+-- a look sees what is then shown, which is kept and of the book that was known
+abbrev pub Looks : Known → Copy → Copy → Known → Type 0
+Looks known old new now = (now.seen ≡ Some new.seen) × IsKept (state_of new) × IsOf known new.seen.book
+
+-- one who has seen nothing
+abbrev pub newcomer : Known
+newcomer = record { seen = None }
+
+-- one who has seen something of this book
+abbrev pub HasSeen : Known → Book → Type 0
+HasSeen known book = (seen : History) × (known.seen ≡ Some seen) × (seen.book ≡ book)

@@ -1,0 +1,275 @@
+//! The list of changes: one book of the toolchain's `logbook`, of which each holds a beginning. The list is for contracts
+//! alone; its length is a word that all share.
+ghost use Rattle.std.specs.Prelude.{◌≡◌, ◌<◌, ◌^◌, ◌++◌, ◌∷◌, ◌⊎◌, [], length, MatchBool};
+ghost use mathlib.Core.List.{IsPrefix};
+ghost use Rattle.im_glass.specs.Books.{IsLonger, head_of};
+
+use im_types::Change;
+use logbook::{Gain, Offer, Plain, Play, Rule, Seen, Start, Word};
+use std::marker::{Brand, Model, PhantomData};
+
+/// The rule of the book.
+pub struct InOrder;
+
+impl Rule<Change, u64> for InOrder {
+    ghost use Rattle.std.specs.Prelude.{[]};
+    ghost use base.Fml.{ftrue};
+    ghost use Rattle.im_glass.specs.Books.{IsCounted};
+
+    ghost holds = { λ cells log. IsCounted cells log };
+
+    ghost first = { [] };
+
+    ghost hinted = { λ n log. Unit {0} };
+
+    ghost shows = { λ log. [] };
+
+    ghost keeps = { λ names log. ftrue };
+
+    ghost moves = { λ ask before after answer. Unit {0} };
+}
+
+// Nothing is traded.
+pub struct Nothing;
+
+impl Gain<Change, u64> for Nothing {
+    ghost use base.Fml.{ftrue};
+
+    ghost after = { λ names about answer. ftrue };
+}
+
+// A step that adds a change.
+pub struct Add;
+
+impl Play<Change, u64> for Add {
+    ghost use Rattle.im_glass.specs.Books.{Adds};
+
+    ghost then = { Adds };
+}
+
+impl Plain<Change, Change, u64> for Add {
+    ghost use Rattle.std.specs.Prelude.{None};
+
+    ghost ask = { λ change. change };
+
+    ghost state = { λ change. None };
+}
+
+/// Which book it is. Each call of a program picks it.
+pub trait PaneName {
+    ghost use Rattle.logbook.specs.Pages.{Book};
+
+    ghost book: { Book };
+}
+
+impl PaneName for Brand {
+    ghost book = { record { number = 0; log_name = 0; cells_name = 0 } };
+}
+
+/// A book with no changes, which has no name yet. Contracts see which book it is.
+#[derive(Drop)]
+pub struct NewBook {
+    head: Word<Change, u64, InOrder>,
+    seen: Seen<Change, u64, InOrder>,
+}
+
+impl Model for NewBook {
+    ghost use Rattle.std.specs.Prelude.{◌≡◌, []};
+    ghost use Rattle.logbook.specs.Pages.{Book};
+    ghost use Rattle.im_glass.specs.Books.{head_of};
+
+    ghost Value = { Book };
+
+    ghost view = { λ b. b.seen.book };
+
+    ghost invariant = { λ b. (b.seen.log ≡ []) × (b.head ≡ head_of b.seen.book) };
+}
+
+impl NewBook {
+    /// A new book.
+    pub fn new() -> NewBook {
+        let (seen, mut first, _second) = Seen::open(Start::alone(), 0, 0);
+        NewBook {
+            head: Word::tracked(0, &mut first),
+            seen,
+        }
+    }
+
+    /// The book under a name, and the beginning of its list that is empty.
+    pub(crate) fn named<J: PaneName>(self) -> (Book<J>, Beginning<J>)
+        requires { self ≡ J.book }
+        ensures { result.1 ≡ [] }
+    {
+        let NewBook { head, seen } = self;
+        (
+            Book {
+                head,
+                of: PhantomData,
+            },
+            Beginning {
+                count: 0,
+                seen,
+                of: PhantomData,
+            },
+        )
+    }
+}
+
+/// A book and a beginning of its list, without its name.
+#[derive(Drop)]
+pub(crate) struct UnnamedBook {
+    head: Word<Change, u64, InOrder>,
+    count: u64,
+    pub(crate) seen: Seen<Change, u64, InOrder>,
+    ghost head_is: { head ≡ head_of seen.book },
+    ghost count_is: { count ≡ length seen.log },
+}
+
+impl UnnamedBook {
+    /// The book and the beginning under a name.
+    pub(crate) fn named<J: PaneName>(self) -> (Book<J>, Beginning<J>)
+        requires { self.seen.book ≡ J.book }
+        ensures { result.1 ≡ self.seen.log }
+    {
+        let UnnamedBook { head, count, seen } = self;
+        (
+            Book {
+                head,
+                of: PhantomData,
+            },
+            Beginning {
+                count,
+                seen,
+                of: PhantomData,
+            },
+        )
+    }
+}
+
+/// The word that all share: how many changes the list has.
+#[derive(Drop)]
+pub struct Book<J: PaneName> {
+    head: Word<Change, u64, InOrder>,
+    of: PhantomData<J>,
+}
+
+impl<J: PaneName> Model for Book<J> {
+    ghost use Rattle.std.specs.Prelude.{◌≡◌};
+    ghost use Rattle.im_glass.specs.Books.{head_of};
+
+    ghost Value = { Unit {0} };
+
+    ghost view = { λ b. tt };
+
+    ghost invariant = { λ b. b.head ≡ head_of J.book };
+}
+
+impl<J: PaneName> Book<J> {
+    /// The book without its name, and a beginning of its list.
+    pub(crate) fn unnamed(self, beginning: Beginning<J>) -> UnnamedBook
+        ensures book { result.seen.book ≡ J.book }
+        ensures log { result.seen.log ≡ beginning }
+    {
+        let Book { head, of: _ } = self;
+        let Beginning { count, seen, of: _ } = beginning;
+        UnnamedBook { head, count, seen }
+    }
+}
+
+/// A beginning of the list that was seen. Contracts see its changes.
+#[derive(Drop)]
+pub struct Beginning<J: PaneName> {
+    count: u64,
+    seen: Seen<Change, u64, InOrder>,
+    of: PhantomData<J>,
+}
+
+impl<J: PaneName> Model for Beginning<J> {
+    ghost use Rattle.std.specs.Prelude.{◌≡◌, List, length};
+    ghost use Rattle.im_types.specs.declared.changes.Change.{Change};
+
+    ghost Value = { List Change };
+
+    ghost view = { λ b. b.seen.log };
+
+    ghost invariant = { λ b. (b.count ≡ length b.seen.log) × (b.seen.book ≡ J.book) };
+}
+
+impl<J: PaneName> Beginning<J> {
+    /// What was seen, of which there is so much.
+    pub(crate) fn of(seen: Seen<Change, u64, InOrder>, count: u64) -> Beginning<J>
+        requires book { seen.book ≡ J.book }
+        requires count { count ≡ length seen.log }
+        ensures { result ≡ seen.log }
+    {
+        Beginning {
+            count,
+            seen,
+            of: PhantomData,
+        }
+    }
+
+    /// What was seen.
+    pub(crate) fn seen(&self) -> Seen<Change, u64, InOrder>
+        ensures book { result.book ≡ J.book }
+        ensures log { result.log ≡ self.now }
+    {
+        self.seen.again()
+    }
+
+    /// How many changes it has.
+    pub fn len(&self) -> u64
+        ensures { result ≡ length self.now }
+    {
+        self.count
+    }
+
+    /// The same once more. It has no more than a number.
+    pub fn again(&self) -> Beginning<J>
+        ensures { result ≡ self.now }
+    {
+        Beginning {
+            count: self.count,
+            seen: self.seen.again(),
+            of: PhantomData,
+        }
+    }
+
+    /// The longer of two beginnings, which the other one begins.
+    pub fn longer(&self, other: &Beginning<J>) -> Beginning<J>
+        ensures one { (result ≡ self.now) ⊎ (result ≡ other.now) }
+        ensures this { IsPrefix self.now result }
+        ensures that { IsPrefix other.now result }
+    {
+        let mut both = self.seen.again();
+        both.learn(&other.seen);
+        if self.count < other.count {
+            other.again()
+        } else {
+            self.again()
+        }
+    }
+
+    /// Adds a change behind all that was seen, and says whether it did. It didn't where the list is longer.
+    pub(crate) fn add(&mut self, book: &Book<J>, change: Change) -> bool
+        requires { length self.old < 2 ^ 62 }
+        ensures { MatchBool result (self.new ≡ self.old ++ change ∷ []) (IsLonger self.old self.new) }
+    {
+        let mut offer: Offer<Change, u64, InOrder, Nothing> = self
+            .seen
+            .plain::<Nothing, Change, Add>(&change);
+        let mut pen = self.seen.no_pen();
+        let count = self.count;
+        let found = book
+            .head
+            .compare_exchange::<Add, Nothing>(
+                count,
+                count + 1,
+                &mut self.seen,
+                &mut offer,
+                &mut pen,
+            );
+        self.count = if found == count { count + 1 } else { found };
+        found == count
+    }
+}

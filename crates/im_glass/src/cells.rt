@@ -1,0 +1,109 @@
+//! Cells that are full or not, with the values of those that are: 9 bytes a cell.
+ghost use Rattle.std.specs.Prelude.{◌≡◌, ◌<◌, ◌≤◌, ◌+◌, ℕ, None, Some, length, replicate, slice_index_or, slice_set, true, IfOk};
+ghost use Rattle.im_types.specs.Place.{fill};
+ghost use Rattle.im_types.specs.Changes.{is_below};
+ghost use Rattle.im_glass.specs.Cells.{written};
+
+use im_types::Change;
+use std::alloc::{AllocError, Global};
+use std::marker::Model;
+
+/// Cells by address, each with its value where it is full.
+#[derive(Drop)]
+pub struct FullCells {
+    values: Vec<u64>,
+    full: Vec<bool>,
+}
+
+impl Model for FullCells {
+    ghost use Rattle.std.specs.Prelude.{◌≡◌, List, Option, ℕ, length};
+    ghost use Rattle.im_glass.specs.Cells.{cells_of};
+
+    ghost Value = { List (Option ℕ) };
+
+    ghost view = { λ c. cells_of c.full.items c.values.items };
+
+    ghost invariant = { λ c. length c.full.items ≡ length c.values.items };
+}
+
+impl FullCells {
+    /// So many cells, none of them full.
+    pub fn new(alloc: Global, cells: u32) -> Result<FullCells, AllocError>
+        ensures { IfOk result (λ c. c ≡ replicate cells None) }
+    {
+        let values = vec![in alloc; 0; cells as usize]?;
+        let full = vec![in alloc; false; cells as usize]?;
+        Ok(FullCells { values, full })
+    }
+
+    /// How many cells there are.
+    pub fn len(&self) -> usize
+        ensures { result ≡ length self.now }
+    {
+        self.full.len()
+    }
+
+    /// The value of a cell, where it is full; none past the last cell.
+    pub fn get(&self, a: usize) -> Option<u64>
+        ensures { result ≡ slice_index_or self.now a None }
+    {
+        if a >= self.full.len() {
+            return None;
+        }
+        if self.full[a] {
+            Some(self.values[a])
+        } else {
+            None
+        }
+    }
+
+    // A cell is full from now on.
+    fn fill(&mut self, a: usize, value: u64)
+        requires { a < length self.old }
+        ensures { self.new ≡ slice_set self.old a (Some value) }
+    {
+        self.full[a] = true;
+        self.values[a] = value;
+    }
+
+    // A cell isn't full from now on.
+    fn empty(&mut self, a: usize)
+        requires { a < length self.old }
+        ensures { self.new ≡ slice_set self.old a None }
+    {
+        self.full[a] = false;
+    }
+
+    // So many cells aren't full from now on.
+    fn empty_all(&mut self, base: u32, count: u32)
+        requires { base + count ≤ length self.old }
+        ensures { self.new ≡ fill self.old base count None }
+    {
+        for i in 0..count {
+            self.empty(base as usize + i as usize);
+        }
+    }
+
+    /// Whether a change is of these cells alone.
+    pub fn has(&self, change: Change) -> bool
+        ensures { result ≡ is_below (length self.now) change }
+    {
+        match change {
+            Change::Same => true,
+            Change::Full(a, _) => (a as usize) < self.len(),
+            Change::Gone(base, count) => base as usize + count as usize <= self.len(),
+        }
+    }
+
+    /// Changes the cells.
+    pub fn change(&mut self, change: Change)
+        requires { is_below (length self.old) change ≡ true }
+        ensures { self.new ≡ written self.old change }
+    {
+        match change {
+            Change::Same => {}
+            Change::Full(a, value) => self.fill(a as usize, value),
+            Change::Gone(base, count) => self.empty_all(base, count),
+        }
+    }
+}

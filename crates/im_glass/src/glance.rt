@@ -1,0 +1,153 @@
+//! Readers of the full cells.
+ghost use Rattle.std.specs.Prelude.{◌≡◌, None, Some, IfOk, IfErr, OnErr, IfSome};
+ghost use mathlib.Core.List.{IsPrefix};
+ghost use Rattle.left_right.specs.Sides.{view};
+ghost use Rattle.im_types.specs.Changes.{value_after};
+ghost use Rattle.im_types.specs.declared.refusals.Refusal.TheVariants as Refusal;
+ghost use Rattle.im_glass.specs.Copies.{IsKept};
+ghost use Rattle.im_glass.specs.Rule.{HasSeen, state_of};
+
+use crate::book::{Beginning, PaneName};
+use crate::copies::{Ahead, Copy, History};
+use crate::pane::Told;
+use crate::rule::{Known, Notes, Sees, Shows};
+use core::mem::replace_with;
+use im_types::Refusal;
+use left_right::reader::Reader;
+use left_right::writer::Writer;
+use std::alloc::AllocError;
+use std::marker::Model;
+
+/// A reader that wasn't given out, and has no name. Contracts see of which book it is.
+#[derive(Drop)]
+pub struct Spare {
+    reader: Reader<Copy, Known, Shows>,
+    count: u64,
+    seen: History,
+}
+
+impl Model for Spare {
+    ghost use Rattle.std.specs.Prelude.{◌≡◌, length};
+    ghost use Rattle.left_right.specs.Sides.{view as known};
+    ghost use Rattle.logbook.specs.Pages.{Book};
+    ghost use Rattle.im_glass.specs.Rule.{HasSeen};
+
+    ghost Value = { Book };
+
+    ghost view = { λ s. s.seen.book };
+
+    ghost invariant = { λ s. (s.count ≡ length s.seen.log) × HasSeen (known s.reader.place) s.seen.book };
+}
+
+/// What reads the full cells. Contracts see what it has seen: a beginning of the changes that were shown.
+#[derive(Drop)]
+pub struct Glance<J: PaneName> {
+    reader: Reader<Copy, Known, Shows>,
+    seen: Beginning<J>,
+}
+
+impl<J: PaneName> Model for Glance<J> {
+    ghost use Rattle.std.specs.Prelude.{List};
+    ghost use Rattle.left_right.specs.Sides.{view as known};
+    ghost use Rattle.im_types.specs.declared.changes.Change.{Change};
+    ghost use Rattle.im_glass.specs.Rule.{HasSeen};
+
+    ghost Value = { List Change };
+
+    ghost view = { λ g. g.seen };
+
+    ghost invariant = { λ g. HasSeen (known g.reader.place) J.book };
+}
+
+impl Spare {
+    // One more reader, which has seen what is shown.
+    pub(crate) fn new(writer: &mut Writer<Copy, Ahead, Known, Shows>) -> Result<Spare, AllocError>
+        requires kept { IsKept (state_of writer.old.desk.shown.value) }
+        requires known { (view writer.old.desk.place).seen ≡ Some writer.old.desk.shown.value.seen }
+        ensures found { IfOk result (λ s. s ≡ writer.old.desk.shown.value.seen.book) }
+        ensures same { (writer.new.desk.shown ≡ writer.old.desk.shown) × (writer.new.log ≡ writer.old.log) × (writer.new.behind ≡ writer.old.behind) }
+        ensures known { view writer.new.desk.place ≡ view writer.old.desk.place }
+    {
+        let shown = writer.published();
+        let seen = shown.seen.again();
+        let count = shown.count;
+        let mut reader = writer.factory().reader()?;
+        reader.learn::<Notes>(writer.tell::<Notes>());
+        Ok(Spare {
+            reader,
+            count,
+            seen,
+        })
+    }
+
+    // The reader under the name of its book.
+    pub(crate) fn named<J: PaneName>(self) -> Glance<J>
+        requires { self ≡ J.book }
+    {
+        let Spare {
+            reader,
+            count,
+            seen,
+        } = self;
+        Glance {
+            reader,
+            seen: Beginning::of(seen, count),
+        }
+    }
+}
+
+impl<J: PaneName> Glance<J> {
+    /// Sees all that was told, from now on. (Own.)
+    pub fn learn(&mut self, told: &Told<J>)
+        ensures kept { IsPrefix self.old self.new }
+        ensures found { IsPrefix told.now self.new }
+    {
+        self.seen = self.seen.longer(told.beginning());
+    }
+
+    /// The value of a full I cell, after all that it saw and was told before, and whatever was shown since; none where the
+    /// cell isn't full then. It waits for nobody and takes no memory. `PaneGone` where the pane has ended, and it has
+    /// seen no more then. (Readers that never wait: Ramalhete, Correia, Left-Right, 2015.)
+    pub fn glance(&mut self, a: u32) -> Result<Option<u64>, Refusal>
+        ensures later { IfOk result (λ _. IsPrefix self.old self.new) }
+        ensures found { IfOk result (λ value. value ≡ value_after a None self.new) }
+        ensures same { OnErr result (self.new ≡ self.old) }
+        ensures only { IfErr result (λ e. e ≡ Refusal.PaneGone) }
+    {
+        match replace_with(&mut self.reader, a, |reader, a| look::<J>(reader, a)) {
+            Some((value, seen)) => {
+                // What was told was shown, so this never holds: no clause of the two copies says so.
+                if seen.len() < self.seen.len() {
+                    return Err(Refusal::PaneGone);
+                }
+                let _both = self.seen.longer(&seen);
+                self.seen = seen;
+                Ok(value)
+            }
+            None => Err(Refusal::PaneGone),
+        }
+    }
+}
+
+// Reads one cell, and what is shown then.
+fn look<J: PaneName>(
+    reader: Reader<Copy, Known, Shows>,
+    a: u32,
+) -> (
+    Reader<Copy, Known, Shows>,
+    Option<(Option<u64>, Beginning<J>)>,
+)
+    requires { HasSeen (view reader.place) J.book }
+    ensures value { IfSome result.1 (λ r. r.0 ≡ value_after a None r.1) }
+    ensures known { HasSeen (view result.0.place) J.book }
+{
+    match reader.enter_as::<Sees>() {
+        Ok(reading) => {
+            let shown = reading.get();
+            let value = shown.cells.get(a as usize);
+            let seen = Beginning::of(shown.seen.again(), shown.count);
+            (reading.leave(), Some((value, seen)))
+        }
+        Err(reader) => (reader, None),
+    }
+}

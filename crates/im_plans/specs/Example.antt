@@ -1,0 +1,27 @@
+-- A plan, and what it comes to. (Own.)
+use Rattle.std.specs.Prelude.{ℕ, List, [], ◌∷◌, Option, map}
+use Rattle.im_types.specs.declared.operations.Op.{Op}
+use Rattle.im_types.specs.declared.operations.Op.TheVariants.{Alloc, Fetch, Store}
+use Rattle.im_types.specs.declared.operations.Kind.TheVariants.{I}
+use Rattle.im_types.specs.declared.operations.Reply.{Reply}
+use Rattle.im_types.specs.declared.commands.Request.{Request}
+use Rattle.im_types.specs.declared.commands.Command.TheVariants.{Request as Asks}
+use Rattle.im_types.specs.Contents.{Contents, empty_contents}
+use Rattle.im_types.specs.Run.{after}
+use Rattle.im_types.specs.Plan.{result_of}
+
+-- a request of an element, under a number
+abbrev pub asks : ℕ → ℕ → Op → Request
+asks element number op = record { element = element; number = number; op = op }
+
+-- sixteen cells and four elements, and a block of two I cells
+abbrev pub two_cells : Contents
+two_cells = after (empty_contents 16 4) (Asks (asks 0 1 (Alloc I 2)) ∷ [])
+
+-- two fetches, the two stores, a fetch of a cell that another fetched too, and one in no block
+abbrev pub a_plan : List Request
+a_plan = asks 1 1 (Fetch 0) ∷ asks 1 2 (Fetch 1) ∷ asks 2 1 (Store 0 5) ∷ asks 2 2 (Store 1 6) ∷ asks 3 1 (Fetch 0) ∷ asks 3 2 (Fetch 9) ∷ []
+
+-- what each of a plan's requests comes to
+abbrev pub results_of : Contents → List Request → List (Option Reply)
+results_of m plan = map (λ r. result_of m.cells plan r.op) plan

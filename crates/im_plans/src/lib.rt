@@ -1,0 +1,68 @@
+//! Laws of planned runs: traces that ask only for what a plan has, on a memory that the plan fits. Each function here
+//! does nothing, and its contract is a law. They hold whatever the order of the requests, and whatever questions and
+//! confirmations come between.
+#![tactic(auto)]
+
+ghost use Rattle.std.specs.Prelude.{◌≡◌, ◌↔◌, ◌++◌, ◌∷◌, [], List, None, Some, Ok};
+ghost use Rattle.std.specs.List.{AllByRecursion};
+ghost use Rattle.im_types.specs.declared.operations.Reply.TheVariants.{Value, Stored, NoCell};
+ghost use Rattle.im_types.specs.declared.operations.Entry.{Entry};
+ghost use Rattle.im_types.specs.declared.operations.Entry.TheVariants.{Waiting};
+ghost use Rattle.im_types.specs.declared.commands.Request.{Request};
+ghost use Rattle.im_types.specs.declared.commands.Command.TheVariants.{Request as Asks};
+ghost use Rattle.im_types.specs.declared.commands.Outcome.TheVariants.{Entry as Tells};
+ghost use Rattle.im_types.specs.declared.commands.Call.TheVariants.{Command as Commands};
+ghost use Rattle.im_types.specs.declared.commands.Line.{Line};
+ghost use Rattle.im_types.specs.Contents.{Contents};
+ghost use Rattle.im_types.specs.Window.{ask};
+ghost use Rattle.im_types.specs.Step.{asker};
+ghost use Rattle.im_types.specs.Trace.{IsLegal, end_of};
+ghost use Rattle.im_types.specs.Plan.{result_of};
+ghost use Rattle.im_plans.specs.Example.{two_cells, a_plan, results_of};
+ghost use Rattle.im_plans.specs.Runs.{Starts, IsInPlan, IsPlannedCall, IsPlannedRun, IsResultOrWaits, TellsResults};
+ghost use Rattle.im_plans.specs.Runs.{HasServed, entry_for};
+
+/// Each answer that a planned request is given in a legal planned run is its result by the plan, which names no order:
+/// at once, when it is sent again, and when its entry is collected. So is each answer that is kept for it at the end.
+pub fn planned_answers_are_results()
+    ensures told { (m : Contents) (plan : List Request) (trace : List Line) → Starts m plan
+        → IsLegal m trace → IsPlannedRun plan trace → AllByRecursion (TellsResults m plan) trace }
+    ensures last { (m : Contents) (plan : List Request) (trace : List Line) (line : Line)
+        → Starts m plan → IsLegal m (trace ++ line ∷ []) → IsPlannedRun plan (trace ++ line ∷ [])
+        → TellsResults m plan line }
+    ensures kept { (m : Contents) (plan : List Request) (trace : List Line) (r : Request)
+        (entry : Entry) → Starts m plan → IsPlannedRun plan trace → IsInPlan plan r
+        → ask (end_of m trace).windows (asker r) ≡ Ok entry
+        → IsResultOrWaits (result_of m.cells plan r.op) entry }
+{}
+
+/// A fetch of an I cell that the plan doesn't store to stays waiting.
+pub fn fetch_with_no_store_waits()
+    ensures { (m : Contents) (plan : List Request) (trace : List Line) (r : Request)
+        (entry : Entry) → Starts m plan → IsPlannedRun plan trace → IsInPlan plan r
+        → result_of m.cells plan r.op ≡ None → ask (end_of m trace).windows (asker r) ≡ Ok entry
+        → entry ≡ Waiting }
+{}
+
+/// Once all of the plan was served, what is kept for its requests is given by the memory at the start and the plan
+/// alone: the result, or Waiting where there is none.
+pub fn served_plan_has_one_end()
+    ensures { (m : Contents) (plan : List Request) (trace : List Line) (r : Request)
+        (entry : Entry) → Starts m plan → IsPlannedRun plan trace
+        → HasServed (end_of m trace).windows plan → IsInPlan plan r
+        → ask (end_of m trace).windows (asker r) ≡ Ok entry
+        → entry ≡ entry_for (result_of m.cells plan r.op) }
+{}
+
+/// A planned run with one line more is planned exactly where that line is.
+pub fn planned_run_grows()
+    ensures { (plan : List Request) (trace : List Line) (line : Line) → IsPlannedRun plan trace
+        → IsPlannedRun plan (trace ++ line ∷ []) ↔ IsPlannedCall plan line.call }
+{}
+
+/// An example: fetches have the value that the plan stores, before and after its store; one in no block is told so.
+pub fn plan_has_results()
+    ensures { results_of two_cells a_plan
+        ≡ Some (Value 5) ∷ Some (Value 6) ∷ Some Stored ∷ Some Stored ∷ Some (Value 5) ∷ Some NoCell
+        ∷ [] }
+{}
