@@ -50,9 +50,6 @@ each_stuck m e Active is = absurd is
 each_stuck m e (Waits n) is = from_entry (entry_at m e n) is
 each_stuck m e Retired is = refl
 
-both : (a b : Bool) → a ≡ true → b ≡ true → (a && b) ≡ true
-both a b is also = ap (λ a. a && b) is ∙ also
-
 past_stuck : (m : Contents) (k e : ℕ) (x : Server) → is_past m k e x ≡ true → e ≢ k → is_stuck m e x ≡ true
 past_stuck m k e x is other = by_test (e == k) refl is
   where
@@ -95,9 +92,8 @@ all_ones : (m : Contents) (k e : ℕ) (xs : List Server) → ((j : ℕ) (x : Ser
 all_ones m k e [] is = refl
 all_ones m k e (y ∷ ys) is =
     let first : e + 0 ≡ e = omega arith in
-    both _ _
-    (stuck_past m k e y (λ other. each_stuck m e y (subst (λ (f : ℕ). IsStuck m f y) first (is 0 y refl (λ same. other (sym first ∙ same))))))
-    (all_ones m k (suc e) ys (λ j x at other. let next : e + suc j ≡ suc e + j = omega arith in subst (λ (f : ℕ). IsStuck m f x) next (is (suc j) x at (λ same. other (sym next ∙ same)))))
+    ap (λ a. a && are_stuck m k (suc e) ys) (stuck_past m k e y (λ other. each_stuck m e y (subst (λ (f : ℕ). IsStuck m f y) first (is 0 y refl (λ same. other (sym first ∙ same))))))
+    ∙ (all_ones m k (suc e) ys (λ j x at other. let next : e + suc j ≡ suc e + j = omega arith in subst (λ (f : ℕ). IsStuck m f x) next (is (suc j) x at (λ same. other (sym next ∙ same)))))
 
 pub stuck_is_each : (m : Contents) (k : ℕ) (xs : List Server) → (are_stuck m k 0 xs ≡ true) ↔ AllStuckBut m k xs
 stuck_is_each m k xs = (

@@ -1,9 +1,5 @@
-use Rattle.std.proofs.Common.{◌≡◌, ℕ, Ok, Err, Result, sym, ap, ◌∙◌}
-use Rattle.im_types.specs.declared.refusals.Refusal.{Refusal}
-use Rattle.im_types.specs.declared.refusals.Refusal.TheVariants.{Stalled}
-use Rattle.im_types.specs.Refusals.{number_of}
-use Rattle.im_controller.specs.declared.servers.Ask.{Ask}
-use Rattle.im_controller.specs.declared.servers.Ask.TheVariants.{Go, Wait}
+use Rattle.std.proofs.Common.{Ok, Err}
+use Rattle.im_controller.specs.declared.servers.Ask.TheVariants.{Go}
 use Rattle.im_controller.proofs.WaitLemmas.{finds-told, go-waits, err-waits, go-stalled, other-stalled}
 use Rattle.im_controller.proofs.shared.ask_once.Goals as goal
 
