@@ -1,0 +1,4 @@
+pub mod LogLemmas
+pub mod StuckLemmas
+pub mod LendLemmas
+pub mod WaitLemmas

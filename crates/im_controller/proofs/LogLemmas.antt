@@ -1,0 +1,151 @@
+-- A log that grows by a line, keeps an answer for its port, and hands it out.
+use Rattle.std.proofs.Common.{◌≡◌, ℕ, zero, suc, ◌+◌, ◌<◌, ◌≤◌, Bool, true, false, List, [], ◌∷◌, ◌++◌, refl, sym, ap, ◌∙◌, subst, cond, Option, None, Some, Result, Ok, Err, length, length-append, append-nil, slice_get, slice_set, sum_by, arith, if◌then◌else◌}
+use Rattle.std.specs.Prelude.{count_by, IfOk}
+use Rattle.std.specs.List.{AllByRecursion}
+use Rattle.std.proofs.lemmas.List.Sums.{sum_by-append, sum_by-set}
+use Rattle.std.proofs.lemmas.Option.{slice_get_within, get_or_from_slice_get}
+use Rattle.im_types.specs.declared.commands.Command.TheVariants.{Request as Asks}
+use Rattle.im_types.specs.declared.commands.Request.{Request}
+use Rattle.im_types.specs.declared.commands.Outcome.{Outcome}
+use Rattle.im_types.specs.declared.commands.Call.{Call}
+use Rattle.im_types.specs.declared.commands.Call.TheVariants.{Command as Commands}
+use Rattle.im_types.specs.declared.commands.Line.{Line}
+use Rattle.im_types.specs.declared.refusals.Refusal.{Refusal}
+use Rattle.im_types.specs.Contents.{Contents}
+use Rattle.im_types.specs.declared.operations.Entry.{Entry}
+use Rattle.im_types.specs.declared.commands.Outcome.TheVariants.{Entry as Tells}
+use Rattle.im_types.specs.Trace.{told, answer_to, contents_after, IsLegal, end_of}
+use Rattle.im_laws.proofs.TraceLemmas.{end_of-append, IsLegal-push}
+use Rattle.im_controller.specs.Lines.{Counts, EndsIn, EndsInAll, leaves_line, line_of, lines_of, memory_after, counts_after}
+use Rattle.im_controller.specs.Log.{UnclaimedState, LogState, IsProof, IsProofIn, unclaimed_lines, with_line, with_unclaimed, without_unclaimed, AreFree, IsLog}
+
+-- the line of a call, if it leaves one
+abbrev lines_by : Bool → Call → Result Outcome Refusal → List Line
+lines_by b call answer = if b then line_of call answer ∷ [] else []
+
+-- what a trace with the line of an answer more comes to
+legal_by : (b : Bool) (m : Contents) (trace : List Line) (call : Call) (answer : Result Outcome Refusal) → IsLegal m trace → (b ≡ true → answer ≡ answer_to (end_of m trace) call)
+    → IsLegal m (trace ++ lines_by b call answer)
+legal_by true m trace call answer legal is = IsLegal-push m trace (line_of call answer) legal (is refl)
+legal_by false m trace call answer legal is = subst (λ ls. IsLegal m ls) (sym (append-nil trace)) legal
+
+end_by : (b : Bool) (m : Contents) (trace : List Line) (call : Call) (answer : Result Outcome Refusal)
+    → end_of m (trace ++ lines_by b call answer) ≡ (if b then contents_after (end_of m trace) call else end_of m trace)
+end_by true m trace call answer = end_of-append m trace (line_of call answer ∷ [])
+end_by false m trace call answer = ap (λ ls. end_of m ls) (append-nil trace)
+
+few_by : (b : Bool) (call : Call) (answer : Result Outcome Refusal) (n limit : ℕ) → (b ≡ true → n < limit) → n ≤ limit → n + length (lines_by b call answer) ≤ limit
+few_by true call answer n limit room few = omega (arith, room refl)
+few_by false call answer n limit room few = omega (arith, few)
+
+pub end-lines : (m : Contents) (trace : List Line) (call : Call) (answer : Result Outcome Refusal) → end_of m (trace ++ lines_of call answer) ≡ memory_after (end_of m trace) call answer
+end-lines m trace call answer = end_by (leaves_line answer) m trace call answer
+
+count-append : (marks : Line → Bool) (xs ys : List Line) → count_by marks (xs ++ ys) ≡ count_by marks xs + count_by marks ys
+count-append marks xs ys = sum_by-append (λ x. cond (marks x) 1 0) xs ys
+
+-- the trace of an answer's receipt
+proof_at : (m : Contents) (trace : List Line) (call : Call) (answer : Result Outcome Refusal) → IsLegal m (trace ++ lines_of call answer) → IsProof m call answer (trace ++ lines_of call answer)
+proof_at m trace call (Ok outcome) legal = (legal, (trace, refl))
+proof_at m trace call (Err refusal) legal = tt
+
+pub proof-at_end : (m : Contents) (trace : List Line) (call : Call) (answer : Result Outcome Refusal) → IsLegal m trace → EndsInAll trace (lines_of call answer) → IsProof m call answer trace
+proof-at_end m trace call (Ok outcome) legal ends = (legal, ends)
+proof-at_end m trace call (Err refusal) legal ends = tt
+
+-- sums over places
+module _ (f : Option UnclaimedState → ℕ) (none : f None ≡ 0) (places : List (Option UnclaimedState)) (e : ℕ) (w : UnclaimedState) where
+  sum_kept : slice_get places e ≡ Some None → sum_by f (slice_set places e (Some w)) ≡ sum_by f places + f (Some w)
+  sum_kept free =
+      let old = ap f (get_or_from_slice_get places e None None free) in
+      omega (arith, sum_by-set f places e (Some w) None (slice_get_within places e None free), old, none)
+
+  sum_claimed : slice_get places e ≡ Some (Some w) → sum_by f (slice_set places e None) + f (Some w) ≡ sum_by f places
+  sum_claimed there =
+      let old = ap f (get_or_from_slice_get places e (Some w) None there) in
+      omega (arith, sum_by-set f places e None None (slice_get_within places e (Some w) there), old, none)
+
+-- what holds of each place, of a changed one too
+module _ {X : Type 0} (P : X → Type 0) where
+  all-set : (xs : List X) (i : ℕ) (x : X) → AllByRecursion P xs → P x → AllByRecursion P (slice_set xs i x)
+  all-set [] i x all is = tt
+  all-set (y ∷ xs) zero x all is = (is, all.1)
+  all-set (y ∷ xs) (suc i) x all is = (all.0, all-set xs i x all.1 is)
+
+  some-get : (x y : X) → Some x ≡ Some y → P x → P y
+  some-get x y e is = subst P (cc) is
+
+  pub all-get : (xs : List X) (i : ℕ) (x : X) → AllByRecursion P xs → slice_get xs i ≡ Some x → P x
+  all-get [] i x all at = absurd (cc)
+  all-get (y ∷ xs) zero x all at = some-get y x at all.0
+  all-get (y ∷ xs) (suc i) x all at = all-get xs i x all.1 at
+
+module _ (m : Contents) (marks : Line → Bool) (l : LogState) (books : Counts) (is : IsLog m marks l books) where
+  -- a line whose port is told it at once
+  pub log-leaves : (call : Call) (answer : Result Outcome Refusal) → (leaves_line answer ≡ true → length l.trace < l.limit) → (leaves_line answer ≡ true → answer ≡ answer_to (end_of m l.trace) call)
+      → IsLog m marks (with_line l call answer) (counts_after marks books (lines_of call answer))
+  log-leaves call answer room so =
+      let more = lines_of call answer in record {
+        legal = legal_by (leaves_line answer) m l.trace call answer is.legal so;
+        few = omega (arith, few_by (leaves_line answer) call answer (length l.trace) l.limit room is.few, length-append l.trace more);
+        lines = omega (arith, is.lines, length-append l.trace more);
+        marked = omega (arith, is.marked, count-append marks l.trace more);
+        proofs = is.proofs;
+      }
+
+  -- an answer that waits for its port
+  pub log-keeps : (r : Request) (answer : Result Outcome Refusal) → slice_get l.places r.element ≡ Some None → (leaves_line answer ≡ true → length l.trace < l.limit)
+      → (leaves_line answer ≡ true → answer ≡ answer_to (end_of m l.trace) (Commands (Asks r))) → IsLog m marks (with_unclaimed l r answer) books
+  log-keeps r answer free room so =
+      let call = Commands (Asks r) in
+      let more = lines_of call answer in
+      let w : UnclaimedState = record { request = r; answer = answer; history = l.trace ++ more } in
+      let legal = legal_by (leaves_line answer) m l.trace call answer is.legal so in record {
+        legal = legal;
+        few = omega (arith, few_by (leaves_line answer) call answer (length l.trace) l.limit room is.few, length-append l.trace more);
+        lines = omega (arith, is.lines, sum_kept (λ p. length (unclaimed_lines p)) refl l.places r.element w free, length-append l.trace more);
+        marked = omega (arith, is.marked, sum_kept (λ p. count_by marks (unclaimed_lines p)) refl l.places r.element w free, count-append marks l.trace more);
+        proofs = all-set (IsProofIn m) l.places r.element (Some w) is.proofs (proof_at m l.trace call answer legal);
+      }
+
+  -- an answer that its port takes
+  pub log-claims : (e : ℕ) (w : UnclaimedState) → slice_get l.places e ≡ Some (Some w) → IsLog m marks (without_unclaimed l e) (counts_after marks books (unclaimed_lines (Some w)))
+  log-claims e w there = record {
+    legal = is.legal;
+    few = is.few;
+    lines = omega (arith, is.lines, sum_claimed (λ p. length (unclaimed_lines p)) refl l.places e w there);
+    marked = omega (arith, is.marked, sum_claimed (λ p. count_by marks (unclaimed_lines p)) refl l.places e w there);
+    proofs = all-set (IsProofIn m) l.places e None is.proofs tt;
+  }
+
+-- places in which no answer waits
+free-sum : (f : Option UnclaimedState → ℕ) (places : List (Option UnclaimedState)) → f None ≡ 0 → AreFree places → sum_by f places ≡ 0
+free-sum f [] none free = refl
+free-sum f (p ∷ places) none free = omega (arith, free-sum f places none free.1, ap f free.0 ∙ none, sum_by-append f (p ∷ []) places)
+
+free-proofs : (m : Contents) (places : List (Option UnclaimedState)) → AreFree places → AllByRecursion (IsProofIn m) places
+free-proofs m [] free = tt
+free-proofs m (p ∷ places) free = (subst (λ (q : Option UnclaimedState). IsProofIn m q) (sym free.0) tt, free-proofs m places free.1)
+
+-- a log before its first line
+pub log-starts : (m : Contents) (marks : Line → Bool) (trace : List Line) (limit : ℕ) (places : List (Option UnclaimedState)) (books : Counts) → trace ≡ [] → AreFree places → books.lines ≡ 0 → books.marked ≡ 0
+    → IsLog m marks (record { trace = trace; limit = limit; places = places }) books
+log-starts m marks trace limit places books none free no_lines no_marked = rw none (record {
+  legal = tt;
+  few = omega arith;
+  lines = omega (arith, no_lines, free-sum (λ p. length (unclaimed_lines p)) places refl free);
+  marked = omega (arith, no_marked, free-sum (λ p. count_by marks (unclaimed_lines p)) places refl free);
+  proofs = free-proofs m places free;
+})
+
+-- where no answer waits, the books count all lines
+pub log-claimed : (m : Contents) (marks : Line → Bool) (l : LogState) (books : Counts) → IsLog m marks l books → AreFree l.places → (books.lines ≡ length l.trace) × (books.marked ≡ count_by marks l.trace)
+log-claimed m marks l books is free = (
+  omega (arith, is.lines, free-sum (λ p. length (unclaimed_lines p)) l.places refl free),
+  omega (arith, is.marked, free-sum (λ p. count_by marks (unclaimed_lines p)) l.places refl free),
+)
+
+-- an entry that is told has its line at the end
+pub last-told : (l : LogState) (trace : List Line) (call : Call) (answer : Result Entry Refusal) → trace ≡ l.trace ++ lines_of call (told answer) → IfOk answer (λ entry. EndsIn trace (line_of call (Ok (Tells entry))))
+last-told l trace call (Ok entry) is = (l.trace, is)
+last-told l trace call (Err refusal) is = tt

@@ -1,0 +1,20 @@
+use Rattle.std.proofs.Common.{Some, subst, sym, ap, ◌∙◌}
+use Rattle.im_controller.specs.Lines.{counts_after}
+use Rattle.im_controller.specs.Log.{UnclaimedState, IsProofIn, unclaimed_lines}
+use Rattle.im_controller.proofs.LogLemmas.{log-claims, all-get}
+use Rattle.im_controller.proofs.log.Log.claim.Goals as goal
+
+pub receipt_of-requires : goal.receipt_of-requires
+receipt_of-requires g c =
+    let m = g.K.Name.memory in
+    subst (λ (w : UnclaimedState). IsProofIn m (Some w)) (sym c.found.view_is)
+    (all-get (IsProofIn m) c.self.inside.places.items c.args.element (Some c.in_ok-found.found) c.self.invariant.0.proofs c.in_ok-found.ensures.0)
+
+pub invariant_of-self-2 : goal.invariant_of-self-2
+invariant_of-self-2 g c =
+    let marks = g.K.Name.marks in
+    let counted = c.count_line.ensures.books ∙ ap (λ (w : UnclaimedState). counts_after marks c.self.inside.books (unclaimed_lines (Some w))) c.found.view_is in
+    rw (c.in_ok-found.ensures.2, counted) (
+      log-claims g.K.Name.memory marks _ c.self.inside.books c.self.invariant.0 c.args.element c.in_ok-found.found c.in_ok-found.ensures.0,
+      c.self.invariant.1,
+    )

@@ -1,0 +1,15 @@
+use Rattle.std.proofs.Common.{Ok, Err}
+use Rattle.im_controller.specs.declared.servers.Ask.TheVariants.{Go}
+use Rattle.im_controller.proofs.WaitLemmas.{finds-told, go-waits, err-waits, go-stalled, other-stalled}
+use Rattle.im_controller.proofs.shared.ask_once.Goals as goal
+
+pub returns-in-Ok-Go-clause-told : goal.returns-in-Ok-Go-clause-told
+returns-in-Ok-Go-clause-told g c =
+    let begins = rw c.in-Ok-Go.field-0-is at c.in-Ok-Go.ensures.begins in
+    finds-told g.K.Name.marks c.args.shared.now c.begin_wait.new.shared c.find.new.shared c.args.element c.args.number c.args.tally.now c.find.new.tally c.find.result c.find.ensures.looks
+    (Ok Go) begins go-waits go-stalled
+
+pub returns-else-number-eq19-clause-told : goal.returns-else-number-eq19-clause-told
+returns-else-number-eq19-clause-told g c =
+    finds-told g.K.Name.marks c.args.shared.now c.begin_wait.new.shared c.find-in-Err.new.shared c.args.element c.args.number c.args.tally.now c.find-in-Err.new.tally c.find-in-Err.result c.find-in-Err.ensures.looks
+    (Err c.in-Err.refusal) c.in-Err.ensures.begins (err-waits c.in-Err.refusal) (other-stalled c.in-Err.refusal c.number.result c.number.ensures c.if-number-eq19.false)

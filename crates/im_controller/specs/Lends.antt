@@ -1,0 +1,75 @@
+-- What is done under the lock. (Own.)
+use Rattle.std.specs.Prelude.{◌≡◌, ℕ, ◌<◌, ◌≤◌, Bool, true, false, Result, Ok, Err, length, if◌then◌else◌, ◌==◌}
+use Rattle.im_types.specs.declared.operations.Entry.{Entry}
+use Rattle.im_types.specs.declared.operations.Entry.TheVariants.{Waiting}
+use Rattle.im_types.specs.declared.commands.Command.{Command}
+use Rattle.im_types.specs.declared.commands.Outcome.{Outcome}
+use Rattle.im_types.specs.declared.commands.Call.{Call}
+use Rattle.im_types.specs.declared.commands.Call.TheVariants.{Command as Commands, Collect}
+use Rattle.im_types.specs.declared.commands.Line.{Line}
+use Rattle.im_types.specs.declared.refusals.Refusal.{Refusal}
+use Rattle.im_types.specs.declared.refusals.Refusal.TheVariants.{JournalFull, Failed, TraceFull, Stalled}
+use Rattle.im_types.specs.Trace.{told}
+use Rattle.im_checkpoint.specs.declared.checkpoint.TurnDone.{TurnDone}
+use Rattle.im_checkpoint.specs.declared.checkpoint.TurnDone.TheVariants.{Idle}
+use Rattle.im_engine.specs.Run.{Answered, TurnAnswered}
+use Rattle.im_controller.specs.declared.servers.Ask.{Ask}
+use Rattle.im_controller.specs.declared.servers.Ask.TheVariants.{Go, Wait}
+use Rattle.im_controller.specs.declared.servers.Server.{Server}
+use Rattle.im_controller.specs.declared.servers.Server.TheVariants.{Active, Waits}
+use Rattle.im_controller.specs.Lines.{Counts, lines_of, counts_after}
+use Rattle.im_controller.specs.Log.{ReceiptState, plain, receipt_for, with_line}
+use Rattle.im_controller.specs.Servers.{entry_at, is_answered, are_stuck, with_server}
+use Rattle.im_controller.specs.State.{SharedState}
+
+-- the line of a call, if it leaves one, stands in the log; the servers stay
+pub record Leaves {D : Type 0} (s : SharedState D) (call : Call) (answer : Result Outcome Refusal) (s' : SharedState D) : Type 0 where
+  pub log : s'.log ≡ with_line s.log call answer
+  pub servers : s'.servers ≡ s.servers
+
+-- A command that is lent to the engine, by its answer. Refused first where the engine has failed, and then where the trace is full.
+pub record Lends {D : Type 0} (marks : Line → Bool) (s : SharedState D) (t : Counts) (command : Command) (answer : Result ReceiptState Refusal) (s' : SharedState D) (t' : Counts) : Type 0 where
+  pub dead : s.engine.failed ≡ true → (answer ≡ Err Failed) × (s' ≡ s)
+  pub full : s.engine.failed ≡ false → s.log.limit ≤ length s.log.trace → (answer ≡ Err TraceFull) × (s' ≡ s)
+  -- else the engine answers it, and its line is left where it has an outcome or a refusal of numbers
+  pub served : s.engine.failed ≡ false → length s.log.trace < s.log.limit →
+      Answered s.engine command (plain answer) s'.engine × Leaves s (Commands command) (plain answer) s'
+  -- its port has counted the line, if there is one, and an outcome has the trace that ends in it
+  pub tally : t' ≡ counts_after marks t (lines_of (Commands command) (plain answer))
+  pub receipt : answer ≡ receipt_for s'.log.trace command (plain answer)
+
+-- A collect, in the same order of refusals: the engine stays, and its line is left.
+pub record Looks {D : Type 0} (marks : Line → Bool) (s : SharedState D) (t : Counts) (element number : ℕ) (answer : Result Entry Refusal) (s' : SharedState D) (t' : Counts) : Type 0 where
+  pub dead : s.engine.failed ≡ true → (answer ≡ Err Failed) × (s' ≡ s)
+  pub full : s.engine.failed ≡ false → s.log.limit ≤ length s.log.trace → (answer ≡ Err TraceFull) × (s' ≡ s)
+  pub found : s.engine.failed ≡ false → length s.log.trace < s.log.limit →
+      (answer ≡ entry_at s.engine.memory element number) × Leaves s (Collect element number) (told answer) s' × (s'.engine ≡ s.engine)
+  pub tally : t' ≡ counts_after marks t (lines_of (Collect element number) (told answer))
+
+-- a turn of a checkpoint, as who lends it is told: there is nothing to do, though the journal is full
+abbrev pub told_turn : ℕ → Result TurnDone Refusal → Result TurnDone Refusal
+told_turn room (Ok Idle) = if room == 0 then Err JournalFull else Ok Idle
+told_turn room answer = answer
+
+-- One turn of the engine: the log and the servers stay.
+pub record LendsTurn {D : Type 0} (s : SharedState D) (answer : Result TurnDone Refusal) (s' : SharedState D) : Type 0 where
+  pub done : Result TurnDone Refusal
+  pub turned : TurnAnswered s.engine done s'.engine
+  pub is : answer ≡ told_turn s'.engine.room done
+  pub log : s'.log ≡ s.log
+  pub servers : s'.servers ≡ s.servers
+
+-- what lies under the lock, and an element's server, if it is active, does something else
+abbrev pub with_server_at : {D : Type 0} → SharedState D → ℕ → Server → SharedState D
+with_server_at s element server = record { engine = s.engine; log = s.log; servers = with_server s.servers element server }
+
+-- A server asks whether it may wait for an entry: it waits from then on exactly where it is told to.
+pub record BeginsWait {D : Type 0} (s : SharedState D) (element number : ℕ) (answer : Result Ask Refusal) (s' : SharedState D) : Type 0 where
+  pub dead : s.engine.failed ≡ true → (answer ≡ Err Failed) × (s' ≡ with_server_at s element Active)
+  pub refused : (refusal : Refusal) → s.engine.failed ≡ false → entry_at s.engine.memory element number ≡ Err refusal → (answer ≡ Err refusal) × (s' ≡ with_server_at s element Active)
+  pub ready : s.engine.failed ≡ false → is_answered (entry_at s.engine.memory element number) ≡ true → (answer ≡ Ok Go) × (s' ≡ with_server_at s element Active)
+  -- each active server waits, the caller's too, and none of their entries is answered
+  pub stalled : s.engine.failed ≡ false → entry_at s.engine.memory element number ≡ Ok Waiting → are_stuck s.engine.memory element 0 s.servers ≡ true
+      → (answer ≡ Err Stalled) × (s' ≡ with_server_at s element Active)
+  pub waits : s.engine.failed ≡ false → entry_at s.engine.memory element number ≡ Ok Waiting → are_stuck s.engine.memory element 0 s.servers ≡ false
+      → (answer ≡ Ok Wait) × (s' ≡ with_server_at s element (Waits number))

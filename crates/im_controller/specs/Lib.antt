@@ -1,0 +1,6 @@
+pub mod Lines
+pub mod Log
+pub mod Servers
+pub mod State
+pub mod Lends
+pub mod Waits

@@ -1,0 +1,43 @@
+-- The lines that calls leave in a trace, and how many of them a port was told. (Own.)
+use Rattle.std.specs.Prelude.{ℕ, ◌≡◌, ◌+◌, ◌++◌, List, [], ◌∷◌, Bool, true, Result, Ok, Err, length, count_by, nat_lt, if◌then◌else◌}
+use Rattle.im_types.specs.declared.commands.Outcome.{Outcome}
+use Rattle.im_types.specs.declared.commands.Call.{Call}
+use Rattle.im_types.specs.declared.commands.Line.{Line}
+use Rattle.im_types.specs.declared.refusals.Refusal.{Refusal}
+use Rattle.im_types.specs.Refusals.{number_of}
+use Rattle.im_types.specs.Contents.{Contents}
+use Rattle.im_types.specs.Trace.{contents_after}
+
+-- whether an answer leaves a line: an outcome does, and a refusal of numbers, 1 to 6
+abbrev pub leaves_line : Result Outcome Refusal → Bool
+leaves_line (Ok outcome) = true
+leaves_line (Err refusal) = nat_lt (number_of refusal) 7
+
+-- a call with its answer
+abbrev pub line_of : Call → Result Outcome Refusal → Line
+line_of call answer = record { call = call; answer = answer }
+
+-- the line that a call leaves with this answer, if it leaves one
+abbrev pub lines_of : Call → Result Outcome Refusal → List Line
+lines_of call answer = if leaves_line answer then line_of call answer ∷ [] else []
+
+-- the memory after a call with this answer
+abbrev pub memory_after : Contents → Call → Result Outcome Refusal → Contents
+memory_after m call answer = if leaves_line answer then contents_after m call else m
+
+-- a trace ends in these lines
+abbrev pub EndsInAll : List Line → List Line → Type 0
+EndsInAll lines last = (before : List Line) × (lines ≡ before ++ last)
+
+-- a trace ends in this line
+abbrev pub EndsIn : List Line → Line → Type 0
+EndsIn lines line = EndsInAll lines (line ∷ [])
+
+-- how many lines, and how many of them are marked
+pub record Counts : Type 0 where
+  pub lines : ℕ
+  pub marked : ℕ
+
+-- the counts after these lines more
+abbrev pub counts_after : (Line → Bool) → Counts → List Line → Counts
+counts_after marks counts lines = record { lines = counts.lines + length lines; marked = counts.marked + count_by marks lines }

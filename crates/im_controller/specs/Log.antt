@@ -1,0 +1,108 @@
+-- The log: a trace with the answers that wait for their ports, and the receipts that go out of it. (Own.)
+use Rattle.std.specs.Prelude.{◌≡◌, ℕ, ◌+◌, ◌≤◌, ◌++◌, List, [], Bool, Option, None, Some, Result, Ok, Err, length, slice_get, slice_set, count_by, sum_by}
+use Rattle.std.specs.List.{AllByRecursion}
+use Rattle.im_types.specs.declared.operations.Entry.{Entry}
+use Rattle.im_types.specs.declared.commands.Command.{Command}
+use Rattle.im_types.specs.declared.commands.Command.TheVariants.{Request as Asks}
+use Rattle.im_types.specs.declared.commands.Request.{Request}
+use Rattle.im_types.specs.declared.commands.Outcome.{Outcome}
+use Rattle.im_types.specs.declared.commands.Call.{Call}
+use Rattle.im_types.specs.declared.commands.Call.TheVariants.{Command as Commands}
+use Rattle.im_types.specs.declared.commands.Line.{Line}
+use Rattle.im_types.specs.declared.refusals.Refusal.{Refusal}
+use Rattle.im_types.specs.Contents.{Contents}
+use Rattle.im_types.specs.Trace.{IsLegal}
+use Rattle.im_controller.specs.Lines.{EndsIn, Counts, line_of, lines_of, counts_after}
+
+-- what a command came to, and the trace that its line ends
+pub record ReceiptState : Type 0 where
+  pub command : Command
+  pub outcome : Outcome
+  pub history : List Line
+
+-- what was kept under a number, and the trace that the line of this collect ends
+pub record FoundState : Type 0 where
+  pub element : ℕ
+  pub number : ℕ
+  pub entry : Entry
+  pub history : List Line
+
+-- the answer to a request that its port hasn't taken yet, and the trace right after it
+pub record UnclaimedState : Type 0 where
+  pub request : Request
+  pub answer : Result Outcome Refusal
+  pub history : List Line
+
+-- a trace, how many lines it may have, and a place for each element's answer
+pub record LogState : Type 0 where
+  pub trace : List Line
+  pub limit : ℕ
+  pub places : List (Option UnclaimedState)
+
+-- an answer without its receipt
+abbrev pub plain : Result ReceiptState Refusal → Result Outcome Refusal
+plain (Ok receipt) = Ok receipt.outcome
+plain (Err refusal) = Err refusal
+
+-- an answer with its receipt, which has this trace
+abbrev pub receipt_for : List Line → Command → Result Outcome Refusal → Result ReceiptState Refusal
+receipt_for history command (Ok outcome) = Ok (record { command = command; outcome = outcome; history = history })
+receipt_for history command (Err refusal) = Err refusal
+
+-- a legal trace that ends in the line of this answer, if that is an outcome
+abbrev pub IsProof : Contents → Call → Result Outcome Refusal → List Line → Type 0
+IsProof m call (Ok outcome) history = IsLegal m history × EndsIn history (line_of call (Ok outcome))
+IsProof m call (Err refusal) history = Unit {0}
+
+-- the lines that an answer left which waits in a place
+abbrev pub unclaimed_lines : Option UnclaimedState → List Line
+unclaimed_lines None = []
+unclaimed_lines (Some waiting) = lines_of (Commands (Asks waiting.request)) waiting.answer
+
+-- the log after the line of a call, whose port was told
+abbrev pub with_line : LogState → Call → Result Outcome Refusal → LogState
+with_line l call answer = record l { trace = l.trace ++ lines_of call answer }
+
+-- the log with the answer to a request in its element's place
+abbrev pub with_unclaimed : LogState → Request → Result Outcome Refusal → LogState
+with_unclaimed l r answer =
+    let trace = l.trace ++ lines_of (Commands (Asks r)) answer in
+    record { trace = trace; limit = l.limit; places = slice_set l.places r.element (Some (record { request = r; answer = answer; history = trace })) }
+
+-- the log with an element's place free
+abbrev pub without_unclaimed : LogState → ℕ → LogState
+without_unclaimed l element = record l { places = slice_set l.places element None }
+
+-- an answer that waits in a place has a legal trace that ends in its line
+abbrev pub IsProofIn : Contents → Option UnclaimedState → Type 0
+IsProofIn m None = Unit {0}
+IsProofIn m (Some waiting) = IsProof m (Commands (Asks waiting.request)) waiting.answer waiting.history
+
+-- A legal trace with no more lines than it may have. The books count each line that its port was told: all but those whose answers wait.
+pub record IsLog (m : Contents) (marks : Line → Bool) (l : LogState) (books : Counts) : Type 0 where
+  pub legal : IsLegal m l.trace
+  pub few : length l.trace ≤ l.limit
+  pub lines : books.lines + sum_by (λ p. length (unclaimed_lines p)) l.places ≡ length l.trace
+  pub marked : books.marked + sum_by (λ p. count_by marks (unclaimed_lines p)) l.places ≡ count_by marks l.trace
+  -- and each answer that waits has a legal trace that ends in its line
+  pub proofs : AllByRecursion (IsProofIn m) l.places
+
+-- a receipt is of this command
+abbrev pub IsOf : Command → Result ReceiptState Refusal → Type 0
+IsOf command (Ok receipt) = receipt.command ≡ command
+IsOf command (Err refusal) = Unit {0}
+
+-- the answer to a request is taken from an element's place, or isn't there
+abbrev pub Takes : List (Option UnclaimedState) → ℕ → Request → Option UnclaimedState → List (Option UnclaimedState) → Type 0
+Takes places element r None others = others ≡ places
+Takes places element r (Some w) others = (slice_get places element ≡ Some (Some w)) × (w.request ≡ r) × (others ≡ slice_set places element None)
+
+-- A port looks for the answer to its request in its element's place: there is none; or it takes it, and its line is counted.
+abbrev pub Claims : (Line → Bool) → LogState → Counts → ℕ → Request → Option (Result ReceiptState Refusal) → LogState → Counts → Type 0
+Claims marks l t element r None l' t' = (l' ≡ l) × (t' ≡ t)
+Claims marks l t element r (Some answer) l' t' =
+    (l' ≡ without_unclaimed l element) × (t' ≡ counts_after marks t (lines_of (Commands (Asks r)) (plain answer))) × IsOf (Asks r) answer
+
+-- no answer waits in any of these places
+abbrev pub AreFree : List (Option UnclaimedState) → Type 0
+AreFree places = AllByRecursion (λ place. place ≡ None) places

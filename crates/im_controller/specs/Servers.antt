@@ -1,0 +1,60 @@
+-- Servers that wait, and when all of them do. (Own.)
+use Rattle.std.specs.Prelude.{◌≡◌, ◌≢◌, ℕ, suc, ◌==◌, ◌||◌, ◌&&◌, List, [], ◌∷◌, Option, Some, None, Bool, true, false, Result, Ok, Err, slice_get, slice_set, if◌then◌else◌}
+use Rattle.im_types.specs.declared.operations.Entry.{Entry}
+use Rattle.im_types.specs.declared.operations.Entry.TheVariants.{Waiting, Answered}
+use Rattle.im_types.specs.declared.operations.Reply.{Reply}
+use Rattle.im_types.specs.declared.refusals.Refusal.{Refusal}
+use Rattle.im_types.specs.Contents.{Contents}
+use Rattle.im_types.specs.Window.{ask}
+use Rattle.im_controller.specs.declared.servers.Server.{Server}
+use Rattle.im_controller.specs.declared.servers.Server.TheVariants.{Unmade, Active, Waits, Retired}
+
+-- what is kept under an element's number
+abbrev pub entry_at : Contents → ℕ → ℕ → Result Entry Refusal
+entry_at m element number = ask m.windows (record { element = element; number = number })
+
+-- whether what was asked for is there and is no longer waited for
+abbrev pub is_answered : Result Entry Refusal → Bool
+is_answered (Ok (Answered reply)) = true
+is_answered (Ok Waiting) = false
+is_answered (Err refusal) = false
+
+-- whether a server serves, or will once its entry is answered
+abbrev pub is_active : Option Server → Bool
+is_active (Some Active) = true
+is_active (Some (Waits number)) = true
+is_active (Some Unmade) = false
+is_active (Some Retired) = false
+is_active None = false
+
+-- whether a server, if it is active, waits for an entry that isn't answered
+abbrev pub is_stuck : Contents → ℕ → Server → Bool
+is_stuck m element Unmade = true
+is_stuck m element Active = false
+is_stuck m element (Waits number) = if is_answered (entry_at m element number) then false else true
+is_stuck m element Retired = true
+
+-- the same of each server but the caller's, from this element on
+abbrev pub are_stuck : Contents → ℕ → ℕ → List Server → Bool
+are_stuck m caller element [] = true
+are_stuck m caller element (server ∷ servers) = ((element == caller) || is_stuck m element server) && are_stuck m caller (suc element) servers
+
+-- an active server waits for an entry, and that isn't answered
+abbrev pub IsStuck : Contents → ℕ → Server → Type 0
+IsStuck m element Unmade = Unit {0}
+IsStuck m element Active = ⊥
+IsStuck m element (Waits number) = (reply : Reply) → entry_at m element number ≢ Ok (Answered reply)
+IsStuck m element Retired = Unit {0}
+
+-- so does each but the caller's
+abbrev pub AllStuckBut : Contents → ℕ → List Server → Type 0
+AllStuckBut m caller servers = (element : ℕ) (server : Server) → slice_get servers element ≡ Some server → element ≢ caller → IsStuck m element server
+
+-- the servers after an element's server, if it is active, does something else
+abbrev pub with_server : List Server → ℕ → Server → List Server
+with_server servers element server = if is_active (slice_get servers element) then slice_set servers element server else servers
+
+-- the servers after an element's server is made, if it wasn't before
+abbrev pub Makes : List Server → ℕ → Bool → List Server → Type 0
+Makes servers element true servers' = (slice_get servers element ≡ Some Unmade) × (servers' ≡ slice_set servers element Active)
+Makes servers element false servers' = servers' ≡ servers

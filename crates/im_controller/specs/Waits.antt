@@ -1,0 +1,48 @@
+-- What a port is told of one holding of the lock. (Own.)
+use Rattle.std.specs.Prelude.{◌≡◌, ◌≢◌, ℕ, ◌<◌, ◌≤◌, Bool, true, false, Option, None, Some, Result, Ok, Err, length}
+use Rattle.im_types.specs.declared.operations.Entry.{Entry}
+use Rattle.im_types.specs.declared.operations.Entry.TheVariants.{Waiting}
+use Rattle.im_types.specs.declared.commands.Call.TheVariants.{Collect}
+use Rattle.im_types.specs.declared.commands.Line.{Line}
+use Rattle.im_types.specs.declared.refusals.Refusal.{Refusal}
+use Rattle.im_types.specs.declared.refusals.Refusal.TheVariants.{Failed, TraceFull, Stalled}
+use Rattle.im_types.specs.Trace.{told}
+use Rattle.im_controller.specs.Lines.{Counts, lines_of, counts_after}
+use Rattle.im_controller.specs.Log.{FoundState}
+use Rattle.im_controller.specs.Servers.{entry_at, is_answered, are_stuck}
+use Rattle.im_controller.specs.State.{SharedState}
+
+-- what was found, without the trace
+abbrev pub entry_of : Result FoundState Refusal → Result Entry Refusal
+entry_of (Ok found) = Ok found.entry
+entry_of (Err refusal) = Err refusal
+
+-- what was found is of this element and number
+abbrev pub IsFoundOf : ℕ → ℕ → Result FoundState Refusal → Type 0
+IsFoundOf element number (Ok found) = (found.element ≡ element) × (found.number ≡ number)
+IsFoundOf element number (Err refusal) = Unit {0}
+
+-- what was found is answered
+abbrev pub IsAwaited : Result FoundState Refusal → Type 0
+IsAwaited (Ok found) = is_answered (Ok found.entry) ≡ true
+IsAwaited (Err refusal) = Unit {0}
+
+-- one holding of the lock by a port that awaits an answer: nothing is told yet, or the answer, and its line is counted
+abbrev pub Awaits : (Line → Bool) → Counts → ℕ → ℕ → Option (Result FoundState Refusal) → Counts → Type 0
+Awaits marks t element number None t' = t' ≡ t
+Awaits marks t element number (Some answer) t' =
+    (t' ≡ counts_after marks t (lines_of (Collect element number) (told (entry_of answer)))) × IsFoundOf element number answer × IsAwaited answer
+
+-- the same, without the trace
+abbrev pub entry_told : Option (Result FoundState Refusal) → Option (Result Entry Refusal)
+entry_told None = None
+entry_told (Some answer) = Some (entry_of answer)
+
+-- why it is told that, by what lay under the lock before
+pub record IsTold {D : Type 0} (s : SharedState D) (element number : ℕ) (answer : Option (Result FoundState Refusal)) : Type 0 where
+  pub dead : s.engine.failed ≡ true → answer ≡ Some (Err Failed)
+  pub stalled : s.engine.failed ≡ false → entry_at s.engine.memory element number ≡ Ok Waiting → are_stuck s.engine.memory element 0 s.servers ≡ true → answer ≡ Some (Err Stalled)
+  pub waits : s.engine.failed ≡ false → entry_at s.engine.memory element number ≡ Ok Waiting → are_stuck s.engine.memory element 0 s.servers ≡ false → answer ≡ None
+  -- else the entry is answered or there is none, and that is told, with its line
+  pub full : s.engine.failed ≡ false → entry_at s.engine.memory element number ≢ Ok Waiting → s.log.limit ≤ length s.log.trace → answer ≡ Some (Err TraceFull)
+  pub found : s.engine.failed ≡ false → entry_at s.engine.memory element number ≢ Ok Waiting → length s.log.trace < s.log.limit → entry_told answer ≡ Some (entry_at s.engine.memory element number)

@@ -1,0 +1,117 @@
+//! The books that count the lines of a trace, and the ports' shares in them.
+ghost use Rattle.std.specs.Prelude.{◌≡◌, ◌+◌, ◌<◌, [], ◌∷◌, ℕ, IfSome, count_by};
+ghost use Rattle.im_controller.specs.Lines.{counts_after};
+
+use crate::name::{Lines, Marked, Name};
+use im_types::Line;
+use std::marker::Model;
+use std::sync::ledger::{Book, Ledger, Share};
+
+/// The counts of all lines and of the marked ones, over all ports.
+#[derive(Drop)]
+pub struct Books<K: Name> {
+    pub(crate) lines: Book<Lines<K>>,
+    pub(crate) marked: Book<Marked<K>>,
+}
+
+impl<K: Name> Model for Books<K> {
+    ghost use Rattle.im_controller.specs.Lines.{Counts};
+
+    ghost Value = { Counts };
+
+    ghost view = { λ b. record { lines = b.lines.total; marked = b.marked.total } };
+}
+
+/// How many lines a port was told, and how many of these are marked. No two ports have the same share, so the books'
+/// counts are those of all tallies together.
+#[derive(Drop)]
+pub struct Tally<K: Name> {
+    pub(crate) lines: Share<Lines<K>>,
+    pub(crate) marked: Share<Marked<K>>,
+}
+
+impl<K: Name> Model for Tally<K> {
+    ghost use Rattle.std.specs.Prelude.{◌≡◌};
+    ghost use Rattle.im_controller.specs.Lines.{Counts};
+
+    ghost Value = { Counts };
+
+    ghost view = { λ t. record { lines = t.lines.amount; marked = t.marked.amount } };
+
+    ghost invariant = { λ t. (t.lines.parts ≡ 1) × (t.marked.parts ≡ 1) };
+}
+
+// The shares for which no port was given out yet.
+#[derive(Drop)]
+pub(crate) struct Reserve<K: Name> {
+    pub(crate) lines: Share<Lines<K>>,
+    pub(crate) marked: Share<Marked<K>>,
+    pub(crate) left: u64,
+    pub(crate) ports: u64,
+}
+
+impl<K: Name> Model for Reserve<K> {
+    ghost use Rattle.std.specs.Prelude.{◌≡◌, ◌≤◌, ℕ};
+
+    ghost Value = { ℕ };
+
+    ghost view = { λ r. r.left };
+
+    ghost invariant = { λ r. (r.lines.parts ≡ r.left) × (r.marked.parts ≡ r.left) × (r.lines.amount ≡ 0)
+        × (r.marked.amount ≡ 0) × (r.ports ≡ K.ports) × (r.left ≤ r.ports) };
+}
+
+impl<K: Name> Reserve<K> {
+    // A tally for one more port, if one is left.
+    pub(crate) fn take(&mut self) -> Option<Tally<K>>
+        ensures { IfSome result (λ t. (t.lines ≡ 0) × (t.marked ≡ 0)) }
+    {
+        if self.left == 0 {
+            return None;
+        }
+        let Reserve {
+            lines,
+            marked,
+            left,
+            ports: _,
+        } = self;
+        let lines = lines.split_off(1, 0);
+        let marked = marked.split_off(1, 0);
+        *left -= 1;
+        Some(Tally { lines, marked })
+    }
+}
+
+// Counts so much in the book and in the share, though no code knows how much: contracts alone know which lines are
+// marked.
+fn note<L: Ledger>(book: &mut Book<L>, share: &mut Share<L>)
+    ghost plus: { ℕ }
+    requires { 0 < share.old.parts }
+    ensures total { book.new.total ≡ book.old.total + plus }
+    ensures amount { share.new.amount ≡ share.old.amount + plus }
+    ensures parts { share.new.parts ≡ share.old.parts }
+{}
+
+fn note_line<K: Name>(book: &mut Book<Marked<K>>, share: &mut Share<Marked<K>>, line: &Line)
+    ghost plus: { ℕ }
+    requires part { 0 < share.old.parts }
+    requires plus { plus ≡ count_by K.marks (line.now ∷ []) }
+    ensures total { book.new.total ≡ book.old.total + count_by K.marks (line.now ∷ []) }
+    ensures amount { share.new.amount ≡ share.old.amount + count_by K.marks (line.now ∷ []) }
+    ensures parts { share.new.parts ≡ share.old.parts }
+{
+    let _line = line;
+    note(book, share);
+}
+
+impl<K: Name> Books<K> {
+    /// Counts a line that the tally's port was told.
+    pub(crate) fn count(&mut self, tally: &mut Tally<K>, line: &Line)
+        ensures books { self.new ≡ counts_after K.marks self.old (line.now ∷ []) }
+        ensures tally { tally.new ≡ counts_after K.marks tally.old (line.now ∷ []) }
+    {
+        let Tally { lines, marked } = tally;
+        self.lines.add(lines, 1);
+        note_line(&mut self.marked, marked, line);
+    }
+}

@@ -1,0 +1,145 @@
+//! The lock, and the thread that keeps checkpoints.
+ghost use Rattle.std.specs.Prelude.{◌≡◌, ◌⊎◌, IfOk, IfErr};
+ghost use Rattle.im_types.specs.declared.refusals.Refusal.TheVariants.{NoElement};
+ghost use Rattle.im_types.specs.Trace.{end_of, IsLegal};
+ghost use Rattle.im_types.specs.declared.commands.Call.TheVariants.{Command as Commands};
+ghost use Rattle.im_controller.specs.Lines.{EndsIn, line_of, lines_of, counts_after};
+ghost use Rattle.im_controller.specs.Log.{plain};
+
+use crate::bell::Bell;
+use crate::books::{Reserve, Tally};
+use crate::log::Log;
+use crate::name::Name;
+use crate::ports::Port;
+use crate::receipts::Receipt;
+use crate::servers::Servers;
+use crate::shared::{Kept, Shared, Sleepers, keep_once, lend, make_server, mark_ended, who_sleeps};
+use crate::turns::Turns;
+use im_disk::Disk;
+use im_engine::Engine;
+use im_types::{Command, Refusal};
+use std::sync::{Mutex, MutexGuard, Wait};
+
+/// The lock round an engine and its trace, the queue before the lock, and two bells beside it: one for servers that
+/// wait, one for the thread that keeps checkpoints.
+///
+/// The lock is taken in the queue's order, is never held while the queue or a bell is waited for, and a bell is rung
+/// after the lock was let go.
+#[derive(Drop)]
+pub struct Controller<D: Disk, K: Name> {
+    pub(crate) shared: Mutex<Shared<D, K>>,
+    pub(crate) turns: Turns,
+    pub(crate) answers: Bell,
+    pub(crate) work: Bell,
+    keeper: usize,
+}
+
+impl<D: Disk, K: Name> Controller<D, K> {
+    // A controller over these. The keeper's place in the queue is behind those of the elements.
+    pub(crate) fn over(
+        engine: Engine<D>,
+        log: Log<K>,
+        servers: Servers,
+        reserve: Reserve<K>,
+        turns: Turns,
+        keeper: usize,
+    ) -> Controller<D, K>
+        requires { end_of K.memory log.trace ≡ engine.memory }
+    {
+        Controller {
+            shared: Mutex::new(Shared {
+                engine,
+                log,
+                servers,
+                reserve,
+                ended: false,
+                idle: false,
+            }),
+            turns,
+            answers: Bell::new(),
+            work: Bell::new(),
+            keeper,
+        }
+    }
+
+    /// An element's port, which was told no line yet; its server is active from now on. `NoElement` where there is no
+    /// such element, and where it has its port.
+    pub fn port<R: Wait>(&self, rt: &R, element: u16) -> Result<Port<K>, Refusal>
+        ensures found { IfOk result (λ p. (p.element ≡ element) × (p.told ≡ record { lines = 0; marked = 0 })) }
+        ensures refused { IfErr result (λ e. e ≡ NoElement) }
+    {
+        let mut guard = self.shared.lock(rt);
+        let tally = make_server(&mut *guard, element);
+        let _lock = MutexGuard::unlock(guard);
+        match tally {
+            Some(tally) => Ok(Port { element, tally }),
+            None => Err(Refusal::NoElement),
+        }
+    }
+
+    /// Ends the loops of [`Controller::keep_checkpoints`] at their next holding of the lock, and changes nothing else.
+    pub fn end<R: Wait>(&self, rt: &R) {
+        let mut guard = self.shared.lock(rt);
+        mark_ended(&mut *guard);
+        let _lock = MutexGuard::unlock(guard);
+        self.work.ring(rt);
+    }
+
+    /// The loop of the thread that keeps checkpoints: one turn for each holding of the lock, asleep while there is
+    /// nothing to do, until the controller ends. `Device` where a call of the disk failed in its turn, and `Failed`
+    /// where an earlier one did.
+    pub fn keep_checkpoints<R: Wait>(&self, rt: &R) -> Result<(), Refusal> {
+        for _ in rt.forever() {
+            let turn = self.turns.wait(rt, self.keeper);
+            let mut guard = self.shared.lock(rt);
+            let kept = keep_once(&mut *guard);
+            // Read before the lock is let go: whoever changes something after this rings later.
+            let seen = self.work.read(rt);
+            let _lock = MutexGuard::unlock(guard);
+            self.turns.pass_on(rt, turn);
+            match kept {
+                Kept::Ended => return Ok(()),
+                Kept::Refused(refusal) => {
+                    self.answers.ring(rt);
+                    return Err(refusal);
+                }
+                Kept::Worked => {}
+                Kept::Idle => self.work.wait_past(rt, seen),
+            }
+        }
+        unreachable!()
+    }
+
+    // Wakes those that sleep.
+    pub(crate) fn wake<R: Wait>(&self, rt: &R, sleepers: Sleepers) {
+        if sleepers.keeper {
+            self.work.ring(rt);
+        }
+        if sleepers.servers {
+            self.answers.ring(rt);
+        }
+    }
+
+    // Lends the engine to a command of a port, in the queue's order.
+    pub(crate) fn serve<R: Wait>(
+        &self,
+        rt: &R,
+        place: u16,
+        tally: &mut Tally<K>,
+        command: &Command,
+    ) -> Result<Receipt<K>, Refusal>
+        ensures asked { IfOk result (λ r. r.command ≡ command.now) }
+        ensures legal { IfOk result (λ r. IsLegal K.memory r.history) }
+        ensures last { IfOk result (λ r. EndsIn r.history (line_of (Commands r.command) (plain result))) }
+        ensures counts { tally.new ≡ counts_after K.marks tally.old (lines_of (Commands command.now) (plain result)) }
+    {
+        let turn = self.turns.wait(rt, place as usize);
+        let mut guard = self.shared.lock(rt);
+        let answer = lend(&mut *guard, tally, command);
+        let sleepers = who_sleeps(&mut *guard);
+        let _lock = MutexGuard::unlock(guard);
+        self.turns.pass_on(rt, turn);
+        self.wake(rt, sleepers);
+        answer
+    }
+}

@@ -1,0 +1,100 @@
+//! The end of a controller.
+ghost use Rattle.std.specs.Prelude.{◌≡◌, ◌≤◌, ◌+◌, IsTrue, length, sum_by, count_by};
+ghost use Rattle.im_types.specs.Trace.{IsLegal, end_of};
+
+use crate::books::{Books, Reserve, Tally};
+use crate::controller::Controller;
+use crate::log::{Log, are_free};
+use crate::name::{Lines, Marked, Name};
+use crate::ports::Port;
+use crate::shared::Shared;
+use im_disk::Disk;
+use im_engine::Engine;
+use im_types::Line;
+use std::sync::ledger::Share;
+
+/// What a controller comes to.
+#[derive(Drop)]
+pub struct Finished<D: Disk> {
+    /// The engine.
+    pub engine: Engine<D>,
+    /// Each call that had an outcome or a refusal of numbers, with that answer, in the order of the lock.
+    pub trace: Vec<Line>,
+    /// All ports came that were given out.
+    pub came: bool,
+    /// No answer waits for a port that didn't take it.
+    pub claimed: bool,
+}
+
+/// Ends a controller, with the ports that were given out. The trace is legal from the memory that was opened, and ends
+/// in the engine's memory. Where all ports came and no answer waits, the trace has each line as often as a port was
+/// given that answer to that call: K's marks may be any.
+pub fn finish<D: Disk, K: Name>(controller: Controller<D, K>, ports: Vec<Port<K>>) -> Finished<D>
+    ensures legal { IsLegal K.memory result.trace.items }
+    ensures end { end_of K.memory result.trace.items ≡ result.engine.memory }
+    ensures whole { length ports.items ≡ K.ports → IsTrue result.came }
+    ensures lines { IsTrue result.came → IsTrue result.claimed
+        → length result.trace.items ≡ sum_by (λ p. p.told.lines) ports.items }
+    ensures marked { IsTrue result.came → IsTrue result.claimed
+        → count_by K.marks result.trace.items ≡ sum_by (λ p. p.told.marked) ports.items }
+{
+    let Shared {
+        engine,
+        log,
+        servers: _,
+        reserve,
+        ended: _,
+        idle: _,
+    } = controller.shared.into_inner();
+    let Log {
+        trace,
+        limit: _,
+        books,
+        places,
+    } = log;
+    let claimed = are_free(places.as_slice());
+    let Books {
+        lines: mut lines_book,
+        marked: mut marked_book,
+    } = books;
+    let Reserve {
+        mut lines,
+        mut marked,
+        left,
+        ports: all,
+    } = reserve;
+    let came = ports.len() as u64;
+    merge_all(&mut lines, &mut marked, ports);
+    lines_book.audit(&mut lines);
+    marked_book.audit(&mut marked);
+    Finished {
+        engine,
+        trace,
+        came: came == all - left,
+        claimed,
+    }
+}
+
+// The shares of all ports, together with these.
+fn merge_all<K: Name>(
+    lines: &mut Share<Lines<K>>,
+    marked: &mut Share<Marked<K>>,
+    ports: Vec<Port<K>>,
+)
+    requires bound { lines.old.parts ≤ K.ports }
+    ensures lines { lines.new.parts ≡ lines.old.parts + length ports.items }
+    ensures marked { marked.new.parts ≡ marked.old.parts + length ports.items }
+    ensures lines_amount { lines.new.amount ≡ lines.old.amount + sum_by (λ p. p.told.lines) ports.items }
+    ensures marked_amount { marked.new.amount ≡ marked.old.amount + sum_by (λ p. p.told.marked) ports.items }
+    ensures bound { lines.new.parts ≤ K.ports }
+{
+    for port in ports {
+        let Port { element: _, tally } = port;
+        let Tally {
+            lines: its_lines,
+            marked: its_marked,
+        } = tally;
+        lines.merge(its_lines);
+        marked.merge(its_marked);
+    }
+}

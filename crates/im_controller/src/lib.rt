@@ -1,0 +1,29 @@
+//! One lock round the engine and its trace: ports of elements that go through it, the thread that keeps checkpoints,
+//! and what a caller knows of the trace at the end.
+//!
+//! Stands on `im_engine`. Contracts see what lies under the lock by `specs/State.antt`, and traces by the definitions of
+//! `im_types`.
+#![tactic(auto)]
+
+mod bell;
+mod books;
+mod controller;
+mod finishing;
+mod log;
+mod name;
+mod opening;
+mod ports;
+mod receipts;
+mod servers;
+mod shared;
+mod turns;
+
+pub use books::Tally;
+pub use controller::Controller;
+pub use finishing::{Finished, finish};
+pub use name::{Lines, Marked, Name};
+pub use opening::{Opening, start};
+pub use ports::Port;
+pub use receipts::{Found, Receipt};
+pub use servers::{Ask, Server, stuck_is_each};
+pub use shared::{Shared, begin_wait, lend, lend_turn, look};

@@ -1,0 +1,271 @@
+//! The trace, the books that count its lines, and the answers that wait for their ports.
+ghost use Rattle.std.specs.Prelude.{◌≡◌, ◌<◌, ◌≤◌, ◌+◌, ◌-◌, ◌++◌, true, false, Some, None, Ok, length, vec_len};
+ghost use Rattle.std.specs.Prelude.{vec_capacity, slice_get, slice_set, sum_by, count_by, IfOk, MatchOption};
+ghost use Rattle.im_types.specs.declared.commands.Call.TheVariants.{Command as Commands, Collect};
+ghost use Rattle.im_types.specs.declared.commands.Outcome.TheVariants.{Entry as Tells};
+ghost use Rattle.im_types.specs.declared.commands.Command.TheVariants.{Request as Asks};
+ghost use Rattle.im_types.specs.Trace.{answer_to, end_of, IsLegal};
+ghost use Rattle.im_controller.specs.Lines.{leaves_line, lines_of, memory_after, counts_after, EndsIn, EndsInAll, line_of};
+ghost use Rattle.im_controller.specs.Log.{with_line, with_unclaimed, Takes, Claims, IsProof, AreFree, receipt_for};
+
+use crate::books::{Books, Tally};
+use crate::name::Name;
+use crate::receipts::{Found, Receipt};
+use im_types::{Call, Command, Entry, Line, Outcome, Refusal, Request};
+use std::alloc::{AllocError, Global};
+use std::marker::{Model, PhantomData};
+use std::snapshot::Snapshot;
+
+// The answer to a request that its port hasn't taken yet.
+#[derive(Drop)]
+pub(crate) struct Unclaimed {
+    request: Request,
+    answer: Result<Outcome, Refusal>,
+    history: Snapshot<Vec<Line>>,
+}
+
+impl Model for Unclaimed {
+    ghost use Rattle.im_controller.specs.Log.{UnclaimedState};
+
+    ghost Value = { UnclaimedState };
+
+    ghost view = { λ u. record { request = u.request; answer = u.answer; history = u.history.value.items } };
+}
+
+// The trace. Of its lines the books count those that a port was told.
+#[derive(Drop)]
+pub(crate) struct Log<K: Name> {
+    pub(crate) trace: Vec<Line>,
+    pub(crate) limit: usize,
+    pub(crate) books: Books<K>,
+    pub(crate) places: Vec<Option<Unclaimed>>,
+}
+
+impl<K: Name> Model for Log<K> {
+    ghost use Rattle.std.specs.Prelude.{◌≤◌, vec_capacity};
+    ghost use Rattle.im_controller.specs.Log.{LogState, IsLog};
+
+    ghost Value = { LogState };
+
+    ghost view = { λ l. record { trace = l.trace.items; limit = l.limit; places = l.places.items } };
+
+    ghost invariant = { λ l.
+        IsLog K.memory K.marks (record { trace = l.trace.items; limit = l.limit; places = l.places.items }) l.books
+        × (l.limit ≤ vec_capacity l.trace) };
+}
+
+// Whether an answer leaves a line.
+pub(crate) fn leaves_line(answer: Result<Outcome, Refusal>) -> bool
+    ensures { result ≡ leaves_line answer }
+{
+    match answer {
+        Ok(_) => true,
+        Err(refusal) => refusal.number() < 7,
+    }
+}
+
+impl<K: Name> Log<K> {
+    // How many more lines there is room for.
+    pub(crate) fn room(&self) -> usize
+        ensures room { result ≡ self.now.limit - length self.now.trace }
+        ensures few { length self.now.trace ≤ self.now.limit }
+    {
+        self.limit - self.trace.len()
+    }
+
+    // Leaves the line of a call whose port is told the answer at once, if the answer leaves one.
+    pub(crate) fn leave(
+        &mut self,
+        tally: &mut Tally<K>,
+        call: Call,
+        answer: Result<Outcome, Refusal>,
+    )
+        requires room { length self.old.trace < self.old.limit }
+        requires is_so { leaves_line answer ≡ true → answer ≡ answer_to (end_of K.memory self.old.trace) call }
+        ensures log { self.new ≡ with_line self.old call answer }
+        ensures tally { tally.new ≡ counts_after K.marks tally.old (lines_of call answer) }
+        ensures end { end_of K.memory self.new.trace ≡ memory_after (end_of K.memory self.old.trace) call answer }
+    {
+        count_line(&mut self.books, tally, call, answer);
+        push_line(&mut self.trace, call, answer);
+    }
+
+    // The answer to a command, with the trace that its line ends.
+    pub(crate) fn receipt(
+        &self,
+        command: &Command,
+        answer: Result<Outcome, Refusal>,
+    ) -> Result<Receipt<K>, Refusal>
+        requires { EndsInAll self.now.trace (lines_of (Commands command.now) answer) }
+        ensures { result ≡ receipt_for self.now.trace command.now answer }
+    {
+        receipt_of(Snapshot::of(&self.trace), command, answer)
+    }
+
+    // What is kept under a number, with the trace that the line of this collect ends.
+    pub(crate) fn found(&self, element: u16, number: u64, entry: Entry) -> Found<K>
+        requires { EndsIn self.now.trace (line_of (Collect element number) (Ok (Tells entry))) }
+        ensures { result ≡ record {
+          element = element;
+          number = number;
+          entry = entry;
+          history = self.now.trace;
+        } }
+    {
+        Found {
+            entry,
+            element,
+            number,
+            history: Snapshot::of(&self.trace),
+            of: PhantomData,
+        }
+    }
+
+    // Keeps the answer to a request for its port, with its line, which is counted when the port takes it.
+    pub(crate) fn keep(&mut self, request: &Request, answer: Result<Outcome, Refusal>)
+        requires free { slice_get self.old.places request.now.element ≡ Some None }
+        requires room { leaves_line answer ≡ true → length self.old.trace < self.old.limit }
+        requires is_so { leaves_line answer ≡ true
+            → answer ≡ answer_to (end_of K.memory self.old.trace) (Commands (Asks request.now)) }
+        ensures log { self.new ≡ with_unclaimed self.old request.now answer }
+        ensures end { end_of K.memory self.new.trace
+            ≡ memory_after (end_of K.memory self.old.trace) (Commands (Asks request.now)) answer }
+    {
+        push_line(
+            &mut self.trace,
+            Call::Command(Command::Request(*request)),
+            answer,
+        );
+        put_in(
+            &mut self.places,
+            Unclaimed {
+                request: *request,
+                answer,
+                history: Snapshot::of(&self.trace),
+            },
+        );
+    }
+
+    // Gives a port the answer to its request, where that waits in the element's place, and counts its line.
+    pub(crate) fn claim(
+        &mut self,
+        tally: &mut Tally<K>,
+        element: u16,
+        request: &Request,
+    ) -> Option<Result<Receipt<K>, Refusal>>
+        ensures claims { Claims K.marks self.old tally.old element request.now result self.new tally.new }
+        ensures trace { self.new.trace ≡ self.old.trace }
+    {
+        let found = take_from(&mut self.places, element, request)?;
+        let command = Command::Request(found.request);
+        let answer = found.answer;
+        count_line(&mut self.books, tally, Call::Command(command), answer);
+        Some(receipt_of(found.history, &command, answer))
+    }
+}
+
+// The line of a call, if it leaves one, at the end of the trace.
+fn push_line(trace: &mut Vec<Line>, call: Call, answer: Result<Outcome, Refusal>)
+    requires { leaves_line answer ≡ true → vec_len trace.old < vec_capacity trace.old }
+    ensures items { trace.new.items ≡ trace.old.items ++ lines_of call answer }
+    ensures capacity { vec_capacity trace.new ≡ vec_capacity trace.old }
+{
+    if leaves_line(answer) {
+        trace.push_reserved(Line { call, answer });
+    }
+}
+
+// The line of a call, if it leaves one, in the books and in its port's tally.
+fn count_line<K: Name>(
+    books: &mut Books<K>,
+    tally: &mut Tally<K>,
+    call: Call,
+    answer: Result<Outcome, Refusal>,
+)
+    ensures books { books.new ≡ counts_after K.marks books.old (lines_of call answer) }
+    ensures tally { tally.new ≡ counts_after K.marks tally.old (lines_of call answer) }
+{
+    if leaves_line(answer) {
+        books.count(tally, &Line { call, answer });
+    }
+}
+
+// An answer with the trace that its line ends.
+fn receipt_of<K: Name>(
+    history: Snapshot<Vec<Line>>,
+    command: &Command,
+    answer: Result<Outcome, Refusal>,
+) -> Result<Receipt<K>, Refusal>
+    requires { IsProof K.memory (Commands command.now) answer history.value.items }
+    ensures { result ≡ receipt_for history.value.items command.now answer }
+{
+    match answer {
+        Ok(outcome) => Ok(Receipt {
+            outcome,
+            command: Snapshot::of(command),
+            history,
+            of: PhantomData,
+        }),
+        Err(refusal) => Err(refusal),
+    }
+}
+
+// An answer, into its element's place.
+fn put_in(places: &mut Vec<Option<Unclaimed>>, answer: Unclaimed)
+    requires { slice_get places.old.items answer.request.element ≡ Some None }
+    ensures { places.new.items ≡ slice_set places.old.items answer.request.element (Some answer) }
+{
+    let element = answer.request.element as usize;
+    places[element] = Some(answer);
+}
+
+// The answer to a request out of its element's place, if it waits there.
+fn take_from(
+    places: &mut Vec<Option<Unclaimed>>,
+    element: u16,
+    request: &Request,
+) -> Option<Unclaimed>
+    ensures { Takes places.old.items element request.now result places.new.items }
+{
+    let at = element as usize;
+    if at >= places.len() || !is_of(&places[at], request) {
+        return None;
+    }
+    places[at].take()
+}
+
+// Whether the answer that waits in a place is that to a request.
+fn is_of(place: &Option<Unclaimed>, request: &Request) -> bool
+    ensures { result ≡ true → MatchOption place.now ⊥ (λ w. w.request ≡ request.now) }
+{
+    match place {
+        Some(waiting) => waiting.request == *request,
+        None => false,
+    }
+}
+
+// So many places, all of them free.
+pub(crate) fn free_places(
+    alloc: Global,
+    elements: u16,
+) -> Result<Vec<Option<Unclaimed>>, AllocError>
+    ensures { IfOk result (λ places. AreFree places.items) }
+{
+    let mut places = Vec::with_capacity(alloc, elements as usize)?;
+    for _ in 0..elements {
+        places.push(None)?;
+    }
+    Ok(places)
+}
+
+// Whether all these places are free.
+pub(crate) fn are_free(places: &[Option<Unclaimed>]) -> bool
+    ensures { result ≡ true → AreFree places.now }
+{
+    for place in places {
+        if place.is_some() {
+            return false;
+        }
+    }
+    true
+}

@@ -1,0 +1,58 @@
+//! What a controller's parts agree on.
+use std::marker::{Brand, PhantomData};
+use std::sync::ledger::Ledger;
+
+/// What all parts of one controller agree on. Contracts alone see it: a caller's function has it as a type parameter,
+/// and each of its members is picked where that function is called.
+pub trait Name {
+    ghost use Rattle.std.specs.Prelude.{ℕ, Bool};
+    ghost use Rattle.im_types.specs.declared.commands.Line.{Line};
+    ghost use Rattle.im_types.specs.Contents.{Contents};
+
+    /// The memory that the trace begins with.
+    ghost memory: { Contents };
+
+    /// Which lines are counted apart. Any test will do, so the trace can be asked for any line.
+    ghost marks: { Line → Bool };
+
+    /// The ledger that counts the lines.
+    ghost lines_name: { ℕ };
+
+    /// The ledger that counts the marked lines.
+    ghost marked_name: { ℕ };
+
+    /// How many ports there are.
+    ghost ports: { ℕ };
+}
+
+impl Name for Brand {
+    ghost use Rattle.std.specs.Prelude.{[], false};
+
+    ghost memory = { record { cells = []; windows = [] } };
+
+    ghost marks = { λ _. false };
+
+    ghost lines_name = { 0 };
+
+    ghost marked_name = { 0 };
+
+    ghost ports = { 0 };
+}
+
+/// The ledger of all lines.
+pub struct Lines<K>(PhantomData<K>);
+
+impl<K: Name> Ledger for Lines<K> {
+    ghost name = { K.lines_name };
+
+    ghost parts = { K.ports };
+}
+
+/// The ledger of the marked lines.
+pub struct Marked<K>(PhantomData<K>);
+
+impl<K: Name> Ledger for Marked<K> {
+    ghost name = { K.marked_name };
+
+    ghost parts = { K.ports };
+}

@@ -1,0 +1,139 @@
+//! An engine with room for a trace, before it has a name.
+ghost use Rattle.std.specs.Prelude.{◌≡◌, ◌≤◌, [], IfOk, IfErr, vec_capacity};
+ghost use Rattle.im_types.specs.declared.refusals.Refusal.TheVariants.{NoMemory};
+ghost use Rattle.im_controller.specs.Log.{AreFree};
+
+use crate::books::{Books, Reserve};
+use crate::controller::Controller;
+use crate::log::{Log, Unclaimed, free_places};
+use crate::name::{Lines, Marked, Name};
+use crate::servers::Servers;
+use crate::turns::Turns;
+use im_disk::Disk;
+use im_engine::Engine;
+use im_types::{Line, Refusal};
+use std::alloc::{AllocError, Global};
+use std::marker::Model;
+use std::sync::ledger::Blank;
+
+/// An engine with room for its trace, its servers and its ledgers: a controller but for its name.
+#[derive(Drop)]
+pub struct Opening<D: Disk> {
+    engine: Engine<D>,
+    parts: Parts,
+    lines: Blank,
+    marked: Blank,
+}
+
+impl<D: Disk> Model for Opening<D> {
+    ghost use Rattle.std.specs.Prelude.{◌≡◌, ◌≤◌, [], vec_capacity};
+    ghost use Rattle.im_controller.specs.Log.{AreFree};
+    ghost use Rattle.im_controller.specs.State.{OpeningState};
+
+    ghost Value = { OpeningState D };
+
+    ghost view = { λ o. record {
+      engine = o.engine;
+      limit = o.parts.limit;
+      ports = o.parts.ports;
+      lines_name = o.lines.name;
+      marked_name = o.marked.name;
+    } };
+
+    ghost invariant = { λ o. (o.lines.parts ≡ o.parts.ports) × (o.marked.parts ≡ o.parts.ports)
+        × (o.parts.trace.items ≡ []) × (o.parts.limit ≤ vec_capacity o.parts.trace) × AreFree o.parts.places.items };
+}
+
+// What takes memory.
+#[derive(Drop)]
+struct Parts {
+    trace: Vec<Line>,
+    limit: usize,
+    places: Vec<Option<Unclaimed>>,
+    servers: Servers,
+    turns: Turns,
+    ports: u64,
+}
+
+// Room for so many lines, and for so many elements.
+fn make_parts(alloc: Global, trace_room: usize, elements: u16) -> Result<Parts, AllocError>
+    ensures numbers { IfOk result (λ p. (p.limit ≡ trace_room) × (p.ports ≡ elements)) }
+    ensures empty { IfOk result (λ p. (p.trace.items ≡ []) × AreFree p.places.items) }
+    ensures room { IfOk result (λ p. p.limit ≤ vec_capacity p.trace) }
+{
+    Ok(Parts {
+        trace: Vec::with_capacity(alloc, trace_room)?,
+        limit: trace_room,
+        places: free_places(alloc, elements)?,
+        servers: Servers::new(alloc, elements)?,
+        turns: Turns::new(alloc, elements as usize + 1)?,
+        ports: u64::from(elements),
+    })
+}
+
+/// Makes room for a trace of so many lines, 48 bytes each, for a server of each element, and for the ledgers that count
+/// the lines. `NoMemory`, with the engine as it was, where `alloc` refuses it.
+pub fn start<D: Disk + Drop>(
+    alloc: Global,
+    engine: Engine<D>,
+    trace_room: usize,
+) -> Result<Opening<D>, (Refusal, Engine<D>)>
+    ensures found { IfOk result (λ o. (o.engine ≡ engine) × (o.limit ≡ trace_room)) }
+    ensures refused { IfErr result (λ e. (e.0 ≡ NoMemory) × (e.1 ≡ engine)) }
+{
+    match make_parts(alloc, trace_room, engine.memory().elements()) {
+        Ok(parts) => {
+            let ports = parts.ports;
+            Ok(Opening {
+                engine,
+                parts,
+                lines: Blank::new(ports),
+                marked: Blank::new(ports),
+            })
+        }
+        Err(_) => Err((Refusal::NoMemory, engine)),
+    }
+}
+
+impl<D: Disk> Opening<D> {
+    /// The controller, under the name that its caller's functions have for it. It takes no memory.
+    pub fn named<K: Name>(self) -> Controller<D, K>
+        requires memory { self.engine.memory ≡ K.memory }
+        requires lines { self.lines_name ≡ K.lines_name }
+        requires marked { self.marked_name ≡ K.marked_name }
+        requires ports { self.ports ≡ K.ports }
+    {
+        let Opening {
+            engine,
+            parts,
+            lines,
+            marked,
+        } = self;
+        let Parts {
+            trace,
+            limit,
+            places,
+            servers,
+            turns,
+            ports,
+        } = parts;
+        let (lines_book, lines) = lines.open::<Lines<K>>();
+        let (marked_book, marked) = marked.open::<Marked<K>>();
+        let log = Log {
+            trace,
+            limit,
+            books: Books {
+                lines: lines_book,
+                marked: marked_book,
+            },
+            places,
+        };
+        let reserve = Reserve {
+            lines,
+            marked,
+            left: ports,
+            ports,
+        };
+        Controller::over(engine, log, servers, reserve, turns, ports as usize)
+    }
+}

@@ -1,0 +1,183 @@
+//! Ports: one element's way to the lock.
+ghost use Rattle.std.specs.Prelude.{◌≡◌, Ok, IfOk};
+ghost use Rattle.im_types.specs.declared.commands.Call.TheVariants.{Command as Commands, Collect};
+ghost use Rattle.im_types.specs.declared.commands.Command.TheVariants.{Request as Asks, Confirm};
+ghost use Rattle.im_types.specs.declared.commands.Outcome.TheVariants.{Entry as Tells};
+ghost use Rattle.im_types.specs.Trace.{IsLegal, told};
+ghost use Rattle.im_controller.specs.Lines.{EndsIn, line_of, lines_of, counts_after};
+ghost use Rattle.im_controller.specs.Log.{plain};
+ghost use Rattle.im_controller.specs.Waits.{entry_of, IsFoundOf, IsAwaited};
+
+use crate::books::Tally;
+use crate::controller::Controller;
+use crate::name::Name;
+use crate::receipts::{Found, Receipt};
+use crate::shared::{ask_once, find, lend_turn, retire, who_sleeps};
+use im_checkpoint::TurnDone;
+use im_disk::Disk;
+use im_types::{Command, Op, Refusal, Request};
+use std::marker::Model;
+use std::sync::{MutexGuard, Wait};
+
+/// One element's way to the lock. Contracts see how many lines it was told, and how many of these were marked.
+#[derive(Drop)]
+pub struct Port<K: Name> {
+    pub(crate) element: u16,
+    pub(crate) tally: Tally<K>,
+}
+
+impl<K: Name> Model for Port<K> {
+    ghost use Rattle.im_controller.specs.State.{PortState};
+
+    ghost Value = { PortState };
+
+    ghost view = { λ p. record { element = p.element; told = p.tally } };
+}
+
+impl<K: Name> Port<K> {
+    /// Asks for an operation under a number of this element, and waits until it is answered. Refused as by
+    /// [`lend`](crate::lend): `Failed`, `TraceFull`, a refusal of numbers, `JournalFull`, `Device`.
+    pub fn submit<D: Disk, R: Wait>(
+        &mut self,
+        rt: &R,
+        controller: &Controller<D, K>,
+        number: u64,
+        op: Op,
+    ) -> Result<Receipt<K>, Refusal>
+        ensures asked { IfOk result (λ r. r.command
+            ≡ Asks (record { element = self.old.element; number = number; op = op })) }
+        ensures legal { IfOk result (λ r. IsLegal K.memory r.history) }
+        ensures last { IfOk result (λ r. EndsIn r.history (line_of (Commands r.command) (Ok r.outcome))) }
+        ensures counts { self.new.told ≡ counts_after K.marks self.old.told
+            (lines_of (Commands (Asks (record { element = self.old.element; number = number; op = op }))) (plain result)) }
+        ensures element { self.new.element ≡ self.old.element }
+    {
+        let request = Request {
+            element: self.element,
+            number,
+            op,
+        };
+        controller.serve(
+            rt,
+            self.element,
+            &mut self.tally,
+            &Command::Request(request),
+        )
+    }
+
+    /// Confirms this element's entries below a number, which are forgotten. Refused as by [`lend`](crate::lend):
+    /// `Failed`, `TraceFull`, `NoElement`, `Gap`, `NotAnswered`, `JournalFull`, `Device`.
+    pub fn confirm<D: Disk, R: Wait>(
+        &mut self,
+        rt: &R,
+        controller: &Controller<D, K>,
+        upto: u64,
+    ) -> Result<Receipt<K>, Refusal>
+        ensures asked { IfOk result (λ r. r.command ≡ Confirm self.old.element upto) }
+        ensures legal { IfOk result (λ r. IsLegal K.memory r.history) }
+        ensures last { IfOk result (λ r. EndsIn r.history (line_of (Commands r.command) (Ok r.outcome))) }
+        ensures counts { self.new.told ≡ counts_after K.marks self.old.told
+            (lines_of (Commands (Confirm self.old.element upto)) (plain result)) }
+        ensures element { self.new.element ≡ self.old.element }
+    {
+        controller.serve(
+            rt,
+            self.element,
+            &mut self.tally,
+            &Command::Confirm {
+                element: self.element,
+                upto,
+            },
+        )
+    }
+
+    /// What is kept under a number of this element. Refused as by [`look`](crate::look): `Failed`, `TraceFull`,
+    /// `NoElement`, `Forgotten`, `Gap`.
+    pub fn collect<D: Disk, R: Wait>(
+        &mut self,
+        rt: &R,
+        controller: &Controller<D, K>,
+        number: u64,
+    ) -> Result<Found<K>, Refusal>
+        ensures asked { IsFoundOf self.old.element number result }
+        ensures legal { IfOk result (λ f. IsLegal K.memory f.history) }
+        ensures last { IfOk result (λ f. EndsIn f.history
+            (line_of (Collect f.element f.number) (Ok (Tells f.entry)))) }
+        ensures counts { self.new.told ≡ counts_after K.marks self.old.told
+            (lines_of (Collect self.old.element number) (told (entry_of result))) }
+        ensures element { self.new.element ≡ self.old.element }
+    {
+        let turn = controller.turns.wait(rt, self.element as usize);
+        let mut guard = controller.shared.lock(rt);
+        let found = find(&mut *guard, &mut self.tally, self.element, number);
+        let _lock = MutexGuard::unlock(guard);
+        controller.turns.pass_on(rt, turn);
+        found
+    }
+
+    /// What is kept under a number of this element, once it is answered: its server waits until then. Refused with
+    /// `Stalled`, with no line, where each active server waits and none of their entries is answered; else as
+    /// [`Port::collect`].
+    pub fn await_answer<D: Disk, R: Wait>(
+        &mut self,
+        rt: &R,
+        controller: &Controller<D, K>,
+        number: u64,
+    ) -> Result<Found<K>, Refusal>
+        ensures asked { IsFoundOf self.old.element number result }
+        ensures answered { IsAwaited result }
+        ensures legal { IfOk result (λ f. IsLegal K.memory f.history) }
+        ensures last { IfOk result (λ f. EndsIn f.history
+            (line_of (Collect f.element f.number) (Ok (Tells f.entry)))) }
+        ensures counts { self.new.told ≡ counts_after K.marks self.old.told
+            (lines_of (Collect self.old.element number) (told (entry_of result))) }
+        ensures element { self.new.element ≡ self.old.element }
+    {
+        for _ in rt.forever() {
+            let turn = controller.turns.wait(rt, self.element as usize);
+            let mut guard = controller.shared.lock(rt);
+            let answer = ask_once(&mut *guard, &mut self.tally, self.element, number);
+            // Read before the lock is let go: whoever changes something after this rings later.
+            let seen = controller.answers.read(rt);
+            let _lock = MutexGuard::unlock(guard);
+            controller.turns.pass_on(rt, turn);
+            if let Some(answer) = answer {
+                return answer;
+            }
+            controller.answers.wait_past(rt, seen);
+        }
+        unreachable!()
+    }
+
+    /// Makes one turn of a checkpoint. Refused as by [`lend_turn`](crate::lend_turn): `Failed`, `Device`, and
+    /// `JournalFull` where there is nothing to do though the journal has no room.
+    pub fn help<D: Disk, R: Wait>(
+        &mut self,
+        rt: &R,
+        controller: &Controller<D, K>,
+    ) -> Result<TurnDone, Refusal>
+        ensures same { self.new ≡ self.old }
+    {
+        let turn = controller.turns.wait(rt, self.element as usize);
+        let mut guard = controller.shared.lock(rt);
+        let done = lend_turn(&mut *guard);
+        let sleepers = who_sleeps(&mut *guard);
+        let _lock = MutexGuard::unlock(guard);
+        controller.turns.pass_on(rt, turn);
+        controller.wake(rt, sleepers);
+        done
+    }
+
+    /// Its server has ended: it counts no longer as one that could answer those that wait.
+    pub fn retire<D: Disk, R: Wait>(&mut self, rt: &R, controller: &Controller<D, K>)
+        ensures same { self.new ≡ self.old }
+    {
+        let turn = controller.turns.wait(rt, self.element as usize);
+        let mut guard = controller.shared.lock(rt);
+        retire(&mut *guard, self.element);
+        let sleepers = who_sleeps(&mut *guard);
+        let _lock = MutexGuard::unlock(guard);
+        controller.turns.pass_on(rt, turn);
+        controller.wake(rt, sleepers);
+    }
+}

@@ -1,0 +1,90 @@
+//! What goes out of the lock: an answer, with the trace that its line ends.
+ghost use Rattle.std.specs.Prelude.{◌≡◌, Ok};
+ghost use Rattle.im_types.specs.declared.commands.Call.TheVariants.{Command as Commands, Collect};
+ghost use Rattle.im_types.specs.declared.commands.Outcome.TheVariants.{Entry as Tells};
+ghost use Rattle.im_types.specs.Trace.{IsLegal};
+ghost use Rattle.im_controller.specs.Lines.{EndsIn, line_of};
+
+use crate::name::Name;
+use im_types::{Command, Entry, Line, Outcome};
+use std::marker::{Model, PhantomData};
+use std::snapshot::Snapshot;
+
+/// What a command came to. Contracts see the command beside it, and the controller's trace up to its line: a legal one
+/// from the memory that was opened.
+#[derive(Drop)]
+pub struct Receipt<K: Name> {
+    pub(crate) outcome: Outcome,
+    pub(crate) command: Snapshot<Command>,
+    pub(crate) history: Snapshot<Vec<Line>>,
+    pub(crate) of: PhantomData<K>,
+}
+
+impl<K: Name> Model for Receipt<K> {
+    ghost use Rattle.std.specs.Prelude.{Ok};
+    ghost use Rattle.im_types.specs.declared.commands.Call.TheVariants.{Command as Commands};
+    ghost use Rattle.im_controller.specs.Log.{ReceiptState, IsProof};
+
+    ghost Value = { ReceiptState };
+
+    ghost view = { λ r. record {
+      command = r.command.value;
+      outcome = r.outcome;
+      history = r.history.value.items;
+    } };
+
+    ghost invariant = { λ r. IsProof K.memory (Commands r.command.value) (Ok r.outcome) r.history.value.items };
+}
+
+impl<K: Name> Receipt<K> {
+    /// What the command came to.
+    pub fn outcome(&self) -> Outcome
+        ensures outcome { result ≡ self.now.outcome }
+        ensures legal { IsLegal K.memory self.now.history }
+        ensures last { EndsIn self.now.history (line_of (Commands self.now.command) (Ok self.now.outcome)) }
+    {
+        self.outcome
+    }
+}
+
+/// What is kept under a number. Contracts see the element and the number beside it, and the controller's trace up to
+/// the line of this collect: a legal one from the memory that was opened.
+#[derive(Drop)]
+pub struct Found<K: Name> {
+    pub(crate) entry: Entry,
+    pub(crate) element: u16,
+    pub(crate) number: u64,
+    pub(crate) history: Snapshot<Vec<Line>>,
+    pub(crate) of: PhantomData<K>,
+}
+
+impl<K: Name> Model for Found<K> {
+    ghost use Rattle.std.specs.Prelude.{Ok};
+    ghost use Rattle.im_types.specs.declared.commands.Call.TheVariants.{Collect};
+    ghost use Rattle.im_types.specs.declared.commands.Outcome.TheVariants.{Entry as Tells};
+    ghost use Rattle.im_controller.specs.Log.{FoundState, IsProof};
+
+    ghost Value = { FoundState };
+
+    ghost view = { λ f. record {
+      element = f.element;
+      number = f.number;
+      entry = f.entry;
+      history = f.history.value.items;
+    } };
+
+    ghost invariant = { λ f.
+        IsProof K.memory (Collect f.element f.number) (Ok (Tells f.entry)) f.history.value.items };
+}
+
+impl<K: Name> Found<K> {
+    /// What is kept.
+    pub fn entry(&self) -> Entry
+        ensures entry { result ≡ self.now.entry }
+        ensures legal { IsLegal K.memory self.now.history }
+        ensures last { EndsIn self.now.history
+            (line_of (Collect self.now.element self.now.number) (Ok (Tells self.now.entry))) }
+    {
+        self.entry
+    }
+}

@@ -1,0 +1,150 @@
+//! The servers of the elements, and which of them wait.
+ghost use Rattle.std.specs.Prelude.{◌≡◌, ◌↔◌, ◌≤◌, ◌||◌, ◌==◌, ℕ, List, true, length, IfOk};
+ghost use Rattle.im_types.specs.Contents.{Contents};
+ghost use Rattle.im_controller.specs.Servers.{is_stuck, are_stuck, with_server, Makes, AllStuckBut};
+
+use im_memory::Memory;
+use im_types::Entry;
+use std::alloc::{AllocError, Global};
+use std::marker::Model;
+
+/// What the server of an element does.
+#[derive(Clone, Copy, Debug, PartialEq, Eq)]
+pub enum Server {
+    /// It has no port yet.
+    Unmade,
+    /// It serves.
+    Active,
+    /// It waits for the entry of this number.
+    Waits(u64),
+    /// It has ended.
+    Retired,
+}
+
+/// What a server is told that asks to wait.
+#[derive(Clone, Copy, Debug, PartialEq, Eq)]
+pub enum Ask {
+    /// Its entry is answered.
+    Go,
+    /// It waits from now on.
+    Wait,
+}
+
+// The servers of all elements.
+#[derive(Drop)]
+pub(crate) struct Servers {
+    all: Vec<Server>,
+}
+
+impl Model for Servers {
+    ghost use Rattle.std.specs.Prelude.{List, ◌≤◌, length};
+    ghost use Rattle.im_controller.specs.declared.servers.Server.{Server};
+
+    ghost Value = { List Server };
+
+    ghost view = { λ s. s.all.items };
+
+    ghost invariant = { λ s. length s.all.items ≤ 65536 };
+}
+
+// Whether a server, if it is active, waits for an entry that isn't answered.
+fn is_stuck(memory: &Memory, element: u16, server: Server) -> bool
+    ensures { result ≡ is_stuck memory.now.contents element server }
+{
+    match server {
+        Server::Active => false,
+        Server::Waits(number) => match memory.collect(element, number) {
+            Ok(Entry::Answered(_)) => false,
+            Ok(Entry::Waiting) => true,
+            Err(_) => true,
+        },
+        Server::Unmade => true,
+        Server::Retired => true,
+    }
+}
+
+// The same of any but the caller's.
+fn is_past(memory: &Memory, caller: u16, element: u16, server: Server) -> bool
+    ensures { result ≡ ((element == caller) || is_stuck memory.now.contents element server) }
+{
+    element == caller || is_stuck(memory, element, server)
+}
+
+// The same of all but the caller's.
+fn are_stuck(memory: &Memory, caller: u16, servers: &[Server]) -> bool
+    requires { length servers.now ≤ 65536 }
+    ensures { result ≡ are_stuck memory.now.contents caller 0 servers.now }
+{
+    for i in 0..servers.len() {
+        if !is_past(memory, caller, i as u16, servers[i]) {
+            return false;
+        }
+    }
+    true
+}
+
+impl Servers {
+    // So many, none of which is made yet.
+    pub(crate) fn new(alloc: Global, elements: u16) -> Result<Servers, AllocError>
+        ensures { IfOk result (λ s. length s ≡ elements) }
+    {
+        let mut all = Vec::with_capacity(alloc, elements as usize)?;
+        for _ in 0..elements {
+            all.push(Server::Unmade)?;
+        }
+        Ok(Servers { all })
+    }
+
+    // Makes a server, and says whether it wasn't made before.
+    pub(crate) fn make(&mut self, element: u16) -> bool
+        ensures { Makes self.old element result self.new }
+    {
+        let i = element as usize;
+        if i >= self.all.len() {
+            return false;
+        }
+        match self.all[i] {
+            Server::Unmade => {
+                self.all[i] = Server::Active;
+                true
+            }
+            _ => false,
+        }
+    }
+
+    // What a server does from now on, if it is active.
+    pub(crate) fn change(&mut self, element: u16, server: Server)
+        ensures { self.new ≡ with_server self.old element server }
+    {
+        let i = element as usize;
+        if i >= self.all.len() {
+            return;
+        }
+        match self.all[i] {
+            Server::Active => self.all[i] = server,
+            Server::Waits(_) => self.all[i] = server,
+            Server::Unmade => {}
+            Server::Retired => {}
+        }
+    }
+
+    // Whether each active server but the caller's waits for an entry that isn't answered.
+    pub(crate) fn are_stuck(&self, memory: &Memory, caller: u16) -> bool
+        ensures { result ≡ are_stuck memory.now.contents caller 0 self.now }
+    {
+        are_stuck(memory, caller, self.all.as_slice())
+    }
+
+    // Whether one of them waits.
+    pub(crate) fn is_one_waiting(&self) -> bool {
+        self.all
+            .iter()
+            .any(|server| matches!(server, Server::Waits(_)))
+    }
+}
+
+/// The test of all servers, one after another, says of each that it is stuck, and of no other list.
+pub fn stuck_is_each()
+    ensures { (m : Contents) (caller : ℕ) (servers : List Server)
+        → (are_stuck m caller 0 servers ≡ true) ↔ AllStuckBut m caller servers }
+{}

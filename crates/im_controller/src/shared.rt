@@ -1,0 +1,306 @@
+//! What lies under the lock, and what is done there.
+ghost use Rattle.std.specs.Prelude.{◌≡◌, ◌<◌, true, false, length, Ok, Err, IfOk, IfSome};
+ghost use Rattle.im_types.specs.Trace.{IsLegal, told};
+ghost use Rattle.im_types.specs.declared.commands.Call.TheVariants.{Collect};
+ghost use Rattle.im_types.specs.declared.commands.Outcome.TheVariants.{Entry as Tells};
+ghost use Rattle.im_disk.specs.Moment.{Faults};
+ghost use Rattle.im_disk.specs.Since.{LeavesWithin, LeavesNow, CallsAtMost, CallsBy};
+ghost use Rattle.im_engine.specs.Run.{calls_for};
+ghost use Rattle.im_engine.specs.State.{MeansState, MeansEither};
+ghost use Rattle.im_controller.specs.Lines.{EndsIn, line_of};
+ghost use Rattle.im_controller.specs.Lends.{Lends, Looks, LendsTurn, BeginsWait, told_turn, with_server_at};
+ghost use Rattle.im_controller.specs.Waits.{Awaits, IsTold, IsFoundOf, entry_of};
+
+use crate::books::{Reserve, Tally};
+use crate::log::Log;
+use crate::name::Name;
+use crate::receipts::{Found, Receipt};
+use crate::servers::{Ask, Server, Servers};
+use im_checkpoint::TurnDone;
+use im_disk::Disk;
+use im_engine::Engine;
+use im_types::{Call, Command, Entry, Outcome, Refusal};
+use std::marker::Model;
+
+/// What lies under the lock: the engine; the trace of all that was answered from it, with books that count its lines;
+/// what each element's server does; and the shares of ports that weren't given out yet.
+///
+/// The trace is legal from the memory that was opened, and its end is the engine's memory.
+#[derive(Drop)]
+pub struct Shared<D: Disk, K: Name> {
+    pub(crate) engine: Engine<D>,
+    pub(crate) log: Log<K>,
+    pub(crate) servers: Servers,
+    pub(crate) reserve: Reserve<K>,
+    pub(crate) ended: bool,
+    pub(crate) idle: bool,
+}
+
+impl<D: Disk, K: Name> Model for Shared<D, K> {
+    ghost use Rattle.std.specs.Prelude.{◌≡◌};
+    ghost use Rattle.im_types.specs.Trace.{end_of};
+    ghost use Rattle.im_controller.specs.State.{SharedState};
+
+    ghost Value = { SharedState D };
+
+    ghost view = { λ s. record { engine = s.engine; log = s.log; servers = s.servers } };
+
+    ghost invariant = { λ s. end_of K.memory s.log.trace ≡ s.engine.memory };
+}
+
+/// Lends the engine to a command, for the port whose tally this is: its line is left in the trace and counted where it
+/// has an outcome or a refusal of numbers. It takes no memory.
+///
+/// In this order: `Failed` where the engine has failed, `TraceFull` where the trace has no room left, and then what
+/// [`Engine::serve`] answers: a refusal of numbers; `JournalFull`; `Device`, after which no line is left and the engine
+/// has failed.
+pub fn lend<D: Disk, K: Name>(
+    shared: &mut Shared<D, K>,
+    tally: &mut Tally<K>,
+    command: &Command,
+) -> Result<Receipt<K>, Refusal>
+    ensures lends { Lends K.marks shared.old tally.old command.now result shared.new tally.new }
+    ensures legal { IfOk result (λ r. IsLegal K.memory r.history) }
+    // What the disk is left with, as by the engine alone.
+    ensures calls { D.honest shared.new.engine.disk
+        → CallsBy D.past shared.old.engine.disk shared.new.engine.disk
+        (calls_for shared.old.engine.memory command.now) result }
+    ensures faults { Faults (λ e. Unit {0}) result (D.failures shared.old.engine.disk)
+        (D.failures shared.new.engine.disk) }
+    ensures leaves { D.honest shared.new.engine.disk → shared.old.engine.failed ≡ false
+        → LeavesWithin D.now D.past shared.old.engine.disk shared.new.engine.disk
+        (MeansEither shared.old.engine command.now) }
+    ensures doubt { D.honest shared.new.engine.disk → shared.old.engine.failed ≡ false
+        → LeavesNow (D.now shared.new.engine.disk) (MeansEither shared.old.engine command.now) }
+    ensures means { D.honest shared.new.engine.disk → shared.new.engine.failed ≡ false
+        → LeavesNow (D.now shared.new.engine.disk) (MeansState shared.new.engine) }
+    ensures honest { D.honest shared.new.engine.disk → D.honest shared.old.engine.disk }
+{
+    if shared.engine.failed() {
+        return Err(Refusal::Failed);
+    }
+    if shared.log.room() == 0 {
+        return Err(Refusal::TraceFull);
+    }
+    // A stop in it leaves the command on the disk, whole, or not at all: its answer isn't given before.
+    let answer = shared.engine.serve(command);
+    shared.log.leave(tally, Call::Command(*command), answer);
+    shared.log.receipt(command, answer)
+}
+
+// An entry that was asked for, as an outcome.
+fn as_outcome(answer: Result<Entry, Refusal>) -> Result<Outcome, Refusal>
+    ensures { result ≡ told answer }
+{
+    match answer {
+        Ok(entry) => Ok(Outcome::Entry(entry)),
+        Err(refusal) => Err(refusal),
+    }
+}
+
+/// Looks up what is kept under an element's number, for the port whose tally this is: its line is left and counted. It
+/// makes no call of the disk and takes no memory.
+///
+/// In this order: `Failed` where the engine has failed, `TraceFull` where the trace has no room left, and then with
+/// their lines `NoElement`, `Forgotten`, and `Gap` where the number isn't used yet.
+pub fn look<D: Disk, K: Name>(
+    shared: &mut Shared<D, K>,
+    tally: &mut Tally<K>,
+    element: u16,
+    number: u64,
+) -> Result<Entry, Refusal>
+    ensures looks { Looks K.marks shared.old tally.old element number result shared.new tally.new }
+    ensures last { IfOk result (λ entry. EndsIn shared.new.log.trace
+        (line_of (Collect element number) (Ok (Tells entry)))) }
+{
+    if shared.engine.failed() {
+        return Err(Refusal::Failed);
+    }
+    if shared.log.room() == 0 {
+        return Err(Refusal::TraceFull);
+    }
+    let answer = shared.engine.memory().collect(element, number);
+    shared.log.leave(tally, Call::Collect { element, number }, as_outcome(answer));
+    answer
+}
+
+// A turn, as who lends it is told.
+fn told_turn(room: u32, done: Result<TurnDone, Refusal>) -> Result<TurnDone, Refusal>
+    ensures { result ≡ told_turn room done }
+{
+    match done {
+        Ok(TurnDone::Idle) => {
+            if room == 0 {
+                return Err(Refusal::JournalFull);
+            }
+            done
+        }
+        _ => done,
+    }
+}
+
+/// Lends the engine to one turn of a checkpoint, which leaves the memory, the trace and the servers. It takes no
+/// memory.
+///
+/// `Failed` exactly where the engine has failed, `Device` where a call of the disk failed, and `JournalFull` where
+/// there is nothing to do though the journal has no room.
+pub fn lend_turn<D: Disk, K: Name>(shared: &mut Shared<D, K>) -> Result<TurnDone, Refusal>
+    ensures lends { LendsTurn shared.old result shared.new }
+    // What the disk is left with, as by the engine alone.
+    ensures few { D.honest shared.new.engine.disk
+        → CallsAtMost D.past shared.old.engine.disk shared.new.engine.disk 4 }
+    ensures faults { Faults (λ e. Unit {0}) result (D.failures shared.old.engine.disk)
+        (D.failures shared.new.engine.disk) }
+    ensures leaves { D.honest shared.new.engine.disk → shared.old.engine.failed ≡ false
+        → LeavesWithin D.now D.past shared.old.engine.disk shared.new.engine.disk (MeansState shared.old.engine) }
+    ensures now { D.honest shared.new.engine.disk → shared.old.engine.failed ≡ false
+        → LeavesNow (D.now shared.new.engine.disk) (MeansState shared.old.engine) }
+    ensures means { D.honest shared.new.engine.disk → shared.new.engine.failed ≡ false
+        → LeavesNow (D.now shared.new.engine.disk) (MeansState shared.new.engine) }
+    ensures honest { D.honest shared.new.engine.disk → D.honest shared.old.engine.disk }
+{
+    // A stop in it leaves the memory as it is.
+    let done = shared.engine.turn();
+    told_turn(shared.engine.room(), done)
+}
+
+/// Whether an element's server may wait for the entry of a number. It is `Go` exactly where that is answered, and else
+/// the server waits from now on, until its next call that answers otherwise.
+///
+/// In this order: `Failed` where the engine has failed; `NoElement`, `Forgotten` and `Gap` of the number; `Stalled`
+/// where each active server waits, the caller's too, and none of their entries is answered. It makes no call of the
+/// disk, leaves no line and takes no memory.
+pub fn begin_wait<D: Disk, K: Name>(
+    shared: &mut Shared<D, K>,
+    element: u16,
+    number: u64,
+) -> Result<Ask, Refusal>
+    ensures begins { BeginsWait shared.old element number result shared.new }
+{
+    if shared.engine.failed() {
+        shared.servers.change(element, Server::Active);
+        return Err(Refusal::Failed);
+    }
+    match shared.engine.memory().collect(element, number) {
+        Ok(Entry::Answered(_)) => {
+            shared.servers.change(element, Server::Active);
+            Ok(Ask::Go)
+        }
+        Ok(Entry::Waiting) => {
+            if shared.servers.are_stuck(shared.engine.memory(), element) {
+                shared.servers.change(element, Server::Active);
+                return Err(Refusal::Stalled);
+            }
+            shared.servers.change(element, Server::Waits(number));
+            Ok(Ask::Wait)
+        }
+        Err(refusal) => {
+            shared.servers.change(element, Server::Active);
+            Err(refusal)
+        }
+    }
+}
+
+// What is kept under an element's number, with the trace that its line ends.
+pub(crate) fn find<D: Disk, K: Name>(
+    shared: &mut Shared<D, K>,
+    tally: &mut Tally<K>,
+    element: u16,
+    number: u64,
+) -> Result<Found<K>, Refusal>
+    ensures looks { Looks K.marks shared.old tally.old element number (entry_of result) shared.new tally.new }
+    ensures found { IsFoundOf element number result }
+{
+    match look(shared, tally, element, number) {
+        Ok(entry) => Ok(shared.log.found(element, number, entry)),
+        Err(refusal) => Err(refusal),
+    }
+}
+
+// One holding of the lock by a port that awaits an answer: nothing yet, or the answer.
+pub(crate) fn ask_once<D: Disk, K: Name>(
+    shared: &mut Shared<D, K>,
+    tally: &mut Tally<K>,
+    element: u16,
+    number: u64,
+) -> Option<Result<Found<K>, Refusal>>
+    ensures awaits { Awaits K.marks tally.old element number result tally.new }
+    ensures told { IsTold shared.old element number result }
+{
+    match begin_wait(shared, element, number) {
+        Ok(Ask::Wait) => None,
+        Ok(Ask::Go) => Some(find(shared, tally, element, number)),
+        Err(refusal) => {
+            if refusal.number() == 19 {
+                return Some(Err(refusal)); // Stalled. Any other is told again, with its line.
+            }
+            Some(find(shared, tally, element, number))
+        }
+    }
+}
+
+// What the checkpointing thread comes to in one holding of the lock.
+#[derive(Clone, Copy)]
+pub(crate) enum Kept {
+    Ended,
+    Worked,
+    Idle,
+    Refused(Refusal),
+}
+
+// One holding of the lock by the checkpointing thread: one turn, unless the controller has ended.
+pub(crate) fn keep_once<D: Disk, K: Name>(shared: &mut Shared<D, K>) -> Kept {
+    if shared.ended {
+        return Kept::Ended;
+    }
+    match lend_turn(shared) {
+        Ok(TurnDone::Idle) | Err(Refusal::JournalFull) => {
+            shared.idle = true; // Whoever lends next wakes it.
+            Kept::Idle
+        }
+        Ok(_) => Kept::Worked,
+        Err(refusal) => Kept::Refused(refusal),
+    }
+}
+
+// Ends the loops that keep checkpoints.
+pub(crate) fn mark_ended<D: Disk, K: Name>(shared: &mut Shared<D, K>) {
+    shared.ended = true;
+}
+
+// Who is to be woken.
+#[derive(Clone, Copy)]
+pub(crate) struct Sleepers {
+    pub(crate) keeper: bool,
+    pub(crate) servers: bool,
+}
+
+// Who sleeps and may have something to do now.
+pub(crate) fn who_sleeps<D: Disk, K: Name>(shared: &mut Shared<D, K>) -> Sleepers {
+    let keeper = shared.idle;
+    shared.idle = false;
+    Sleepers {
+        keeper,
+        servers: shared.servers.is_one_waiting(),
+    }
+}
+
+// Makes a server and its tally, where it has none and a tally is left.
+pub(crate) fn make_server<D: Disk, K: Name>(
+    shared: &mut Shared<D, K>,
+    element: u16,
+) -> Option<Tally<K>>
+    ensures { IfSome result (λ t. (t.lines ≡ 0) × (t.marked ≡ 0)) }
+{
+    if shared.reserve.left == 0 || !shared.servers.make(element) {
+        return None;
+    }
+    shared.reserve.take()
+}
+
+// An element's server has ended: nobody waits for it any more.
+pub(crate) fn retire<D: Disk, K: Name>(shared: &mut Shared<D, K>, element: u16)
+    ensures { shared.new ≡ with_server_at shared.old element Server.Retired }
+{
+    shared.servers.change(element, Server::Retired);
+}
