@@ -116,8 +116,8 @@ spelled_body g spelled s c is = ap (λ (l : List ℕ). take 63 (drop 1 l)) is �
     short (Asks r) = refl
     short (Confirm element upto) = refl
 
-pub counted_body : (g : ℕ) (spelled : List ℕ) (m s : ℕ) (c : Command) → spelled ≡ open_gate ∷ slot_body m s c → m ≡ g → take 63 (drop 1 spelled) ≡ slot_body g s c
-counted_body g spelled m s c is same = spelled_body m spelled s c is ∙ ap (λ (k : ℕ). slot_body k s c) same
+pub counted_body : (g s : ℕ) (spelled : List ℕ) (m n : ℕ) (c : Command) → spelled ≡ open_gate ∷ slot_body m n c → m ≡ g → n ≡ s → take 63 (drop 1 spelled) ≡ slot_body g s c
+counted_body g s spelled m n c is count number = spelled_body m spelled n c is ∙ (λ i. slot_body (count i) (number i) c)
 
 pub spelled_long : (g : ℕ) (spelled : List ℕ) (s : ℕ) (c : Command) → spelled ≡ open_gate ∷ slot_body g s c → length (take 63 (drop 1 spelled)) ≡ 63
 spelled_long g spelled s c is = ap length (spelled_body g spelled s c is) ∙ length-body g s c

@@ -38,8 +38,8 @@ fn spell_fields(
     slot
 }
 
-/// The slot of a command with this group count, under a sequence number: an open gate, and the command's fields. All
-/// numbers are little endian, and what isn't a field is zero. [`read_in`] gives the command back.
+/// The slot of a command, with this group count and under this sequence number, as [`spell`] has it for a command alone
+/// in its group. [`read_in`] gives the command back.
 pub(crate) fn spell_in(group: u8, command: &Command, sequence: u64) -> [u8; 64]
     ensures bytes { result ≡ open_gate ∷ slot_body group sequence command.now }
     ensures fits { FitsCommand command.now }
@@ -62,7 +62,8 @@ pub(crate) fn spell_in(group: u8, command: &Command, sequence: u64) -> [u8; 64]
     }
 }
 
-/// The slot of a command, alone in its group, under a sequence number. [`read`] gives the command back.
+/// The slot of a command, alone in its group, under a sequence number: an open gate, and the command's fields. All
+/// numbers are little endian, and what isn't a field is zero. [`read`] gives the command back.
 pub fn spell(command: &Command, sequence: u64) -> [u8; 64]
     ensures bytes { result ≡ open_gate ∷ slot_body 1 sequence command.now }
     ensures fits { FitsCommand command.now }
@@ -110,8 +111,7 @@ fn command_in(slot: &[u8; 64]) -> Option<Command>
 }
 
 /// The command of a slot, whatever its gate is, or `None` where the bytes behind the gate aren't those that
-/// [`spell_in`] gives with this group count: the count is another one, the code is none of the eight, or a byte that has
-/// to be zero isn't.
+/// [`spell_in`] gives with this group count.
 pub(crate) fn read_in(group: u8, slot: &[u8; 64]) -> Option<Command>
     ensures found { result ≡ read_in group slot.now }
     ensures spelled { IfSome result (λ c. drop 1 slot.now ≡ slot_body group (sequence_of slot.now) c) }
@@ -124,8 +124,8 @@ pub(crate) fn read_in(group: u8, slot: &[u8; 64]) -> Option<Command>
     }
 }
 
-/// The command of a slot that is alone in its group, whatever its gate is, or `None` where the bytes behind the gate
-/// aren't those that [`spell`] gives.
+/// The command of a slot, whatever its gate is, or `None` where the bytes behind the gate aren't those that [`spell`]
+/// gives: the group count isn't 1, the code is none of the eight, or a byte that has to be zero isn't.
 pub fn read(slot: &[u8; 64]) -> Option<Command>
     ensures found { result ≡ read_slot slot.now }
     ensures spelled { IfSome result (λ c. drop 1 slot.now ≡ slot_body 1 (sequence_of slot.now) c) }
