@@ -11,10 +11,10 @@ use Rattle.im_disk.specs.Since.{SameBut, LeavesOnly}
 use Rattle.im_disk.specs.Gate.{IsShut, HasThere, IsClosed, MayWrite}
 use Rattle.im_disk.proofs.SinceLemmas.{left_now, only_weaker}
 use Rattle.im_disk.proofs.GateLemmas.{done_same, done_there, done_kept, done_calm}
-use Rattle.im_journal.specs.Holding.{JournalState, IsJournal, Holds, AllHold, room_after, longer, longer_tail, Appended, MayAppend, Adds}
+use Rattle.im_journal.specs.Holding.{JournalState, IsJournal, Holds, AllHold, room_after, longer, longer_tail, KeepsBoundaries, Appended, MayAppend, Adds}
 use Rattle.im_journal.proofs.Slots.{slot_inside, slot_is, same_slot, away_after}
 use Rattle.im_journal.proofs.Rings.{other_number}
-use Rattle.im_journal.proofs.Tails.{Parts, parts_of, next_closed, tail_kept, tail_added}
+use Rattle.im_journal.proofs.Tails.{Parts, parts_of, next_closed, tail_kept, tail_added, boundaries_kept, boundaries_added}
 
 module _ (j : JournalState) (known : IsJournal j) (command : Command) (fits : FitsCommand command) (m0 : Moment) (all : AllHold j m0) (some : 0 < j.room) where
   abbrev at : ℕ
@@ -60,6 +60,12 @@ module _ (j : JournalState) (known : IsJournal j) (command : Command) (fits : Fi
     added_to : (c : List ℕ) → SameBut at 64 d c → take 64 (drop at c) ≡ bytes → tail j.ring j.first c ≡ option_map (longer_tail j.count command) (tail j.ring j.first d)
     added_to c same is = added c same is ∙ ap (λ o. option_map (longer_tail j.count command) o) (sym held.reads)
 
+    kept_boundaries : (c : List ℕ) → SameBut at 64 d c → get_or c at 0 ≢ open_gate → KeepsBoundaries j.ring j.first d c
+    kept_boundaries c same shut = boundaries_kept j.ring some_slots j.first j.count d c t parts held.count some_there same shut
+
+    added_boundaries : (c : List ℕ) → SameBut at 64 d c → take 64 (drop at c) ≡ bytes → KeepsBoundaries j.ring j.first d c
+    added_boundaries c same is = boundaries_added j.ring some_slots j.first j.count d c t parts held.count some_there same command fits known.begun low (slot_is j.ring j.count c bytes is)
+
     longer_held : (c : List ℕ) → SameBut at 64 d c → take 64 (drop at c) ≡ bytes → Holds (longer j) c
     longer_held c same is = record {
       size = subst (λ (n : ℕ). j.ring.base + 64 * j.ring.slots ≤ n) (sym same.size) held.size;
@@ -101,6 +107,7 @@ module _ (j : JournalState) (known : IsJournal j) (command : Command) (fits : Fi
     left = left;
     same = same;
     reads = ⊎_elim (λ shut. inl (kept from (all from left) c same shut)) (λ is. inr (added_to from (all from left) c same is)) gated;
+    boundaries = ⊎_elim (λ shut. kept_boundaries from (all from left) c same shut) (λ is. added_boundaries from (all from left) c same is) gated;
   }
 
   pub appended : (c : List ℕ) → SameBut at 64 m0.bytes c → take 64 (drop at c) ≡ bytes → Appended j command m0 c
@@ -110,6 +117,7 @@ module _ (j : JournalState) (known : IsJournal j) (command : Command) (fits : Fi
     same = same;
     slot = slot_is j.ring j.count c bytes is;
     reads = added_to m0.bytes (all m0.bytes (left_now m0)) c same is;
+    boundaries = added_boundaries m0.bytes (all m0.bytes (left_now m0)) c same is;
   }
 
   pub holds_longer : (c : List ℕ) → SameBut at 64 m0.bytes c → take 64 (drop at c) ≡ bytes → Holds (longer j) c

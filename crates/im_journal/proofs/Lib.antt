@@ -11,3 +11,4 @@ pub mod Sweeping
 pub mod Appending
 pub mod Reading
 pub mod Laws
+mod Counterexamples

@@ -1,39 +1,39 @@
 -- How a tail depends on the file's bytes.
-use Rattle.std.proofs.Common.{◌≡◌, ◌≢◌, ◌⊎◌, inl, inr, ⊎_elim, ℕ, zero, suc, ◌+◌, ◌-◌, ◌*◌, ◌%◌, ◌<◌, ◌≤◌, ◌==◌, Bool, true, false, List, [], ◌∷◌, ◌++◌, Option, None, Some, option_and_then, length, get_or, take, drop, refl, sym, ◌∙◌, ap, subst, arith, length-append, if◌then◌else◌}
+use Rattle.std.proofs.Common.{◌≡◌, ◌≢◌, ◌⊎◌, inl, inr, ⊎_elim, ℕ, zero, suc, ◌+◌, ◌-◌, ◌*◌, ◌%◌, ◌<◌, ◌≤◌, ◌==◌, ◌&&◌, nat_lt, nat_le, Bool, true, false, List, [], ◌∷◌, ◌++◌, Option, None, Some, option_and_then, length, get_or, take, drop, refl, sym, ◌∙◌, ap, subst, arith, length-append, if◌then◌else◌}
 use Rattle.std.proofs.Math.Nat.{mod-lt, mod-eq_of_lt}
-use Rattle.std.proofs.lemmas.Bool.{cases_eq, lt-ltb}
+use Rattle.std.proofs.lemmas.Bool.{cases_eq, lt-ltb, le-leb}
 use Rattle.std.proofs.lemmas.List.{drop-take, take-take, drop-drop}
-use Rattle.im_types.specs.declared.TheConstants.{LAST}
+use Rattle.im_types.specs.declared.TheConstants.{LAST, MAX_GROUP}
 use Rattle.im_types.specs.declared.commands.Command.{Command}
 use Rattle.im_types.specs.Bytes.{open_gate}
-use Rattle.im_types.specs.Slot.{is_open, sequence_of, read_slot, slot_body, FitsCommand}
-use Rattle.im_types.specs.Journal.{Ring, slot_at, slot, continues, run_from, run, commands_in, closed_from, are_stale, behind, ends_stale, room_of, Tail, tail_if, tail}
+use Rattle.im_types.specs.Slot.{is_open, sequence_of, group_of, read_in, slot_body, FitsCommand}
+use Rattle.im_types.specs.Journal.{Ring, slot_at, slot, continues, run_from, run, with_first, if_true, leads, commands_in, is_boundary, IsBoundary, closed_from, are_stale, behind, ends_stale, room_of, Tail, tail_if, tail}
 use Rattle.im_disk.specs.Since.{SameBut}
-use Rattle.im_journal.specs.Holding.{room_after, longer_tail, AreClosed}
-use Rattle.im_journal.proofs.Spelling.{sequence_of-spelled, read_slot-spelled}
+use Rattle.im_journal.specs.Holding.{room_after, longer_tail, AreClosed, KeepsBoundaries}
+use Rattle.im_journal.proofs.Spelling.{sequence_of-spelled, group_of-spelled, read_in-spelled}
 use Rattle.im_journal.proofs.Slots.{slot_inside, away, away_after, same_slot, closed_gate, gate_closed, stops_closed, stops_other, goes_on}
-use Rattle.im_journal.proofs.Runs.{stops, same_run, added_run, same_closed, all_closed, closed_at_most, closed_first, same_stale, stale_first, run_moved, closed_moved, stale_moved, length-commands, commands-push}
+use Rattle.im_journal.proofs.Runs.{stops, same_run, added_group, same_closed, all_closed, closed_at_most, closed_first, same_stale, stale_first, run_moved, closed_moved, stale_moved, length-commands, whole-commands, boundary-append, boundary-low, commands_joined}
 
 -- the tail, by the run and by what is behind it
-abbrev finished : List (List ℕ) → (ℕ → Bool) → (ℕ → ℕ) → Option Tail
-finished slots stale room = option_and_then (tail_if (stale (length slots)) (room (length slots))) (commands_in slots)
+abbrev finished : ℕ → List (List ℕ) → (ℕ → Bool) → (ℕ → ℕ) → Option Tail
+finished first slots stale room = option_and_then (tail_if (stale (length slots)) (room (length slots))) (commands_in 0 first slots)
 
-pub tail_is : (r : Ring) (first : ℕ) (file : List ℕ) → tail r first file ≡ finished (run r first file) (λ n. ends_stale r first n file) (λ n. room_of r first n file)
+pub tail_is : (r : Ring) (first : ℕ) (file : List ℕ) → tail r first file ≡ finished first (run r first file) (λ n. ends_stale r first n file) (λ n. room_of r first n file)
 unfolding tail
 tail_is r first file = refl
 
-finished_same : (a b : List (List ℕ)) (stale_a stale_b : ℕ → Bool) (room_a room_b : ℕ → ℕ) → a ≡ b → stale_a (length b) ≡ stale_b (length b) → room_a (length b) ≡ room_b (length b) → finished a stale_a room_a ≡ finished b stale_b room_b
-finished_same a b stale_a stale_b room_a room_b run stale room =
-    ap (λ (l : List (List ℕ)). finished l stale_a room_a) run
-    ∙ ap (λ (t : Bool). option_and_then (tail_if t (room_a (length b))) (commands_in b)) stale
-    ∙ ap (λ (n : ℕ). option_and_then (tail_if (stale_b (length b)) n) (commands_in b)) room
+finished_same : (first : ℕ) (a b : List (List ℕ)) (stale_a stale_b : ℕ → Bool) (room_a room_b : ℕ → ℕ) → a ≡ b → stale_a (length b) ≡ stale_b (length b) → room_a (length b) ≡ room_b (length b) → finished first a stale_a room_a ≡ finished first b stale_b room_b
+finished_same first a b stale_a stale_b room_a room_b run stale room =
+    ap (λ (l : List (List ℕ)). finished first l stale_a room_a) run
+    ∙ ap (λ (t : Bool). option_and_then (tail_if t (room_a (length b))) (commands_in 0 first b)) stale
+    ∙ ap (λ (n : ℕ). option_and_then (tail_if (stale_b (length b)) n) (commands_in 0 first b)) room
 
 abbrev if_room : Bool → ℕ → ℕ
 if_room b n = if b then 0 else n
 
 -- what a tail says, part by part
 pub record Parts (r : Ring) (first : ℕ) (file : List ℕ) (t : Tail) : Type 0 where
-  pub read : commands_in (run r first file) ≡ Some t.commands
+  pub read : commands_in 0 first (run r first file) ≡ Some t.commands
   pub size : length (run r first file) ≡ length t.commands
   pub stale : ends_stale r first (length t.commands) file ≡ true
   pub room : room_of r first (length t.commands) file ≡ t.room
@@ -49,11 +49,11 @@ module _ (r : Ring) (first : ℕ) (file : List ℕ) (t : Tail) where
       ap_room h = let same : ◌≡◌ {A = Tail} (record { commands = cs; room = room }) t = cc in ap (λ (x : Tail). x.room) same
   found cs false room e = absurd (cc)
 
-  parts : (o : Option (List Command)) → commands_in (run r first file) ≡ o → option_and_then (tail_if (ends_stale r first (length (run r first file)) file) (room_of r first (length (run r first file)) file)) o ≡ Some t → Parts r first file t
+  parts : (o : Option (List Command)) → commands_in 0 first (run r first file) ≡ o → option_and_then (tail_if (ends_stale r first (length (run r first file)) file) (room_of r first (length (run r first file)) file)) o ≡ Some t → Parts r first file t
   parts None is e = absurd (cc)
   parts (Some cs) is e =
       let both = found cs (ends_stale r first (length (run r first file)) file) (room_of r first (length (run r first file)) file) e in
-      let size : length (run r first file) ≡ length t.commands = sym (length-commands (run r first file) cs is) ∙ ap length both.1 in
+      let size : length (run r first file) ≡ length t.commands = sym (length-commands 0 first (run r first file) cs is) ∙ ap length both.1 in
       record {
         read = is ∙ ap (λ (l : List Command). Some l) both.1;
         size = size;
@@ -62,7 +62,7 @@ module _ (r : Ring) (first : ℕ) (file : List ℕ) (t : Tail) where
       }
 
   pub parts_of : tail r first file ≡ Some t → Parts r first file t
-  parts_of e = parts (commands_in (run r first file)) refl (sym (tail_is r first file) ∙ e)
+  parts_of e = parts (commands_in 0 first (run r first file)) refl (sym (tail_is r first file) ∙ e)
 
   pub tail_of : Parts r first file t → tail r first file ≡ Some t
   tail_of p =
@@ -127,7 +127,7 @@ module _ (r : Ring) (some : 0 < r.slots) (first n : ℕ) (d c : List ℕ) (t : T
     shut_n = closed_gate r n c shut
 
     kept_run : run r first c ≡ run r first d
-    kept_run = same_run r r.slots first c d (λ i low high. before i low (omega (arith, p.size))) (λ lt e is_e.
+    kept_run = same_run r r.slots 0 first c d (λ i low high. before i low (omega (arith, p.size))) (λ lt e is_e.
         let here : e ≡ n = is_e ∙ ap (λ (m : ℕ). first + m) p.size ∙ sym is_n in
         subst (λ (x : ℕ). continues (slot r x c) x ≡ false) (sym here) (stops_closed (slot r n c) n shut_n))
 
@@ -145,10 +145,14 @@ module _ (r : Ring) (some : 0 < r.slots) (first n : ℕ) (d c : List ℕ) (t : T
         ap (λ (m : ℕ). are_stale r (r.slots - k - m) (first + k + m) first c) kept_closed
         ∙ stale_same (r.slots - k - closed) (first + k + closed) (omega (arith, first_closed.1)) (omega (arith, few, fits))
 
-    -- a closed gate keeps the tail
+    -- a closed gate keeps the boundaries
+    pub boundaries_kept : KeepsBoundaries r first d c
+    boundaries_kept m e = ap (λ (l : List (List ℕ)). is_boundary 0 m l) kept_run ∙ e
+
+    -- and the tail
     pub tail_kept : tail r first c ≡ Some t
     tail_kept = tail_of r first c t (record {
-      read = ap commands_in kept_run ∙ p.read;
+      read = ap (λ (l : List (List ℕ)). commands_in 0 first l) kept_run ∙ p.read;
       size = ap length kept_run ∙ p.size;
       stale = kept_stale ∙ p.stale;
       room = ap (λ (m : ℕ). if_room (first + k == LAST) m) kept_closed ∙ p.room;
@@ -156,10 +160,23 @@ module _ (r : Ring) (some : 0 < r.slots) (first n : ℕ) (d c : List ℕ) (t : T
 
   module _ (command : Command) (fits_command : FitsCommand command) (begun : first ≤ n) (low : n < LAST) (is : slot r n c ≡ open_gate ∷ slot_body 1 n command) where
     sequence_n : sequence_of (slot r n c) ≡ n
-    sequence_n = ap sequence_of is ∙ sequence_of-spelled open_gate n command (omega arith)
+    sequence_n = ap sequence_of is ∙ sequence_of-spelled 1 open_gate n command (omega arith)
 
-    reads_n : read_slot (slot r n c) ≡ Some command
-    reads_n = ap read_slot is ∙ read_slot-spelled open_gate n command fits_command (omega arith)
+    group_n : group_of (slot r n c) ≡ 1
+    group_n = ap group_of is ∙ group_of-spelled 1 open_gate n command
+
+    reads_n : read_in 1 (slot r n c) ≡ Some command
+    reads_n = ap (λ (l : List ℕ). read_in 1 l) is ∙ read_in-spelled 1 open_gate n command fits_command (omega arith)
+
+    leads_n : leads n (slot r n c) ≡ true
+    leads_n = ap (λ (g : ℕ). nat_lt 0 g && nat_le g MAX_GROUP && nat_le (n + g) LAST) group_n ∙ le-leb (n + 1) LAST (omega (arith, low))
+
+    -- it is a group by itself
+    one_n : commands_in 0 n (slot r n c ∷ []) ≡ Some (command ∷ [])
+    one_n =
+        ap (λ (b : Bool). with_first (if_true b (read_in (group_of (slot r n c)) (slot r n c))) (commands_in (group_of (slot r n c) - 1) (n + 1) [])) leads_n
+        ∙ ap (λ (g : ℕ). with_first (read_in g (slot r n c)) (commands_in (g - 1) (n + 1) [])) group_n
+        ∙ ap (λ (o : Option Command). with_first o (Some [])) reads_n
 
     continues_n : continues (slot r n c) n ≡ true
     continues_n = goes_on (slot r n c) n (ap is_open is) sequence_n (lt-ltb n LAST low)
@@ -186,7 +203,10 @@ module _ (r : Ring) (some : 0 < r.slots) (first n : ℕ) (d c : List ℕ) (t : T
             stops_other (slot r (first + (k + 1)) d) (first + (k + 1)) (omega (arith, stale_first r (r.slots - (k + 1 + 1)) (first + (k + 1)) first d stale))
 
     added : run r first c ≡ run r first d ++ slot r n c ∷ []
-    added = added_run r r.slots first n c d (is_n ∙ ap (λ (m : ℕ). first + m) (sym p.size)) (omega (arith, fits)) before continues_n ends_there
+    added = added_group r r.slots 0 first n 1 c d (is_n ∙ ap (λ (m : ℕ). first + m) (sym p.size)) (whole-commands 0 first (run r first d) t.commands p.read) (omega arith) (omega (arith, fits, is_n)) before continues_n group_n ends_there
+
+    n_is : n ≡ first + length (run r first d)
+    n_is = is_n ∙ ap (λ (m : ℕ). first + m) (sym p.size)
 
     abbrev longer_commands : List Command
     longer_commands = t.commands ++ command ∷ []
@@ -216,18 +236,34 @@ module _ (r : Ring) (some : 0 < r.slots) (first n : ℕ) (d c : List ℕ) (t : T
     -- a slot behind the run that is spelled so makes it longer
     pub tail_added : tail r first c ≡ Some (longer_tail n command t)
     tail_added = tail_of r first c (longer_tail n command t) (record {
-      read = ap commands_in added ∙ commands-push (run r first d) t.commands (slot r n c) command p.read reads_n;
+      read = ap (λ (l : List (List ℕ)). commands_in 0 first l) added ∙ commands_joined 0 first (run r first d) (slot r n c ∷ []) t.commands (command ∷ []) p.read (ap (λ (m : ℕ). commands_in 0 m (slot r n c ∷ [])) (sym n_is) ∙ one_n);
       size = ap length added ∙ length-append (run r first d) (slot r n c ∷ []) ∙ ap (λ (m : ℕ). m + 1) p.size ∙ sym size_longer;
       stale = ap (λ (m : ℕ). ends_stale r first m c) size_longer ∙ added_stale ∙ p.stale;
       room = ap (λ (m : ℕ). room_of r first m c) size_longer ∙ added_room;
     })
 
+    -- and leaves its boundaries
+    pub boundaries_added : KeepsBoundaries r first d c
+    boundaries_added m e = ap (λ (l : List (List ℕ)). is_boundary 0 m l) added ∙ boundary-append 0 m (run r first d) (slot r n c ∷ []) e
+
+-- the end of a run is a boundary
+pub boundary_end : (r : Ring) (first : ℕ) (file : List ℕ) (t : Tail) → tail r first file ≡ Some t → IsBoundary r first (length t.commands) file
+boundary_end r first file t e =
+    let p : Parts r first file t = parts_of r first file t e in
+    ap (λ (m : ℕ). is_boundary 0 m (run r first file)) (sym p.size) ∙ whole-commands 0 first (run r first file) t.commands p.read
+
+-- and no boundary is behind it
+pub boundary_few : (r : Ring) (first k : ℕ) (file : List ℕ) (t : Tail) → tail r first file ≡ Some t → IsBoundary r first k file → k ≤ length t.commands
+boundary_few r first k file t e boundary =
+    let p : Parts r first file t = parts_of r first file t e in
+    omega (arith, p.size, boundary-low 0 k (run r first file) boundary)
+
 -- rings with the same slots have the same tail
 pub tail_moved : (q r : Ring) (first : ℕ) (c d : List ℕ) → q.slots ≡ r.slots → ((i : ℕ) → slot q i c ≡ slot r i d) → tail q first c ≡ tail r first d
 tail_moved q r first c d slots same =
-    let runs : run q first c ≡ run r first d = ap (λ (m : ℕ). run_from q m first c) slots ∙ run_moved q r c d same r.slots first in
+    let runs : run q first c ≡ run r first d = ap (λ (m : ℕ). run_from q m 0 first c) slots ∙ run_moved q r c d same r.slots 0 first in
     tail_is q first c
-    ∙ finished_same (run q first c) (run r first d) (λ n. ends_stale q first n c) (λ n. ends_stale r first n d) (λ n. room_of q first n c) (λ n. room_of r first n d)
+    ∙ finished_same first (run q first c) (run r first d) (λ n. ends_stale q first n c) (λ n. ends_stale r first n d) (λ n. room_of q first n c) (λ n. room_of r first n d)
     runs (stale (length (run r first d))) (ap (λ (m : ℕ). if_room (first + length (run r first d) == LAST) m) (gates (length (run r first d))))
     ∙ sym (tail_is r first d)
   where
@@ -244,9 +280,20 @@ tail_moved q r first c d slots same =
 pub same_tail : (r : Ring) (first : ℕ) (c d : List ℕ) → 0 < r.slots → length c ≡ length d → ((i : ℕ) → r.base ≤ i → i < r.base + 64 * r.slots → get_or c i 0 ≡ get_or d i 0) → tail r first c ≡ tail r first d
 same_tail r first c d some size same = tail_moved r r first c d refl (λ s. same_slot r s c d size (λ i low high. same i (omega arith) (omega (arith, slot_inside r some s))))
 
+-- and the same boundaries
+pub same_boundaries : (r : Ring) (first : ℕ) (c d : List ℕ) → ((s : ℕ) → slot r s c ≡ slot r s d) → KeepsBoundaries r first d c
+same_boundaries r first c d same m e = ap (λ (l : List (List ℕ)). is_boundary 0 m l) (run_moved r r c d same r.slots 0 first) ∙ e
+
 -- what is written before or behind the ring leaves the tail
 pub tail_elsewhere : (r : Ring) (first at n : ℕ) (d c : List ℕ) → 0 < r.slots → (at + n ≤ r.base) ⊎ (r.base + 64 * r.slots ≤ at) → SameBut at n d c → tail r first c ≡ tail r first d
 tail_elsewhere r first at n d c some beside same = same_tail r first c d some same.size (λ i low high. same.same i (⊎_elim (λ (before : at + n ≤ r.base). inr (omega arith)) (λ (behind : r.base + 64 * r.slots ≤ at). inl (omega arith)) beside))
+
+-- and the boundaries
+pub boundaries_elsewhere : (r : Ring) (first at n : ℕ) (d c : List ℕ) → 0 < r.slots → (at + n ≤ r.base) ⊎ (r.base + 64 * r.slots ≤ at) → SameBut at n d c → KeepsBoundaries r first d c
+boundaries_elsewhere r first at n d c some beside same = same_boundaries r first c d (λ s. same_slot r s c d same.size (λ i low high. same.same i (⊎_elim
+    (λ (before : at + n ≤ r.base). inr (omega (arith, before, low)))
+    (λ (behind : r.base + 64 * r.slots ≤ at). inl (omega (arith, behind, high, slot_inside r some s)))
+    beside)))
 
 none_more : (m : ℕ) → 0 + m ≡ m
 none_more m = omega arith
@@ -272,7 +319,7 @@ tail_alone r first file bytes some is = tail_moved (record { base = 0; slots = r
 -- closed gates all round are no commands, and room in each slot
 pub tail_closed : (r : Ring) (file : List ℕ) → 0 < r.slots → AreClosed r file → tail r 0 file ≡ Some (record { commands = []; room = r.slots })
 tail_closed r file some closed = tail_of r 0 file (record { commands = []; room = r.slots }) (record {
-  read = ap commands_in none;
+  read = ap (λ (l : List (List ℕ)). commands_in 0 0 l) none;
   size = ap length none;
   stale = ap (λ (m : ℕ). are_stale r (r.slots - 0 - m) (0 + 0 + m) 0 file) all ∙ ap (λ (m : ℕ). are_stale r m (0 + 0 + r.slots) 0 file) over;
   room = all;

@@ -7,7 +7,7 @@ use Rattle.im_types.specs.declared.refusals.Refusal.TheVariants.{JournalFull}
 use Rattle.im_types.specs.declared.sizes.Limits.{Limits}
 use Rattle.im_types.specs.Bytes.{open_gate}
 use Rattle.im_types.specs.Slot.{slot_body, sequence_of}
-use Rattle.im_types.specs.Journal.{Ring, slot_at, slot, Tail, tail}
+use Rattle.im_types.specs.Journal.{Ring, slot_at, slot, IsBoundary, Tail, tail}
 use Rattle.im_types.specs.Layout.{layout_in_use, ring_of}
 use Rattle.im_disk.specs.Moment.{Moment, Left}
 use Rattle.im_disk.specs.Since.{SameBut, LeavesNow}
@@ -77,6 +77,10 @@ to_sweep j = if j.count == LAST then 0 else j.ring.slots - (j.count - j.first) -
 abbrev pub longer_tail : ℕ → Command → Tail → Tail
 longer_tail count command t = record { commands = t.commands ++ command ∷ []; room = room_after count t.room }
 
+-- where a run may begin anew in the first file, it may in the second one
+abbrev pub KeepsBoundaries : Ring → ℕ → List ℕ → List ℕ → Type 0
+KeepsBoundaries ring first c d = (k : ℕ) → IsBoundary ring first k c → IsBoundary ring first k d
+
 -- the file is one that could be left, but for the slot of the next command, and its tail has the command at its end
 pub record Appended (j : JournalState) (command : Command) (m : Moment) (file : List ℕ) : Type 0 where
   pub from : List ℕ
@@ -84,6 +88,7 @@ pub record Appended (j : JournalState) (command : Command) (m : Moment) (file : 
   pub same : SameBut (slot_at j.ring j.count) 64 from file
   pub slot : slot j.ring j.count file ≡ open_gate ∷ slot_body 1 j.count command
   pub reads : tail j.ring j.first file ≡ option_map (longer_tail j.count command) (tail j.ring j.first from)
+  pub boundaries : KeepsBoundaries j.ring j.first from file
 
 -- The command is on the disk for good, and the journal that comes next is the tail of each file left; the bytes outside its
 -- slot are as they were.
@@ -104,6 +109,7 @@ pub record MayAppend (j : JournalState) (command : Command) (m : Moment) (file :
   pub left : Left m from
   pub same : SameBut (slot_at j.ring j.count) 64 from file
   pub reads : (tail j.ring j.first file ≡ tail j.ring j.first from) ⊎ (tail j.ring j.first file ≡ option_map (longer_tail j.count command) (tail j.ring j.first from))
+  pub boundaries : KeepsBoundaries j.ring j.first from file
 
 -- with so much room more
 abbrev pub with_room : JournalState → ℕ → JournalState
@@ -120,6 +126,7 @@ pub record SameRun (j : JournalState) (c d : List ℕ) : Type 0 where
   pub after : tail j.ring j.first d ≡ Some (record { commands = commands; room = found })
   pub enough : j.room ≤ found
   pub holds : Holds j d
+  pub boundaries : KeepsBoundaries j.ring j.first c d
 
 -- the file has the run of one that could be left
 pub record MaySweep (j : JournalState) (m : Moment) (file : List ℕ) : Type 0 where

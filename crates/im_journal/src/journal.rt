@@ -2,7 +2,7 @@
 //! commands before the run become room again.
 ghost use Rattle.std.specs.Prelude.{◌≡◌, ◌⊎◌, ◌+◌, ◌*◌, ◌-◌, ◌≤◌, ◌<◌, List, ℕ, length, drop, min, Some, None};
 ghost use Rattle.std.specs.Prelude.{OnOk, IfOk, MatchResult};
-ghost use Rattle.im_types.specs.Journal.{tail};
+ghost use Rattle.im_types.specs.Journal.{IsBoundary, tail};
 ghost use Rattle.im_disk.specs.Moment.{Faults};
 ghost use Rattle.im_disk.specs.Since.{LeavesOnly, OnlyReads, Calls, CallsBy};
 ghost use Rattle.im_journal.specs.Holding.{ring_under, IsJournal, Holds, AllHold, AreClosed, IsTail};
@@ -158,14 +158,17 @@ impl Journal {
     }
 
     /// Begins the run at a later command, once the pages of the header in force hold the effects of those before it.
-    /// Their slots are then to be swept, before they are room. It makes no call of the disk.
+    /// Their slots are then to be swept, before they are room. No group goes on behind them: in the middle of one there
+    /// is no gate that the run could begin at. It makes no call of the disk.
     pub fn begin_later(&mut self, first: u64)
         requires later { self.old.first ≤ first }
         requires counted { first ≤ self.old.count }
         ensures state { self.new ≡ record self.old { first = first } }
-        ensures holds { (file : List ℕ) → Holds self.old file → Holds self.new file }
+        ensures holds { (file : List ℕ) → Holds self.old file
+            → IsBoundary self.old.ring self.old.first (first - self.old.first) file → Holds self.new file }
         // The commands that are left of the run.
-        ensures tail { (file : List ℕ) → (held : Holds self.old file) → tail self.old.ring first file
+        ensures tail { (file : List ℕ) → (held : Holds self.old file)
+            → IsBoundary self.old.ring self.old.first (first - self.old.first) file → tail self.old.ring first file
             ≡ Some (record { commands = drop (first - self.old.first) held.commands; room = held.there }) }
     {
         self.first = first;

@@ -33,6 +33,9 @@ pub const MIN_SLOTS: u32 = 16;
 /// The most slots of a journal.
 pub const MAX_SLOTS: u32 = 4_096;
 
+/// The most commands in a group of the journal.
+pub const MAX_GROUP: usize = 16;
+
 /// The most entries that a window keeps.
 pub const WINDOW: u64 = 16;
 
