@@ -4,7 +4,7 @@ use Rattle.im_disk.proofs.SinceLemmas.{leaves_start, only_weaker}
 use Rattle.im_types.specs.Step.{is_accepted}
 use Rattle.im_journal.specs.Holding.{MayAppend}
 use Rattle.im_engine.specs.State.{EngineState, MeansState, MeansEither}
-use Rattle.im_checkpoint.specs.Keeping.{paged, Fits, IsKept}
+use Rattle.im_checkpoint.specs.Keeping.{paged, Fits}
 use Rattle.im_checkpoint.specs.Step.{CheckpointState}
 use Rattle.im_engine.proofs.Keeping.{all_mean, all_hold, may_append_means, kept_prepared}
 use Rattle.im_engine.proofs.Serving.{fits_longer, kept_with_it, calls_after}
