@@ -48,6 +48,10 @@ module _ (r : Ring) where
   slots_at zero s c = []
   slots_at (suc g) s c = slot r s c ∷ slots_at g (s + 1) c
 
+  pub length-slots_at : (g s : ℕ) (c : List ℕ) → length (slots_at g s c) ≡ g
+  length-slots_at zero s c = refl
+  length-slots_at (suc g) s c = ap (λ (n : ℕ). suc n) (length-slots_at g (s + 1) c)
+
   -- the followers of a group, behind which the run ends
   followers : (g k s : ℕ) (c : List ℕ) → g ≤ k → (g < k → continues (slot r (s + g) c) (s + g) ≡ false) → run_from r k g s c ≡ slots_at g s c
   followers zero k s c few ends =
@@ -135,6 +139,24 @@ module _ (r : Ring) where
   -- the first of some closed gates
   pub closed_first : (n s : ℕ) (c : List ℕ) → 0 < closed_from r (suc n) s c → (is_open (slot r s c) ≡ false) × (closed_from r (suc n) s c ≡ suc (closed_from r n (s + 1) c))
   closed_first n s c some = open_or (is_open (slot r s c)) (closed_from r n (s + 1) c) some
+
+  -- behind the first of some closed gates come the others
+  pub closed_behind : (g m s : ℕ) (c : List ℕ) → g ≤ closed_from r (g + m) s c → closed_from r (g + m) s c ≡ g + closed_from r m (s + g) c
+  closed_behind zero m s c some =
+      let none : 0 + m ≡ m = omega arith in
+      let here : s ≡ s + 0 = omega arith in
+      (λ i. closed_from r (none i) (here i) c) ∙ sym (none_more (closed_from r m (s + 0) c))
+    where
+      none_more : (n : ℕ) → 0 + n ≡ n
+      none_more n = omega arith
+  closed_behind (suc g) m s c some =
+      let fuel : suc g + m ≡ suc (g + m) = omega arith in
+      let next : s + 1 + g ≡ s + suc g = omega arith in
+      let one = closed_first (g + m) s c (subst (λ (n : ℕ). 0 < closed_from r n s c) fuel (omega (arith, some))) in
+      let whole : closed_from r (suc g + m) s c ≡ suc (closed_from r (g + m) (s + 1) c) = ap (λ (n : ℕ). closed_from r n s c) fuel ∙ one.1 in
+      let rest : closed_from r (g + m) (s + 1) c ≡ g + closed_from r m (s + 1 + g) c = closed_behind g m (s + 1) c (omega (arith, some, whole)) in
+      let after : closed_from r m (s + 1 + g) c ≡ closed_from r m (s + suc g) c = ap (λ (n : ℕ). closed_from r m n c) next in
+      omega (arith, whole, rest, after)
 
   pub same_stale : (n s first : ℕ) (c d : List ℕ) → ((i : ℕ) → s ≤ i → i < s + n → slot r i c ≡ slot r i d) → are_stale r n s first c ≡ are_stale r n s first d
   same_stale zero s first c d same = refl

@@ -104,20 +104,34 @@ turned : (xs ys : List ℕ) (t : Bool) → same_bytes xs ys ≡ t → same_bytes
 turned xs ys true same = ap (λ (l : List ℕ). same_bytes ys l) ((bytes_eq-Decides xs ys).0 same) ∙ same_self ys
 turned xs ys false differ = differs xs ys (same_bytes ys xs) differ refl
 
+-- a body is 63 bytes, behind the gate of a slot that was spelled
+pub length-body : (g s : ℕ) (c : Command) → length (slot_body g s c) ≡ 63
+length-body g s (Asks r) = refl
+length-body g s (Confirm element upto) = refl
+
+pub spelled_body : (g : ℕ) (spelled : List ℕ) (s : ℕ) (c : Command) → spelled ≡ open_gate ∷ slot_body g s c → take 63 (drop 1 spelled) ≡ slot_body g s c
+spelled_body g spelled s c is = ap (λ (l : List ℕ). take 63 (drop 1 l)) is ∙ short c
+  where
+    short : (d : Command) → take 63 (slot_body g s d) ≡ slot_body g s d
+    short (Asks r) = refl
+    short (Confirm element upto) = refl
+
+pub counted_body : (g : ℕ) (spelled : List ℕ) (m s : ℕ) (c : Command) → spelled ≡ open_gate ∷ slot_body m s c → m ≡ g → take 63 (drop 1 spelled) ≡ slot_body g s c
+counted_body g spelled m s c is same = spelled_body m spelled s c is ∙ ap (λ (k : ℕ). slot_body k s c) same
+
+pub spelled_long : (g : ℕ) (spelled : List ℕ) (s : ℕ) (c : Command) → spelled ≡ open_gate ∷ slot_body g s c → length (take 63 (drop 1 spelled)) ≡ 63
+spelled_long g spelled s c is = ap length (spelled_body g spelled s c is) ∙ length-body g s c
+
 -- a slot is read by spelling what its fields stand for, and comparing all but the gate
 pub read_in-compared : (g : ℕ) (slot spelled : List ℕ) (sequence : ℕ) (c : Command) (t : Bool) → length slot ≡ 64 → command_in slot ≡ Some c → sequence ≡ sequence_of slot → spelled ≡ open_gate ∷ slot_body g sequence c
     → t ≡ same_bytes (take 63 (drop 1 spelled)) (take 63 (drop 1 slot)) → if_ t (Some c) None ≡ read_in g slot
 unfolding read_in
 read_in-compared g slot spelled sequence c t size is same_sequence is_spelled test =
-    let body : take 63 (drop 1 spelled) ≡ slot_body g (sequence_of slot) c = ap (λ (l : List ℕ). take 63 (drop 1 l)) is_spelled ∙ short c sequence ∙ ap (λ (n : ℕ). slot_body g n c) same_sequence in
+    let body : take 63 (drop 1 spelled) ≡ slot_body g (sequence_of slot) c = spelled_body g spelled sequence c is_spelled ∙ ap (λ (n : ℕ). slot_body g n c) same_sequence in
     let whole_slot : take 63 (drop 1 slot) ≡ drop 1 slot = take_all 63 (drop 1 slot) (omega (arith, length-drop 1 slot)) in
     let compared : same_bytes (slot_body g (sequence_of slot) c) (drop 1 slot) ≡ t = ap (λ (l : List ℕ). same_bytes l (drop 1 slot)) (sym body) ∙ ap (λ (l : List ℕ). same_bytes (take 63 (drop 1 spelled)) l) (sym whole_slot) ∙ sym test in
     sym (ap (λ (o : Option Command). option_and_then (if_spelled_in g slot) o) is
     ∙ ap (λ (b : Bool). if_ b (Some c) None) (turned (slot_body g (sequence_of slot) c) (drop 1 slot) t compared))
-  where
-    short : (d : Command) (n : ℕ) → take 63 (slot_body g n d) ≡ slot_body g n d
-    short (Asks r) n = refl
-    short (Confirm element upto) n = refl
 
 -- nothing reads where the fields stand for nothing
 pub read_in-none : (g : ℕ) (slot : List ℕ) → command_in slot ≡ None → read_in g slot ≡ None
