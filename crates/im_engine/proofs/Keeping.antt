@@ -6,11 +6,12 @@ use Rattle.im_types.specs.Contents.{Contents}
 use Rattle.im_types.specs.Step.{step, is_accepted}
 use Rattle.im_types.specs.Layout.{layout_in_use, area_at, area_bytes, ring_of}
 use Rattle.im_types.specs.Header.{Header}
-use Rattle.im_types.specs.Journal.{Ring, Tail, tail, slot_at}
+use Rattle.im_types.specs.Journal.{Ring, Tail, tail}
 use Rattle.im_types.specs.Meaning.{accept_each}
 use Rattle.im_disk.specs.Moment.{Moment, Left}
 use Rattle.im_disk.specs.Since.{SameBut, LeavesNow}
 use Rattle.im_journal.specs.Holding.{JournalState, Holds, AllHold, room_after, longer, longer_tail, KeepsBoundaries, Appended, MayAppend}
+use Rattle.im_journal.specs.Groups.{SameButGroup}
 use Rattle.im_journal.proofs.Slots.{slot_inside}
 use Rattle.im_memory.specs.State.{MemoryState}
 use Rattle.im_memory.specs.Touched.{touched, ChangesOnly}
@@ -18,7 +19,7 @@ use Rattle.im_image.specs.Reading.{HasSizes}
 use Rattle.im_meaning.specs.Images.{other, IsImage}
 use Rattle.im_checkpoint.specs.Step.{CheckpointState, PagedCheckpoint, left_in}
 use Rattle.im_checkpoint.specs.Keeping.{Paged, paged, MeansWith, Keeps, IsKept, Prepares}
-use Rattle.im_checkpoint.proofs.Bytes.{same_all, same_wider}
+use Rattle.im_checkpoint.proofs.Bytes.{same_all}
 use Rattle.im_checkpoint.proofs.Files.{Still, still_in_area, keeps_at, means_of, enough, some}
 use Rattle.im_checkpoint.proofs.Moments.{kept_calm, means_left}
 use Rattle.im_checkpoint.proofs.Sweeping.{area_before_stays, other_place_stays, in_force_stays, shows_stays, tail_of_image}
@@ -39,10 +40,10 @@ accept_both m m2 m3 (c ∷ commands) added is more = by_test (is_accepted m c) i
 pub accept_one : (m : Contents) (command : Command) → is_accepted m command ≡ true → accept_each m (command ∷ []) ≡ Some (step m command).contents
 accept_one m command accepted = ap (λ (b : Bool). if b then Some (step m command).contents else None) accepted
 
-pub room_grows : (count room there : ℕ) → room ≤ there → room_after count room ≤ room_after count there
-room_grows count room there le = by_test (count + 1 == LAST)
+pub room_grows : (count n room there : ℕ) → room ≤ there → room_after count n room ≤ room_after count n there
+room_grows count n room there le = by_test (count + n == LAST)
   where
-    by_test : (b : Bool) → (if b then 0 else room - 1) ≤ (if b then 0 else there - 1)
+    by_test : (b : Bool) → (if b then 0 else room - n) ≤ (if b then 0 else there - n)
     by_test true = omega arith
     by_test false = omega arith
 
@@ -103,33 +104,46 @@ module _ (c : CheckpointState) (x : Paged) (m : Contents) (j : JournalState) (no
   some_slots : 0 < j.ring.slots
   some_slots = subst (λ (r : Ring). 0 < r.slots) (sym kept.read.ring) (some c.header m j now.bytes kept.read)
 
-  in_ring : (c d : List ℕ) → SameBut (slot_at j.ring j.count) 64 c d → SameBut j.ring.base (64 * j.ring.slots) c d
-  in_ring c d but = same_wider (slot_at j.ring j.count) 64 j.ring.base (64 * j.ring.slots) c d but (omega arith) (slot_inside j.ring some_slots j.count)
+  in_ring : (n : ℕ) (c d : List ℕ) → SameButGroup j.ring j.count n c d → SameBut j.ring.base (64 * j.ring.slots) c d
+  in_ring n c d but = record {
+    size = but.size;
+    same = λ i out. ⊎_elim
+        (λ (low : i < j.ring.base). but.same i (omega arith) (λ k below. inl (omega arith)))
+        (λ (high : j.ring.base + 64 * j.ring.slots ≤ i). but.same i (omega (arith, slot_inside j.ring some_slots j.count)) (λ k below. inr (omega (arith, slot_inside j.ring some_slots (j.count + k)))))
+        out;
+  }
 
-  module _ (command : Command) (accepted : is_accepted m command ≡ true) where
-    added_tail : (from file : List ℕ) → Left now from → tail j.ring j.first file ≡ option_map (longer_tail j.count command) (tail j.ring j.first from)
-        → tail j.ring j.first file ≡ Some (record { commands = kept.read.commands ++ command ∷ []; room = room_after j.count kept.read.there })
-    added_tail from file left e = e ∙ ap (λ (t : Option Tail). option_map (longer_tail j.count command) t) (tail_there c.header m j from (there from left) from (same_all j.ring.base (64 * j.ring.slots) from))
+  -- commands that are accepted one after another, as one group
+  module _ (commands : List Command) (m2 : Contents) (accepts : accept_each m commands ≡ Some m2) where
+    abbrev more : JournalState
+    more = longer (length commands) j
 
-    pub may_append_means : (file : List ℕ) → MayAppend j command now file → MeansWith m j file ⊎ MeansWith (step m command).contents (longer j) file
+    added_tail : (from file : List ℕ) → Left now from → tail j.ring j.first file ≡ option_map (longer_tail j.count commands) (tail j.ring j.first from)
+        → tail j.ring j.first file ≡ Some (record { commands = kept.read.commands ++ commands; room = room_after j.count (length commands) kept.read.there })
+    added_tail from file left e = e ∙ ap (λ (t : Option Tail). option_map (longer_tail j.count commands) t) (tail_there c.header m j from (there from left) from (same_all j.ring.base (64 * j.ring.slots) from))
+
+    room_there : room_after j.count (length commands) j.room ≤ room_after j.count (length commands) kept.read.there
+    room_there = room_grows j.count (length commands) j.room kept.read.there (enough c.header m j now.bytes kept.read)
+
+    pub may_append_means : (file : List ℕ) → MayAppend j commands now file → MeansWith m j file ⊎ MeansWith m2 (longer (length commands) j) file
     may_append_means file may = ⊎_elim
-        (λ same. inl (means_same c.header m j may.from (there may.from may.left) file (in_ring may.from file may.same) same))
-        (λ more. inr (means_more c.header m j may.from (there may.from may.left) file (in_ring may.from file may.same) (command ∷ []) (step m command).contents (accept_one m command accepted)
-        (longer j) refl refl refl (room_after j.count kept.read.there) (room_grows j.count j.room kept.read.there (enough c.header m j now.bytes kept.read)) (added_tail may.from file may.left more)))
+        (λ same. inl (means_same c.header m j may.from (there may.from may.left) file (in_ring (length commands) may.from file may.same) same))
+        (λ added. inr (means_more c.header m j may.from (there may.from may.left) file (in_ring (length commands) may.from file may.same) commands m2 accepts
+        more refl refl refl (room_after j.count (length commands) kept.read.there) room_there (added_tail may.from file may.left added)))
         may.reads
 
-    -- once it is appended, the disk keeps it
-    pub kept_longer : (new : Moment) → SameBut (slot_at j.ring j.count) 64 now.bytes new.bytes → new.ranges ≡ [] → Appended j command now new.bytes → Holds (longer j) new.bytes
-        → IsKept c x (step m command).contents (longer j) new
+    -- once they are appended, the disk keeps it
+    pub kept_longer : (new : Moment) → SameButGroup j.ring j.count (length commands) now.bytes new.bytes → new.ranges ≡ [] → Appended j commands now new.bytes → Holds (longer (length commands) j) new.bytes
+        → IsKept c x m2 (longer (length commands) j) new
     kept_longer new but calm added holds =
-        let ring : SameBut j.ring.base (64 * j.ring.slots) now.bytes new.bytes = in_ring now.bytes new.bytes but in
+        let ring : SameBut j.ring.base (64 * j.ring.slots) now.bytes new.bytes = in_ring (length commands) now.bytes new.bytes but in
         let boundaries : KeepsBoundaries (ring_of layout_in_use c.header.sizes) c.header.count added.from new.bytes =
         subst (λ (n : ℕ). KeepsBoundaries (ring_of layout_in_use c.header.sizes) n added.from new.bytes) kept.read.first
         (subst (λ (r : Ring). KeepsBoundaries r j.first added.from new.bytes) kept.read.ring added.boundaries) in
-        kept_calm c x (step m command).contents (longer j) new calm
-        (keeps_more c.header m j now.bytes kept.read new.bytes ring (command ∷ []) (step m command).contents (accept_one m command accepted)
-        (longer j) refl refl refl (room_after j.count kept.read.there) (room_grows j.count j.room kept.read.there (enough c.header m j now.bytes kept.read)) (added_tail added.from new.bytes added.left added.reads) holds)
-        (taken_longer c.header kept.read.shown kept.read.commands (command ∷ []) x c.step new.bytes
+        kept_calm c x m2 more new calm
+        (keeps_more c.header m j now.bytes kept.read new.bytes ring commands m2 accepts
+        more refl refl refl (room_after j.count (length commands) kept.read.there) room_there (added_tail added.from new.bytes added.left added.reads) holds)
+        (taken_longer c.header kept.read.shown kept.read.commands commands x c.step new.bytes
         (step_moved c.header x now.bytes new.bytes (area_before_stays c.header m j now.bytes kept.read new.bytes ring c.header.area kept.read.image.in_force.number)
         (area_before_stays c.header m j now.bytes kept.read new.bytes ring (other c.header) (omega arith)) kept.read.shown kept.read.commands c.step
         (other_place_stays c.header m j now.bytes kept.read new.bytes ring) (λ k boundary. boundaries k ((still added.from added.left).boundaries k boundary)) kept.step))
