@@ -253,3 +253,157 @@ begin later 14 = ok
 sweep = 3 gates
 if lost tail 14 = 2 commands, room 3
 if a5 tail 14 = 2 commands, room 3
+
+# Commands of one group stand behind one gate
+disk 327680 = blank
+journal 4096 16 256 = fresh
+group 0.1 alloc i 2 and 1.1 fetch 0 and 2.1 store 0 42 = ok
+-- A body for each, a sync, the gate of the first, a sync.
+calls = 6
+count = 3
+room = 253
+tail 0 = 3 commands, room 253
+command 0 = 0.1 alloc i 2
+command 1 = 1.1 fetch 0
+command 2 = 2.1 store 0 42
+-- The first slot has the gate and counts three; the others have neither.
+read 311296 8 = a5 03 01 00 00 00 00 00
+read 311304 8 = 00*8
+read 311312 8 = 01 00 00 00 00 00 00 00
+read 311320 8 = 02 00 00 00 00 00 00 00
+read 311328 32 = 00*32
+read 311360 64 = 00 00 04 00 01 00 00 00 01 00 00 00 00 00 00 00 01 00*47
+read 311424 64 = 00 00 05 00 02 00 00 00 02 00 00 00 00 00 00 00 01 00*15 2a 00*31
+-- Their gates aren't looked at, but their counts and numbers are.
+with 311360:a5 tail 0 = 3 commands, room 253
+with 311361:01 tail 0 = refused 16 BadRecord
+with 311368:02 tail 0 = refused 16 BadRecord
+with 311297:02 tail 0 = 2 commands, room 254
+with 311297:04 tail 0 = refused 16 BadRecord
+with 311296:00 tail 0 = 0 commands, room 256
+-- A command by itself comes behind them.
+tail 0 = 3 commands, room 253
+append 1.2 fetch 1 = ok
+tail 0 = 4 commands, room 252
+command 3 = 1.2 fetch 1
+
+# A group goes round the ring's end, once
+disk 33792 = blank
+journal 1 1 16 = fresh
+append fetches 1 to 14 = ok
+begin later 14 = ok
+sweep = 3 gates
+to sweep = 11
+group 0.15 fetch 0 and 0.16 take 0 and 0.17 fetch 0 = ok
+room = 2
+tail 14 = 3 commands, room 2
+command 1 = 0.16 take 0
+-- A leader of three in slot 14, and behind it slots 15 and 0.
+with 33665:04 tail 14 = refused 16 BadRecord
+-- A run may begin behind the group. In its middle there is no gate, so the last command would be lost.
+tail 17 = 0 commands, room 2
+tail 16 = 0 commands, room 3
+
+# A group is refused whole where there is less room, and then no call is made
+disk 33792 = blank
+journal 1 1 16 = fresh
+append fetches 1 to 14 = ok
+calls = 56
+group 0.15 fetch 0 and 0.16 fetch 0 and 0.17 fetch 0 = refused 7 JournalFull
+calls = 56
+count = 14
+group 0.15 fetch 0 and 0.16 fetch 0 = ok
+calls = 61
+room = 0
+
+# A group goes no further than the last count
+disk 33792 = blank
+journal 1 1 16 = fresh
+tail 4611686018427387902 = 0 commands, room 16
+group 0.1 fetch 0 and 0.2 fetch 0 and 0.3 fetch 0 = refused 7 JournalFull
+group 0.1 fetch 0 and 0.2 fetch 0 = ok
+count = 4611686018427387904
+room = 0
+tail 4611686018427387902 = 2 commands, room 0
+
+# A group that is stopped at the write of its first body isn't on the disk
+disk 327680 = blank
+fuse stop 0 = so
+journal 4096 16 256 = fresh
+group 0.1 alloc i 2 and 1.1 fetch 0 and 2.1 store 0 42 = refused 8 Device
+calls = 1
+count = 0
+room = 256
+if kept tail 0 = 0 commands, room 256
+if lost tail 0 = 0 commands, room 256
+if a5 tail 0 = 0 commands, room 256
+
+# A group that is stopped at the write of its second body isn't on the disk
+disk 327680 = blank
+fuse stop 1 = so
+journal 4096 16 256 = fresh
+group 0.1 alloc i 2 and 1.1 fetch 0 and 2.1 store 0 42 = refused 8 Device
+calls = 2
+count = 0
+room = 256
+if kept tail 0 = 0 commands, room 256
+if lost tail 0 = 0 commands, room 256
+if a5 tail 0 = 0 commands, room 256
+
+# A group that is stopped at the write of its last body isn't on the disk
+disk 327680 = blank
+fuse stop 2 = so
+journal 4096 16 256 = fresh
+group 0.1 alloc i 2 and 1.1 fetch 0 and 2.1 store 0 42 = refused 8 Device
+calls = 3
+count = 0
+room = 256
+if kept tail 0 = 0 commands, room 256
+if lost tail 0 = 0 commands, room 256
+if a5 tail 0 = 0 commands, room 256
+
+# A group that is stopped at the sync of its bodies isn't on the disk
+disk 327680 = blank
+fuse stop 3 = so
+journal 4096 16 256 = fresh
+group 0.1 alloc i 2 and 1.1 fetch 0 and 2.1 store 0 42 = refused 8 Device
+calls = 4
+count = 0
+room = 256
+if kept tail 0 = 0 commands, room 256
+if lost tail 0 = 0 commands, room 256
+if a5 tail 0 = 0 commands, room 256
+
+# A group that is stopped at the write of its gate is on the disk or not, whole
+disk 327680 = blank
+fuse stop 4 = so
+journal 4096 16 256 = fresh
+group 0.1 alloc i 2 and 1.1 fetch 0 and 2.1 store 0 42 = refused 8 Device
+calls = 5
+count = 0
+room = 256
+if kept tail 0 = 0 commands, room 256
+if lost tail 0 = 0 commands, room 256
+if a5 tail 0 = 3 commands, room 253
+
+# A group that is stopped at the sync of its gate is on the disk or not, whole
+disk 327680 = blank
+fuse stop 5 = so
+journal 4096 16 256 = fresh
+group 0.1 alloc i 2 and 1.1 fetch 0 and 2.1 store 0 42 = refused 8 Device
+calls = 6
+count = 0
+room = 256
+if kept tail 0 = 3 commands, room 253
+if lost tail 0 = 0 commands, room 256
+if a5 tail 0 = 3 commands, room 253
+
+# A group that was answered is on the disk for good
+disk 327680 = blank
+fuse stop 6 = so
+journal 4096 16 256 = fresh
+group 0.1 alloc i 2 and 1.1 fetch 0 and 2.1 store 0 42 = ok
+count = 3
+if kept tail 0 = 3 commands, room 253
+if lost tail 0 = 3 commands, room 253
+if 00 tail 0 = 3 commands, room 253

@@ -3,6 +3,7 @@
 //! ```text
 //! journal CELLS ELEMENTS SLOTS   a new one, of an image of these sizes
 //! append COMMAND, append fetches 1 to N    the second: element 0 fetches cell 0, by its requests 1 to N
+//! group COMMAND and COMMAND ..   appends them as one group
 //! tail FROM                      reads the run from this count on
 //! command I                      the command at this place of the run that was read
 //! first, count, room, to sweep   of the journal
@@ -21,7 +22,7 @@ use im_disk::Disk;
 use im_image::journal_at;
 use im_journal::{Journal, read, spell};
 use im_story::{add_refusal, address, command, element, number, place};
-use im_types::{Command, LAST, Limits, Op, Refusal, Request};
+use im_types::{Command, LAST, Limits, MAX_GROUP, Op, Refusal, Request};
 use std::alloc::{AllocError, Global};
 
 fn fresh(here: &mut Place, limits: Limits) {
@@ -67,6 +68,24 @@ fn append_fetches(here: &mut Place, upto: u64, said: &mut String) -> Result<()> 
         }
     }
     said.push_str("ok")?;
+    Ok(())
+}
+
+// Commands, with `and` between them.
+fn several(alloc: Global, words: &[&str]) -> Result<Vec<Command>> {
+    let mut commands = Vec::new(alloc);
+    for part in words.split(|word| *word == "and") {
+        commands.push(command(part)?)?;
+    }
+    Ok(commands)
+}
+
+fn append_group(here: &mut Place, commands: &[Command], said: &mut String) -> Result<()> {
+    if commands.is_empty() || commands.len() > MAX_GROUP {
+        return Err(anyhow!("no group has so many commands"));
+    }
+    let (disk, journal) = both(here)?;
+    add_done(said, journal.append_group(disk, commands))?;
     Ok(())
 }
 
@@ -211,6 +230,7 @@ pub fn tell_of_journal(
         }
         ["append", "fetches", "1", "to", upto] => append_fetches(here, number(upto)?, said)?,
         ["append", rest @ ..] => append(here, &command(rest)?, said)?,
+        ["group", rest @ ..] => append_group(here, &several(alloc, rest)?, said)?,
         ["tail", from] => tail(alloc, here, number(from)?, said)?,
         ["begin", "later", from] => {
             begin_later(here, number(from)?)?;

@@ -7,6 +7,7 @@ mod cells;
 mod changes;
 pub mod codes;
 mod commands;
+mod groups;
 pub mod layout;
 mod operations;
 mod records;
@@ -16,6 +17,7 @@ mod sizes;
 pub use cells::Cell;
 pub use changes::Change;
 pub use commands::{Call, Command, Judged, Line, Outcome, Request};
+pub use groups::Served;
 pub use operations::{Block, Entry, Kept, Kind, Op, Reply, Waiter};
 pub use records::{CellRecord, NodeRecord, PresenceTag};
 pub use refusals::Refusal;
@@ -32,6 +34,9 @@ pub const MIN_SLOTS: u32 = 16;
 
 /// The most slots of a journal.
 pub const MAX_SLOTS: u32 = 4_096;
+
+/// The most commands in a group of the journal.
+pub const MAX_GROUP: usize = 16;
 
 /// The most entries that a window keeps.
 pub const WINDOW: u64 = 16;
