@@ -59,16 +59,6 @@ a_tail_begins_not_behind_the_run : ((r : Ring) (first k : ℕ) (c : List ℕ) (c
 unfolding tail slot continues read_in command_in sequence_of
 a_tail_begins_not_behind_the_run law = differ 0 1 refl (ap room_in (law two_slots 0 2 one_command (alloc ∷ []) 1 refl (omega arith)))
 
--- a journal of two commands that are one group: the second slot has no gate of its own
-abbrev one_group : List ℕ
-one_group = (0xA5 ∷ slot_body 2 0 alloc) ++ (0 ∷ slot_body 0 1 alloc)
-
--- `tails_may_begin_later`: at any command. In the middle of a group no slot leads, so nothing is left of the run.
-a_tail_begins_not_within_a_group : ((r : Ring) (first k : ℕ) (c : List ℕ) (commands : List Command) (room : ℕ) → tail r first c ≡ Some (record { commands = commands; room = room })
-    → k ≤ length commands → tail r (first + k) c ≡ Some (record { commands = drop k commands; room = room })) → ⊥
-unfolding tail slot continues read_in command_in sequence_of
-a_tail_begins_not_within_a_group law = differ 0 1 refl (ap many_in (law two_slots 0 1 one_group (alloc ∷ alloc ∷ []) 0 refl (omega arith)))
-
 -- `stale_gates_may_be_closed`: where the gate behind the run is opened for the next command, the run is longer.
 not_each_gate_may_be_written : ((r : Ring) (first : ℕ) (c d : List ℕ) (commands : List Command) (room : ℕ) → tail r first c ≡ Some (record { commands = commands; room = room })
     → ((i : ℕ) → i < length commands → slot r (first + i) d ≡ slot r (first + i) c)
