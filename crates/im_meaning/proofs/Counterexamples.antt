@@ -59,8 +59,6 @@ a_tail_begins_not_behind_the_run : ((r : Ring) (first k : ℕ) (c : List ℕ) (c
 unfolding tail slot continues read_in command_in sequence_of
 a_tail_begins_not_behind_the_run law = differ 0 1 refl (ap room_in (law two_slots 0 2 one_command (alloc ∷ []) 1 refl (omega arith)))
 
--- `tails_may_begin_later`, at any command: `a_run_begins_at_no_follower` of `im_journal`.
-
 -- `stale_gates_may_be_closed`: where the gate behind the run is opened for the next command, the run is longer.
 not_each_gate_may_be_written : ((r : Ring) (first : ℕ) (c d : List ℕ) (commands : List Command) (room : ℕ) → tail r first c ≡ Some (record { commands = commands; room = room })
     → ((i : ℕ) → i < length commands → slot r (first + i) d ≡ slot r (first + i) c)
