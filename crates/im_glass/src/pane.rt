@@ -191,6 +191,13 @@ impl<J: PaneName> Pane<J> {
         }
     }
 
+    /// How many cells there are.
+    pub fn cell_count(&self) -> usize
+        ensures { result ≡ self.now.cells }
+    {
+        self.both.published().cells.len()
+    }
+
     /// The pane without its name, which can have another one then. (Own.)
     pub fn unnamed(self) -> Unnamed
         requires { self.ahead ≡ [] }
