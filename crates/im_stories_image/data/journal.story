@@ -268,7 +268,9 @@ command 1 = 1.1 fetch 0
 command 2 = 2.1 store 0 42
 -- The first slot has the gate and counts three; the others have neither.
 read 311296 8 = a5 03 01 00 00 00 00 00
-read 311304 24 = 00*8 01 00*7 02 00*7
+read 311304 8 = 00*8
+read 311312 8 = 01 00 00 00 00 00 00 00
+read 311320 8 = 02 00 00 00 00 00 00 00
 read 311328 32 = 00*32
 read 311360 64 = 00 00 04 00 01 00 00 00 01 00 00 00 00 00 00 00 01 00*47
 read 311424 64 = 00 00 05 00 02 00 00 00 02 00 00 00 00 00 00 00 01 00*15 2a 00*31
@@ -280,6 +282,7 @@ with 311297:02 tail 0 = 2 commands, room 254
 with 311297:04 tail 0 = refused 16 BadRecord
 with 311296:00 tail 0 = 0 commands, room 256
 -- A command by itself comes behind them.
+tail 0 = 3 commands, room 253
 append 1.2 fetch 1 = ok
 tail 0 = 4 commands, room 252
 command 3 = 1.2 fetch 1
