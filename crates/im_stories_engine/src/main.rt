@@ -9,6 +9,7 @@
 //!                                 once, or once with a byte all over what was to be written, scar:a5
 //! format 4096 16 256 = formatted  a new image of so many cells, elements and slots; or in a file of so many bytes
 //! 16 times 1.1 fetch 0 = 16 nocell    sixteen requests, 1.1 to 1.16
+//! together 0.1 alloc i 2 with 1.1 fetch 0 = base 0, waiting    requests of different elements as one group
 //! turns 3 = began, page 0 to 1; room 3x0
 //! plan 1.1 fetch 0 = 1 events     what the next run does: commands, turns, or all commands as told
 //! run = 1 answers
@@ -31,6 +32,7 @@ mod damage;
 mod disks;
 mod engines;
 mod files;
+mod groups;
 mod runs;
 mod scripts;
 mod states;
@@ -54,6 +56,7 @@ impl Scene for Engines {
         if files::tell(self, alloc, words, said)?
             || states::tell(self, words, said)?
             || runs::tell(self, alloc, words, said)?
+            || groups::tell(self, words, said)?
             || damage::tell(self, alloc, words, said)?
             || stops::tell(self, alloc, words, said)?
             || wanders::tell(alloc, words, said)?

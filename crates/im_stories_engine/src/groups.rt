@@ -1,0 +1,57 @@
+//! Requests that are served together.
+
+use crate::engines::Engines;
+use anyhow::{Result, anyhow};
+use arrayvec::ArrayVec;
+use im_engine::are_apart;
+use im_story::{add_outcome, request};
+use im_types::{Outcome, Refusal, Request, Served};
+
+// The requests that the words name, with `with` between them.
+fn members(words: &[&str]) -> Result<ArrayVec<Request, 16>> {
+    let mut members = ArrayVec::new();
+    for part in words.split(|word| *word == "with") {
+        if members.try_push(request(part)?).is_err() {
+            return Err(anyhow!("more than sixteen requests"));
+        }
+    }
+    Ok(members)
+}
+
+// What a member was answered, as `serve` would say it.
+fn said_of(served: Served) -> Result<Result<Outcome, Refusal>> {
+    match served {
+        Served::Done(outcome) => Ok(Ok(outcome)),
+        Served::Refused(refusal) => Ok(Err(refusal)),
+        Served::Unserved => Err(anyhow!("a member has no answer")),
+    }
+}
+
+// Serves a group, and tells what its members were answered.
+fn serve_together(engines: &mut Engines, words: &[&str], said: &mut String) -> Result<()> {
+    let Some(engine) = &mut engines.engine else {
+        return Err(anyhow!("no engine"));
+    };
+    let members = members(words)?;
+    if !are_apart(members.as_slice()) {
+        return Err(anyhow!("two requests of one element"));
+    }
+    let mut served = ArrayVec::new();
+    engine.serve_group(&members, &mut served);
+    for (at, answer) in served.as_slice().iter().enumerate() {
+        if at > 0 {
+            said.push_str(", ")?;
+        }
+        add_outcome(said, said_of(*answer)?)?;
+    }
+    Ok(())
+}
+
+/// Whether the words are `together`, and requests of different elements with `with` between them.
+pub fn tell(engines: &mut Engines, words: &[&str], said: &mut String) -> Result<bool> {
+    let ["together", rest @ ..] = words else {
+        return Ok(false);
+    };
+    serve_together(engines, rest, said)?;
+    Ok(true)
+}
