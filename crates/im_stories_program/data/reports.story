@@ -586,7 +586,26 @@ write 12304 10 00 00 00 = ff ff ff ff
 inspect = 1
 printed 0 = refused 15 BadPage
 told 0 = page 1 of the area in force: the record of waiter node 1
--- Two cells of a block of two, the second of which says that it is a block of its own.
+-- Two cells of a block of two, the second of which says that it is a block of its own. The 17th request finds the journal
+-- full, so area 1 is in force, whose first page begins at 20480.
+disk 33792 = 33792 bytes
+format 2 1 16 = formatted
+read element 0 / alloc i 2 / fetch 9 / fetch 9 / fetch 9 / fetch 9 / fetch 9 / fetch 9 / fetch 9 / fetch 9 / fetch 9 / fetch 9 / fetch 9 / fetch 9 / fetch 9 / fetch 9 / fetch 9 / fetch 9 / = 0 blocks, 1 parts, 17 requests
+serve = 0
+write 20516 01 = 00
+write 20520 01 = 02
+inspect = 1
+printed 0 = refused 15 BadPage
+told 0 = page 0 of the area in force: cell 1 isn't of the block in which it lies
+-- A window whose second entry was answered, while the cell still has it on its list.
+disk 33792 = 33792 bytes
+format 1 1 16 = formatted
+read element 0 / alloc i 1 / fetch 0 / fetch 9 / fetch 9 / fetch 9 / fetch 9 / fetch 9 / fetch 9 / fetch 9 / fetch 9 / fetch 9 / fetch 9 / fetch 9 / fetch 9 / fetch 9 / fetch 9 / fetch 9 / = 0 blocks, 1 parts, 17 requests
+serve = 0
+write 28770 07 = 00
+inspect = 1
+printed 0 = refused 15 BadPage
+told 0 = the area in force: those who wait at its cells aren't those who wait by its windows
 disk 33792 = 33792 bytes
 format 2 1 16 = formatted
 read element 0 / alloc i 2 / = 0 blocks, 1 parts, 1 requests
