@@ -312,6 +312,15 @@ serve = 1
 printed = 34 lines
 printed 33 = refused 3 WindowFull
 told 0 = a request of element 1: all 16 places of its window wait
+-- An image whose count of commands is the last that there is: no checkpoint makes room.
+disk 33792 = 33792 bytes
+format 1 1 16 = formatted
+write 23 40 = 00
+read element 0 / fetch 0 / = 0 blocks, 1 parts, 1 requests
+serve = 1
+printed = 1 lines
+printed 0 = refused 7 JournalFull
+told 0 = a request of element 0: the journal is full, and no checkpoint makes room
 
 # A reason names what is out of its range, and the range
 reason cells 65537 = 65537 cells: there may be 1 to 65536
