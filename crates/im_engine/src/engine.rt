@@ -120,14 +120,14 @@ impl<D: Disk> Engine<D> {
         self.memory.step(command)
     }
 
-    /// Serves the members of a group as [`Engine::serve`] would one after another, and puts all that are accepted and have
-    /// room on the disk together, as one group: by a call for each and three more, or by none where there are none. The
-    /// answers go into `served`, in the members' order. It takes no memory.
+    /// Serves the members of a group as [`Engine::serve`] would one after another, and puts all that are accepted and
+    /// have room on the disk together, as one group: by a call for each and three more, or by none where there are
+    /// none. The answers go into `served`, in the members' order. It takes no memory.
     ///
-    /// A member is refused as `serve` would refuse it: `JournalFull` exactly where it would be accepted and those before
-    /// it leave no room. All are refused with `Failed` exactly where an earlier call failed on the disk, and with
-    /// `Device` where one fails now: then the memory stays, the accepted members are on the disk all together or not at
-    /// all, the engine has failed, and the image has to be opened again.
+    /// A member is refused as `serve` would refuse it: `JournalFull` exactly where it would be accepted and those
+    /// before it leave no room. All are refused with `Failed` exactly where an earlier call failed on the disk, and
+    /// with `Device` where one fails now: then the memory stays, the accepted members are on the disk all together or
+    /// not at all, the engine has failed, and the image has to be opened again.
     pub fn serve_group(
         &mut self,
         members: &ArrayVec<Request, 16>,
@@ -154,7 +154,8 @@ impl<D: Disk> Engine<D> {
     {
         let members = members.as_slice();
         if self.failed {
-            return refuse_all(members, Refusal::Failed, served); // First of all: the disk may have more than the memory.
+            // First of all: the disk may have more than the memory.
+            return refuse_all(members, Refusal::Failed, served);
         }
         let places = places_in(&self.journal);
         let mut commands = ArrayVec::new();

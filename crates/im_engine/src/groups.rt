@@ -1,5 +1,6 @@
 //! The members of a group: what is put on the disk for them, how they act, and what they are answered.
-ghost use Rattle.std.specs.Prelude.{◌≡◌, ◌↔◌, ◌⊎◌, ◌+◌, ◌-◌, ◌<◌, ◌≤◌, ℕ, [], ◌++◌, length, map, nat_lt, min, ◌&&◌, Some, Ok, OnOk, IsTrue};
+ghost use Rattle.std.specs.Prelude.{◌≡◌, ◌↔◌, ◌⊎◌, ◌+◌, ◌-◌, ◌<◌, ◌≤◌, ℕ, [], ◌++◌, length, map, nat_lt, min, ◌&&◌};
+ghost use Rattle.std.specs.Prelude.{Some, Ok, OnOk, IsTrue};
 ghost use Rattle.std.specs.Prelude.{MatchResult};
 ghost use Rattle.im_types.specs.declared.TheConstants.{LAST};
 ghost use Rattle.im_types.specs.declared.commands.Command.TheVariants.{Request as Asks};

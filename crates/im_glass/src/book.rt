@@ -1,5 +1,5 @@
-//! The list of changes: one book of the toolchain's `logbook`, of which each holds a beginning. The list is for contracts
-//! alone; its length is a word that all share.
+//! The list of changes: one book of the toolchain's `logbook`, of which each holds a beginning. The list is for
+//! contracts alone; its length is a word that all share.
 ghost use Rattle.std.specs.Prelude.{◌≡◌, ◌<◌, ◌^◌, ◌++◌, ◌∷◌, ◌⊎◌, [], length, MatchBool};
 ghost use mathlib.Core.List.{IsPrefix};
 ghost use Rattle.im_glass.specs.Books.{IsLonger, head_of};

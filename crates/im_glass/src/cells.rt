@@ -1,5 +1,6 @@
 //! Cells that are full or not, with the values of those that are: 9 bytes a cell.
-ghost use Rattle.std.specs.Prelude.{◌≡◌, ◌<◌, ◌≤◌, ◌+◌, ℕ, None, Some, length, replicate, slice_index_or, slice_set, true, IfOk};
+ghost use Rattle.std.specs.Prelude.{◌≡◌, ◌<◌, ◌≤◌, ◌+◌, ℕ, None, Some, length, replicate, slice_index_or};
+ghost use Rattle.std.specs.Prelude.{slice_set, true, IfOk};
 ghost use Rattle.im_types.specs.Place.{fill};
 ghost use Rattle.im_types.specs.Changes.{is_below};
 ghost use Rattle.im_glass.specs.Cells.{written};

@@ -65,7 +65,8 @@ impl Spare {
         requires kept { IsKept (state_of writer.old.desk.shown.value) }
         requires known { (view writer.old.desk.place).seen ≡ Some writer.old.desk.shown.value.seen }
         ensures found { IfOk result (λ s. s ≡ writer.old.desk.shown.value.seen.book) }
-        ensures same { (writer.new.desk.shown ≡ writer.old.desk.shown) × (writer.new.log ≡ writer.old.log) × (writer.new.behind ≡ writer.old.behind) }
+        ensures same { (writer.new.desk.shown ≡ writer.old.desk.shown) × (writer.new.log ≡ writer.old.log)
+            × (writer.new.behind ≡ writer.old.behind) }
         ensures known { view writer.new.desk.place ≡ view writer.old.desk.place }
     {
         let shown = writer.published();
@@ -105,9 +106,9 @@ impl<J: PaneName> Glance<J> {
         self.seen = self.seen.longer(told.beginning());
     }
 
-    /// The value of a full I cell, after all that it saw and was told before, and whatever was shown since; none where the
-    /// cell isn't full then. It waits for nobody and takes no memory. `PaneGone` where the pane has ended, and it has
-    /// seen no more then. (Readers that never wait: Ramalhete, Correia, Left-Right, 2015.)
+    /// The value of a full I cell, after all that it saw and was told before, and whatever was shown since; none where
+    /// the cell isn't full then. It waits for nobody and takes no memory. `PaneGone` where the pane has ended, and it
+    /// has seen no more then. (Readers that never wait: Ramalhete, Correia, Left-Right, 2015.)
     pub fn glance(&mut self, a: u32) -> Result<Option<u64>, Refusal>
         ensures later { IfOk result (λ _. IsPrefix self.old self.new) }
         ensures found { IfOk result (λ value. value ≡ value_after a None self.new) }

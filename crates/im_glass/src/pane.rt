@@ -1,5 +1,6 @@
 //! What shows the full cells.
-ghost use Rattle.std.specs.Prelude.{◌≡◌, ◌+◌, ◌-◌, ◌<◌, ◌++◌, ◌∷◌, [], None, Some, drop, length, replicate, true, IfOk, IsOkUnless};
+ghost use Rattle.std.specs.Prelude.{◌≡◌, ◌+◌, ◌-◌, ◌<◌, ◌++◌, ◌∷◌, [], None, Some, drop, length, replicate, true};
+ghost use Rattle.std.specs.Prelude.{IfOk, IsOkUnless};
 ghost use Rattle.std.specs.Prelude.{IfSome, IsSome, OnErr, OnOk, ◌↔◌};
 ghost use Rattle.std.specs.List.{AllByRecursion};
 ghost use mathlib.Core.List.{IsPrefix};
@@ -58,7 +59,8 @@ impl<J: PaneName> Model for Pane<J> {
     } };
 
     ghost invariant = { λ p.
-        GoesOn (length p.both.desk.shown.value.cells) J.book p.both.desk.shown.value.seen.log (drop p.both.behind p.both.log.items)
+        GoesOn (length p.both.desk.shown.value.cells) J.book p.both.desk.shown.value.seen.log
+        (drop p.both.behind p.both.log.items)
         × (p.all ≡ p.both.desk.shown.value.seen.log ++ changes_ahead (drop p.both.behind p.both.log.items))
         × (p.both.desk.shown.value.seen.book ≡ J.book)
         × IsKept (state_of p.both.desk.shown.value)
@@ -91,8 +93,8 @@ impl<J: PaneName> Told<J> {
 }
 
 impl<J: PaneName> Pane<J> {
-    /// A pane of so many cells, none of them full, with so many readers, above 0: 18 bytes a cell, and nothing more for each
-    /// change that is shown. `NoMemory` where there is no room for it. (Own.)
+    /// A pane of so many cells, none of them full, with so many readers, above 0: 18 bytes a cell, and nothing more for
+    /// each change that is shown. `NoMemory` where there is no room for it. (Own.)
     pub fn new<R: Wait>(
         rt: &R,
         alloc: Global,
@@ -139,8 +141,8 @@ impl<J: PaneName> Pane<J> {
         Some(glance)
     }
 
-    /// Takes in a change that isn't shown yet, of this pane's cells. `NoMemory` where there is no room for it. No room is taken
-    /// while at most 16 are put ahead, and at most 16 were before the last show. (Own.)
+    /// Takes in a change that isn't shown yet, of this pane's cells. `NoMemory` where there is no room for it. No room
+    /// is taken while at most 16 are put ahead, and at most 16 were before the last show. (Own.)
     pub fn put_ahead(&mut self, change: Change) -> Result<(), Refusal>
         requires { is_below self.old.cells change ≡ true }
         ensures contents { OnOk result (self.new ≡ record self.old { ahead = self.old.ahead ++ change ∷ [] }) }
@@ -169,8 +171,8 @@ impl<J: PaneName> Pane<J> {
         }
     }
 
-    /// Shows all changes that were put ahead, at once. It waits for the readers that still read what was shown before the last
-    /// show. (Own.)
+    /// Shows all changes that were put ahead, at once. It waits for the readers that still read what was shown before
+    /// the last show. (Own.)
     pub fn show<R: Wait>(&mut self, rt: &R) -> Told<J>
         ensures contents { self.new ≡ record self.old { shown = self.old.shown ++ self.old.ahead; ahead = [] } }
         ensures found { result ≡ self.new.shown }
@@ -289,7 +291,8 @@ impl Unnamed {
     }
 }
 
-/// A new pane on which these changes of its cells are shown, without a name. `NoMemory` where there is no room for it. (Own.)
+/// A new pane on which these changes of its cells are shown, without a name. `NoMemory` where there is no room for it.
+/// (Own.)
 pub fn open<R: Wait>(
     rt: &R,
     alloc: Global,
@@ -421,7 +424,8 @@ fn spare_readers(alloc: Global, both: &mut Both, readers: u16) -> Result<Vec<Spa
     requires known { (view both.old.desk.place).seen ≡ Some both.old.desk.shown.value.seen }
     ensures count { IfOk result (λ spare. length spare.items ≡ readers) }
     ensures book { IfOk result (λ spare. AllByRecursion (λ b. b ≡ both.old.desk.shown.value.seen.book) spare.items) }
-    ensures same { (both.new.desk.shown ≡ both.old.desk.shown) × (both.new.log ≡ both.old.log) × (both.new.behind ≡ both.old.behind) }
+    ensures same { (both.new.desk.shown ≡ both.old.desk.shown) × (both.new.log ≡ both.old.log)
+        × (both.new.behind ≡ both.old.behind) }
     ensures known { view both.new.desk.place ≡ view both.old.desk.place }
 {
     let mut spare = Vec::new(alloc);
@@ -434,8 +438,10 @@ fn spare_readers(alloc: Global, both: &mut Both, readers: u16) -> Result<Vec<Spa
 // Shows what is put ahead.
 fn publish<R: Wait>(rt: &R, both: Both) -> (Both, ())
     requires kept { IsKept (after_all (state_of both.desk.shown.value) (drop both.behind both.log.items)) }
-    requires book { (after_all (state_of both.desk.shown.value) (drop both.behind both.log.items)).0.book ≡ both.desk.shown.value.seen.book }
-    ensures state { state_of result.0.desk.shown.value ≡ after_all (state_of both.desk.shown.value) (drop both.behind both.log.items) }
+    requires book { (after_all (state_of both.desk.shown.value) (drop both.behind both.log.items)).0.book
+        ≡ both.desk.shown.value.seen.book }
+    ensures state { state_of result.0.desk.shown.value
+        ≡ after_all (state_of both.desk.shown.value) (drop both.behind both.log.items) }
     ensures known { (view result.0.desk.place).seen ≡ Some result.0.desk.shown.value.seen }
     ensures none { drop result.0.behind result.0.log.items ≡ [] }
 {
@@ -445,10 +451,12 @@ fn publish<R: Wait>(rt: &R, both: Both) -> (Both, ())
 
 // Shows the changes that are put ahead.
 fn show_all<J: PaneName, R: Wait>(rt: &R, both: Both) -> (Both, ())
-    requires goes_on { GoesOn (length both.desk.shown.value.cells) J.book both.desk.shown.value.seen.log (drop both.behind both.log.items) }
+    requires goes_on { GoesOn (length both.desk.shown.value.cells) J.book both.desk.shown.value.seen.log
+        (drop both.behind both.log.items) }
     requires book { both.desk.shown.value.seen.book ≡ J.book }
     requires kept { IsKept (state_of both.desk.shown.value) }
-    ensures log { result.0.desk.shown.value.seen.log ≡ both.desk.shown.value.seen.log ++ changes_ahead (drop both.behind both.log.items) }
+    ensures log { result.0.desk.shown.value.seen.log
+        ≡ both.desk.shown.value.seen.log ++ changes_ahead (drop both.behind both.log.items) }
     ensures book { result.0.desk.shown.value.seen.book ≡ J.book }
     ensures kept { IsKept (state_of result.0.desk.shown.value) }
     ensures cells { length result.0.desk.shown.value.cells ≡ length both.desk.shown.value.cells }

@@ -91,9 +91,9 @@ impl Journal {
     /// in force, at most [`LAST`], and the file is long enough for the ring. It writes nothing, and reads the ring
     /// whole by one call of the disk: 64 bytes a slot.
     ///
-    /// `BadRecord` exactly where the file has no such tail: a slot of the run isn't spelled as it should be, a group goes
-    /// more than once round the ring or past [`LAST`], or a slot from the first open gate behind the run on, up to the
-    /// run's first slot, has a sequence number that isn't below `from`. `Device` where the call of the disk failed.
+    /// `BadRecord` exactly where the file has no such tail: a slot of the run isn't spelled as it should be, a group
+    /// goes more than once round the ring or past [`LAST`], or a slot from the first open gate behind the run on, up to
+    /// the run's first slot, has a sequence number that isn't below `from`. `Device` where the call of the disk failed.
     /// `NoMemory`, where `alloc` refused the room for the ring's bytes or the commands. None of them changes anything.
     pub fn read_tail<D: Disk>(
         alloc: Global,

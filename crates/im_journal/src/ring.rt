@@ -112,8 +112,8 @@ fn room_behind(next: u64, closed: usize) -> usize
 }
 
 /// The commands from a sequence number on, and the room behind them. `BadRecord` exactly where a slot of the run isn't
-/// spelled as it should be, a group goes too far, or a slot from the first open gate behind the run on isn't stale; else
-/// `NoMemory`.
+/// spelled as it should be, a group goes too far, or a slot from the first open gate behind the run on isn't stale;
+/// else `NoMemory`.
 pub(crate) fn tail_in(
     alloc: Global,
     ring: &[u8],

@@ -80,8 +80,8 @@ pub fn open_header_is_in_force()
         → is_open_header (header_place (other h) d) ≡ true → IsImage l next after (drop k commands) room d }
 {}
 
-/// The tail of a journal from a later command on is what is left of the commands, with the same room, where that command
-/// is the first of its group.
+/// The tail of a journal from a later command on is what is left of the commands, with the same room, where that
+/// command is the first of its group.
 pub fn tails_may_begin_later()
     ensures { (r : Ring) (first k : ℕ) (c : List ℕ) (commands : List Command) (room : ℕ)
         → tail r first c ≡ Some (record { commands = commands; room = room })

@@ -64,8 +64,8 @@ pub enum Damage {
     Twice(u64),
     /// A field of the header in force, which is this one.
     Header(u8, HeaderField),
-    /// A record on a page of the area in force isn't spelled as it should be, or leads past the last one: the page, from
-    /// 0 in the area, and the record.
+    /// A record on a page of the area in force isn't spelled as it should be, or leads past the last one: the page,
+    /// from 0 in the area, and the record.
     Record(usize, RecordOf),
     /// Behind the last record of a kind a byte of this page isn't zero.
     Padding(usize),

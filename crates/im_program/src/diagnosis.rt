@@ -162,7 +162,8 @@ fn of_ring(alloc: Global, area: &[u8], ring: &[u8], header: &Header) -> Damage {
     }
 }
 
-// What is wrong with a part of an area that begins at this page: a record, so many pages behind it, or a byte behind all.
+// What is wrong with a part of an area that begins at this page: a record, so many pages behind it, or a byte behind
+// all.
 fn of_part(
     page: usize,
     record: Option<(usize, RecordOf)>,

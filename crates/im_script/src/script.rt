@@ -192,8 +192,9 @@ impl<'a> Reader<'a> {
         }
     }
 
-    /// Reads the line with this number, from 1: what it says where it stands. Its fault has the number, and where in the
-    /// line it is; `NoMemory` comes where a growth was refused. A reader that answered a fault is of no use any more.
+    /// Reads the line with this number, from 1: what it says where it stands. Its fault has the number, and where in
+    /// the line it is; `NoMemory` comes where a growth was refused. A reader that answered a fault is of no use any
+    /// more.
     pub fn read(
         &mut self,
         alloc: Global,
