@@ -3,3 +3,4 @@ pub mod Splitting
 pub mod Recovering
 pub mod Reopening
 pub mod Grouping
+pub mod Asking
