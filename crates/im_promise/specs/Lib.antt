@@ -1,3 +1,4 @@
 pub mod Acknowledged
 pub mod Recovery
 pub mod Again
+pub mod Groups

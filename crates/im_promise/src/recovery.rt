@@ -106,8 +106,12 @@ fn open_and_close(alloc: Global, disk: MemDisk, passes: u64, mode: Mode) -> Fuse
     }
 }
 
-// Crashes a disk, and opens what is left.
-fn open_crashed(alloc: Global, disk: MemDisk, crash: Crash) -> Result<Engine<MemDisk>, Refusal>
+/// Crashes a disk, and opens what is left.
+pub(crate) fn open_crashed(
+    alloc: Global,
+    disk: MemDisk,
+    crash: Crash,
+) -> Result<Engine<MemDisk>, Refusal>
     ensures works { IfOk result (λ e. e.failed ≡ false) }
     ensures left { IfOk result (λ e. Left disk.moment e.disk.moment.bytes) }
     ensures means { IfOk result (λ e. MeansState e e.disk.moment.bytes) }

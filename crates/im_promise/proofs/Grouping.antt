@@ -1,0 +1,67 @@
+-- A group, and what an opening after a crash finds of it.
+use Rattle.std.proofs.Common.{◌≡◌, ◌⊎◌, inl, inr, ⊎_elim, ℕ, ◌+◌, List, [], ◌∷◌, length, Result, Ok, Err, IfOk, IfErr, false, refl, sym, ap, ◌∙◌, subst, arith}
+use Rattle.im_types.specs.declared.commands.Request.{Request}
+use Rattle.im_types.specs.declared.commands.Command.{Command}
+use Rattle.im_types.specs.declared.groups.Served.{Served}
+use Rattle.im_types.specs.declared.refusals.Refusal.{Refusal}
+use Rattle.im_types.specs.declared.refusals.Refusal.TheVariants.{NoMemory, Device}
+use Rattle.im_types.specs.Run.{after}
+use Rattle.im_types.specs.Meaning.{Reached}
+use Rattle.im_types.specs.Groups.{reached_by_all, puts_of}
+use Rattle.im_disk.specs.Recording.{Recording}
+use Rattle.im_engine.specs.State.{EngineState, MeansState, IsFirstFault}
+use Rattle.im_engine.specs.Groups.{reached_in, after_group, group_put, MeansGroup, GroupAnswered}
+use Rattle.im_promise.specs.Groups.{HasMore, RecoversGroup}
+use Rattle.im_promise.proofs.Recovering.{MeansOne, NoFault, still_means}
+
+-- what a group comes to, by the commands that it puts into the journal
+pub record GroupsAreRuns : Type 0 where
+  pub memory : (s : Reached) (members : List Request) → (reached_by_all s members).contents ≡ after s.contents (puts_of s members)
+  pub count : (s : Reached) (members : List Request) → (reached_by_all s members).count ≡ s.count + length (puts_of s members)
+
+module _ {D E : Type 0} (s n : EngineState D) (e : EngineState E) (members : List Request) (answers : List Served) (f : s.failed ≡ false) (one : MeansOne) (runs : GroupsAreRuns)
+    (answered : GroupAnswered s members answers n) (file : List ℕ) (doubt : MeansGroup s members file) (sure : n.failed ≡ false → MeansState n file) (means : MeansState e file) where
+  has_all : MeansState (after_group s members) file → HasMore s (group_put s members) e
+  has_all said =
+      let same = still_means (after_group s members) e file one said means in
+      record { memory = same.0 ∙ runs.memory (reached_in s) members; count = same.1 ∙ runs.count (reached_in s) members }
+
+  has_none : MeansState s file → HasMore s [] e
+  has_none said =
+      let same = still_means s e file one said means in
+      record { memory = same.0; count = omega (arith, same.1) }
+
+  by_put : (put : List Command) → group_put s members ≡ put → RecoversGroup s members answers e
+  by_put [] none =
+      let it = answered.none f none in
+      let said : MeansState s file = subst (λ (x : EngineState D). MeansState x file) it.1 (sure (ap (λ (x : EngineState D). x.failed) it.1 ∙ f)) in
+      inl (it.0, subst (λ (l : List Command). HasMore s l e) (sym none) (has_none said))
+  by_put (command ∷ commands) some = ⊎_elim
+      (λ done. inl (done.0, has_all (subst (λ (x : EngineState D). MeansState x file) done.1 (sure (ap (λ (x : EngineState D). x.failed) done.1 ∙ f)))))
+      (λ failed. inr (failed.0, ⊎_elim (λ before. inl (has_none before)) (λ all. inr (has_all all)) doubt))
+      (answered.put f (omega (arith, ap length some)))
+
+  pub group_found : RecoversGroup s members answers e
+  group_found = by_put (group_put s members) refl
+
+-- the engine that an opening gives
+pub group_by : {D : Type 0} (s n : EngineState D) (members : List Request) (answers : List Served) (left : List ℕ → Type 0) (r : Result (EngineState Recording) Refusal) → s.failed ≡ false → MeansOne → GroupsAreRuns
+    → GroupAnswered s members answers n → ((file : List ℕ) → left file → MeansGroup s members file) → (n.failed ≡ false → (file : List ℕ) → left file → MeansState n file)
+    → IfOk r (λ e. left e.disk.moment.bytes) → IfOk r (λ e. MeansState e e.disk.moment.bytes) → IfOk r (λ e. RecoversGroup s members answers e)
+group_by s n members answers left (Ok e) f one runs answered doubt sure was means =
+    let file = e.disk.moment.bytes in
+    group_found s n e members answers f one runs answered file (doubt file was) (λ works. sure works file was) means
+group_by s n members answers left (Err e) f one runs answered doubt sure was means = tt
+
+-- its files mean something, so no fault of the image is told
+no_fault : {D : Type 0} (s : EngineState D) (members : List Request) (e : Refusal) (file : List ℕ) → NoFault → MeansGroup s members file → IsFirstFault e file → ⊥
+no_fault s members e file none (inl before) fault = none file e s.memory s.count s.room fault before
+no_fault s members e file none (inr all) fault =
+    let s2 = after_group s members in
+    none file e s2.memory s2.count s2.room fault all
+
+pub group_refused : {D X : Type 0} (s : EngineState D) (members : List Request) (left : List ℕ → Type 0) (r : Result X Refusal) → NoFault → ((file : List ℕ) → left file → MeansGroup s members file)
+    → IfErr r (λ e. (e ≡ NoMemory) ⊎ (e ≡ Device) ⊎ ((file : List ℕ) × left file × IsFirstFault e file)) → IfErr r (λ e. (e ≡ NoMemory) ⊎ (e ≡ Device))
+group_refused s members left (Ok x) none said it = tt
+group_refused s members left (Err e) none said it =
+    ⊎_elim (λ want. inl want) (λ more. ⊎_elim (λ device. inr device) (λ fault. absurd (no_fault s members e fault.0 none (said fault.0 fault.1) fault.2)) more) it
