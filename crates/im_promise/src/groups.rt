@@ -49,6 +49,8 @@ pub fn recover_group(
 /// was told an entry is told it again, or the answer that it has got since, or `Forgotten` once it was confirmed, and
 /// doesn't act again; one that was refused acts as if it were sent for the first time. Where all were told one, the
 /// memory stays, and no call of the disk is made. The answers go into `served`, in the members' order.
+///
+/// All are answered `Device` where one of them is new and the disk fails, and `Failed` where it failed before.
 pub fn ask_group_again<D: Disk>(
     engine: &mut Engine<D>,
     members: &ArrayVec<Request, 16>,
