@@ -1,6 +1,5 @@
 -- Parts of files that agree but for a range, and areas by their pages.
-use Rattle.std.proofs.Common.{◌≡◌, ◌⊎◌, inl, inr, ⊎_elim, ℕ, ◌+◌, ◌-◌, ◌*◌, ◌/◌, ◌%◌, ◌<◌, ◌≤◌, List, length, get_or, drop, slice_range, refl, sym, ◌∙◌, ap, arith, length-take, length-drop, get_or-take, get_or-drop}
-use Rattle.std.proofs.Math.Nat.{div-add-mod, mod-lt}
+use Rattle.std.proofs.Common.{◌≡◌, ◌⊎◌, inl, inr, ⊎_elim, ℕ, ◌+◌, ◌-◌, ◌*◌, ◌<◌, ◌≤◌, List, length, get_or, drop, slice_range, refl, sym, ◌∙◌, ap, arith, length-take, length-drop, get_or-take, get_or-drop}
 use Rattle.std.proofs.lemmas.List.{ext_get_or}
 use Rattle.im_types.specs.Layout.{record_at}
 use Rattle.im_disk.specs.Moment.{overlaid}

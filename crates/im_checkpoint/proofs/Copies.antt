@@ -1,15 +1,18 @@
 -- What is known of the pages of both areas, from turn to turn and from command to command.
-use Rattle.std.proofs.Common.{◌≡◌, ◌≢◌, ◌⊎◌, inl, inr, ⊎_elim, ℕ, zero, suc, ◌+◌, ◌-◌, ◌<◌, ◌≤◌, Bool, true, false, true≢false, List, [], ◌∷◌, length, replicate, refl, sym, ◌∙◌, ap, subst, arith}
+use Rattle.std.proofs.Common.{◌≡◌, ◌≢◌, ⊎_elim, ℕ, zero, ◌-◌, ◌<◌, ◌≤◌, Bool, true, false, true≢false, List, [], ◌∷◌, ◌++◌, length, replicate, refl, sym, ◌∙◌, ap, subst, arith, length-append}
 use Rattle.std.specs.Prelude.{◌||◌, slice_index_or}
 use Rattle.std.specs.List.{Contains}
 use Rattle.std.proofs.lemmas.Bool.{cases_eq}
-use Rattle.std.proofs.lemmas.List.{get_or-replicate, get_or_default}
+use Rattle.std.proofs.lemmas.List.{get_or-replicate, get_or_default, take-append-le}
 use Rattle.im_types.specs.declared.commands.Command.{Command}
+use Rattle.im_types.specs.Journal.{IsBoundary}
 use Rattle.im_types.specs.Contents.{Contents}
-use Rattle.im_types.specs.Layout.{Sizes, layout_in_use, page_bytes, area_bytes, area_pages, area_of, record_at}
+use Rattle.im_types.specs.Layout.{Sizes, layout_in_use, page_bytes, area_bytes, area_pages, area_of, record_at, ring_of}
 use Rattle.im_types.specs.Header.{Header, header_place, is_open_header}
 use Rattle.im_types.specs.Pages.{Records, Shows}
+use Rattle.im_types.specs.Meaning.{accept_each}
 use Rattle.im_laws.proofs.Tests.{true_or_false, or_left, or_right}
+use Rattle.im_journal.specs.Holding.{KeepsBoundaries}
 use Rattle.im_pages.specs.PageSets.{has, union, pages_from}
 use Rattle.im_pages.proofs.SetLemmas.{length-union, read-union, listed, lists-each, contains_rest, contains_more}
 use Rattle.im_image.specs.Encoding.{IsAreaPage, SameOn}
@@ -17,7 +20,7 @@ use Rattle.im_image.proofs.Encoding.{area-shows}
 use Rattle.im_meaning.specs.Images.{other}
 use Rattle.im_checkpoint.specs.Step.{Step, NoCheckpoint, PagesLeft, PagesDone, Synced, left_in}
 use Rattle.im_checkpoint.specs.Turns.{next_header}
-use Rattle.im_checkpoint.specs.Keeping.{Paged, changed, changed_lately, own_page, other_area, other_page, Stand, AreTaken, IsTaken, IsWriting, IsResting, KeepsStep}
+use Rattle.im_checkpoint.specs.Keeping.{Paged, changed, changed_lately, own_page, other_area, other_page, Stand, IsTaken, IsWriting, IsResting, KeepsStep}
 
 pub SameOn-itself : (s : Sizes) (r : Records) (p : ℕ) → SameOn s r r p
 SameOn-itself s r p = record { to = λ bytes it. it; from = λ bytes it. it }
@@ -45,10 +48,11 @@ module _ (h : Header) (x : Paged) (c d : List ℕ) (own : area_of layout_in_use 
     others = λ p lt out. subst (IsAreaPage h.sizes x.records p) (other_is p) (it.others p lt out);
   }
 
-  pub writing_moved : (shown : Contents) (commands : List Command) (count : ℕ) (left : List ℕ) → IsWriting h shown commands x count left c → IsWriting h shown commands x count left d
-  writing_moved shown commands count left it = record {
+  pub writing_moved : (shown : Contents) (commands : List Command) (count : ℕ) (left : List ℕ) → KeepsBoundaries (ring_of layout_in_use h.sizes) h.count c d → IsWriting h shown commands x count left c → IsWriting h shown commands x count left d
+  writing_moved shown commands count left keeps it = record {
     taken = it.taken;
     is_taken = it.is_taken;
+    boundary = keeps it.is_taken.many it.boundary;
     own = λ p lt out. subst (IsAreaPage h.sizes x.records p) (own_is p) (it.own p lt out);
     others = record {
       same = it.others.same;
@@ -58,11 +62,11 @@ module _ (h : Header) (x : Paged) (c d : List ℕ) (own : area_of layout_in_use 
     };
   }
 
-  pub step_moved : (shown : Contents) (commands : List Command) (s : Step) → header_place (other h) d ≡ header_place (other h) c → KeepsStep h shown commands x s c → KeepsStep h shown commands x s d
-  step_moved shown commands NoCheckpoint place it = resting_moved it
-  step_moved shown commands (PagesLeft count left) place it = writing_moved shown commands count left it
-  step_moved shown commands (PagesDone count) place it = writing_moved shown commands count [] it
-  step_moved shown commands (Synced count) place it = (writing_moved shown commands count [] it.0, ap is_open_header place ∙ it.1)
+  pub step_moved : (shown : Contents) (commands : List Command) (s : Step) → header_place (other h) d ≡ header_place (other h) c → KeepsBoundaries (ring_of layout_in_use h.sizes) h.count c d → KeepsStep h shown commands x s c → KeepsStep h shown commands x s d
+  step_moved shown commands NoCheckpoint place keeps it = resting_moved it
+  step_moved shown commands (PagesLeft count left) place keeps it = writing_moved shown commands count left keeps it
+  step_moved shown commands (PagesDone count) place keeps it = writing_moved shown commands count [] keeps it
+  step_moved shown commands (Synced count) place keeps it = (writing_moved shown commands count [] keeps it.0, ap is_open_header place ∙ it.1)
 
 -- a checkpoint begins: the pages that changed are left
 module _ (h : Header) (x : Paged) (copies : List ℕ) (file : List ℕ) (older_size : length x.older ≡ area_pages layout_in_use h.sizes) (recent_size : length x.recent ≡ area_pages layout_in_use h.sizes) where
@@ -91,10 +95,11 @@ module _ (h : Header) (x : Paged) (copies : List ℕ) (file : List ℕ) (older_s
       (λ none. none)
       (true_or_false (changed x p))
 
-  pub begins : (shown : Contents) (commands : List Command) (count : ℕ) → IsTaken h shown commands count x.records → IsResting h x file → IsWriting h shown commands begun count left file
-  begins shown commands count is_taken it = record {
+  pub begins : (shown : Contents) (commands : List Command) (count : ℕ) → (is_taken : IsTaken h shown commands count x.records) → IsBoundary (ring_of layout_in_use h.sizes) h.count is_taken.many file → IsResting h x file → IsWriting h shown commands begun count left file
+  begins shown commands count is_taken boundary it = record {
     taken = x.records;
     is_taken = is_taken;
+    boundary = boundary;
     own = λ p lt out. it.own p lt (or_left (has x.recent p) (has (replicate (length x.older) false) p) out);
     others = record {
       same = λ p lt out. SameOn-itself h.sizes x.records p;
@@ -132,6 +137,7 @@ module _ (h : Header) (x y : Paged) (file : List ℕ) (left : List ℕ) (prepare
   writing_named shown commands count it = record {
     taken = it.taken;
     is_taken = it.is_taken;
+    boundary = it.boundary;
     own = stands (own_page h file) it.own;
     others = record {
       same = λ p lt out. SameOn-then h.sizes it.taken x.records y.records p (it.others.same p lt (prepared.kept p lt out)) (prepared.same p lt out);
@@ -158,7 +164,7 @@ pub record IsPageFor (s : Sizes) (x : Paged) (i : ℕ) (page : List ℕ) : Type 
 -- the next page is written
 module _ (h : Header) (x : Paged) (c d : List ℕ) (i : ℕ) (rest page : List ℕ) (for_it : IsPageFor h.sizes x i page) (own : area_of layout_in_use h.sizes h.area d ≡ area_of layout_in_use h.sizes h.area c)
     (here : other_page h d i ≡ page) (apart : (p : ℕ) → p < area_pages layout_in_use h.sizes → p ≢ i → other_page h d p ≡ other_page h c p)
-    (shown : Contents) (commands : List Command) (count : ℕ) (it : IsWriting h shown commands x count (i ∷ rest) c) where
+    (shown : Contents) (commands : List Command) (count : ℕ) (keeps : KeepsBoundaries (ring_of layout_in_use h.sizes) h.count c d) (it : IsWriting h shown commands x count (i ∷ rest) c) where
   first : Contains (i ∷ rest) i
   first = (zero, omega arith, refl)
 
@@ -175,6 +181,7 @@ module _ (h : Header) (x : Paged) (c d : List ℕ) (i : ℕ) (rest page : List �
   page_written = record {
     taken = it.taken;
     is_taken = it.is_taken;
+    boundary = keeps it.is_taken.many it.boundary;
     own = λ p lt out. subst (IsAreaPage h.sizes x.records p) (ap (λ (area : List ℕ). record_at page_bytes area p) (sym own)) (it.own p lt out);
     others = record {
       same = it.others.same;
@@ -203,14 +210,31 @@ module _ (h : Header) (x : Paged) (file : List ℕ) (shown : Contents) (commands
       }
 
 -- what was taken was taken of a beginning of more commands too
-pub taken_longer : (h : Header) (shown : Contents) (commands more : List Command) (x : Paged) (s : Step) (file : List ℕ)
-    → ((count : ℕ) (taken : Records) → IsTaken h shown commands count taken → IsTaken h shown more count taken) → KeepsStep h shown commands x s file → KeepsStep h shown more x s file
-taken_longer h shown commands more x s file longer it = by_step s it
+pub taken_longer : (h : Header) (shown : Contents) (commands later : List Command) (x : Paged) (s : Step) (file : List ℕ) → KeepsStep h shown commands x s file → KeepsStep h shown (commands ++ later) x s file
+taken_longer h shown commands later x s file it = by_step s it
   where
-    writing : (count : ℕ) (left : List ℕ) → IsWriting h shown commands x count left file → IsWriting h shown more x count left file
-    writing count left w = record { taken = w.taken; is_taken = longer count w.taken w.is_taken; own = w.own; others = w.others }
+    writing : (count : ℕ) (left : List ℕ) → IsWriting h shown commands x count left file → IsWriting h shown (commands ++ later) x count left file
+    writing count left w =
+        let few : w.is_taken.many ≤ length commands = w.is_taken.few in
+        record {
+          taken = w.taken;
+          is_taken = record {
+            many = w.is_taken.many;
+            few = omega (arith, length-append commands later);
+            count_is = w.is_taken.count_is;
+            to_last = w.is_taken.to_last;
+            memory = w.is_taken.memory;
+            accepts = ap (λ (l : List Command). accept_each shown l) (take-append-le w.is_taken.many commands later w.is_taken.few) ∙ w.is_taken.accepts;
+            counted = w.is_taken.counted;
+            shows = w.is_taken.shows;
+            later = w.is_taken.later;
+          };
+          boundary = w.boundary;
+          own = w.own;
+          others = w.others;
+        }
 
-    by_step : (s : Step) → KeepsStep h shown commands x s file → KeepsStep h shown more x s file
+    by_step : (s : Step) → KeepsStep h shown commands x s file → KeepsStep h shown (commands ++ later) x s file
     by_step NoCheckpoint w = w
     by_step (PagesLeft count left) w = writing count left w
     by_step (PagesDone count) w = writing count [] w

@@ -1,21 +1,18 @@
 -- Pages that are copied before a command acts.
 use Rattle.std.proofs.Common.{◌≡◌, ◌≢◌, ⊎_elim, ℕ, zero, suc, ◌+◌, ◌<◌, ◌≤◌, Bool, true, false, true≢false, List, [], ◌∷◌, length, replicate, refl, sym, ◌∙◌, ap, subst, arith}
 use Rattle.std.specs.Prelude.{◌||◌}
-use Rattle.std.specs.List.{Contains}
 use Rattle.std.proofs.lemmas.Bool.{cases_lt, cases_eq}
 use Rattle.std.proofs.lemmas.List.{get_or_default, get_or_past}
 use Rattle.im_types.specs.declared.commands.Command.{Command}
-use Rattle.im_types.specs.Contents.{Contents}
 use Rattle.im_types.specs.Layout.{Sizes, layout_in_use, page_bytes, area_pages, record_at}
 use Rattle.im_types.specs.Pages.{Records}
-use Rattle.im_laws.proofs.Tests.{true_or_false, or_left, or_right}
+use Rattle.im_laws.proofs.Tests.{or_right}
 use Rattle.im_memory.specs.State.{MemoryState}
 use Rattle.im_memory.specs.Touched.{touched, ChangesOnly}
 use Rattle.im_pages.specs.Places.{AgreeOnPage}
 use Rattle.im_pages.specs.PageSets.{has, union, size_of, IsNext, HasNoneFrom, IsWithin}
 use Rattle.im_pages.proofs.SetLemmas.{length-union, read-union}
 use Rattle.im_image.specs.Encoding.{IsAreaPage}
-use Rattle.im_image.specs.Reading.{HasSizes}
 use Rattle.im_image.proofs.Outside.{outside-stays}
 use Rattle.im_checkpoint.specs.declared.checkpoint.Step.{Step as Mark}
 use Rattle.im_checkpoint.specs.declared.checkpoint.Step.TheVariants.{NoCheckpoint as None_yet, PagesLeft as Some_left, PagesDone as All_written, Synced as On_disk}

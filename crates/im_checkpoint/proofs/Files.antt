@@ -10,9 +10,9 @@ use Rattle.im_types.specs.Layout.{layout_in_use, area_at, area_bytes, area_of, j
 use Rattle.im_types.specs.Header.{Header, header_place, is_open_header, generation_in}
 use Rattle.im_types.specs.Meaning.{Reads, accept_each}
 use Rattle.im_disk.specs.Since.{SameBut}
-use Rattle.im_journal.specs.Holding.{JournalState, Holds}
+use Rattle.im_journal.specs.Holding.{JournalState, Holds, KeepsBoundaries}
 use Rattle.im_journal.proofs.Slots.{slot_inside, same_slot}
-use Rattle.im_journal.proofs.Tails.{tail_elsewhere}
+use Rattle.im_journal.proofs.Tails.{tail_elsewhere, boundaries_elsewhere}
 use Rattle.im_meaning.specs.Images.{other, IsBelow, IsImage}
 use Rattle.im_meaning.proofs.Meanings.{image_reads}
 use Rattle.im_meaning.proofs.Writes.{write_in_other_area, write_in_other_header, write_behind_closed_gate, write_lower_gate}
@@ -104,6 +104,7 @@ module _ (h : Header) (m : Contents) (j : JournalState) (file : List ℕ) (it : 
   pub record Still (d : List ℕ) : Type 0 where
     pub image : IsImage layout_in_use h it.shown it.commands it.there d
     pub journal : Holds j d
+    pub boundaries : KeepsBoundaries (ring_of layout_in_use h.sizes) h.count file d
 
   pub still_means : (d : List ℕ) → Still d → MeansWith m j d
   still_means d s = means_of h m j it.shown it.commands it.there d s.image it.accepts it.count enough
@@ -127,17 +128,23 @@ module _ (h : Header) (m : Contents) (j : JournalState) (file : List ℕ) (it : 
   still_in_area at n d but from to = record {
     image = write_in_other_area layout_in_use h it.shown it.commands it.there file d at n it.image but some from to;
     journal = holds_behind j at n file d some_slots (omega (arith, to, other_to, base_is)) but it.journal;
+    boundaries = boundaries_elsewhere (ring_of layout_in_use h.sizes) h.count at n file d some (inl (omega (arith, to, other_to))) but;
   }
 
   -- what is written before the areas leaves the journal
   pub holds_still : (at n : ℕ) (d : List ℕ) → SameBut at n file d → at + n ≤ 8192 → Holds j d
   holds_still at n d but to = holds_behind j at n file d some_slots (omega (arith, to, other_from, other_to, base_is)) but it.journal
 
+  -- and where its run may begin anew
+  pub boundaries_still : (at n : ℕ) (d : List ℕ) → SameBut at n file d → at + n ≤ 8192 → KeepsBoundaries (ring_of layout_in_use h.sizes) h.count file d
+  boundaries_still at n d but to = boundaries_elsewhere (ring_of layout_in_use h.sizes) h.count at n file d some (inl (omega (arith, to, other_from, other_to))) but
+
   -- what is written in the place of the other header
   still_in_header : (at n : ℕ) (d : List ℕ) → SameBut at n file d → at + n ≤ 4096 * other h + 64 → IsImage layout_in_use h it.shown it.commands it.there d → Still d
   still_in_header at n d but to image = record {
     image = image;
     journal = holds_still at n d but (omega (arith, to, place_to h.area));
+    boundaries = boundaries_still at n d but (omega (arith, to, place_to h.area));
   }
 
   -- and its gate is closed then

@@ -1,8 +1,9 @@
 -- What each device call of a turn may leave.
-use Rattle.std.proofs.Common.{◌≡◌, inl, ⊎_elim, ℕ, zero, ◌+◌, ◌*◌, ◌<◌, ◌≤◌, ◌==◌, true, false, List, [], ◌∷◌, length, refl, sym, ◌∙◌, ap, subst, arith}
+use Rattle.std.proofs.Common.{◌≡◌, inl, ⊎_elim, ℕ, zero, ◌+◌, ◌-◌, ◌*◌, ◌<◌, ◌≤◌, ◌==◌, true, false, List, [], ◌∷◌, length, refl, sym, ◌∙◌, ap, subst, arith}
 use Rattle.im_types.specs.Bytes.{open_gate}
 use Rattle.im_types.specs.Contents.{Contents}
-use Rattle.im_types.specs.Layout.{layout_in_use, page_bytes, area_at, area_bytes, area_pages, record_at}
+use Rattle.im_types.specs.Journal.{IsBoundary}
+use Rattle.im_types.specs.Layout.{layout_in_use, area_at, area_bytes, area_pages}
 use Rattle.im_types.specs.Header.{header_place, header_body, is_open_header}
 use Rattle.im_disk.specs.Moment.{Moment, Left, Torn, Shaken, MayTick, overlaid, written, synced}
 use Rattle.im_disk.specs.Since.{Leaves, LeavesNow, SameBut}
@@ -104,7 +105,7 @@ module _ (c : CheckpointState) (x : Paged) (m : Contents) (j : JournalState) (m0
       new_step : KeepsStep c.header kept.read.shown kept.read.commands x (with_left count left) (overlaid m0.bytes at bytes)
       new_step = by_left left (page_written c.header x m0.bytes (overlaid m0.bytes at bytes) i left bytes page
           (own_area c.header m j m0.bytes kept.read i few bytes size_page at at_is) (this_page c.header m j m0.bytes kept.read i few bytes size_page at at_is) (apart_page c.header m j m0.bytes kept.read i few bytes size_page at at_is)
-          kept.read.shown kept.read.commands count known)
+          kept.read.shown kept.read.commands count (page_still c.header m j m0.bytes kept.read i few bytes size_page at at_is).boundaries known)
         where
           by_left : (l : List ℕ) → IsWriting c.header kept.read.shown kept.read.commands x count l (overlaid m0.bytes at bytes) → KeepsStep c.header kept.read.shown kept.read.commands x (with_left count l) (overlaid m0.bytes at bytes)
           by_left [] w = w
@@ -200,7 +201,7 @@ module _ (c : CheckpointState) (x : Paged) (m : Contents) (j : JournalState) (m0
             kept_file (record { header = c.header; step = Synced count }) x m j m3 file (ap (λ (y : Moment). y.ranges) is_synced) bytes_are
             (keeps_at c.header m j m0.bytes kept.read file (shut_still c.header m j m0.bytes kept.read opened)) (
               writing_moved c.header x m0.bytes file (area_stays c.header m j m0.bytes kept.read c.header.area (4096 * other c.header) 1 file but low kept.read.image.in_force.number)
-                  (area_stays c.header m j m0.bytes kept.read (other c.header) (4096 * other c.header) 1 file but low (omega arith)) kept.read.shown kept.read.commands count [] known,
+                  (area_stays c.header m j m0.bytes kept.read (other c.header) (4096 * other c.header) 1 file but low (omega arith)) kept.read.shown kept.read.commands count [] (shut_still c.header m j m0.bytes kept.read opened).boundaries known,
               shut_gate c.header m j m0.bytes kept.read,
             )
 
@@ -236,7 +237,7 @@ module _ (c : CheckpointState) (x : Paged) (m : Contents) (j : JournalState) (m0
           (λ there. whole_there c.header x m j m0.bytes kept.read count at_sync body body_is body_size d but (subst (λ (l : List ℕ). HasThere (4096 * other c.header) l d) bytes_are there))
           may.gated
 
-      pub in_force_done : ((f : List ℕ) → Holds j f → Holds (begun_at count j) f) → (m1 : Moment) → m1 ≡ synced (written (4096 * other c.header) bytes m0)
+      pub in_force_done : ((f : List ℕ) → Holds j f → IsBoundary j.ring j.first (count - j.first) f → Holds (begun_at count j) f) → (m1 : Moment) → m1 ≡ synced (written (4096 * other c.header) bytes m0)
           → IsKept (record { header = next_header c.header count; step = NoCheckpoint }) x m (begun_at count j) m1
       in_force_done later m1 is_written =
           let file : List ℕ = overlaid m0.bytes (4096 * other c.header) (open_gate ∷ body) in

@@ -1,11 +1,11 @@
 -- The fields of a checkpoint as its state.
-use Rattle.std.proofs.Common.{◌≡◌, ℕ, ◌+◌, ◌<◌, ◌≤◌, Bool, true, false, List, [], ◌∷◌, length, replicate, refl, sym, ◌∙◌, ap, subst, arith}
+use Rattle.std.proofs.Common.{◌≡◌, ℕ, Bool, false, List, [], ◌∷◌, length, replicate, refl, sym, ◌∙◌, ap, subst}
 use Rattle.im_types.specs.Contents.{Contents}
 use Rattle.im_types.specs.Header.{Header}
 use Rattle.im_disk.specs.Moment.{Moment}
 use Rattle.im_journal.specs.Holding.{JournalState}
 use Rattle.im_memory.specs.State.{MemoryState}
-use Rattle.im_pages.specs.PageSets.{has, union, pages_from, IsNext}
+use Rattle.im_pages.specs.PageSets.{union}
 use Rattle.im_checkpoint.specs.declared.checkpoint.Step.{Step as Mark}
 use Rattle.im_checkpoint.specs.declared.checkpoint.Step.TheVariants.{NoCheckpoint as None_yet, PagesLeft as Some_left, PagesDone as All_written, Synced as On_disk}
 use Rattle.im_checkpoint.specs.Step.{Step, NoCheckpoint, PagesLeft, PagesDone, Synced, PagedCheckpoint, with_left, left_in, step_of, IsPagesLeft, IsPagesDone, IsSynced}

@@ -3,14 +3,14 @@ use Rattle.std.proofs.Common.{◌≡◌, ◌≢◌, inl, inr, ⊎_elim, ℕ, ◌
 use Rattle.std.proofs.lemmas.Bool.{cases_lt}
 use Rattle.im_types.specs.Bytes.{open_gate}
 use Rattle.im_types.specs.Contents.{Contents}
-use Rattle.im_types.specs.Layout.{layout_in_use, page_bytes, area_at, area_bytes, area_pages, area_of, record_at}
+use Rattle.im_types.specs.Layout.{layout_in_use, area_at, area_bytes, area_pages, area_of}
 use Rattle.im_types.specs.Header.{Header, header_place, is_open_header}
 use Rattle.im_disk.specs.Moment.{overlaid}
 use Rattle.im_disk.specs.Since.{SameBut}
 use Rattle.im_disk.proofs.OverlayLemmas.{overlaid_inside}
 use Rattle.im_journal.specs.Holding.{JournalState}
 use Rattle.im_meaning.specs.Images.{other}
-use Rattle.im_checkpoint.specs.Keeping.{Keeps, other_area, other_page}
+use Rattle.im_checkpoint.specs.Keeping.{Keeps, other_page}
 use Rattle.im_checkpoint.proofs.Bytes.{same_overlaid, range_outside, range_written, page_of_area}
 use Rattle.im_checkpoint.proofs.Headers.{area_before, area_apart, place_to}
 use Rattle.im_checkpoint.proofs.Files.{Still, size, facts, still_in_area, still_gate, gate_is, area_fits}

@@ -1,5 +1,5 @@
 -- Gates that a sweep may have closed.
-use Rattle.std.proofs.Common.{◌≡◌, inl, ℕ, zero, suc, ◌+◌, ◌*◌, ◌≤◌, List, [], length, slice_range, Option, None, Some, sym, ◌∙◌, ap, subst, arith}
+use Rattle.std.proofs.Common.{◌≡◌, inl, ℕ, ◌+◌, ◌*◌, ◌≤◌, List, [], length, slice_range, Option, None, Some, sym, ◌∙◌, ap, subst, arith}
 use Rattle.im_types.specs.declared.commands.Command.{Command}
 use Rattle.im_types.specs.Contents.{Contents}
 use Rattle.im_types.specs.Journal.{Ring, Tail, tail}
@@ -9,7 +9,7 @@ use Rattle.im_types.specs.Pages.{Shows}
 use Rattle.im_disk.specs.Moment.{Moment}
 use Rattle.im_disk.specs.Since.{SameBut}
 use Rattle.im_disk.proofs.SinceLemmas.{left_now, left_settled}
-use Rattle.im_journal.specs.Holding.{JournalState, AllHold, with_room, SameRun, MaySweep}
+use Rattle.im_journal.specs.Holding.{JournalState, AllHold, with_room, KeepsBoundaries, SameRun, MaySweep}
 use Rattle.im_meaning.specs.Images.{other, IsBelow, InForce, IsImage}
 use Rattle.im_checkpoint.specs.Step.{Step, NoCheckpoint, CheckpointState}
 use Rattle.im_checkpoint.specs.Keeping.{Paged, MeansWith, Keeps, IsCalm, IsKept}
@@ -89,6 +89,11 @@ module _ (h : Header) (m : Contents) (j : JournalState) (file : List ℕ) (it : 
         (tail_of_image h m j file it d run.same (record { commands = run.commands; room = run.found }) run.after);
   }
 
+  pub swept_boundaries : KeepsBoundaries (ring_of layout_in_use h.sizes) h.count file d
+  swept_boundaries =
+      subst (λ (n : ℕ). KeepsBoundaries (ring_of layout_in_use h.sizes) n file d) it.first
+      (subst (λ (r : Ring). KeepsBoundaries r j.first file d) it.ring run.boundaries)
+
   pub swept_means : MeansWith m j d
   swept_means = means_of h m j it.shown it.commands run.found d swept_image it.accepts it.count run.enough
 
@@ -119,4 +124,5 @@ module _ (c : CheckpointState) (x : Paged) (m : Contents) (j : JournalState) (m0
         journal = holds m1.bytes (left_now m1);
       })
       (step_moved c.header x m0.bytes m1.bytes (area_before_stays c.header m j m0.bytes kept.read m1.bytes run.same c.header.area kept.read.image.in_force.number)
-      (area_before_stays c.header m j m0.bytes kept.read m1.bytes run.same (other c.header) (omega arith)) kept.read.shown kept.read.commands c.step (other_place_stays c.header m j m0.bytes kept.read m1.bytes run.same) kept.step)
+      (area_before_stays c.header m j m0.bytes kept.read m1.bytes run.same (other c.header) (omega arith)) kept.read.shown kept.read.commands c.step (other_place_stays c.header m j m0.bytes kept.read m1.bytes run.same)
+      (swept_boundaries c.header m j m0.bytes kept.read m1.bytes run) kept.step)

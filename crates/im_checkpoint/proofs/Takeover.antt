@@ -4,7 +4,8 @@ use Rattle.std.proofs.lemmas.Bool.{cases_lt}
 use Rattle.std.proofs.lemmas.List.{ext_get_or}
 use Rattle.im_types.specs.Bytes.{open_gate}
 use Rattle.im_types.specs.Contents.{Contents}
-use Rattle.im_types.specs.Layout.{layout_in_use}
+use Rattle.im_types.specs.Journal.{Ring, IsBoundary}
+use Rattle.im_types.specs.Layout.{layout_in_use, ring_of}
 use Rattle.im_types.specs.Header.{Header, header_place, header_body, is_open_header}
 use Rattle.im_types.specs.Pages.{Shows}
 use Rattle.im_types.specs.Meaning.{accept_each}
@@ -21,7 +22,7 @@ use Rattle.im_checkpoint.specs.Turns.{next_header, begun_at}
 use Rattle.im_checkpoint.specs.Keeping.{Paged, MeansWith, IsWriting, IsResting, Keeps}
 use Rattle.im_checkpoint.proofs.Bytes.{same_overlaid, same_wider, same_then, range_byte, range_length}
 use Rattle.im_checkpoint.proofs.Headers.{follows, place_to}
-use Rattle.im_checkpoint.proofs.Files.{Still, accept_later, means_of, gate_is, facts, some, enough, size, still_means, still_shut, still_behind_gate, holds_still, area_stays, area_length}
+use Rattle.im_checkpoint.proofs.Files.{Still, accept_later, means_of, gate_is, facts, some, enough, size, still_means, still_shut, still_behind_gate, holds_still, boundaries_still, area_stays, area_length}
 use Rattle.im_checkpoint.proofs.Copies.{area_shows, takes_over, resting_moved}
 
 module _ (h : Header) (x : Paged) (m : Contents) (j : JournalState) (file : List ℕ) (it : Keeps h m j file) (count : ℕ) (known : IsWriting h it.shown it.commands x count [] file × (is_open_header (header_place (other h) file) ≡ false))
@@ -84,6 +85,9 @@ module _ (h : Header) (x : Paged) (m : Contents) (j : JournalState) (file : List
         (area_shows h x file it.shown it.commands count known.0 (area_length h m j file it));
   }
 
+  staged_boundary : IsBoundary (ring_of layout_in_use h.sizes) h.count known.0.is_taken.many staged
+  staged_boundary = staged_still.boundaries known.0.is_taken.many known.0.boundary
+
   follow : Follows layout_in_use h next
   follow = follows h count (facts h m j file it) known.0.is_taken.later known.0.is_taken.to_last
 
@@ -96,7 +100,7 @@ module _ (h : Header) (x : Paged) (m : Contents) (j : JournalState) (file : List
   -- the gate is being opened
   module _ (d : List ℕ) (but : SameBut (4096 * other h) 1 staged d) where
     either : IsImage layout_in_use h it.shown it.commands it.there d ⊎ IsImage layout_in_use next known.0.is_taken.memory (drop known.0.is_taken.many it.commands) it.there d
-    either = one_of_two layout_in_use h next it.shown known.0.is_taken.memory it.commands it.there known.0.is_taken.many staged d staged_still.image (some h m j file it) follow prepared but known.0.is_taken.count_is known.0.is_taken.few
+    either = one_of_two layout_in_use h next it.shown known.0.is_taken.memory it.commands it.there known.0.is_taken.many staged d staged_still.image (some h m j file it) follow prepared but known.0.is_taken.count_is staged_boundary
 
     gate_torn : MeansWith m j d
     gate_torn = ⊎_elim
@@ -165,20 +169,29 @@ module _ (h : Header) (x : Paged) (m : Contents) (j : JournalState) (file : List
       (same_wider (4096 * other h + 1) 63 (4096 * other h) 64 file staged staged_63 (omega arith) (omega arith))
       (same_wider (4096 * other h) 1 (4096 * other h) 64 staged opened_file opened_but (omega arith) (omega arith))
 
-  in_force_kept : ((f : List ℕ) → Holds j f → Holds (begun_at count j) f) → Keeps next m (begun_at count j) opened_file
+  -- where the journal's run begins anew, no group goes on
+  opened_boundary : IsBoundary j.ring j.first (count - j.first) opened_file
+  opened_boundary =
+      let there : IsBoundary (ring_of layout_in_use h.sizes) h.count known.0.is_taken.many opened_file = boundaries_still h m j file it (4096 * other h) 64 opened_file opened_place place_low known.0.is_taken.many known.0.boundary in
+      let many_is : known.0.is_taken.many ≡ count - j.first = omega (arith, known.0.is_taken.count_is, it.first) in
+      subst (λ (n : ℕ). IsBoundary j.ring j.first n opened_file) many_is
+      (subst (λ (n : ℕ). IsBoundary j.ring n known.0.is_taken.many opened_file) (sym it.first)
+      (subst (λ (r : Ring). IsBoundary r h.count known.0.is_taken.many opened_file) (sym it.ring) there))
+
+  in_force_kept : ((f : List ℕ) → Holds j f → IsBoundary j.ring j.first (count - j.first) f → Holds (begun_at count j) f) → Keeps next m (begun_at count j) opened_file
   in_force_kept later = record {
     shown = known.0.is_taken.memory;
     commands = drop known.0.is_taken.many it.commands;
     there = it.there;
-    image = opened_image layout_in_use h next it.shown known.0.is_taken.memory it.commands it.there known.0.is_taken.many staged opened_file staged_still.image (some h m j file it) follow prepared opened_but known.0.is_taken.count_is known.0.is_taken.few opened_gate;
+    image = opened_image layout_in_use h next it.shown known.0.is_taken.memory it.commands it.there known.0.is_taken.many staged opened_file staged_still.image (some h m j file it) follow prepared opened_but known.0.is_taken.count_is staged_boundary opened_gate;
     accepts = left_over;
     count = left_count;
     ring = it.ring;
     first = refl;
-    journal = later opened_file (holds_still h m j file it (4096 * other h) 64 opened_file opened_place place_low);
+    journal = later opened_file (holds_still h m j file it (4096 * other h) 64 opened_file opened_place place_low) opened_boundary;
   }
 
-  pub next_kept : ((f : List ℕ) → Holds j f → Holds (begun_at count j) f) → Keeps next m (begun_at count j) (overlaid file (4096 * other h) (open_gate ∷ body))
+  pub next_kept : ((f : List ℕ) → Holds j f → IsBoundary j.ring j.first (count - j.first) f → Holds (begun_at count j) f) → Keeps next m (begun_at count j) (overlaid file (4096 * other h) (open_gate ∷ body))
   next_kept later = subst (λ (l : List ℕ). Keeps next m (begun_at count j) l)
       (body_and_gate file body (4096 * other h) open_gate body_fits) (in_force_kept later)
 

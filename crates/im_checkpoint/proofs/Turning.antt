@@ -1,12 +1,13 @@
 -- What a turn's writes come to, by the fields of a checkpoint.
-use Rattle.std.proofs.Common.{◌≡◌, ◌≢◌, ℕ, ◌+◌, ◌*◌, ◌<◌, ◌≤◌, ◌==◌, true, false, List, [], ◌∷◌, length, get_or, take, drop, replicate, get_or-take, get_or-drop, refl, sym, ◌∙◌, ap, subst, arith}
+use Rattle.std.proofs.Common.{◌≡◌, ◌≢◌, ℕ, ◌-◌, ◌*◌, ◌<◌, ◌≤◌, ◌==◌, true, false, List, [], ◌∷◌, length, get_or, take, drop, replicate, get_or-take, get_or-drop, refl, sym, ◌∙◌, ap, subst, arith}
 use Rattle.std.proofs.lemmas.List.{take_all}
 use Rattle.std.proofs.lemmas.Bool.Decides.{nat_tests}
 use Rattle.im_types.specs.declared.TheConstants.{LAST}
 use Rattle.im_types.specs.declared.commands.Command.{Command}
 use Rattle.im_types.specs.Bytes.{open_gate}
 use Rattle.im_types.specs.Contents.{Contents}
-use Rattle.im_types.specs.Layout.{layout_in_use, area_pages}
+use Rattle.im_types.specs.Journal.{IsBoundary}
+use Rattle.im_types.specs.Layout.{layout_in_use, area_pages, ring_of}
 use Rattle.im_types.specs.Header.{Header, header_place, header_body, is_open_header}
 use Rattle.im_types.specs.Pages.{ShowsRecords}
 use Rattle.im_types.specs.Meaning.{accept_each}
@@ -20,6 +21,7 @@ use Rattle.im_checkpoint.specs.Step.{NoCheckpoint, Synced, CheckpointState, with
 use Rattle.im_checkpoint.specs.Turns.{next_header, begun_at}
 use Rattle.im_checkpoint.specs.Keeping.{Paged, MeansWith, IsTaken, IsWriting, KeepsStep, IsKept}
 use Rattle.im_journal.proofs.Rings.{other_number}
+use Rattle.im_journal.proofs.Tails.{boundary_end}
 use Rattle.im_checkpoint.proofs.Files.{gate_is}
 use Rattle.im_checkpoint.proofs.Copies.{begins}
 use Rattle.im_checkpoint.proofs.Moments.{calm_left, next_closed, next_means, in_force_done}
@@ -62,7 +64,7 @@ module _ (y : Header) (spelled : List ℕ) (spelled_is : spelled ≡ open_gate �
   pub opening_means : (d : List ℕ) → MayWrite (4096 * y.area) spelled m0 d → MeansWith m j d
   opening_means d may = next_means at_sync x m j m0 kept count refl body refl body_size spelled spelled_next d (subst (λ (n : ℕ). MayWrite (4096 * n) spelled m0 d) area_is may)
 
-  pub opening_done : ((f : List ℕ) → Holds j f → Holds (begun_at count j) f) → (m1 : Moment) → m1 ≡ synced (written (4096 * y.area) spelled m0)
+  pub opening_done : ((f : List ℕ) → Holds j f → IsBoundary j.ring j.first (count - j.first) f → Holds (begun_at count j) f) → (m1 : Moment) → m1 ≡ synced (written (4096 * y.area) spelled m0)
       → IsKept (record { header = next_header h count; step = NoCheckpoint }) x m (begun_at count j) m1
   opening_done later m1 is_written = in_force_done at_sync x m j m0 kept count refl body refl body_size spelled spelled_next later m1
       (subst (λ (n : ℕ). m1 ≡ synced (written (4096 * n) spelled m0)) area_is is_written)
@@ -77,7 +79,7 @@ pub begun_kept : (h : Header) (x : Paged) (copies : List ℕ) (m : Contents) (j 
     → IsKept (record { header = h; step = with_left j.count (pages_from 0 (union x.older x.recent)) }) (record { recent = replicate (length x.older) false; older = x.recent; copies = copies; records = x.records }) m j now
 begun_kept h x copies m j now kept to_last later counted shows older_size recent_size = record {
   read = kept.read;
-  step = by_left (pages_from 0 (union x.older x.recent)) (begins h x copies now.bytes older_size recent_size kept.read.shown kept.read.commands j.count is_taken kept.step);
+  step = by_left (pages_from 0 (union x.older x.recent)) (begins h x copies now.bytes older_size recent_size kept.read.shown kept.read.commands j.count is_taken ends kept.step);
   elsewhere = kept.elsewhere;
   calm = calm_left j.count (pages_from 0 (union x.older x.recent)) now;
 }
@@ -94,6 +96,9 @@ begun_kept h x copies m j now kept to_last later counted shows older_size recent
       shows = shows;
       later = later;
     }
+
+    ends : IsBoundary (ring_of layout_in_use h.sizes) h.count is_taken.many now.bytes
+    ends = boundary_end (ring_of layout_in_use h.sizes) h.count now.bytes (record { commands = kept.read.commands; room = kept.read.there }) kept.read.image.journal
 
     begun : Paged
     begun = record { recent = replicate (length x.older) false; older = x.recent; copies = copies; records = x.records }

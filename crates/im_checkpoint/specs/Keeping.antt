@@ -6,6 +6,7 @@ use Rattle.im_types.specs.declared.commands.Command.{Command}
 use Rattle.im_types.specs.Contents.{Contents}
 use Rattle.im_types.specs.Layout.{Sizes, layout_in_use, page_bytes, area_at, area_bytes, area_pages, area_of, record_at, ring_of}
 use Rattle.im_types.specs.Header.{Header, header_place, is_open_header}
+use Rattle.im_types.specs.Journal.{IsBoundary}
 use Rattle.im_types.specs.Pages.{Records, ShowsRecords}
 use Rattle.im_types.specs.Meaning.{Means, accept_each}
 use Rattle.im_disk.specs.Moment.{Moment, Left}
@@ -130,6 +131,8 @@ pub record IsTaken (h : Header) (shown : Contents) (commands : List Command) (co
 pub record IsWriting (h : Header) (shown : Contents) (commands : List Command) (x : Paged) (count : ℕ) (left : List ℕ) (file : List ℕ) : Type 0 where
   pub taken : Records
   pub is_taken : IsTaken h shown commands count taken
+  -- no group goes on behind the commands that were taken
+  pub boundary : IsBoundary (ring_of layout_in_use h.sizes) h.count is_taken.many file
   pub own : Stand h.sizes (changed x) x.records (own_page h file)
   pub others : AreTaken h.sizes x taken left (other_page h file)
 

@@ -1,7 +1,8 @@
 //! What a checkpoint's turns write in the place of the header that isn't in force.
-ghost use Rattle.std.specs.Prelude.{◌≡◌, ◌+◌, ◌*◌, ◌<◌, ◌≤◌, List, ℕ, length, OnOk};
+ghost use Rattle.std.specs.Prelude.{◌≡◌, ◌+◌, ◌-◌, ◌*◌, ◌<◌, ◌≤◌, List, ℕ, length, OnOk};
 ghost use Rattle.im_types.specs.Contents.{Contents};
 ghost use Rattle.im_types.specs.Header as definition;
+ghost use Rattle.im_types.specs.Journal.{IsBoundary};
 ghost use Rattle.im_disk.specs.Moment.{Counts};
 ghost use Rattle.im_disk.specs.Gate.{IsClosed};
 ghost use Rattle.im_disk.specs.Since.{LeavesWithin, LeavesNow, LeavesOnly, CallsAtMost};
@@ -73,7 +74,8 @@ pub(crate) fn open_next<D: Disk>(disk: &mut D, next: &Header) -> Result<(), Devi
         → (h : definition.Header) (count : ℕ) (x : Paged) (m : Contents) (j : JournalState)
         → seen next.now ≡ next_header h count
         → IsKept (record { header = h; step = Synced count }) x m j (D.now disk.old)
-        → ((file : List ℕ) → Holds j file → Holds (begun_at count j) file)
+        → ((file : List ℕ) → Holds j file → IsBoundary j.ring j.first (count - j.first) file
+        → Holds (begun_at count j) file)
         → IsKept (record { header = next_header h count; step = NoCheckpoint }) x m (begun_at count j)
         (D.now disk.new)) }
     ensures few { D.honest disk.new → CallsAtMost D.past disk.old disk.new 4 }

@@ -159,7 +159,7 @@ module _ (s : Sizes) (limits : AreLimits s.cells s.elements s.slots) where
   -- `next_header_takes_over`: its premises are met. Whatever becomes of that gate, the file is one of the two images.
   the_second_header_takes_over : (d : List ℕ) → SameBut 4096 1 (staged s) d → IsImage layout_in_use (new_header s) nothing [] s.slots d ⊎ IsImage layout_in_use (second s) nothing [] s.slots d
   the_second_header_takes_over d but =
-      one_of_two layout_in_use (new_header s) (second s) nothing nothing [] s.slots 0 (staged s) d staged_image some_slots it_follows is_prepared but (omega arith) (omega arith)
+      one_of_two layout_in_use (new_header s) (second s) nothing nothing [] s.slots 0 (staged s) d staged_image some_slots it_follows is_prepared but (omega arith) refl
 
   gate_fits : 4096 + 1 ≤ length (staged s)
   gate_fits = omega (arith, staged_but.size, paged_but.size, length-image s)
@@ -170,7 +170,7 @@ module _ (s : Sizes) (limits : AreLimits s.cells s.elements s.slots) where
   -- `open_header_is_in_force`: and with the gate open it is the second one.
   the_second_header_is_in_force : IsImage layout_in_use (second s) nothing [] s.slots (opened s)
   the_second_header_is_in_force =
-      opened_image layout_in_use (new_header s) (second s) nothing nothing [] s.slots 0 (staged s) (opened s) staged_image some_slots it_follows is_prepared (same_overlaid (staged s) 4096 (open_gate ∷ []) gate_fits) (omega arith) (omega arith) opened_gate
+      opened_image layout_in_use (new_header s) (second s) nothing nothing [] s.slots 0 (staged s) (opened s) staged_image some_slots it_follows is_prepared (same_overlaid (staged s) 4096 (open_gate ∷ []) gate_fits) (omega arith) refl opened_gate
 
 -- Not with the gate still closed.
 a_prepared_header_is_not_in_force : ((l : Layout) (h next : Header) (shown after : Contents) (commands : List Command) (room k : ℕ) (c d : List ℕ) → IsImage l h shown commands room c

@@ -1,74 +1,94 @@
--- What an appended command leaves of a disk that keeps a memory.
-use Rattle.std.proofs.Common.{◌≡◌, ◌⊎◌, inl, inr, ⊎_elim, ℕ, ◌+◌, ◌*◌, ◌-◌, ◌≤◌, ◌==◌, Bool, true, false, List, [], ◌∷◌, ◌++◌, length, Option, None, Some, option_map, sym, ◌∙◌, ap, subst, arith, length-append, if◌then◌else◌}
-use Rattle.std.proofs.lemmas.List.{take-append-le}
+-- What appended commands leave of a disk that keeps a memory.
+use Rattle.std.proofs.Common.{◌≡◌, ◌⊎◌, inl, inr, ⊎_elim, ℕ, ◌+◌, ◌*◌, ◌-◌, ◌<◌, ◌≤◌, ◌==◌, Bool, true, false, List, [], ◌∷◌, ◌++◌, length, Option, None, Some, option_map, refl, sym, ◌∙◌, ap, subst, arith, length-append, if◌then◌else◌}
 use Rattle.im_types.specs.declared.TheConstants.{LAST}
 use Rattle.im_types.specs.declared.commands.Command.{Command}
 use Rattle.im_types.specs.Contents.{Contents}
 use Rattle.im_types.specs.Step.{step, is_accepted}
-use Rattle.im_types.specs.Layout.{layout_in_use, area_at, area_bytes, area_of, journal_at, ring_of}
-use Rattle.im_types.specs.Header.{Header, header_place, is_open_header}
-use Rattle.im_types.specs.Journal.{Ring, Tail, tail, slot_at}
+use Rattle.im_types.specs.Layout.{layout_in_use, area_at, area_bytes, ring_of}
+use Rattle.im_types.specs.Header.{Header}
+use Rattle.im_types.specs.Journal.{Ring, Tail, tail}
 use Rattle.im_types.specs.Meaning.{accept_each}
 use Rattle.im_disk.specs.Moment.{Moment, Left}
 use Rattle.im_disk.specs.Since.{SameBut, LeavesNow}
-use Rattle.im_journal.specs.Holding.{JournalState, Holds, AllHold, room_after, longer, longer_tail, Appended, MayAppend}
+use Rattle.im_journal.specs.Holding.{JournalState, Holds, AllHold, room_after, longer, longer_tail, KeepsBoundaries, Appended, MayAppend}
+use Rattle.im_journal.specs.Groups.{SameButGroup}
+use Rattle.im_journal.proofs.Slots.{slot_inside}
 use Rattle.im_memory.specs.State.{MemoryState}
 use Rattle.im_memory.specs.Touched.{touched, ChangesOnly}
 use Rattle.im_image.specs.Reading.{HasSizes}
 use Rattle.im_meaning.specs.Images.{other, IsImage}
-use Rattle.im_meaning.proofs.Writes.{write_in_journal}
-use Rattle.im_types.specs.Pages.{Records}
 use Rattle.im_checkpoint.specs.Step.{CheckpointState, PagedCheckpoint, left_in}
-use Rattle.im_checkpoint.specs.Keeping.{Paged, paged, MeansWith, IsTaken, other_area, KeepsStep, Keeps, IsKept, Prepares}
-use Rattle.im_checkpoint.proofs.Bytes.{range_outside}
-use Rattle.im_checkpoint.proofs.Headers.{area_before, place_to}
-use Rattle.im_checkpoint.proofs.Files.{Still, still_in_area, means_of, enough, size}
+use Rattle.im_checkpoint.specs.Keeping.{Paged, paged, MeansWith, Keeps, IsKept, Prepares}
+use Rattle.im_checkpoint.proofs.Bytes.{same_all}
+use Rattle.im_checkpoint.proofs.Files.{Still, still_in_area, keeps_at, means_of, enough, some}
 use Rattle.im_checkpoint.proofs.Moments.{kept_calm, means_left}
+use Rattle.im_checkpoint.proofs.Sweeping.{area_before_stays, other_place_stays, in_force_stays, shows_stays, tail_of_image}
 use Rattle.im_checkpoint.proofs.Copies.{IsPrepared, step_named, step_moved, taken_longer}
 use Rattle.im_checkpoint.proofs.Copying.{prepared_for}
 
--- one command more
-
-accept_more : (m m2 : Contents) (commands : List Command) (command : Command) → accept_each m commands ≡ Some m2 → is_accepted m2 command ≡ true → accept_each m (commands ++ command ∷ []) ≡ Some (step m2 command).contents
-accept_more m m2 [] command is accepted =
-    let same : m ≡ m2 = cc in
-    ap (λ (x : Contents). if is_accepted x command then Some (step x command).contents else None) same
-    ∙ ap (λ (b : Bool). if b then Some (step m2 command).contents else None) accepted
-accept_more m m2 (c ∷ commands) command is accepted = by_test (is_accepted m c) is (λ rest. accept_more (step m c).contents m2 commands command rest accepted)
+-- commands that are accepted, and then others
+pub accept_both : (m m2 m3 : Contents) (commands added : List Command) → accept_each m commands ≡ Some m2 → accept_each m2 added ≡ Some m3 → accept_each m (commands ++ added) ≡ Some m3
+accept_both m m2 m3 [] added is more = let same : m ≡ m2 = cc in subst (λ (x : Contents). accept_each x added ≡ Some m3) (sym same) more
+accept_both m m2 m3 (c ∷ commands) added is more = by_test (is_accepted m c) is (λ rest. accept_both (step m c).contents m2 m3 commands added rest more)
   where
     by_test : (b : Bool) → (if b then accept_each (step m c).contents commands else None) ≡ Some m2
-        → (accept_each (step m c).contents commands ≡ Some m2 → accept_each (step m c).contents (commands ++ command ∷ []) ≡ Some (step m2 command).contents)
-        → (if b then accept_each (step m c).contents (commands ++ command ∷ []) else None) ≡ Some (step m2 command).contents
+        → (accept_each (step m c).contents commands ≡ Some m2 → accept_each (step m c).contents (commands ++ added) ≡ Some m3)
+        → (if b then accept_each (step m c).contents (commands ++ added) else None) ≡ Some m3
     by_test true e more = more e
     by_test false e more = absurd (cc)
 
-pub room_grows : (count room there : ℕ) → room ≤ there → room_after count room ≤ room_after count there
-room_grows count room there le = by_test (count + 1 == LAST)
+pub accept_one : (m : Contents) (command : Command) → is_accepted m command ≡ true → accept_each m (command ∷ []) ≡ Some (step m command).contents
+accept_one m command accepted = ap (λ (b : Bool). if b then Some (step m command).contents else None) accepted
+
+pub room_grows : (count n room there : ℕ) → room ≤ there → room_after count n room ≤ room_after count n there
+room_grows count n room there le = by_test (count + n == LAST)
   where
-    by_test : (b : Bool) → (if b then 0 else room - 1) ≤ (if b then 0 else there - 1)
+    by_test : (b : Bool) → (if b then 0 else room - n) ≤ (if b then 0 else there - n)
     by_test true = omega arith
     by_test false = omega arith
 
--- what was taken was taken of a beginning of the commands
-taken_still : (h : Header) (shown : Contents) (commands : List Command) (command : Command) (count : ℕ) (taken : Records) → IsTaken h shown commands count taken → IsTaken h shown (commands ++ command ∷ []) count taken
-taken_still h shown commands command count taken it =
-    let few : it.many ≤ length commands = it.few in
-    record {
-      many = it.many;
-      few = omega (arith, length-append commands (command ∷ []));
-      count_is = it.count_is;
-      memory = it.memory;
-      accepts = ap (λ (l : List Command). accept_each shown l) (take-append-le it.many commands (command ∷ []) it.few) ∙ it.accepts;
-      counted = it.counted;
-      shows = it.shows;
-      to_last = it.to_last;
-      later = it.later;
+-- a file that differs from one that keeps a memory in the journal's ring alone
+module _ (h : Header) (m : Contents) (j : JournalState) (file : List ℕ) (it : Keeps h m j file) (d : List ℕ) (but : SameBut j.ring.base (64 * j.ring.slots) file d) where
+  tail_there : tail j.ring j.first file ≡ Some (record { commands = it.commands; room = it.there })
+  tail_there = (λ i. tail (it.ring i) (it.first i) file) ∙ it.image.journal
+
+  pub with_tail : (later : List Command) (there : ℕ) → tail j.ring j.first d ≡ Some (record { commands = later; room = there }) → IsImage layout_in_use h it.shown later there d
+  with_tail later there e = record {
+    in_force = in_force_stays h m j file it d but;
+    shows = shows_stays h m j file it d but;
+    journal = tail_of_image h m j file it d but (record { commands = later; room = there }) e;
+  }
+
+  -- its tail is the same
+  pub means_same : tail j.ring j.first d ≡ tail j.ring j.first file → MeansWith m j d
+  means_same e = means_of h m j it.shown it.commands it.there d (with_tail it.commands it.there (e ∙ tail_there)) it.accepts it.count (enough h m j file it)
+
+  -- its tail has these commands more, and the journal with them has its room at the least
+  module _ (added : List Command) (m2 : Contents) (accepts : accept_each m added ≡ Some m2) (k : JournalState) (ring : k.ring ≡ j.ring) (first : k.first ≡ j.first) (count : k.count ≡ j.count + length added)
+      (there : ℕ) (room : k.room ≤ there) (e : tail j.ring j.first d ≡ Some (record { commands = it.commands ++ added; room = there })) where
+    pub all_accepted : accept_each it.shown (it.commands ++ added) ≡ Some m2
+    all_accepted = accept_both it.shown m m2 it.commands added it.accepts accepts
+
+    pub counted : k.count ≡ h.count + length (it.commands ++ added)
+    counted = omega (arith, count, it.count, length-append it.commands added)
+
+    pub means_more : MeansWith m2 k d
+    means_more = means_of h m2 k it.shown (it.commands ++ added) there d (with_tail (it.commands ++ added) there e) all_accepted counted room
+
+    abbrev pub keeps_more : Holds k d → Keeps h m2 k d
+    keeps_more holds = record {
+      shown = it.shown;
+      commands = it.commands ++ added;
+      there = there;
+      image = with_tail (it.commands ++ added) there e;
+      accepts = all_accepted;
+      count = counted;
+      ring = ring ∙ it.ring;
+      first = first ∙ it.first;
+      journal = holds;
     }
 
 module _ (c : CheckpointState) (x : Paged) (m : Contents) (j : JournalState) (now : Moment) (kept : IsKept c x m j now) where
-  abbrev read : Keeps c.header m j now.bytes
-  read = kept.read
-
   still : (file : List ℕ) → Left now file → Still c.header m j now.bytes kept.read file
   still file left = still_in_area c.header m j now.bytes kept.read (area_at layout_in_use c.header.sizes (other c.header)) (area_bytes layout_in_use c.header.sizes) file (kept.elsewhere file left) (omega arith) (omega arith)
 
@@ -78,76 +98,55 @@ module _ (c : CheckpointState) (x : Paged) (m : Contents) (j : JournalState) (no
   pub all_hold : AllHold j now
   all_hold file left = (still file left).journal
 
-  tail_is : (file : List ℕ) → tail j.ring j.first file ≡ tail (ring_of layout_in_use c.header.sizes) c.header.count file
-  tail_is file = (λ i. tail (kept.read.ring i) (kept.read.first i) file)
+  abbrev there : (from : List ℕ) → Left now from → Keeps c.header m j from
+  there from left = keeps_at c.header m j now.bytes kept.read from (still from left)
 
-  behind_areas : journal_at layout_in_use c.header.sizes ≤ slot_at j.ring j.count
-  behind_areas = subst (λ (r : Ring). journal_at layout_in_use c.header.sizes ≤ slot_at r j.count) (sym kept.read.ring) (omega arith)
+  some_slots : 0 < j.ring.slots
+  some_slots = subst (λ (r : Ring). 0 < r.slots) (sym kept.read.ring) (some c.header m j now.bytes kept.read)
 
-  -- a file that might be left, but for the next slot
-  module _ (command : Command) (accepted : is_accepted m command ≡ true) (from file : List ℕ) (left : Left now from) (same : SameBut (slot_at j.ring j.count) 64 from file) where
-    there_is : tail j.ring j.first from ≡ Some (record { commands = kept.read.commands; room = kept.read.there })
-    there_is = tail_is from ∙ (still from left).image.journal
+  in_ring : (n : ℕ) (c d : List ℕ) → SameButGroup j.ring j.count n c d → SameBut j.ring.base (64 * j.ring.slots) c d
+  in_ring n c d but = record {
+    size = but.size;
+    same = λ i out. ⊎_elim
+        (λ (low : i < j.ring.base). but.same i (omega arith) (λ k below. inl (omega arith)))
+        (λ (high : j.ring.base + 64 * j.ring.slots ≤ i). but.same i (omega (arith, slot_inside j.ring some_slots j.count)) (λ k below. inr (omega (arith, slot_inside j.ring some_slots (j.count + k)))))
+        out;
+  }
 
-    put : (later : List Command) (there : ℕ) → tail j.ring j.first file ≡ Some (record { commands = later; room = there }) → IsImage layout_in_use c.header kept.read.shown later there file
-    put later there e = write_in_journal layout_in_use c.header kept.read.shown kept.read.commands kept.read.there from file (slot_at j.ring j.count) 64 (still from left).image same behind_areas later there (sym (tail_is file) ∙ e)
+  -- commands that are accepted one after another, as one group
+  module _ (commands : List Command) (m2 : Contents) (accepts : accept_each m commands ≡ Some m2) where
+    abbrev more : JournalState
+    more = longer (length commands) j
 
-    image_longer : tail j.ring j.first file ≡ option_map (longer_tail j.count command) (tail j.ring j.first from)
-        → IsImage layout_in_use c.header kept.read.shown (kept.read.commands ++ command ∷ []) (room_after j.count kept.read.there) file
-    image_longer e = put (kept.read.commands ++ command ∷ []) (room_after j.count kept.read.there) (e ∙ ap (λ (t : Option Tail). option_map (longer_tail j.count command) t) there_is)
+    added_tail : (from file : List ℕ) → Left now from → tail j.ring j.first file ≡ option_map (longer_tail j.count commands) (tail j.ring j.first from)
+        → tail j.ring j.first file ≡ Some (record { commands = kept.read.commands ++ commands; room = room_after j.count (length commands) kept.read.there })
+    added_tail from file left e = e ∙ ap (λ (t : Option Tail). option_map (longer_tail j.count commands) t) (tail_there c.header m j from (there from left) from (same_all j.ring.base (64 * j.ring.slots) from))
 
-    more_accepted : accept_each kept.read.shown (kept.read.commands ++ command ∷ []) ≡ Some (step m command).contents
-    more_accepted = accept_more kept.read.shown m kept.read.commands command kept.read.accepts accepted
+    room_there : room_after j.count (length commands) j.room ≤ room_after j.count (length commands) kept.read.there
+    room_there = room_grows j.count (length commands) j.room kept.read.there (enough c.header m j now.bytes kept.read)
 
-    more_counted : j.count + 1 ≡ c.header.count + length (kept.read.commands ++ command ∷ [])
-    more_counted = omega (arith, kept.read.count, length-append kept.read.commands (command ∷ []))
-
-    pub means_same : tail j.ring j.first file ≡ tail j.ring j.first from → MeansWith m j file
-    means_same e = means_of c.header m j kept.read.shown kept.read.commands kept.read.there file (put kept.read.commands kept.read.there (e ∙ there_is)) kept.read.accepts kept.read.count (enough c.header m j now.bytes kept.read)
-
-    pub means_longer : tail j.ring j.first file ≡ option_map (longer_tail j.count command) (tail j.ring j.first from) → MeansWith (step m command).contents (longer j) file
-    means_longer e = means_of c.header (step m command).contents (longer j) kept.read.shown (kept.read.commands ++ command ∷ []) (room_after j.count kept.read.there) file (image_longer e) more_accepted more_counted
-        (room_grows j.count j.room kept.read.there (enough c.header m j now.bytes kept.read))
-
-    -- and it keeps the memory with the command, where nothing of it was in doubt
-    pub keeps_longer : tail j.ring j.first file ≡ option_map (longer_tail j.count command) (tail j.ring j.first from) → SameBut (slot_at j.ring j.count) 64 now.bytes file → Holds (longer j) file
-        → (read : Keeps c.header (step m command).contents (longer j) file) × KeepsStep c.header read.shown read.commands x c.step file
-    keeps_longer e but holds =
-        let bytes : ℕ = area_bytes layout_in_use c.header.sizes in
-        let whole : 8192 ≤ length now.bytes = omega (arith, size c.header m j now.bytes kept.read) in
-        let area : (k : ℕ) → k ≤ 1 → area_of layout_in_use c.header.sizes k file ≡ area_of layout_in_use c.header.sizes k now.bytes = λ k low.
-        range_outside (slot_at j.ring j.count) 64 (area_at layout_in_use c.header.sizes k) (area_at layout_in_use c.header.sizes k + bytes) now.bytes file but (omega arith)
-        (omega (arith, size c.header m j now.bytes kept.read, area_before bytes k low)) (inl (omega (arith, behind_areas, area_before bytes k low))) in
-        let place : header_place (other c.header) file ≡ header_place (other c.header) now.bytes =
-        range_outside (slot_at j.ring j.count) 64 (4096 * other c.header) (4096 * other c.header + 64) now.bytes file but (omega arith) (omega (arith, whole, place_to c.header.area)) (inl (omega (arith, behind_areas, place_to c.header.area))) in (
-          record {
-            shown = kept.read.shown;
-            commands = kept.read.commands ++ command ∷ [];
-            there = room_after j.count kept.read.there;
-            image = image_longer e;
-            accepts = more_accepted;
-            count = more_counted;
-            ring = kept.read.ring;
-            first = kept.read.first;
-            journal = holds;
-          },
-          taken_longer c.header kept.read.shown kept.read.commands (kept.read.commands ++ command ∷ []) x c.step file (taken_still c.header kept.read.shown kept.read.commands command)
-              (step_moved c.header x now.bytes file (area c.header.area kept.read.image.in_force.number) (area (other c.header) (omega arith)) kept.read.shown kept.read.commands c.step place kept.step),
-        )
-
-  module _ (command : Command) (accepted : is_accepted m command ≡ true) where
-    pub may_append_means : (file : List ℕ) → MayAppend j command now file → MeansWith m j file ⊎ MeansWith (step m command).contents (longer j) file
+    pub may_append_means : (file : List ℕ) → MayAppend j commands now file → MeansWith m j file ⊎ MeansWith m2 (longer (length commands) j) file
     may_append_means file may = ⊎_elim
-        (λ same. inl (means_same command accepted may.from file may.left may.same same))
-        (λ more. inr (means_longer command accepted may.from file may.left may.same more))
+        (λ same. inl (means_same c.header m j may.from (there may.from may.left) file (in_ring (length commands) may.from file may.same) same))
+        (λ added. inr (means_more c.header m j may.from (there may.from may.left) file (in_ring (length commands) may.from file may.same) commands m2 accepts
+        more refl refl refl (room_after j.count (length commands) kept.read.there) room_there (added_tail may.from file may.left added)))
         may.reads
 
-    -- once it is appended, the disk keeps it
-    pub kept_longer : (new : Moment) → SameBut (slot_at j.ring j.count) 64 now.bytes new.bytes → new.ranges ≡ [] → Appended j command now new.bytes → Holds (longer j) new.bytes
-        → IsKept c x (step m command).contents (longer j) new
+    -- once they are appended, the disk keeps it
+    pub kept_longer : (new : Moment) → SameButGroup j.ring j.count (length commands) now.bytes new.bytes → new.ranges ≡ [] → Appended j commands now new.bytes → Holds (longer (length commands) j) new.bytes
+        → IsKept c x m2 (longer (length commands) j) new
     kept_longer new but calm added holds =
-        let both = keeps_longer command accepted added.from new.bytes added.left added.same added.reads but holds in
-        kept_calm c x (step m command).contents (longer j) new calm both.0 both.1
+        let ring : SameBut j.ring.base (64 * j.ring.slots) now.bytes new.bytes = in_ring (length commands) now.bytes new.bytes but in
+        let boundaries : KeepsBoundaries (ring_of layout_in_use c.header.sizes) c.header.count added.from new.bytes =
+        subst (λ (n : ℕ). KeepsBoundaries (ring_of layout_in_use c.header.sizes) n added.from new.bytes) kept.read.first
+        (subst (λ (r : Ring). KeepsBoundaries r j.first added.from new.bytes) kept.read.ring added.boundaries) in
+        kept_calm c x m2 more new calm
+        (keeps_more c.header m j now.bytes kept.read new.bytes ring commands m2 accepts
+        more refl refl refl (room_after j.count (length commands) kept.read.there) room_there (added_tail added.from new.bytes added.left added.reads) holds)
+        (taken_longer c.header kept.read.shown kept.read.commands commands x c.step new.bytes
+        (step_moved c.header x now.bytes new.bytes (area_before_stays c.header m j now.bytes kept.read new.bytes ring c.header.area kept.read.image.in_force.number)
+        (area_before_stays c.header m j now.bytes kept.read new.bytes ring (other c.header) (omega arith)) kept.read.shown kept.read.commands c.step
+        (other_place_stays c.header m j now.bytes kept.read new.bytes ring) (λ k boundary. boundaries k ((still added.from added.left).boundaries k boundary)) kept.step))
 
 -- before a command acts, its pages were named
 module _ (c d : PagedCheckpoint) (m n : MemoryState) (command : Command) (prepares : Prepares c m command d) (sizes : HasSizes c.state.header.sizes m.contents) (changes : ChangesOnly (touched m command) m.records n.records) where

@@ -6,3 +6,5 @@ pub mod Running
 pub mod Opening
 pub mod FilesMean
 mod Counterexamples
+pub mod Members
+pub mod Together

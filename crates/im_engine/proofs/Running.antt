@@ -1,5 +1,5 @@
 -- How far a run has come.
-use Rattle.std.proofs.Common.{◌≡◌, ◌⊎◌, inl, inr, ⊎_elim, ℕ, zero, suc, ◌+◌, ◌<◌, ◌≤◌, Bool, true, false, ◌&&◌, ◌||◌, List, [], ◌∷◌, ◌++◌, length, take, get_or, Result, Ok, Err, append_assoc, refl, sym, ◌∙◌, ap, subst, arith, length-append, if◌then◌else◌, IsErrOf}
+use Rattle.std.proofs.Common.{◌≡◌, ◌⊎◌, inl, inr, ⊎_elim, ℕ, ◌+◌, ◌<◌, ◌≤◌, Bool, true, false, ◌&&◌, ◌||◌, List, [], ◌∷◌, ◌++◌, length, take, get_or, Result, Ok, Err, append_assoc, refl, sym, ◌∙◌, ap, subst, arith, length-append, if◌then◌else◌, IsErrOf}
 use Rattle.std.proofs.lemmas.List.{append-nil, take_all, take_at, take-append-le, take_more, length-take-le}
 use Rattle.im_types.specs.declared.commands.Command.{Command}
 use Rattle.im_types.specs.declared.commands.Outcome.{Outcome}
@@ -153,7 +153,7 @@ module _ {D : Type 0} (old mid new : EngineState D) (put : List Command) (c : Co
       let count : mid.count + 1 ≡ old.count + length (put ++ c ∷ []) = (let b : mid.count ≡ old.count + length put = far.count f in omega (arith, length-append put (c ∷ []))) in
       subst (λ (k : List Command). Means (after old.memory k) (old.count + length (put ++ c ∷ [])) 0 file) (sym (take_all (length (put ++ c ∷ [])) (put ++ c ∷ []) (omega arith)))
       (subst (λ (m : Contents). Means m (old.count + length (put ++ c ∷ [])) 0 file) (one_more f)
-      (subst (λ (n : ℕ). Means (step mid.memory c).contents n 0 file) count (some_room (step mid.memory c).contents (mid.count + 1) (room_after mid.count mid.room) file means)))
+      (subst (λ (n : ℕ). Means (step mid.memory c).contents n 0 file) count (some_room (step mid.memory c).contents (mid.count + 1) (room_after mid.count 1 mid.room) file means)))
 
   either : mid.failed ≡ false → (file : List ℕ) → MeansEither mid c file → AllOrLess old (put ++ c ∷ []) file
   either f file (inl image) = (length put, inr (tt, length-append put (c ∷ [])), before f file image)

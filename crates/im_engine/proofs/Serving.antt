@@ -1,23 +1,23 @@
 -- How one command is served.
-use Rattle.std.proofs.Common.{◌≡◌, ℕ, ◌≤◌, [], Bool, true, false, List, length, Result, Ok, Err, if◌then◌else◌, refl, sym, ◌∙◌, ap, subst, arith}
+use Rattle.std.proofs.Common.{◌≡◌, ℕ, ◌≤◌, [], ◌∷◌, Bool, true, false, List, length, Result, Ok, Err, if◌then◌else◌, refl, sym, ◌∙◌, ap, subst, arith}
 use Rattle.im_types.specs.declared.commands.Command.{Command}
 use Rattle.im_types.specs.declared.commands.Outcome.{Outcome}
 use Rattle.im_types.specs.declared.refusals.Refusal.{Refusal}
 use Rattle.im_types.specs.Contents.{Contents}
 use Rattle.im_types.specs.Header.{Header}
-use Rattle.im_types.specs.Journal.{slot_at}
 use Rattle.im_types.specs.Step.{step, is_accepted, unless_refused, acceptance}
 use Rattle.im_laws.proofs.MemoryLemmas.{step-cell_count, step-window_count}
 use Rattle.im_disk.specs.Moment.{Moment, Left}
-use Rattle.im_disk.specs.Since.{SameBut, Calls, CallsBy}
+use Rattle.im_disk.specs.Since.{Calls, CallsBy}
 use Rattle.im_disk.proofs.SinceLemmas.{left_now}
 use Rattle.im_journal.specs.Holding.{JournalState, Holds, AllHold, longer, Appended}
+use Rattle.im_journal.specs.Groups.{SameButGroup}
 use Rattle.im_checkpoint.specs.Step.{Step, NoCheckpoint, PagesLeft, PagesDone, Synced, CheckpointState}
 use Rattle.im_checkpoint.specs.Keeping.{Paged, IsBetween, StepFits, Fits, IsKept}
 use Rattle.im_engine.specs.State.{EngineState}
 use Rattle.im_engine.specs.Run.{Answered, calls_for}
 use Rattle.im_engine.proofs.Accepting.{Answers, accepted_answers}
-use Rattle.im_engine.proofs.Keeping.{kept_longer}
+use Rattle.im_engine.proofs.Keeping.{accept_one, kept_longer}
 
 -- the judgement, taken apart
 pub judged_is : (accepts b : Bool) (answer : Result Outcome Refusal) → unless_refused accepts answer ≡ Ok b → accepts ≡ b
@@ -32,7 +32,7 @@ pub accepts : (m : Contents) (command : Command) (b : Bool) (r : Result Bool Ref
 accepts m command b r is e = judged_is (is_accepted m command) b (step m command).answer (sym is ∙ e)
 
 -- a memory and a journal of the sizes of a header, with a command more
-pub fits_longer : (c : CheckpointState) (m new : Contents) (j longer_j : JournalState) (command : Command) → Fits c m j → new ≡ (step m command).contents → longer_j ≡ longer j → Fits c new longer_j
+pub fits_longer : (c : CheckpointState) (m new : Contents) (j longer_j : JournalState) (command : Command) → Fits c m j → new ≡ (step m command).contents → longer_j ≡ longer 1 j → Fits c new longer_j
 fits_longer c m new j longer_j command it is more = record {
   cells = ap (λ (x : Contents). length x.cells) is ∙ step-cell_count m command ∙ it.cells;
   elements = ap (λ (x : Contents). length x.windows) is ∙ step-window_count m command ∙ it.elements;
@@ -41,10 +41,10 @@ fits_longer c m new j longer_j command it is more = record {
   step = subst (λ (x : JournalState). StepFits c.header x c.step) (sym more) (step_longer c.header j c.step it.step);
 }
   where
-    later : (h : Header) (j : JournalState) (count : ℕ) → IsBetween h j count → IsBetween h (longer j) count
+    later : (h : Header) (j : JournalState) (count : ℕ) → IsBetween h j count → IsBetween h (longer 1 j) count
     later h j count it = record { from = it.from; to = (let to : count ≤ j.count = it.to in omega arith) }
 
-    step_longer : (h : Header) (j : JournalState) (s : Step) → StepFits h j s → StepFits h (longer j) s
+    step_longer : (h : Header) (j : JournalState) (s : Step) → StepFits h j s → StepFits h (longer 1 j) s
     step_longer h j NoCheckpoint it = tt
     step_longer h j (PagesLeft count left) it = later h j count it
     step_longer h j (PagesDone count) it = later h j count it
@@ -52,12 +52,12 @@ fits_longer c m new j longer_j command it is more = record {
 
 -- a disk that keeps a memory keeps it with a command more, once that is appended
 module _ (c : CheckpointState) (x : Paged) (m : Contents) (j : JournalState) (now : Moment) (kept : IsKept c x m j now) (command : Command) (accepted : is_accepted m command ≡ true) where
-  pub kept_with_it : (new : Contents) → new ≡ (step m command).contents → (longer_j : JournalState) → longer_j ≡ longer j → (after : Moment) → SameBut (slot_at j.ring j.count) 64 now.bytes after.bytes → after.ranges ≡ []
-      → ((file : List ℕ) → Left after file → Appended j command now file) → AllHold longer_j after → IsKept c x new longer_j after
+  pub kept_with_it : (new : Contents) → new ≡ (step m command).contents → (longer_j : JournalState) → longer_j ≡ longer 1 j → (after : Moment) → SameButGroup j.ring j.count 1 now.bytes after.bytes → after.ranges ≡ []
+      → ((file : List ℕ) → Left after file → Appended j (command ∷ []) now file) → AllHold longer_j after → IsKept c x new longer_j after
   kept_with_it new is longer_j more after but calm added holds =
       subst (λ (y : Contents). IsKept c x y longer_j after) (sym is)
       (subst (λ (y : JournalState). IsKept c x (step m command).contents y after) (sym more)
-      (kept_longer c x m j now kept command accepted after but calm (added after.bytes (left_now after))
+      (kept_longer c x m j now kept (command ∷ []) (step m command).contents (accept_one m command accepted) after but calm (added after.bytes (left_now after))
       (subst (λ (x : JournalState). Holds x after.bytes) more (holds after.bytes (left_now after)))))
 
 -- an answer to a command, by what the engine is

@@ -1,2 +1,3 @@
 pub mod State
 pub mod Run
+pub mod Groups

@@ -26,7 +26,7 @@ MeansState s file = Means s.memory s.count s.room file
 
 -- the engine with an accepted command more
 abbrev pub with_command : {D : Type 0} → EngineState D → Command → EngineState D
-with_command s command = record s { memory = (step s.memory command).contents; count = s.count + 1; room = room_after s.count s.room }
+with_command s command = record s { memory = (step s.memory command).contents; count = s.count + 1; room = room_after s.count 1 s.room }
 
 -- the file means what the engine is without a command, or with it
 abbrev pub MeansEither : {D : Type 0} → EngineState D → Command → List ℕ → Type 0

@@ -1,5 +1,5 @@
 //! The engine, and how it serves one command.
-ghost use Rattle.std.specs.Prelude.{◌≡◌, ◌↔◌, ◌⊎◌, ◌+◌, ◌≤◌, ◌<◌, List, ℕ, length, true, false, IsTrue, Ok, Err};
+ghost use Rattle.std.specs.Prelude.{◌≡◌, ◌↔◌, ◌⊎◌, ◌+◌, ◌≤◌, ◌<◌, List, [], ℕ, length, true, false, IsTrue, Ok, Err};
 ghost use Rattle.std.specs.Prelude.{OnOk, OnErr, IfOk, IfErr, IsErrOf};
 ghost use Rattle.im_types.specs.Window.{ask, bounds};
 ghost use Rattle.im_types.specs.Step.{step, is_accepted};
@@ -8,14 +8,19 @@ ghost use Rattle.im_disk.specs.Since.{LeavesWithin, LeavesNow, LeavesOnly, Calls
 ghost use Rattle.im_checkpoint.specs.Keeping.{Fits, IsKept, paged};
 ghost use Rattle.im_checkpoint.specs.Step.{IsUnderWay, turns_left};
 ghost use Rattle.im_checkpoint.specs.Turns.{most_calls};
+ghost use Rattle.im_types.specs.Groups.{AreApart};
+ghost use Rattle.im_engine.specs.Groups.{GroupAnswered, GroupCalls, GroupFaults, MeansGroup};
+ghost use Rattle.im_engine.specs.Groups.{group_put, calls_for_group};
 ghost use Rattle.im_engine.specs.Run.{Answered, TurnAnswered, calls_for};
 ghost use Rattle.im_engine.specs.State.{MeansState, MeansEither, with_command};
 
+use crate::groups::{act_all, commands_of, places_in, put_on, refuse_all};
+use arrayvec::ArrayVec;
 use im_checkpoint::{Checkpoint, TurnDone};
 use im_disk::Disk;
 use im_journal::Journal;
 use im_memory::Memory;
-use im_types::{Command, Entry, Outcome, Refusal};
+use im_types::{Command, Entry, Outcome, Refusal, Request, Served};
 use std::marker::Model;
 
 /// A memory that a disk keeps.
@@ -113,6 +118,59 @@ impl<D: Disk> Engine<D> {
         // Of a page that a checkpoint has still to write, what stood there before the command is wanted.
         self.checkpoint.before(&self.memory, command);
         self.memory.step(command)
+    }
+
+    /// Serves the members of a group as [`Engine::serve`] would one after another, and puts all that are accepted and have
+    /// room on the disk together, as one group: by a call for each and three more, or by none where there are none. The
+    /// answers go into `served`, in the members' order. It takes no memory.
+    ///
+    /// A member is refused as `serve` would refuse it: `JournalFull` exactly where it would be accepted and those before
+    /// it leave no room. All are refused with `Failed` exactly where an earlier call failed on the disk, and with
+    /// `Device` where one fails now: then the memory stays, the accepted members are on the disk all together or not at
+    /// all, the engine has failed, and the image has to be opened again.
+    pub fn serve_group(
+        &mut self,
+        members: &ArrayVec<Request, 16>,
+        served: &mut ArrayVec<Served, 16>,
+    )
+        // Each element asks once at most.
+        requires apart { AreApart members.now.items }
+        requires empty { served.old.items ≡ [] }
+        ensures answered { GroupAnswered self.old members.now.items served.new.items self.new }
+        // A call of the disk for each command that is put there, and three more; none where there is none.
+        ensures calls { D.honest self.new.disk → GroupCalls D.past self.old.disk self.new.disk self.new.failed
+            (calls_for_group (length (group_put self.old members.now.items))) }
+        ensures faults { GroupFaults self.old.failed self.new.failed
+            (D.failures self.old.disk) (D.failures self.new.disk) }
+
+        // Each file that a crash may leave, from the start on, and now.
+        ensures leaves { D.honest self.new.disk → self.old.failed ≡ false
+            → LeavesWithin D.now D.past self.old.disk self.new.disk (MeansGroup self.old members.now.items) }
+        ensures doubt { D.honest self.new.disk → self.old.failed ≡ false
+            → LeavesNow (D.now self.new.disk) (MeansGroup self.old members.now.items) }
+        ensures means { D.honest self.new.disk → self.new.failed ≡ false
+            → LeavesNow (D.now self.new.disk) (MeansState self.new) }
+        ensures honest { D.honest self.new.disk → D.honest self.old.disk }
+    {
+        let members = members.as_slice();
+        if self.failed {
+            return refuse_all(members, Refusal::Failed, served); // First of all: the disk may have more than the memory.
+        }
+        let places = places_in(&self.journal);
+        let mut commands = ArrayVec::new();
+        commands_of(&self.memory, places, members, &mut commands);
+        // A stop in it leaves all of the group on the disk, or nothing of it: no answer is given before.
+        if let Err(_) = put_on(&mut self.journal, &mut self.disk, commands.as_slice()) {
+            self.failed = true; // All of the group is there, or nothing of it.
+            return refuse_all(members, Refusal::Device, served);
+        }
+        act_all(
+            &mut self.checkpoint,
+            &mut self.memory,
+            places,
+            members,
+            served,
+        );
     }
 
     // An engine over a disk that keeps this.

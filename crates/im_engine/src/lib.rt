@@ -4,10 +4,12 @@
 
 mod engine;
 mod format;
+mod groups;
 mod laws;
 mod open;
 mod run;
 
 pub use engine::Engine;
+pub use groups::are_apart;
 pub use laws::{files_mean_one_thing, new_images_mean_the_empty_memory};
 pub use run::{Answer, Event};

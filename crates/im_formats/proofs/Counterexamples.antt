@@ -1,8 +1,7 @@
 -- No law of bytes says more than it does: each one with a premise less, or with another value, fails at a value that is
 -- written out here. The definitions compute its bytes, and what these read as.
 use Rattle.std.proofs.Common.{◌≡◌, inr, ℕ, ◌+◌, ◌<◌, ◌≤◌, ◌^◌, Bool, true, false, List, [], ◌∷◌, ◌++◌, Option, None, Some, refl, sym, ap, arith}
-use Rattle.std.specs.Prelude.{◌==◌, slice_range, slice_index}
-use Rattle.std.proofs.lemmas.Bool.Decides.{nat_tests}
+use Rattle.std.specs.Prelude.{slice_range, slice_index}
 use Rattle.im_types.proofs.Tests.{differ, true_false}
 use Rattle.im_types.specs.declared.operations.Op.TheVariants.{Fetch}
 use Rattle.im_types.specs.declared.operations.Kind.TheVariants.{I}

@@ -1,184 +1,271 @@
--- What a slot that is written, or may be, does to the tail.
-use Rattle.std.proofs.Common.{◌≡◌, ◌≢◌, ◌⊎◌, inl, inr, ⊎_elim, ℕ, ◌+◌, ◌-◌, ◌*◌, ◌<◌, ◌≤◌, ◌==◌, Bool, true, false, List, [], ◌∷◌, ◌++◌, Some, option_map, length, get_or, take, drop, refl, sym, ◌∙◌, ap, subst, arith, length-append, if◌then◌else◌}
-use Rattle.std.proofs.lemmas.Bool.{cases_eq}
-use Rattle.im_types.specs.declared.TheConstants.{LAST}
+-- What the slots of a group that is written, or may be, do to the tail.
+use Rattle.std.proofs.Common.{◌≡◌, ◌≢◌, ◌⊎◌, inl, inr, ⊎_elim, ℕ, ◌+◌, ◌-◌, ◌*◌, ◌<◌, ◌≤◌, ◌==◌, ◌&&◌, nat_le, Result, Bool, true, false, List, [], ◌∷◌, ◌++◌, Some, option_map, length, get_or, drop, refl, sym, ◌∙◌, ap, subst, arith, length-append, get_or-take, get_or-drop, if◌then◌else◌}
+use Rattle.std.proofs.lemmas.Bool.{cases_eq, cases_lt, leb-true}
+use Rattle.im_types.proofs.Tests.{and_both}
+use Rattle.im_types.specs.declared.TheConstants.{LAST, MAX_GROUP}
 use Rattle.im_types.specs.declared.commands.Command.{Command}
+use Rattle.im_types.specs.declared.refusals.Refusal.{Refusal}
 use Rattle.im_types.specs.Bytes.{open_gate}
-use Rattle.im_types.specs.Slot.{slot_body, sequence_of, FitsCommand}
+use Rattle.im_types.specs.Slot.{is_open, sequence_of}
 use Rattle.im_types.specs.Journal.{slot_at, slot, Tail, tail}
 use Rattle.im_disk.specs.Moment.{Moment, Left, written, synced}
-use Rattle.im_disk.specs.Since.{SameBut, LeavesOnly}
-use Rattle.im_disk.specs.Gate.{IsShut, HasThere, IsClosed, MayWrite}
-use Rattle.im_disk.proofs.SinceLemmas.{left_now, only_weaker}
+use Rattle.im_disk.specs.Since.{SameBut, LeavesOnly, LeavesNow}
+use Rattle.im_disk.specs.Gate.{HasThere, MayOpen}
 use Rattle.im_disk.proofs.GateLemmas.{done_same, done_there, done_kept, done_calm}
-use Rattle.im_journal.specs.Holding.{JournalState, IsJournal, Holds, AllHold, room_after, longer, longer_tail, Appended, MayAppend, Adds}
-use Rattle.im_journal.proofs.Slots.{slot_inside, slot_is, same_slot, away_after}
+use Rattle.im_disk.proofs.SinceLemmas.{left_now, leaves_then, only_weaker}
+use Rattle.im_journal.specs.Groups.{HasBodies, AllFit, SameButBodies, SameButGroup, MayWriteBodies, AreWritten}
+use Rattle.im_journal.specs.Holding.{JournalState, IsJournal, Holds, AllHold, room_after, longer, longer_tail, KeepsBoundaries, Appended, MayAppend, Adds, IsFullBy}
+use Rattle.im_journal.proofs.Slots.{slot_inside, same_body, opened_gate, no_gate_behind, away_after}
 use Rattle.im_journal.proofs.Rings.{other_number}
-use Rattle.im_journal.proofs.Tails.{Parts, parts_of, next_closed, tail_kept, tail_added}
+use Rattle.im_journal.proofs.Groups.{same_bodies, beside_group}
+use Rattle.im_journal.proofs.Tails.{Parts, parts_of, next_closed, tail_kept, tail_added, boundaries_kept, boundaries_added}
 
-module _ (j : JournalState) (known : IsJournal j) (command : Command) (fits : FitsCommand command) (m0 : Moment) (all : AllHold j m0) (some : 0 < j.room) where
+-- there is room for these commands
+pub record IsNext (j : JournalState) (commands : List Command) (m0 : Moment) : Type 0 where
+  pub known : IsJournal j
+  pub all : AllHold j m0
+  pub some : 0 < length commands
+  pub few : length commands ≤ MAX_GROUP
+  pub room : length commands ≤ j.room
+  pub last : j.count + length commands ≤ LAST
+
+-- that there is, by the test; `s` is the journal, as its fields show it
+pub next_of : (s j : JournalState) (commands : List Command) (m0 : Moment) (test : Bool) → s ≡ j → IsJournal s → AllHold j m0 → 0 < length commands → length commands ≤ MAX_GROUP
+    → test ≡ (nat_le (length commands) s.room && nat_le (s.count + length commands) LAST) → test ≡ true → IsNext s commands m0
+next_of s j commands m0 test is known all some few tested passed =
+    let both = and_both (nat_le (length commands) s.room) (nat_le (s.count + length commands) LAST) (sym tested ∙ passed) in
+    record {
+      known = known;
+      all = λ c left. subst (λ (x : JournalState). Holds x c) (sym is) (all c left);
+      some = some;
+      few = few;
+      room = leb-true (length commands) s.room both.0;
+      last = leb-true (s.count + length commands) LAST both.1;
+    }
+
+module _ {j : JournalState} {commands : List Command} {m0 : Moment} (next : IsNext j commands m0) where
+  abbrev g : ℕ
+  g = length commands
+
   abbrev at : ℕ
   at = slot_at j.ring j.count
 
-  abbrev bytes : List ℕ
-  bytes = open_gate ∷ slot_body 1 j.count command
-
   some_slots : 0 < j.ring.slots
-  some_slots = omega (arith, known.enough_slots)
+  some_slots = omega (arith, next.known.enough_slots)
 
-  pub inside : at + 64 ≤ length m0.bytes
-  inside = omega (arith, slot_inside j.ring some_slots j.count, (all m0.bytes (left_now m0)).size)
+  -- it goes once round the ring at most
+  pub round : g ≤ j.ring.slots
+  round = omega (arith, next.room, next.known.once_round, next.known.begun)
 
-  low : j.count < LAST
-  low = ⊎_elim
-      (λ (last : j.count ≡ LAST). let none : j.room ≡ 0 = known.full_at_last last in absurd (omega arith))
-      (λ (other : j.count ≢ LAST). omega (arith, known.to_last))
-      (cases_eq j.count LAST)
+  pub inside : j.ring.base + 64 * j.ring.slots ≤ length m0.bytes
+  inside = (next.all m0.bytes (left_now m0)).size
 
   module _ (d : List ℕ) (held : Holds j d) where
     abbrev t : Tail
     t = record { commands = held.commands; room = held.there }
 
-    some_there : 0 < held.there
-    some_there = omega (arith, held.enough)
+    room_there : g ≤ held.there
+    room_there = omega (arith, held.enough, next.room)
 
     parts : Parts j.ring j.first d t
     parts = parts_of j.ring j.first d t held.reads
 
-    none_changed : SameBut at 64 d d
-    none_changed = record { size = refl; same = λ i out. refl }
+    none_changed : SameButGroup j.ring j.count g d d
+    none_changed = record { size = refl; same = λ i other out. refl }
 
     gate_shut : get_or d at 0 ≢ open_gate
-    gate_shut = next_closed j.ring some_slots j.first j.count d d t parts held.count some_there none_changed
+    gate_shut = next_closed j.ring some_slots j.first j.count g d d t parts held.count next.some room_there none_changed
 
-    kept : (c : List ℕ) → SameBut at 64 d c → get_or c at 0 ≢ open_gate → tail j.ring j.first c ≡ tail j.ring j.first d
-    kept c same shut = tail_kept j.ring some_slots j.first j.count d c t parts held.count some_there same shut ∙ sym held.reads
+    module _ (c : List ℕ) (same : SameButGroup j.ring j.count g d c) where
+      kept : get_or c at 0 ≢ open_gate → tail j.ring j.first c ≡ tail j.ring j.first d
+      kept shut = tail_kept j.ring some_slots j.first j.count g d c t parts held.count next.some room_there same shut ∙ sym held.reads
 
-    added : (c : List ℕ) → SameBut at 64 d c → take 64 (drop at c) ≡ bytes → tail j.ring j.first c ≡ Some (longer_tail j.count command t)
-    added c same is = tail_added j.ring some_slots j.first j.count d c t parts held.count some_there same command fits known.begun low (slot_is j.ring j.count c bytes is)
+      kept_boundaries : get_or c at 0 ≢ open_gate → KeepsBoundaries j.ring j.first d c
+      kept_boundaries shut = boundaries_kept j.ring some_slots j.first j.count g d c t parts held.count next.some room_there same shut
 
-    added_to : (c : List ℕ) → SameBut at 64 d c → take 64 (drop at c) ≡ bytes → tail j.ring j.first c ≡ option_map (longer_tail j.count command) (tail j.ring j.first d)
-    added_to c same is = added c same is ∙ ap (λ o. option_map (longer_tail j.count command) o) (sym held.reads)
+      module _ (fits : AllFit commands) (opened : is_open (slot j.ring j.count c) ≡ true) (bodies : HasBodies j.ring g j.count commands c) where
+        added : tail j.ring j.first c ≡ Some (longer_tail j.count commands t)
+        added = tail_added j.ring some_slots j.first j.count g d c t parts held.count next.some room_there same commands refl next.few fits next.known.begun next.last opened bodies
 
-    longer_held : (c : List ℕ) → SameBut at 64 d c → take 64 (drop at c) ≡ bytes → Holds (longer j) c
-    longer_held c same is = record {
-      size = subst (λ (n : ℕ). j.ring.base + 64 * j.ring.slots ≤ n) (sym same.size) held.size;
-      commands = held.commands ++ command ∷ [];
-      there = room_after j.count held.there;
-      reads = added c same is;
-      count = one_more j.count j.first (length held.commands) (length (held.commands ++ command ∷ [])) held.count (length-append held.commands (command ∷ []));
-      enough = less_room (j.count + 1 == LAST) held.enough;
-      behind = still_behind;
+        added_to : tail j.ring j.first c ≡ option_map (longer_tail j.count commands) (tail j.ring j.first d)
+        added_to = added ∙ ap (λ o. option_map (longer_tail j.count commands) o) (sym held.reads)
+
+        added_boundaries : KeepsBoundaries j.ring j.first d c
+        added_boundaries = boundaries_added j.ring some_slots j.first j.count g d c t parts held.count next.some room_there same commands refl next.few fits next.known.begun next.last opened bodies
+
+        longer_held : Holds (longer g j) c
+        longer_held = record {
+          size = subst (λ (n : ℕ). j.ring.base + 64 * j.ring.slots ≤ n) (sym same.size) held.size;
+          commands = held.commands ++ commands;
+          there = room_after j.count g held.there;
+          reads = added;
+          count = omega (arith, held.count, length-append held.commands commands);
+          enough = less_room (j.count + g == LAST) held.enough;
+          behind = still_behind;
+        }
+          where
+            less_room : (b : Bool) → j.room ≤ held.there → (if b then 0 else j.room - g) ≤ (if b then 0 else held.there - g)
+            less_room true le = omega arith
+            less_room false le = omega (arith, le)
+
+            -- the slots behind the known room stay: they are others of the ring
+            slot_kept : (k : ℕ) → j.room ≤ g + k → g + k < j.ring.slots - (j.count - j.first) → sequence_of (slot j.ring (j.count + (g + k)) c) < j.first
+            slot_kept k low_k high =
+                let is_same : slot j.ring (j.count + (g + k)) c ≡ slot j.ring (j.count + (g + k)) d =
+                beside_group j.ring j.count g (j.count + (g + k)) d c next.some same
+                (λ m i less lo hi. away_after j.ring some_slots (j.count + (g + k)) (j.count + m) i (omega (arith, less)) (omega (arith, high)) lo hi) in
+                subst (λ (l : List ℕ). sequence_of l < j.first) (sym is_same) (held.behind (omega (arith, next.last, next.some)) (g + k) low_k high)
+
+            still_behind : j.count + g < LAST → (k : ℕ) → room_after j.count g j.room ≤ k → k < j.ring.slots - (j.count + g - j.first) → sequence_of (slot j.ring (j.count + g + k) c) < j.first
+            still_behind lower k from to =
+                let not_last : (j.count + g == LAST) ≡ false = other_number (j.count + g) LAST (λ last. absurd (omega (arith, lower, last))) in
+                let less : room_after j.count g j.room ≡ j.room - g = ap (λ (b : Bool). if b then 0 else j.room - g) not_last in
+                let there : j.count + (g + k) ≡ j.count + g + k = omega arith in
+                subst (λ (m : ℕ). sequence_of (slot j.ring m c) < j.first) there (slot_kept k (omega (arith, from, less)) (omega (arith, to, next.known.begun)))
+
+  -- what a write of bodies leaves
+  abbrev Bodies : List ℕ → Type 0
+  Bodies = MayWriteBodies j.ring j.count g m0
+
+  bodies_group : (c d : List ℕ) → SameButBodies j.ring j.count g c d → SameButGroup j.ring j.count g c d
+  bodies_group c d same = record { size = same.size; same = λ i other out. same.same i out }
+
+  gate_stays : (c d : List ℕ) → SameButBodies j.ring j.count g c d → get_or d at 0 ≡ get_or c at 0
+  gate_stays c d same = same.same at (λ k less. no_gate_behind j.ring j.count (j.count + k))
+
+  pub may_bodies : (c : List ℕ) → Bodies c → MayAppend j commands m0 c
+  may_bodies c w =
+      let shut : get_or c at 0 ≢ open_gate = (λ is. gate_shut w.from (next.all w.from w.left) (sym (gate_stays w.from c w.same) ∙ is)) in
+      record {
+        from = w.from;
+        left = w.left;
+        same = bodies_group w.from c w.same;
+        reads = inl (kept w.from (next.all w.from w.left) c (bodies_group w.from c w.same) shut);
+        boundaries = kept_boundaries w.from (next.all w.from w.left) c (bodies_group w.from c w.same) shut;
+      }
+
+  -- the bodies are written, and then the gate may be
+  module _ (m1 : Moment) (w : AreWritten j.ring j.count commands m0 m1) where
+    held : Holds j m0.bytes
+    held = next.all m0.bytes (left_now m0)
+
+    group_same : (c : List ℕ) → SameBut at 1 m1.bytes c → SameButGroup j.ring j.count g m0.bytes c
+    group_same c but = record {
+      size = but.size ∙ w.kept.size;
+      same = λ i other out. but.same i (beside i at other) ∙ w.kept.same i out;
     }
       where
-        less_room : (b : Bool) → j.room ≤ held.there → (if b then 0 else j.room - 1) ≤ (if b then 0 else held.there - 1)
-        less_room true le = omega arith
-        less_room false le = omega (arith, le)
+        beside : (i a : ℕ) → i ≢ a → (i < a) ⊎ (a + 1 ≤ i)
+        beside i a other = ⊎_elim (λ (low : i < a). inl low) (λ (high : a ≤ i). inr (omega (arith, high, other))) (cases_lt i a)
 
-        -- the slots behind the known room stay: they are others of the ring
-        slot_kept : (k : ℕ) → j.room ≤ k + 1 → k + 1 < j.ring.slots - (j.count - j.first) → sequence_of (slot j.ring (j.count + (k + 1)) c) < j.first
-        slot_kept k low_k high =
-            let is_same : slot j.ring (j.count + (k + 1)) c ≡ slot j.ring (j.count + (k + 1)) d =
-            same_slot j.ring (j.count + (k + 1)) c d same.size (λ i lo hi. same.same i (away_after j.ring some_slots (j.count + (k + 1)) j.count i (omega arith) (omega (arith, high)) lo hi)) in
-            subst (λ (l : List ℕ). sequence_of l < j.first) (sym is_same) (held.behind low (k + 1) low_k high)
+    bodies_there : (c : List ℕ) → SameBut at 1 m1.bytes c → HasBodies j.ring g j.count commands c
+    bodies_there c but = same_bodies j.ring m1.bytes c g j.count commands (λ k less. same_body j.ring (j.count + k) c m1.bytes but.size
+        (λ i low high. but.same i (behind_gate i (j.count + k) low high))) w.bodies
+      where
+        behind_gate : (i s : ℕ) → slot_at j.ring s < i → i < slot_at j.ring s + 64 → (i < at) ⊎ (at + 1 ≤ i)
+        behind_gate i s low high = ⊎_elim
+            (λ (before : slot_at j.ring j.count ≤ slot_at j.ring s). inr (omega (arith, before, low)))
+            (λ (after : slot_at j.ring s + 64 ≤ slot_at j.ring j.count). inl (omega (arith, after, high)))
+            (no_gate_behind j.ring j.count s)
 
-        still_behind : j.count + 1 < LAST → (k : ℕ) → room_after j.count j.room ≤ k → k < j.ring.slots - (j.count + 1 - j.first) → sequence_of (slot j.ring (j.count + 1 + k) c) < j.first
-        still_behind lower k from to =
-            let not_last : (j.count + 1 == LAST) ≡ false = other_number (j.count + 1) LAST (λ last. absurd (omega (arith, lower, last))) in
-            let less : room_after j.count j.room ≡ j.room - 1 = ap (λ (b : Bool). if b then 0 else j.room - 1) not_last in
-            let there : j.count + (k + 1) ≡ j.count + 1 + k = omega arith in
-            subst (λ (m : ℕ). sequence_of (slot j.ring m c) < j.first) there (slot_kept k (omega (arith, from, less)) (omega (arith, to, known.begun)))
+    may_gate : (c : List ℕ) → SameBut at 1 m1.bytes c → MayAppend j commands m0 c
+    may_gate c but = by_gate (cases_eq (get_or c at 0) open_gate)
+      where
+        by_gate : (get_or c at 0 ≡ open_gate) ⊎ (get_or c at 0 ≢ open_gate) → MayAppend j commands m0 c
+        by_gate (inl is) = record {
+          from = m0.bytes;
+          left = left_now m0;
+          same = group_same c but;
+          reads = inr (added_to m0.bytes held c (group_same c but) w.fits (opened_gate j.ring j.count c is) (bodies_there c but));
+          boundaries = added_boundaries m0.bytes held c (group_same c but) w.fits (opened_gate j.ring j.count c is) (bodies_there c but);
+        }
+        by_gate (inr shut) = record {
+          from = m0.bytes;
+          left = left_now m0;
+          same = group_same c but;
+          reads = inl (kept m0.bytes held c (group_same c but) shut);
+          boundaries = kept_boundaries m0.bytes held c (group_same c but) shut;
+        }
 
-        one_more : (n first k l : ℕ) → n ≡ first + k → l ≡ k + 1 → n + 1 ≡ first + l
-        one_more n first k l e f = omega arith
+    pub may_open : LeavesNow m1 Bodies → (c : List ℕ) → MayOpen at m1 c → MayAppend j commands m0 c
+    may_open before c (inl left) = may_bodies c (before c left)
+    may_open before c (inr but) = may_gate c but
 
-  pub shut : (c : List ℕ) → Left m0 c → IsShut at c
-  shut c left = gate_shut c (all c left)
+    -- once the gate is open on the disk
+    module _ (m2 : Moment) (is : m2 ≡ synced (written at (open_gate ∷ []) m1)) where
+      fits_gate : at + 1 ≤ length m1.bytes
+      fits_gate = omega (arith, w.kept.size, inside, slot_inside j.ring some_slots j.count)
 
-  pub may_append : (c : List ℕ) → (from : List ℕ) → Left m0 from → SameBut at 64 from c → IsShut at c ⊎ (take 64 (drop at c) ≡ bytes) → MayAppend j command m0 c
-  may_append c from left same gated = record {
-    from = from;
-    left = left;
-    same = same;
-    reads = ⊎_elim (λ shut. inl (kept from (all from left) c same shut)) (λ is. inr (added_to from (all from left) c same is)) gated;
-  }
+      module _ (c : List ℕ) (same_c : SameBut at 1 m1.bytes c) (there_c : HasThere at (open_gate ∷ []) c) where
+        gate_c : get_or c at 0 ≡ open_gate
+        gate_c =
+            let here : at + 0 ≡ at = omega arith in
+            sym (get_or-take 1 (drop at c) 0 0 (omega arith) ∙ get_or-drop at c 0 0 ∙ ap (λ (i : ℕ). get_or c i 0) here) ∙ ap (λ (l : List ℕ). get_or l 0 0) there_c
 
-  pub appended : (c : List ℕ) → SameBut at 64 m0.bytes c → take 64 (drop at c) ≡ bytes → Appended j command m0 c
-  appended c same is = record {
-    from = m0.bytes;
-    left = left_now m0;
-    same = same;
-    slot = slot_is j.ring j.count c bytes is;
-    reads = added_to m0.bytes (all m0.bytes (left_now m0)) c same is;
-  }
+        opened_c : is_open (slot j.ring j.count c) ≡ true
+        opened_c = opened_gate j.ring j.count c gate_c
 
-  pub holds_longer : (c : List ℕ) → SameBut at 64 m0.bytes c → take 64 (drop at c) ≡ bytes → Holds (longer j) c
-  holds_longer c same is = longer_held m0.bytes (all m0.bytes (left_now m0)) c same is
+        appended : Appended j commands m0 c
+        appended = record {
+          from = m0.bytes;
+          left = left_now m0;
+          same = group_same c same_c;
+          gate = opened_c;
+          bodies = bodies_there c same_c;
+          reads = added_to m0.bytes held c (group_same c same_c) w.fits opened_c (bodies_there c same_c);
+          boundaries = added_boundaries m0.bytes held c (group_same c same_c) w.fits opened_c (bodies_there c same_c);
+        }
 
--- a slot is the next command's
-pub record IsNext (j : JournalState) (command : Command) (m0 : Moment) (place : ℕ) (slot_there : List ℕ) : Type 0 where
-  pub known : IsJournal j
-  pub fits : FitsCommand command
-  pub all : AllHold j m0
-  pub some : 0 < j.room
-  pub is_at : place ≡ slot_at j.ring j.count
-  pub is_slot : slot_there ≡ open_gate ∷ slot_body 1 j.count command
-  pub long : length slot_there ≡ 64
+        holds_longer : Holds (longer g j) c
+        holds_longer = longer_held m0.bytes held c (group_same c same_c) w.fits opened_c (bodies_there c same_c)
 
--- `s` is the journal, as its fields show it
-pub next_of : (s j : JournalState) (command : Command) (m0 : Moment) (slot_there : List ℕ) → s ≡ j → IsJournal s → FitsCommand command → AllHold j m0 → 0 < s.room
-    → slot_there ≡ open_gate ∷ slot_body 1 s.count command → length slot_there ≡ 64 → IsNext j command m0 (slot_at s.ring s.count) slot_there
-next_of s j command m0 slot_there is known fits all some is_slot long = record {
-  known = subst IsJournal is known;
-  fits = fits;
-  all = all;
-  some = subst (λ (x : JournalState). 0 < x.room) is some;
-  is_at = ap (λ (x : JournalState). slot_at x.ring x.count) is;
-  is_slot = is_slot ∙ ap (λ (x : JournalState). open_gate ∷ slot_body 1 x.count command) is;
-  long = long;
+      same_in : (c : List ℕ) → Left m2 c → SameBut at 1 m1.bytes c
+      same_in c left = done_same at (open_gate ∷ []) m1 m2 fits_gate is c left
+
+      there_in : (c : List ℕ) → Left m2 c → HasThere at (open_gate ∷ []) c
+      there_in c left = done_there at (open_gate ∷ []) m1 m2 fits_gate is c left
+
+      pub adds : (longer_j : JournalState) → longer_j ≡ longer g j → Adds j longer_j commands m0 m2
+      adds longer_j longer_is = record {
+        added = λ c left. appended c (same_in c left) (there_in c left);
+        holds = λ c left. subst (λ (x : JournalState). Holds x c) (sym longer_is) (holds_longer c (same_in c left) (there_in c left));
+        kept = group_same m2.bytes (done_kept at (open_gate ∷ []) m1 m2 fits_gate is);
+        calm = done_calm at (open_gate ∷ []) m1 m2 fits_gate is;
+      }
+
+-- since the start, and at the end: while the bodies are written, and then the gate
+module _ {D : Type 0} (now : D → Moment) (past : D → List Moment) (d0 d1 : D) {s j : JournalState} {commands : List Command} (is : s ≡ j) (next : IsNext s commands (now d0))
+    (leaves : LeavesOnly now past d0 d1 (MayWriteBodies s.ring s.count (length commands) (now d0))) where
+  abbrev May : JournalState → List ℕ → Type 0
+  May x = MayAppend x commands (now d0)
+
+  pub bodies_leave : LeavesOnly now past d0 d1 (MayAppend j commands (now d0))
+  bodies_leave = subst (λ (x : JournalState). LeavesOnly now past d0 d1 (May x)) is
+      (only_weaker now past d0 d1 (MayWriteBodies s.ring s.count (length commands) (now d0)) (May s) leaves (may_bodies next))
+
+  module _ (w : AreWritten s.ring s.count commands (now d0) (now d1)) (d2 : D) where
+    may : (c : List ℕ) → MayOpen (slot_at s.ring s.count) (now d1) c → May s c
+    may = may_open next (now d1) w leaves.after
+
+    pub gate_leaves : LeavesOnly now past d1 d2 (MayOpen (slot_at s.ring s.count) (now d1)) → LeavesOnly now past d0 d2 (MayAppend j commands (now d0))
+    gate_leaves opens = subst (λ (x : JournalState). LeavesOnly now past d0 d2 (May x)) is (record {
+      within = leaves_then (now d0) (now d1) (now d2) (past d0) (past d1) (past d2) (MayWriteBodies s.ring s.count (length commands) (now d0)) (MayOpen (slot_at s.ring s.count) (now d1)) (May s)
+          leaves.within opens.within (may_bodies next) may;
+      after = λ c left. may c (opens.after c left);
+    })
+
+    pub group_adds : (longer_j : JournalState) → longer_j ≡ longer (length commands) s → now d2 ≡ synced (written (slot_at s.ring s.count) (open_gate ∷ []) (now d1)) → Adds j longer_j commands (now d0) (now d2)
+    group_adds longer_j longer_is opened = subst (λ (x : JournalState). Adds x longer_j commands (now d0) (now d2)) is (adds next (now d1) w (now d2) opened longer_j longer_is)
+
+-- of one command: there is no room, as the last count has none
+pub full_of_one : {T D : Type 0} (j : JournalState) (old new : D) (result : Result T Refusal) → IsJournal j → IsFullBy ((j.room < 1) ⊎ (LAST < j.count + 1)) old new result → IsFullBy (j.room ≡ 0) old new result
+full_of_one j old new result known full = record {
+  exactly = (
+    λ e. ⊎_elim
+        (λ (none : j.room < 1). omega (arith, none))
+        (λ (past : LAST < j.count + 1). known.full_at_last (omega (arith, past, known.to_last)))
+        (full.exactly.0 e),
+    λ none. full.exactly.1 (inl (omega (arith, none))),
+  );
+  untouched = full.untouched;
 }
-
-module _ {j : JournalState} {command : Command} {m0 : Moment} {place : ℕ} {slot_there : List ℕ} (n : IsNext j command m0 place slot_there) where
-  abbrev here : ℕ
-  here = slot_at j.ring j.count
-
-  room_there : place + length slot_there ≤ length m0.bytes
-  room_there = omega (arith, n.is_at, n.long, inside j n.known command n.fits m0 n.all n.some)
-
-  pub is_closed : IsClosed place (length slot_there) m0
-  is_closed = record {
-    inside = room_there;
-    shut = λ c left. subst (λ (x : ℕ). IsShut x c) (sym n.is_at) (shut j n.known command n.fits m0 n.all n.some c left);
-  }
-
-  same_here : (c d : List ℕ) → SameBut place (length slot_there) c d → SameBut here 64 c d
-  same_here c d same = subst (λ (x : ℕ). SameBut x 64 c d) n.is_at (subst (λ (l : ℕ). SameBut place l c d) n.long same)
-
-  slot_here : (c : List ℕ) → HasThere place slot_there c → take 64 (drop here c) ≡ open_gate ∷ slot_body 1 j.count command
-  slot_here c there = subst (λ (x : ℕ). take 64 (drop x c) ≡ open_gate ∷ slot_body 1 j.count command) n.is_at
-      (subst (λ (l : ℕ). take l (drop place c) ≡ open_gate ∷ slot_body 1 j.count command) n.long (there ∙ n.is_slot))
-
-  pub may : (c : List ℕ) → MayWrite place slot_there m0 c → MayAppend j command m0 c
-  may c w = may_append j n.known command n.fits m0 n.all n.some c w.from w.left (same_here w.from c w.same)
-      (⊎_elim (λ shut_there. inl (subst (λ (x : ℕ). IsShut x c) n.is_at shut_there)) (λ there. inr (slot_here c there)) w.gated)
-
-  -- once the slot is written and synced
-  module _ (m1 : Moment) (is : m1 ≡ synced (written place slot_there m0)) where
-    same_in : (c : List ℕ) → Left m1 c → SameBut here 64 m0.bytes c
-    same_in c left = same_here m0.bytes c (done_same place slot_there m0 m1 room_there is c left)
-
-    there_in : (c : List ℕ) → Left m1 c → take 64 (drop here c) ≡ open_gate ∷ slot_body 1 j.count command
-    there_in c left = slot_here c (done_there place slot_there m0 m1 room_there is c left)
-
-    pub adds : (next : JournalState) → next ≡ longer j → Adds j next command m0 m1
-    adds next next_is = record {
-      added = λ c left. appended j n.known command n.fits m0 n.all n.some c (same_in c left) (there_in c left);
-      holds = λ c left. subst (λ (x : JournalState). Holds x c) (sym next_is) (holds_longer j n.known command n.fits m0 n.all n.some c (same_in c left) (there_in c left));
-      kept = same_here m0.bytes m1.bytes (done_kept place slot_there m0 m1 room_there is);
-      calm = done_calm place slot_there m0 m1 room_there is;
-    }
-
--- since the start, and at the end
-pub append_leaves : {D : Type 0} (now : D → Moment) (past : D → List Moment) (d0 d1 : D) {j : JournalState} {command : Command} {place : ℕ} {slot_there : List ℕ} → IsNext j command (now d0) place slot_there
-    → LeavesOnly now past d0 d1 (MayWrite place slot_there (now d0)) → LeavesOnly now past d0 d1 (MayAppend j command (now d0))
-append_leaves now past d0 d1 {j} {command} {place} {slot_there} n leaves = only_weaker now past d0 d1 (MayWrite place slot_there (now d0)) (MayAppend j command (now d0)) leaves (may n)

@@ -2,13 +2,13 @@
 use Rattle.std.proofs.Common.{◌≡◌, ⊎_elim, ℕ, ◌+◌, ◌-◌, ◌<◌, ◌≤◌, List, Some, drop, sym, subst, arith, length-drop}
 use Rattle.std.proofs.lemmas.Bool.{cases_lt}
 use Rattle.im_types.specs.Slot.{sequence_of}
-use Rattle.im_types.specs.Journal.{slot, tail}
+use Rattle.im_types.specs.Journal.{slot, IsBoundary, tail}
 use Rattle.im_journal.specs.Holding.{JournalState, IsJournal, Holds}
 use Rattle.im_journal.proofs.Tails.{Parts, parts_of}
-use Rattle.im_journal.proofs.Rings.{continues_is, slot_round, nth_continues}
+use Rattle.im_journal.proofs.Rings.{slot_round, nth_sequence}
 use Rattle.im_journal.proofs.Later.{tail_later}
 
-module _ (j : JournalState) (known : IsJournal j) (first : ℕ) (later : j.first ≤ first) (counted : first ≤ j.count) (file : List ℕ) (held : Holds j file) where
+module _ (j : JournalState) (known : IsJournal j) (first : ℕ) (later : j.first ≤ first) (counted : first ≤ j.count) (file : List ℕ) (held : Holds j file) (boundary : IsBoundary j.ring j.first (first - j.first) file) where
   abbrev passed : ℕ
   passed = first - j.first
 
@@ -17,7 +17,7 @@ module _ (j : JournalState) (known : IsJournal j) (first : ℕ) (later : j.first
 
   pub tail_begins_later : tail j.ring first file ≡ Some (record { commands = drop passed held.commands; room = held.there })
   tail_begins_later = subst (λ (s : ℕ). tail j.ring s file ≡ Some (record { commands = drop passed held.commands; room = held.there })) begins
-      (tail_later j.ring j.first passed file held.commands held.there held.reads (omega (arith, held.count, later, counted)))
+      (tail_later j.ring j.first passed file held.commands held.there held.reads boundary)
 
   parts : Parts j.ring j.first file (record { commands = held.commands; room = held.there })
   parts = parts_of j.ring j.first file (record { commands = held.commands; room = held.there }) held.reads
@@ -25,8 +25,7 @@ module _ (j : JournalState) (known : IsJournal j) (first : ℕ) (later : j.first
   -- the slot of a command that was passed has its sequence number
   passed_slot : (i : ℕ) → i < passed → sequence_of (slot j.ring (j.first + i) file) ≡ j.first + i
   passed_slot i low =
-      (continues_is (slot j.ring (j.first + i) file) (j.first + i)
-      (nth_continues j.ring file j.ring.slots j.first i (omega (arith, low, parts.size, held.count, later, counted)))).1
+      nth_sequence j.ring file j.ring.slots 0 j.first i held.commands parts.read (omega (arith, low, parts.size, held.count, later, counted))
 
   -- once round the ring from it
   passed_behind : (i : ℕ) → j.ring.slots - (j.count - j.first) ≤ i → i < j.ring.slots - (j.count - first) → sequence_of (slot j.ring (j.count + i) file) < first

@@ -2,22 +2,23 @@
 use Rattle.std.proofs.Common.{◌≡◌, ℕ, zero, suc, ◌+◌, ◌-◌, ◌<◌, ◌≤◌, ◌==◌, Bool, true, false, List, Some, length, drop, sym, ◌∙◌, ap, subst, arith, if◌then◌else◌, length-drop}
 use Rattle.im_types.specs.declared.TheConstants.{LAST}
 use Rattle.im_types.specs.declared.commands.Command.{Command}
-use Rattle.im_types.specs.Slot.{is_open, sequence_of}
-use Rattle.im_types.specs.Journal.{Ring, slot, continues, next_if, run_from, run, commands_in, closed_from, are_stale, ends_stale, room_of, tail}
-use Rattle.im_journal.proofs.Runs.{closed_at_most}
+use Rattle.im_types.specs.Slot.{is_open, sequence_of, group_of}
+use Rattle.im_types.specs.Journal.{Ring, slot, continues, next_if, run_from, run, commands_in, IsBoundary, closed_from, are_stale, ends_stale, room_of, tail}
+use Rattle.im_journal.proofs.Runs.{closed_at_most, whole-commands, boundary-low, behind_boundary}
 use Rattle.im_journal.proofs.Tails.{Parts, parts_of, tail_of}
-use Rattle.im_journal.proofs.Rings.{continues_is, continues_not, slot_round, nth_continues, run_dropped, run_more, closed_more, stale_joined, stale_each, stale_at, commands_dropped}
+use Rattle.im_journal.proofs.Rings.{continues_is, continues_not, slot_round, first_continues, nth_sequence, run_dropped, run_more, closed_more, stale_joined, stale_each, stale_at}
 
-pub at_most : (r : Ring) (c : List ℕ) (fuel s : ℕ) → length (run_from r fuel s c) ≤ fuel
-at_most r c zero s = omega arith
-at_most r c (suc fuel) s = by_test (continues (slot r s c) s) (at_most r c fuel (s + 1))
+pub at_most : (r : Ring) (c : List ℕ) (fuel due s : ℕ) → length (run_from r fuel due s c) ≤ fuel
+at_most r c zero due s = omega arith
+at_most r c (suc fuel) (suc due) s = omega (arith, at_most r c fuel due (s + 1))
+at_most r c (suc fuel) zero s = by_test (continues (slot r s c) s) (run_from r fuel (group_of (slot r s c) - 1) (s + 1) c) (at_most r c fuel (group_of (slot r s c) - 1) (s + 1))
   where
-    by_test : (b : Bool) → length (run_from r fuel (s + 1) c) ≤ fuel → length (next_if b (slot r s c) (run_from r fuel (s + 1) c)) ≤ suc fuel
-    by_test true le = omega (arith, le)
-    by_test false le = omega arith
+    by_test : (b : Bool) (rest : List (List ℕ)) → length rest ≤ fuel → length (next_if b (slot r s c) rest) ≤ suc fuel
+    by_test true rest le = omega (arith, le)
+    by_test false rest le = omega arith
 
 -- the tail from the k-th command of a run on
-module _ (r : Ring) (first k : ℕ) (c : List ℕ) (commands : List Command) (room : ℕ) (e : tail r first c ≡ Some (record { commands = commands; room = room })) (low : k ≤ length commands) where
+module _ (r : Ring) (first k : ℕ) (c : List ℕ) (commands : List Command) (room : ℕ) (e : tail r first c ≡ Some (record { commands = commands; room = room })) (boundary : IsBoundary r first k c) where
   abbrev n : ℕ
   n = length commands
 
@@ -30,45 +31,52 @@ module _ (r : Ring) (first k : ℕ) (c : List ℕ) (commands : List Command) (ro
   it : Parts r first c (record { commands = commands; room = room })
   it = parts_of r first c (record { commands = commands; room = room }) e
 
-  size : length (run_from r slots first c) ≡ n
+  size : length (run_from r slots 0 first c) ≡ n
   size = it.size
 
-  few : n ≤ slots
-  few = omega (arith, size, at_most r c slots first)
+  low : k ≤ length commands
+  low = omega (arith, size, boundary-low 0 k (run r first c) boundary)
 
-  goes_on : (i : ℕ) → i < n → continues (slot r (first + i) c) (first + i) ≡ true
-  goes_on i less = nth_continues r c slots first i (omega (arith, size, less))
+  few : n ≤ slots
+  few = omega (arith, size, at_most r c slots 0 first)
+
+  numbered : (i : ℕ) → i < n → sequence_of (slot r (first + i) c) ≡ first + i
+  numbered i less = nth_sequence r c slots 0 first i commands it.read (omega (arith, size, less))
+
+  begins : 0 < n → continues (slot r first c) first ≡ true
+  begins some = first_continues r c slots first (omega (arith, size, some))
 
   -- the first command's slot, once round the ring, is of no later command
   round_ends : 0 < n → continues (slot r (first + slots) c) (first + slots) ≡ false
   round_ends some =
       let same : slot r (first + slots) c ≡ slot r first c = slot_round r first c in
-      let zeroth : first + 0 ≡ first = omega arith in
-      let here = continues_is (slot r first c) first (subst (λ (m : ℕ). continues (slot r m c) m ≡ true) zeroth (goes_on 0 some)) in
+      let here = continues_is (slot r first c) first (begins some) in
       continues_not (slot r (first + slots) c) (first + slots) (λ is. absurd (omega (arith, ap sequence_of same, here.1, is, few, some)))
 
   round_open : 0 < n → is_open (slot r (first + slots) c) ≡ true
   round_open some =
       let same : slot r (first + slots) c ≡ slot r first c = slot_round r first c in
-      let zeroth : first + 0 ≡ first = omega arith in
-      ap is_open same ∙ (continues_is (slot r first c) first (subst (λ (m : ℕ). continues (slot r m c) m ≡ true) zeroth (goes_on 0 some))).0
+      ap is_open same ∙ (continues_is (slot r first c) first (begins some)).0
 
-  rest : drop k (run_from r slots first c) ≡ run_from r (slots - k) (first + k) c
-  rest = run_dropped r c k slots first (omega (arith, size, low))
+  rest : drop k (run_from r slots 0 first c) ≡ run_from r (slots - k) 0 (first + k) c
+  rest = run_dropped r c k slots 0 first boundary
 
-  rest_size : length (run_from r (slots - k) (first + k) c) ≡ n - k
-  rest_size = sym (ap length rest) ∙ length-drop k (run_from r slots first c) ∙ ap (λ (m : ℕ). m - k) size
+  rest_size : length (run_from r (slots - k) 0 (first + k) c) ≡ n - k
+  rest_size = sym (ap length rest) ∙ length-drop k (run_from r slots 0 first c) ∙ ap (λ (m : ℕ). m - k) size
 
-  later_run : run r (first + k) c ≡ run_from r (slots - k) (first + k) c
+  rest_read : commands_in 0 (first + k) (run_from r (slots - k) 0 (first + k) c) ≡ Some (drop k commands)
+  rest_read = ap (λ (l : List (List ℕ)). commands_in 0 (first + k) l) (sym rest) ∙ behind_boundary 0 first k (run r first c) commands it.read boundary
+
+  later_run : run r (first + k) c ≡ run_from r (slots - k) 0 (first + k) c
   later_run =
       let fuel : slots ≡ (slots - k) + k = omega (arith, low, few) in
-      ap (λ (m : ℕ). run_from r m (first + k) c) fuel
-      ∙ run_more r c (slots - k) k (first + k) (λ whole some.
+      ap (λ (m : ℕ). run_from r m 0 (first + k) c) fuel
+      ∙ run_more r c (slots - k) k 0 (first + k) (whole-commands 0 (first + k) (run_from r (slots - k) 0 (first + k) c) (drop k commands) rest_read) (λ whole some.
       let at : (first + k) + (slots - k) ≡ first + slots = omega (arith, low, few) in
       subst (λ (m : ℕ). continues (slot r m c) m ≡ false) (sym at) (round_ends (omega (arith, low, some))))
 
-  later_read : commands_in (run r (first + k) c) ≡ commands_in (drop k (run r first c))
-  later_read = ap commands_in (later_run ∙ sym rest)
+  later_read : commands_in 0 (first + k) (run r (first + k) c) ≡ Some (drop k commands)
+  later_read = ap (λ (l : List (List ℕ)). commands_in 0 (first + k) l) later_run ∙ rest_read
 
   later_size : length (run r (first + k) c) ≡ length (drop k commands)
   later_size = ap length later_run ∙ rest_size ∙ sym (length-drop k commands)
@@ -103,7 +111,7 @@ module _ (r : Ring) (first k : ℕ) (c : List ℕ) (commands : List Command) (ro
   passed : (i : ℕ) → i < k → sequence_of (slot r ((first + n + closed) + (slots - n - closed) + i) c) < first + k
   passed i less =
       let at : (first + n + closed) + (slots - n - closed) + i ≡ (first + i) + slots = omega (arith, few, closed_few) in
-      let is : sequence_of (slot r (first + i) c) ≡ first + i = (continues_is (slot r (first + i) c) (first + i) (goes_on i (omega (arith, low, less)))).1 in
+      let is : sequence_of (slot r (first + i) c) ≡ first + i = numbered i (omega (arith, low, less)) in
       subst (λ (m : ℕ). sequence_of (slot r m c) < first + k) (sym at) (subst (λ (bytes : List ℕ). sequence_of bytes < first + k) (sym (slot_round r (first + i) c)) (omega (arith, is, less)))
 
   later_stale : ends_stale r (first + k) (n - k) c ≡ true
@@ -123,7 +131,7 @@ module _ (r : Ring) (first k : ℕ) (c : List ℕ) (commands : List Command) (ro
 
   pub tail_later : tail r (first + k) c ≡ Some (record { commands = drop k commands; room = room })
   tail_later = tail_of r (first + k) c (record { commands = drop k commands; room = room }) (record {
-    read = later_read ∙ commands_dropped k (run r first c) commands it.read;
+    read = later_read;
     size = later_size;
     stale = ap (λ (m : ℕ). ends_stale r (first + k) m c) count_is ∙ later_stale;
     room = ap (λ (m : ℕ). room_of r (first + k) m c) count_is ∙ later_room;

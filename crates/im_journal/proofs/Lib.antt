@@ -8,6 +8,9 @@ pub mod Later
 pub mod Sweeps
 pub mod Beginning
 pub mod Sweeping
+pub mod Groups
+pub mod Writing
 pub mod Appending
 pub mod Reading
 pub mod Laws
+mod Counterexamples

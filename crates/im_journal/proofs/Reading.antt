@@ -1,11 +1,13 @@
 -- How the run and what is behind it are read slot by slot.
-use Rattle.std.proofs.Common.{◌≡◌, ℕ, suc, ◌+◌, ◌-◌, ◌<◌, ◌==◌, ◌&&◌, Bool, true, false, List, [], ◌∷◌, ◌++◌, Option, Some, None, option_map, option_and_then, length, nat_lt, refl, sym, ◌∙◌, ap, arith, if◌then◌else◌}
+use Rattle.std.proofs.Common.{◌≡◌, ℕ, zero, suc, ◌+◌, ◌-◌, ◌<◌, ◌≤◌, ◌==◌, ◌&&◌, Bool, true, false, List, [], ◌∷◌, ◌++◌, Option, Some, None, option_map, option_and_then, length, nat_lt, nat_le, refl, sym, ◌∙◌, ap, arith, if◌then◌else◌}
+use Rattle.std.proofs.lemmas.Bool.{ltb-true, leb-true}
 use Rattle.std.proofs.lemmas.List.{append_assoc}
-use Rattle.im_types.specs.declared.TheConstants.{LAST}
+use Rattle.im_types.proofs.Tests.{and_both}
+use Rattle.im_types.specs.declared.TheConstants.{LAST, MAX_GROUP}
 use Rattle.im_types.specs.declared.commands.Command.{Command}
-use Rattle.im_types.specs.Slot.{is_open, sequence_of, read_slot}
-use Rattle.im_types.specs.Journal.{Ring, slot, continues, run_from, run, with_first, commands_in, closed_from, are_stale, behind, ends_stale, room_of, tail_if, tail}
-use Rattle.im_journal.proofs.Runs.{stops, goes, length-commands}
+use Rattle.im_types.specs.Slot.{is_open, sequence_of, group_of, read_in}
+use Rattle.im_types.specs.Journal.{Ring, slot, continues, run_from, run, with_first, leads, member, due_after, commands_in, closed_from, are_stale, behind, ends_stale, room_of, tail_if, tail}
+use Rattle.im_journal.proofs.Runs.{stops, goes, test_true, length-commands}
 use Rattle.im_journal.proofs.Tails.{tail_is}
 
 -- commands, and those behind them
@@ -16,6 +18,14 @@ pub behind-first : (cs : List Command) (c : Command) (o : Option (List Command))
 behind-first cs c None = refl
 behind-first cs c (Some ds) = ap (λ (l : List Command). Some l) (sym (append_assoc cs (c ∷ []) ds))
 
+-- a group ends at the last number there is, or before it
+pub last_after : (due s : ℕ) (bytes : List ℕ) (c : Command) → member due s bytes ≡ Some c → s + due ≤ LAST → s + 1 + due_after due bytes ≤ LAST
+last_after zero s bytes c is low =
+    let both = and_both (nat_lt 0 (group_of bytes) && nat_le (group_of bytes) MAX_GROUP) (nat_le (s + group_of bytes) LAST) (test_true (leads s bytes) (read_in (group_of bytes) bytes) c is) in
+    let some = and_both (nat_lt 0 (group_of bytes)) (nat_le (group_of bytes) MAX_GROUP) both.0 in
+    omega (arith, ltb-true 0 (group_of bytes) some.0, leb-true (s + group_of bytes) LAST both.1)
+last_after (suc due) s bytes c is low = omega (arith, low)
+
 module _ (r : Ring) (file : List ℕ) (n i s : ℕ) (lt : i < n) where
   left : n - i ≡ suc (n - (i + 1))
   left = omega arith
@@ -23,33 +33,45 @@ module _ (r : Ring) (file : List ℕ) (n i s : ℕ) (lt : i < n) where
   further : s + i + 1 ≡ s + (i + 1)
   further = omega arith
 
-  abbrev rest : Option (List Command)
-  rest = commands_in (run_from r (n - i) (s + i) file)
+  abbrev here : List ℕ
+  here = slot r (s + i) file
 
-  abbrev after : Option (List Command)
-  after = commands_in (run_from r (n - (i + 1)) (s + (i + 1)) file)
+  abbrev rest : ℕ → Option (List Command)
+  rest due = commands_in due (s + i) (run_from r (n - i) due (s + i) file)
 
-  run_here : run_from r (n - i) (s + i) file ≡ run_from r (suc (n - (i + 1))) (s + i) file
-  run_here = ap (λ (k : ℕ). run_from r k (s + i) file) left
+  abbrev after_from : ℕ → ℕ → Option (List Command)
+  after_from due t = commands_in due t (run_from r (n - (i + 1)) due t file)
+
+  abbrev after : ℕ → Option (List Command)
+  after due = after_from due (s + (i + 1))
+
+  run_here : (due : ℕ) → run_from r (n - i) due (s + i) file ≡ run_from r (suc (n - (i + 1))) due (s + i) file
+  run_here due = ap (λ (k : ℕ). run_from r k due (s + i) file) left
 
   -- the run stops here
-  pub commands_end : continues (slot r (s + i) file) (s + i) ≡ false → rest ≡ Some []
-  commands_end shut = ap commands_in (run_here ∙ stops r (suc (n - (i + 1))) (s + i) file (λ some. shut))
+  pub commands_end : (due : ℕ) → due ≡ 0 → continues (slot r (s + i) file) (s + i) ≡ false → rest due ≡ Some []
+  commands_end due none shut =
+      ap (λ (d : ℕ). rest d) none
+      ∙ ap (λ (l : List (List ℕ)). commands_in 0 (s + i) l) (run_here 0 ∙ stops r (suc (n - (i + 1))) (s + i) file (λ some. shut))
 
-  opened : continues (slot r (s + i) file) (s + i) ≡ true → rest ≡ with_first (read_slot (slot r (s + i) file)) after
-  opened goes_on =
-      ap commands_in (run_here ∙ goes r (n - (i + 1)) (s + i) file goes_on)
-      ∙ ap (λ (t : ℕ). with_first (read_slot (slot r (s + i) file)) (commands_in (run_from r (n - (i + 1)) t file))) further
+  -- it goes on with a leader, or with a follower that is due
+  opened : (due : ℕ) → (due ≡ 0 → continues (slot r (s + i) file) (s + i) ≡ true) → rest due ≡ with_first (member due (s + i) here) (after_from (due_after due here) (s + i + 1))
+  opened zero goes_on = ap (λ (l : List (List ℕ)). commands_in 0 (s + i) l) (run_here 0 ∙ goes r (n - (i + 1)) (s + i) file (goes_on refl))
+  opened (suc due) goes_on = ap (λ (l : List (List ℕ)). commands_in (suc due) (s + i) l) (run_here (suc due))
 
   -- its slot is ill spelled
-  pub commands_bad : continues (slot r (s + i) file) (s + i) ≡ true → read_slot (slot r (s + i) file) ≡ None → rest ≡ None
-  commands_bad goes_on bad = opened goes_on ∙ ap (λ (o : Option Command). with_first o after) bad
+  pub commands_bad : (due : ℕ) → (due ≡ 0 → continues (slot r (s + i) file) (s + i) ≡ true) → member due (s + i) (slot r (s + i) file) ≡ None → rest due ≡ None
+  commands_bad due goes_on bad = opened due goes_on ∙ ap (λ (o : Option Command). with_first o (after_from (due_after due here) (s + i + 1))) bad
 
-  -- it goes on
-  pub commands_more : (c : Command) (cs : List Command) → continues (slot r (s + i) file) (s + i) ≡ true → read_slot (slot r (s + i) file) ≡ Some c → behind_these cs rest ≡ behind_these (cs ++ c ∷ []) after
-  commands_more c cs goes_on good =
-      ap (λ (o : Option (List Command)). behind_these cs o) (opened goes_on ∙ ap (λ (o : Option Command). with_first o after) good)
-      ∙ behind-first cs c after
+  -- it is spelled as it should be
+  pub commands_more : (due : ℕ) (c : Command) (cs : List Command) → (due ≡ 0 → continues (slot r (s + i) file) (s + i) ≡ true) → member due (s + i) (slot r (s + i) file) ≡ Some c
+      → behind_these cs (rest due) ≡ behind_these (cs ++ c ∷ []) (after (due_after due (slot r (s + i) file)))
+  commands_more due c cs goes_on good =
+      ap (λ (o : Option (List Command)). behind_these cs o)
+      (opened due goes_on
+      ∙ ap (λ (o : Option Command). with_first o (after_from (due_after due here) (s + i + 1))) good
+      ∙ ap (λ (t : ℕ). with_first (Some c) (after_from (due_after due here) t)) further)
+      ∙ behind-first cs c (after (due_after due here))
 
   abbrev counted : Bool → ℕ → ℕ
   counted b m = if b then 0 else suc m
@@ -75,12 +97,12 @@ room_if b k = if b then 0 else k
 
 -- the tail, of the run's commands
 module _ (r : Ring) (first : ℕ) (file : List ℕ) where
-  pub tail_unread : commands_in (run r first file) ≡ None → tail r first file ≡ None
+  pub tail_unread : commands_in 0 first (run r first file) ≡ None → tail r first file ≡ None
   tail_unread none = tail_is r first file ∙ ap (λ (o : Option (List Command)). option_and_then (tail_if (ends_stale r first (length (run r first file)) file) (room_of r first (length (run r first file)) file)) o) none
 
-  module _ (cs : List Command) (reads : commands_in (run r first file) ≡ Some cs) where
+  module _ (cs : List Command) (reads : commands_in 0 first (run r first file) ≡ Some cs) where
     same_size : length (run r first file) ≡ length cs
-    same_size = sym (length-commands (run r first file) cs reads)
+    same_size = sym (length-commands 0 first (run r first file) cs reads)
 
     pub tail_read : tail r first file ≡ tail_if (ends_stale r first (length cs) file) (room_of r first (length cs) file) cs
     tail_read =

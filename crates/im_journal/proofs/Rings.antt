@@ -6,9 +6,9 @@ use Rattle.std.proofs.lemmas.Bool.Decides.{nat_tests}
 use Rattle.im_types.proofs.Tests.{and_both}
 use Rattle.im_types.specs.declared.TheConstants.{LAST}
 use Rattle.im_types.specs.declared.commands.Command.{Command}
-use Rattle.im_types.specs.Slot.{is_open, sequence_of, read_slot}
-use Rattle.im_types.specs.Journal.{Ring, slot, continues, run_from, commands_in, closed_from, are_stale}
-use Rattle.im_journal.proofs.Runs.{bool_cases, stops, goes, firsts}
+use Rattle.im_types.specs.Slot.{is_open, sequence_of, group_of, read_in}
+use Rattle.im_types.specs.Journal.{Ring, slot, continues, run_from, if_true, leads, commands_in, is_boundary, closed_from, are_stale}
+use Rattle.im_journal.proofs.Runs.{bool_cases, stops, goes, firsts, test_true}
 
 same_number : (m n : ℕ) → (m == n) ≡ true → m ≡ n
 same_number m n is = grind (arith, nat_tests)
@@ -44,39 +44,66 @@ slot_round r s c =
     ap (λ (n : ℕ). take 64 (drop (r.base + 64 * n) c)) same
 
 module _ (r : Ring) (c : List ℕ) where
-  -- a run begins with slots that continue
-  pub nth_continues : (fuel s i : ℕ) → i < length (run_from r fuel s c) → continues (slot r (s + i) c) (s + i) ≡ true
-  nth_continues zero s i low = absurd (omega (arith, low))
-  nth_continues (suc fuel) s i low = elim (bool_cases (continues (slot r s c) s)) [
-    | inl is ↦ by_place i (subst (λ (l : List (List ℕ)). i < length l) (goes r fuel s c is) low) is (λ j less. nth_continues fuel (s + 1) j less)
+  -- a run that has slots begins with one that continues
+  pub first_continues : (fuel s : ℕ) → 0 < length (run_from r fuel 0 s c) → continues (slot r s c) s ≡ true
+  first_continues zero s some = absurd (omega (arith, some))
+  first_continues (suc fuel) s some = elim (bool_cases (continues (slot r s c) s)) [
+    | inl is ↦ is
     | inr is ↦
-        let none : length (run_from r (suc fuel) s c) ≡ 0 = ap length (stops r (suc fuel) s c (λ some. is)) in
+        let none : length (run_from r (suc fuel) 0 s c) ≡ 0 = ap length (stops r (suc fuel) s c (λ more. is)) in
+        absurd (omega (arith, none, some))
+  ]
+
+  -- a slot has its sequence number where the first one does, and each behind it
+  by_place : (s n i : ℕ) → i < suc n → sequence_of (slot r s c) ≡ s → ((j : ℕ) → j < n → sequence_of (slot r (s + 1 + j) c) ≡ s + 1 + j) → sequence_of (slot r (s + i) c) ≡ s + i
+  by_place s n zero low is rest = let same : s ≡ s + 0 = omega arith in subst (λ (m : ℕ). sequence_of (slot r m c) ≡ m) same is
+  by_place s n (suc j) low is rest = let same : s + 1 + j ≡ s + suc j = omega arith in subst (λ (m : ℕ). sequence_of (slot r m c) ≡ m) same (rest j (omega (arith, low)))
+
+  -- where the slots of a run are spelled, they have the sequence numbers from its first on
+  pub nth_sequence : (fuel due s i : ℕ) (cs : List Command) → commands_in due s (run_from r fuel due s c) ≡ Some cs → i < length (run_from r fuel due s c) → sequence_of (slot r (s + i) c) ≡ s + i
+  nth_sequence zero due s i cs read low = absurd (omega (arith, low))
+  nth_sequence (suc fuel) zero s i cs read low = elim (bool_cases (continues (slot r s c) s)) [
+    | inl is ↦
+        let read_on : commands_in 0 s (slot r s c ∷ run_from r fuel (group_of (slot r s c) - 1) (s + 1) c) ≡ Some cs = subst (λ (l : List (List ℕ)). commands_in 0 s l ≡ Some cs) (goes r fuel s c is) read in
+        let parts = firsts (if_true (leads s (slot r s c)) (read_in (group_of (slot r s c)) (slot r s c))) (commands_in (group_of (slot r s c) - 1) (s + 1) (run_from r fuel (group_of (slot r s c) - 1) (s + 1) c)) cs read_on in
+        by_place s (length (run_from r fuel (group_of (slot r s c) - 1) (s + 1) c)) i (subst (λ (l : List (List ℕ)). i < length l) (goes r fuel s c is) low) (continues_is (slot r s c) s is).1
+        (λ j less. nth_sequence fuel (group_of (slot r s c) - 1) (s + 1) j parts.1 parts.3 less)
+    | inr is ↦
+        let none : length (run_from r (suc fuel) 0 s c) ≡ 0 = ap length (stops r (suc fuel) s c (λ some. is)) in
         absurd (omega (arith, none, low))
   ]
-    where
-      by_place : (i : ℕ) → i < suc (length (run_from r fuel (s + 1) c)) → continues (slot r s c) s ≡ true
-          → ((j : ℕ) → j < length (run_from r fuel (s + 1) c) → continues (slot r (s + 1 + j) c) (s + 1 + j) ≡ true) → continues (slot r (s + i) c) (s + i) ≡ true
-      by_place zero low is rest = let same : s ≡ s + 0 = omega arith in subst (λ (n : ℕ). continues (slot r n c) n ≡ true) same is
-      by_place (suc j) low is rest = let same : s + 1 + j ≡ s + suc j = omega arith in subst (λ (n : ℕ). continues (slot r n c) n ≡ true) same (rest j (omega (arith, low)))
+  nth_sequence (suc fuel) (suc due) s i cs read low =
+      let parts = firsts (if_true (sequence_of (slot r s c) == s) (read_in 0 (slot r s c))) (commands_in due (s + 1) (run_from r fuel due (s + 1) c)) cs read in
+      by_place s (length (run_from r fuel due (s + 1) c)) i low (same_number (sequence_of (slot r s c)) s (test_true (sequence_of (slot r s c) == s) (read_in 0 (slot r s c)) parts.0 parts.2))
+      (λ j less. nth_sequence fuel due (s + 1) j parts.1 parts.3 less)
 
-  -- a run without its first slots is the run from there on
-  pub run_dropped : (k fuel s : ℕ) → k ≤ length (run_from r fuel s c) → drop k (run_from r fuel s c) ≡ run_from r (fuel - k) (s + k) c
-  run_dropped zero fuel s low = (λ i. run_from r (same_fuel i) (same_start i) c)
+  -- a run without its first groups is the run from there on
+  pub run_dropped : (k fuel due s : ℕ) → is_boundary due k (run_from r fuel due s c) ≡ true → drop k (run_from r fuel due s c) ≡ run_from r (fuel - k) 0 (s + k) c
+  run_dropped zero fuel zero s b = (λ i. run_from r (same_fuel i) 0 (same_start i) c)
     where
       same_fuel : fuel ≡ fuel - 0
       same_fuel = omega arith
 
       same_start : s ≡ s + 0
       same_start = omega arith
-  run_dropped (suc k) zero s low = absurd (omega (arith, low))
-  run_dropped (suc k) (suc fuel) s low = elim (bool_cases (continues (slot r s c) s)) [
+  run_dropped zero fuel (suc due) s b = absurd (cc)
+  run_dropped (suc k) zero zero s b = absurd (cc)
+  run_dropped (suc k) zero (suc due) s b = absurd (cc)
+  run_dropped (suc k) (suc fuel) (suc due) s b = run_dropped k fuel due (s + 1) b ∙ (λ i. run_from r (fuel_left i) 0 (start i) c)
+    where
+      fuel_left : fuel - k ≡ suc fuel - suc k
+      fuel_left = omega arith
+
+      start : s + 1 + k ≡ s + suc k
+      start = omega arith
+  run_dropped (suc k) (suc fuel) zero s b = elim (bool_cases (continues (slot r s c) s)) [
     | inl is ↦
         ap (λ (l : List (List ℕ)). drop (suc k) l) (goes r fuel s c is)
-        ∙ run_dropped k fuel (s + 1) (let size : length (run_from r (suc fuel) s c) ≡ suc (length (run_from r fuel (s + 1) c)) = ap length (goes r fuel s c is) in omega (arith, size, low))
-        ∙ (λ i. run_from r (fuel_left i) (start i) c)
+        ∙ run_dropped k fuel (group_of (slot r s c) - 1) (s + 1) (subst (λ (l : List (List ℕ)). is_boundary 0 (suc k) l ≡ true) (goes r fuel s c is) b)
+        ∙ (λ i. run_from r (fuel_left i) 0 (start i) c)
     | inr is ↦
-        let none : length (run_from r (suc fuel) s c) ≡ 0 = ap length (stops r (suc fuel) s c (λ some. is)) in
-        absurd (omega (arith, none, low))
+        let none : is_boundary 0 (suc k) [] ≡ true = subst (λ (l : List (List ℕ)). is_boundary 0 (suc k) l ≡ true) (stops r (suc fuel) s c (λ some. is)) b in
+        absurd (cc)
   ]
     where
       fuel_left : fuel - k ≡ suc fuel - suc k
@@ -85,17 +112,31 @@ module _ (r : Ring) (c : List ℕ) where
       start : s + 1 + k ≡ s + suc k
       start = omega arith
 
-  -- a run that stops goes on no further with more slots allowed
-  pub run_more : (a more s : ℕ) → (length (run_from r a s c) ≡ a → 0 < more → continues (slot r (s + a) c) (s + a) ≡ false) → run_from r (a + more) s c ≡ run_from r a s c
-  run_more zero more s ends =
+  -- a run that stops behind a whole group goes on no further with more slots allowed
+  pub run_more : (a more due s : ℕ) → is_boundary due (length (run_from r a due s c)) (run_from r a due s c) ≡ true
+      → (length (run_from r a due s c) ≡ a → 0 < more → continues (slot r (s + a) c) (s + a) ≡ false) → run_from r (a + more) due s c ≡ run_from r a due s c
+  run_more zero more zero s whole ends =
       let none : 0 + more ≡ more = omega arith in
       let here : s + 0 ≡ s = omega arith in
-      ap (λ (n : ℕ). run_from r n s c) none ∙ stops r more s c (λ some. subst (λ (n : ℕ). continues (slot r n c) n ≡ false) here (ends refl some))
-  run_more (suc a) more s ends = elim (bool_cases (continues (slot r s c) s)) [
+      ap (λ (n : ℕ). run_from r n 0 s c) none ∙ stops r more s c (λ some. subst (λ (n : ℕ). continues (slot r n c) n ≡ false) here (ends refl some))
+  run_more zero more (suc due) s whole ends = absurd (cc)
+  run_more (suc a) more (suc due) s whole ends =
+      ap (λ (n : ℕ). run_from r n (suc due) s c) one_less
+      ∙ ap (λ (l : List (List ℕ)). slot r s c ∷ l) (run_more a more due (s + 1) whole (λ full some. subst (λ (n : ℕ). continues (slot r n c) n ≡ false) start (ends (ap (λ (n : ℕ). suc n) full) some)))
+    where
+      one_less : suc a + more ≡ suc (a + more)
+      one_less = omega arith
+
+      start : s + suc a ≡ s + 1 + a
+      start = omega arith
+  run_more (suc a) more zero s whole ends = elim (bool_cases (continues (slot r s c) s)) [
     | inl is ↦
-        let size : length (run_from r (suc a) s c) ≡ suc (length (run_from r a (s + 1) c)) = ap length (goes r a s c is) in
-        ap (λ (n : ℕ). run_from r n s c) one_less ∙ goes r (a + more) s c is
-        ∙ ap (λ (l : List (List ℕ)). slot r s c ∷ l) (run_more a more (s + 1) (λ whole some. subst (λ (n : ℕ). continues (slot r n c) n ≡ false) start (ends (omega (arith, size, whole)) some)))
+        let due : ℕ = group_of (slot r s c) - 1 in
+        let size : length (run_from r (suc a) 0 s c) ≡ suc (length (run_from r a (group_of (slot r s c) - 1) (s + 1) c)) = ap length (goes r a s c is) in
+        let whole_rest : is_boundary (group_of (slot r s c) - 1) (length (run_from r a (group_of (slot r s c) - 1) (s + 1) c)) (run_from r a (group_of (slot r s c) - 1) (s + 1) c) ≡ true =
+        subst (λ (l : List (List ℕ)). is_boundary 0 (length l) l ≡ true) (goes r a s c is) whole in
+        ap (λ (n : ℕ). run_from r n 0 s c) one_less ∙ goes r (a + more) s c is
+        ∙ ap (λ (l : List (List ℕ)). slot r s c ∷ l) (run_more a more (group_of (slot r s c) - 1) (s + 1) whole_rest (λ full some. subst (λ (n : ℕ). continues (slot r n c) n ≡ false) start (ends (omega (arith, size, full)) some)))
         ∙ sym (goes r a s c is)
     | inr is ↦ stops r (suc a + more) s c (λ some. is) ∙ sym (stops r (suc a) s c (λ some. is))
   ]
@@ -161,14 +202,6 @@ module _ (r : Ring) (c : List ℕ) where
       by_place : (i : ℕ) → i < suc n → nat_lt (sequence_of (slot r s c)) first ≡ true → ((j : ℕ) → j < n → sequence_of (slot r (s + 1 + j) c) < first) → sequence_of (slot r (s + i) c) < first
       by_place zero low here rest = let same : s ≡ s + 0 = omega arith in subst (λ (m : ℕ). sequence_of (slot r m c) < first) same (ltb-true (sequence_of (slot r s c)) first here)
       by_place (suc j) low here rest = let same : s + 1 + j ≡ s + suc j = omega arith in subst (λ (m : ℕ). sequence_of (slot r m c) < first) same (rest j (omega (arith, low)))
-
--- the commands of slots without the first of them
-pub commands_dropped : (k : ℕ) (slots : List (List ℕ)) (cs : List Command) → commands_in slots ≡ Some cs → commands_in (drop k slots) ≡ Some (drop k cs)
-commands_dropped zero slots cs read = read
-commands_dropped (suc k) [] cs read = let none : [] ≡ cs = cc in ap (λ (l : List Command). Some (drop (suc k) l)) none
-commands_dropped (suc k) (one ∷ slots) cs read =
-    let parts = firsts (read_slot one) (commands_in slots) cs read in
-    commands_dropped k slots parts.1 parts.3 ∙ ap (λ (l : List Command). Some (drop (suc k) l)) (sym parts.4)
 
 -- as many gates are closed as are known to be
 pub closed_at_least : (r : Ring) (c : List ℕ) (n s m : ℕ) → m ≤ n → ((j : ℕ) → j < m → is_open (slot r (s + j) c) ≡ false) → m ≤ closed_from r n s c

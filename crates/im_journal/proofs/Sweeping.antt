@@ -11,12 +11,12 @@ use Rattle.im_types.specs.Journal.{Ring, slot_at, slot, closed_from, room_of, ta
 use Rattle.im_disk.specs.Moment.{Moment}
 use Rattle.im_disk.specs.Since.{SameBut, LeavesOnly}
 use Rattle.im_disk.proofs.SinceLemmas.{left_now, left_settled, only_weaker}
-use Rattle.im_journal.specs.Holding.{JournalState, IsJournal, Holds, AllHold, to_sweep, with_room, SameRun, MaySweep, Sweeps}
+use Rattle.im_journal.specs.Holding.{JournalState, IsJournal, Holds, AllHold, to_sweep, with_room, KeepsBoundaries, SameRun, MaySweep, Sweeps}
 use Rattle.im_journal.specs.Gates.{closed_gate as shut_gate, SameButGates, MayClose, HasClosed, AreShut}
 use Rattle.im_journal.proofs.Slots.{slot_inside, away, same_slot, closed_gate}
 use Rattle.im_journal.proofs.Tails.{Parts, parts_of}
 use Rattle.im_journal.proofs.Rings.{other_number, closed_at}
-use Rattle.im_journal.proofs.Sweeps.{tail_swept, no_less}
+use Rattle.im_journal.proofs.Sweeps.{tail_swept, boundaries_swept, no_less}
 
 -- a slot's sequence number doesn't depend on its gate
 sequence_bytes : (r : Ring) (s : ℕ) (c : List ℕ) (i : ℕ) → i < 8 → get_or (take 8 (drop 8 (slot r s c))) i 0 ≡ get_or c (slot_at r s + (8 + i)) 0
@@ -120,6 +120,9 @@ module _ (j : JournalState) (known : IsJournal j) (n : ℕ) (low : j.count < LAS
           subst (λ (s : ℕ). sequence_of (slot j.ring s d) < j.first) at
           (subst (λ (m : ℕ). m < j.first) (sym (sequences_stay (j.count + k))) (held.behind low k (omega (arith, from)) (omega (arith, to, run_is))))
 
+      boundaries_kept : KeepsBoundaries j.ring j.first c d
+      boundaries_kept = boundaries_swept j.ring j.first c d commands held.there held.reads room_known run_stays enough_known swept_shut still_stale
+
       abbrev found : ℕ
       found = room_of j.ring j.first (length commands) d
 
@@ -171,6 +174,7 @@ module _ (j : JournalState) (known : IsJournal j) (n : ℕ) (low : j.count < LAS
       after = reads_swept 0 (omega arith) none_closed;
       enough = omega (arith, found_enough 0 (omega arith) none_closed);
       holds = subst (λ (x : JournalState). Holds x d) none_more (holds_swept 0 (omega arith) none_closed);
+      boundaries = boundaries_kept 0 (omega arith) none_closed;
     }
 
 -- A turn of the sweep. `s` is the journal, as its fields show it.

@@ -3,7 +3,8 @@ use Rattle.std.proofs.Common.{◌≡◌, ℕ, zero, suc, ◌+◌, ◌-◌, ◌<�
 use Rattle.im_types.specs.declared.TheConstants.{LAST}
 use Rattle.im_types.specs.declared.commands.Command.{Command}
 use Rattle.im_types.specs.Slot.{is_open, sequence_of}
-use Rattle.im_types.specs.Journal.{Ring, slot, continues, run_from, run, commands_in, closed_from, ends_stale, room_of, tail}
+use Rattle.im_types.specs.Journal.{Ring, slot, continues, run_from, run, commands_in, is_boundary, closed_from, ends_stale, room_of, tail}
+use Rattle.im_journal.specs.Holding.{KeepsBoundaries}
 use Rattle.im_journal.proofs.Runs.{same_run}
 use Rattle.im_journal.proofs.Tails.{Parts, parts_of, tail_of}
 use Rattle.im_journal.proofs.Rings.{continues_not, continues_closed, other_number, stale_at, stale_each, stale_at, closed_at_least}
@@ -18,7 +19,7 @@ module _ (r : Ring) (first : ℕ) (c d : List ℕ) (commands : List Command) (ro
   it : Parts r first c (record { commands = commands; room = room })
   it = parts_of r first c (record { commands = commands; room = room }) e
 
-  size : length (run_from r slots first c) ≡ n
+  size : length (run_from r slots 0 first c) ≡ n
   size = it.size
 
   -- the run's slots stay, so many gates behind it are closed, and each slot behind those is stale
@@ -39,7 +40,7 @@ module _ (r : Ring) (first : ℕ) (c d : List ℕ) (commands : List Command) (ro
         by_room (suc m) is = continues_closed (slot r (first + n) d) (first + n) (subst (λ (k : ℕ). is_open (slot r k d) ≡ false) zeroth (shut 0 (omega (arith, is))))
 
     same_slots : run r first d ≡ run r first c
-    same_slots = same_run r slots first d c
+    same_slots = same_run r slots 0 first d c
         (λ i low high. let at : first + (i - first) ≡ i = omega (arith, low) in subst (λ (m : ℕ). slot r m d ≡ slot r m c) at (same (i - first) (omega (arith, low, high, size))))
         (λ less m is. let at : first + n ≡ m = omega (arith, is, size) in subst (λ (m : ℕ). continues (slot r m d) m ≡ false) at (ends (omega (arith, less, size))))
 
@@ -56,11 +57,14 @@ module _ (r : Ring) (first : ℕ) (c d : List ℕ) (commands : List Command) (ro
 
     pub tail_swept : tail r first d ≡ Some (record { commands = commands; room = room_of r first n d })
     tail_swept = tail_of r first d (record { commands = commands; room = room_of r first n d }) (record {
-      read = ap commands_in same_slots ∙ it.read;
+      read = ap (λ (l : List (List ℕ)). commands_in 0 first l) same_slots ∙ it.read;
       size = ap length same_slots ∙ it.size;
       stale = still_stale;
       room = refl;
     })
+
+    pub boundaries_swept : KeepsBoundaries r first c d
+    boundaries_swept k e = ap (λ (l : List (List ℕ)). is_boundary 0 k l) same_slots ∙ e
 
 -- behind its room a tail has stale slots alone
 pub behind_of : (r : Ring) (first : ℕ) (c : List ℕ) (commands : List Command) (room : ℕ) → tail r first c ≡ Some (record { commands = commands; room = room })

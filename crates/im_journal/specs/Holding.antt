@@ -1,16 +1,17 @@
 -- A journal over a disk: what its file holds, and what an append leaves.
-use Rattle.std.specs.Prelude.{◌≡◌, ◌≢◌, ◌⊎◌, ℕ, ◌+◌, ◌-◌, ◌*◌, ◌^◌, ◌<◌, ◌≤◌, ◌==◌, min, List, [], ◌∷◌, ◌++◌, length, slice_index, Some, option_map, if◌then◌else◌, ◌↔◌, Result, IsErrOf}
+use Rattle.std.specs.Prelude.{◌≡◌, ◌≢◌, ◌⊎◌, ℕ, ◌+◌, ◌-◌, ◌*◌, ◌^◌, ◌<◌, ◌≤◌, ◌==◌, min, List, [], ◌++◌, length, slice_index, true, Some, option_map, if◌then◌else◌, ◌↔◌, Result, IsErrOf}
 use Rattle.im_types.specs.declared.TheConstants.{LAST, MIN_SLOTS, MAX_SLOTS}
 use Rattle.im_types.specs.declared.commands.Command.{Command}
 use Rattle.im_types.specs.declared.refusals.Refusal.{Refusal}
 use Rattle.im_types.specs.declared.refusals.Refusal.TheVariants.{JournalFull}
 use Rattle.im_types.specs.declared.sizes.Limits.{Limits}
 use Rattle.im_types.specs.Bytes.{open_gate}
-use Rattle.im_types.specs.Slot.{slot_body, sequence_of}
-use Rattle.im_types.specs.Journal.{Ring, slot_at, slot, Tail, tail}
+use Rattle.im_types.specs.Slot.{is_open, sequence_of}
+use Rattle.im_types.specs.Journal.{Ring, slot, IsBoundary, Tail, tail}
 use Rattle.im_types.specs.Layout.{layout_in_use, ring_of}
 use Rattle.im_disk.specs.Moment.{Moment, Left}
 use Rattle.im_disk.specs.Since.{SameBut, LeavesNow}
+use Rattle.im_journal.specs.Groups.{HasBodies, SameButGroup}
 
 -- the ring of an image with these limits
 abbrev pub ring_under : Limits → Ring
@@ -61,49 +62,57 @@ pub record Holds (j : JournalState) (file : List ℕ) : Type 0 where
 abbrev pub AllHold : JournalState → Moment → Type 0
 AllHold j m = (file : List ℕ) → Left m file → Holds j file
 
--- the room behind the command with this sequence number, of what there was before it
-abbrev pub room_after : ℕ → ℕ → ℕ
-room_after count room = if count + 1 == LAST then 0 else room - 1
+-- the room behind n commands, the first of them with this sequence number, of what there was before them
+abbrev pub room_after : ℕ → ℕ → ℕ → ℕ
+room_after count n room = if count + n == LAST then 0 else room - n
 
--- with one command more
-abbrev pub longer : JournalState → JournalState
-longer j = record j { count = j.count + 1; room = room_after j.count j.room }
+-- with n commands more
+abbrev pub longer : ℕ → JournalState → JournalState
+longer n j = record j { count = j.count + n; room = room_after j.count n j.room }
 
 -- how many slots are neither of the run nor of the known room; at the last count there is none to be made room
 abbrev pub to_sweep : JournalState → ℕ
 to_sweep j = if j.count == LAST then 0 else j.ring.slots - (j.count - j.first) - j.room
 
--- a tail with one command more
-abbrev pub longer_tail : ℕ → Command → Tail → Tail
-longer_tail count command t = record { commands = t.commands ++ command ∷ []; room = room_after count t.room }
+-- a tail with these commands more, the first of them with this sequence number
+abbrev pub longer_tail : ℕ → List Command → Tail → Tail
+longer_tail count commands t = record { commands = t.commands ++ commands; room = room_after count (length commands) t.room }
 
--- the file is one that could be left, but for the slot of the next command, and its tail has the command at its end
-pub record Appended (j : JournalState) (command : Command) (m : Moment) (file : List ℕ) : Type 0 where
+-- where a run may begin anew in the first file, it may in the second one
+abbrev pub KeepsBoundaries : Ring → ℕ → List ℕ → List ℕ → Type 0
+KeepsBoundaries ring first c d = (k : ℕ) → IsBoundary ring first k c → IsBoundary ring first k d
+
+-- The file is one that could be left, but for the slots of these commands as a group, and its tail has the commands at its
+-- end. They stand behind one open gate.
+pub record Appended (j : JournalState) (commands : List Command) (m : Moment) (file : List ℕ) : Type 0 where
   pub from : List ℕ
   pub left : Left m from
-  pub same : SameBut (slot_at j.ring j.count) 64 from file
-  pub slot : slot j.ring j.count file ≡ open_gate ∷ slot_body 1 j.count command
-  pub reads : tail j.ring j.first file ≡ option_map (longer_tail j.count command) (tail j.ring j.first from)
+  pub same : SameButGroup j.ring j.count (length commands) from file
+  pub gate : is_open (slot j.ring j.count file) ≡ true
+  pub bodies : HasBodies j.ring (length commands) j.count commands file
+  pub reads : tail j.ring j.first file ≡ option_map (longer_tail j.count commands) (tail j.ring j.first from)
+  pub boundaries : KeepsBoundaries j.ring j.first from file
 
--- The command is on the disk for good, and the journal that comes next is the tail of each file left; the bytes outside its
--- slot are as they were.
-pub record Adds (j next : JournalState) (command : Command) (old new : Moment) : Type 0 where
-  pub added : LeavesNow new (Appended j command old)
+-- The commands are on the disk for good, and the journal that comes next is the tail of each file left; the bytes outside
+-- their slots are as they were.
+pub record Adds (j next : JournalState) (commands : List Command) (old new : Moment) : Type 0 where
+  pub added : LeavesNow new (Appended j commands old)
   pub holds : AllHold next new
-  pub kept : SameBut (slot_at j.ring j.count) 64 old.bytes new.bytes
+  pub kept : SameButGroup j.ring j.count (length commands) old.bytes new.bytes
   pub calm : new.ranges ≡ []
 
--- `JournalFull` is answered exactly where there is no room, and then the disk is as it was.
-pub record IsFullBy {T D : Type 0} (j : JournalState) (old new : D) (result : Result T Refusal) : Type 0 where
-  pub exactly : (IsErrOf result JournalFull) ↔ (j.room ≡ 0)
+-- `JournalFull` is answered exactly where this is so, and then the disk is as it was.
+pub record IsFullBy {T D : Type 0} (full : Type 0) (old new : D) (result : Result T Refusal) : Type 0 where
+  pub exactly : (IsErrOf result JournalFull) ↔ full
   pub untouched : IsErrOf result JournalFull → new ≡ old
 
 -- the same, or its tail is as it was
-pub record MayAppend (j : JournalState) (command : Command) (m : Moment) (file : List ℕ) : Type 0 where
+pub record MayAppend (j : JournalState) (commands : List Command) (m : Moment) (file : List ℕ) : Type 0 where
   pub from : List ℕ
   pub left : Left m from
-  pub same : SameBut (slot_at j.ring j.count) 64 from file
-  pub reads : (tail j.ring j.first file ≡ tail j.ring j.first from) ⊎ (tail j.ring j.first file ≡ option_map (longer_tail j.count command) (tail j.ring j.first from))
+  pub same : SameButGroup j.ring j.count (length commands) from file
+  pub reads : (tail j.ring j.first file ≡ tail j.ring j.first from) ⊎ (tail j.ring j.first file ≡ option_map (longer_tail j.count commands) (tail j.ring j.first from))
+  pub boundaries : KeepsBoundaries j.ring j.first from file
 
 -- with so much room more
 abbrev pub with_room : JournalState → ℕ → JournalState
@@ -120,6 +129,7 @@ pub record SameRun (j : JournalState) (c d : List ℕ) : Type 0 where
   pub after : tail j.ring j.first d ≡ Some (record { commands = commands; room = found })
   pub enough : j.room ≤ found
   pub holds : Holds j d
+  pub boundaries : KeepsBoundaries j.ring j.first c d
 
 -- the file has the run of one that could be left
 pub record MaySweep (j : JournalState) (m : Moment) (file : List ℕ) : Type 0 where

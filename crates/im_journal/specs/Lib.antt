@@ -1,2 +1,3 @@
 pub mod Holding
 pub mod Gates
+pub mod Groups

@@ -1,8 +1,8 @@
 //! The journal as its owner sees it: how far its run of commands has come, how a command is added, and how the slots of
 //! commands before the run become room again.
-ghost use Rattle.std.specs.Prelude.{◌≡◌, ◌⊎◌, ◌+◌, ◌*◌, ◌-◌, ◌≤◌, ◌<◌, List, ℕ, length, drop, min, Some, None};
-ghost use Rattle.std.specs.Prelude.{OnOk, IfOk, MatchResult};
-ghost use Rattle.im_types.specs.Journal.{tail};
+ghost use Rattle.std.specs.Prelude.{◌≡◌, ◌⊎◌, ◌+◌, ◌*◌, ◌-◌, ◌≤◌, ◌<◌, List, [], ◌∷◌, ℕ, length, drop, min, Some, None};
+ghost use Rattle.std.specs.Prelude.{◌&&◌, nat_le, OnOk, IfOk, MatchResult};
+ghost use Rattle.im_types.specs.Journal.{IsBoundary, tail};
 ghost use Rattle.im_disk.specs.Moment.{Faults};
 ghost use Rattle.im_disk.specs.Since.{LeavesOnly, OnlyReads, Calls, CallsBy};
 ghost use Rattle.im_journal.specs.Holding.{ring_under, IsJournal, Holds, AllHold, AreClosed, IsTail};
@@ -11,11 +11,11 @@ ghost use Rattle.im_journal.specs.Holding.{to_sweep, MaySweep, IsSwept, Sweeps};
 
 use crate::bytes::read_bytes;
 use crate::gate::close_gates;
+use crate::group::write_bodies;
 use crate::ring::tail_in;
-use crate::slot::spell;
-use im_disk::{Disk, write_behind_gate};
+use im_disk::{Disk, open_gate};
 use im_types::layout::journal_at;
-use im_types::{Command, LAST, Limits, Refusal};
+use im_types::{Command, LAST, Limits, MAX_GROUP, Refusal};
 use std::alloc::Global;
 use std::cmp::min;
 use std::marker::Model;
@@ -41,13 +41,26 @@ impl Model for Journal {
     ghost invariant = { λ j. IsJournal (state_of j.base j.slots j.first j.count j.room) };
 }
 
-// The room behind the command with this sequence number.
-fn room_after(count: u64, room: u32) -> u32
-    requires some { 0 < room }
-    requires low { count < LAST }
-    ensures { result ≡ room_after count room }
+// Whether there is room for so many commands, and a count.
+fn has_room(count: u64, room: u32, group: usize) -> bool
+    requires few { group ≤ MAX_GROUP }
+    requires last { count ≤ LAST }
+    ensures { result ≡ (nat_le group room && nat_le (count + group) LAST) }
 {
-    if count + 1 == LAST { 0 } else { room - 1 }
+    group <= room as usize && count + group as u64 <= LAST
+}
+
+// The room behind so many commands, the first of them with this sequence number.
+fn room_after(count: u64, group: usize, room: u32) -> u32
+    requires enough { group ≤ room }
+    requires last { count + group ≤ LAST }
+    ensures { result ≡ room_after count group room }
+{
+    if count + group as u64 == LAST {
+        0
+    } else {
+        room - group as u32
+    }
 }
 
 // How many of so many slots are swept in one turn: it makes four calls of the disk at most.
@@ -158,14 +171,17 @@ impl Journal {
     }
 
     /// Begins the run at a later command, once the pages of the header in force hold the effects of those before it.
-    /// Their slots are then to be swept, before they are room. It makes no call of the disk.
+    /// Their slots are then to be swept, before they are room. No group goes on behind them: in the middle of one there
+    /// is no gate that the run could begin at. It makes no call of the disk.
     pub fn begin_later(&mut self, first: u64)
         requires later { self.old.first ≤ first }
         requires counted { first ≤ self.old.count }
         ensures state { self.new ≡ record self.old { first = first } }
-        ensures holds { (file : List ℕ) → Holds self.old file → Holds self.new file }
+        ensures holds { (file : List ℕ) → Holds self.old file
+            → IsBoundary self.old.ring self.old.first (first - self.old.first) file → Holds self.new file }
         // The commands that are left of the run.
-        ensures tail { (file : List ℕ) → (held : Holds self.old file) → tail self.old.ring first file
+        ensures tail { (file : List ℕ) → (held : Holds self.old file)
+            → IsBoundary self.old.ring self.old.first (first - self.old.first) file → tail self.old.ring first file
             ≡ Some (record { commands = drop (first - self.old.first) held.commands; room = held.there }) }
     {
         self.first = first;
@@ -180,28 +196,66 @@ impl Journal {
         requires holds { D.honest disk.old → AllHold self.old (D.now disk.old) }
         // Each file that a crash may leave, from the start on, has the old run, or the old run and the command.
         ensures leaves { D.honest disk.new
-            → LeavesOnly D.now D.past disk.old disk.new (MayAppend self.old command.now (D.now disk.old)) }
+            → LeavesOnly D.now D.past disk.old disk.new (MayAppend self.old (command.now ∷ []) (D.now disk.old)) }
         // Once it is done, each has the command.
         ensures added { OnOk result (D.honest disk.new
-            → Adds self.old self.new command.now (D.now disk.old) (D.now disk.new)) }
-        ensures state { MatchResult result (λ _. self.new ≡ longer self.old) (λ _. self.new ≡ self.old) }
+            → Adds self.old self.new (command.now ∷ []) (D.now disk.old) (D.now disk.new)) }
+        ensures state { MatchResult result (λ _. self.new ≡ longer 1 self.old) (λ _. self.new ≡ self.old) }
         ensures calls { D.honest disk.new → CallsBy D.past disk.old disk.new 4 result }
-        ensures full { IsFullBy self.old disk.old disk.new result }
+        ensures full { IsFullBy (self.old.room ≡ 0) disk.old disk.new result }
         ensures faults { Faults (λ e. (e ≡ Refusal.JournalFull) ⊎ (e ≡ Refusal.Device)) result
             (D.failures disk.old) (D.failures disk.new) }
         ensures honest { D.honest disk.new → D.honest disk.old }
     {
-        if self.room == 0 {
+        self.append_group(disk, &[*command])
+    }
+
+    /// Adds commands at the end of the run as one group, 1 to [`MAX_GROUP`] of them: the body of each, a sync, the gate
+    /// of the first, a sync. These are three calls of the disk more than there are commands. At `Ok` all of them are on
+    /// the disk. It takes no memory.
+    ///
+    /// `JournalFull` exactly where there is less room, or the count would pass [`LAST`]; then no call is made. `Device`
+    /// where a call of the disk failed; then all of them are on the disk or none is, the journal is as it was, and the
+    /// image has to be opened again.
+    pub fn append_group<D: Disk>(
+        &mut self,
+        disk: &mut D,
+        commands: &[Command],
+    ) -> Result<(), Refusal>
+        requires some { 0 < length commands.now }
+        requires few { length commands.now ≤ MAX_GROUP }
+        requires holds { D.honest disk.old → AllHold self.old (D.now disk.old) }
+        // Each file that a crash may leave, from the start on, has the old run, or the old run and all of the commands.
+        ensures leaves { D.honest disk.new
+            → LeavesOnly D.now D.past disk.old disk.new (MayAppend self.old commands.now (D.now disk.old)) }
+        // Once it is done, each has the commands.
+        ensures added { OnOk result (D.honest disk.new
+            → Adds self.old self.new commands.now (D.now disk.old) (D.now disk.new)) }
+        ensures state { MatchResult result (λ _. self.new ≡ longer (length commands.now) self.old)
+            (λ _. self.new ≡ self.old) }
+        ensures calls { D.honest disk.new → CallsBy D.past disk.old disk.new (length commands.now + 3) result }
+        ensures full { IsFullBy ((self.old.room < length commands.now) ⊎ (LAST < self.old.count + length commands.now))
+            disk.old disk.new result }
+        ensures known { IsJournal self.old }
+        ensures faults { Faults (λ e. (e ≡ Refusal.JournalFull) ⊎ (e ≡ Refusal.Device)) result
+            (D.failures disk.old) (D.failures disk.new) }
+        ensures honest { D.honest disk.new → D.honest disk.old }
+    {
+        let group = commands.len();
+        if !has_room(self.count, self.room, group) {
             return Err(Refusal::JournalFull);
         }
-        let at = self.base + 64 * ((self.count % self.slots as u64) as usize);
-        let slot = spell(command, self.count);
-        // A stop leaves the slot closed, or all of it behind an open gate.
-        if let Err(_) = write_behind_gate(disk, at, &slot) {
+        // A stop leaves the first slot's gate closed, and the others are read by it.
+        if let Err(_) = write_bodies(disk, self.base, self.slots, self.count, commands) {
             return Err(Refusal::Device);
         }
-        let room = room_after(self.count, self.room);
-        self.count += 1;
+        let at = self.base + 64 * ((self.count % self.slots as u64) as usize);
+        // A stop leaves that gate closed, or open over all of the bodies.
+        if let Err(_) = open_gate(disk, at) {
+            return Err(Refusal::Device);
+        }
+        let room = room_after(self.count, group, self.room);
+        self.count += group as u64;
         self.room = room;
         Ok(())
     }

@@ -4,6 +4,7 @@
 
 mod bytes;
 mod gate;
+mod group;
 mod journal;
 mod ring;
 mod slot;

@@ -6,7 +6,7 @@ ghost use Rattle.im_types.specs.Slot.{is_open};
 ghost use Rattle.im_types.specs.Journal.{slot, continues, run_from, commands_in, closed_from, are_stale, tail};
 ghost use Rattle.im_journal.specs.Holding.{ring_alone, AreSlots};
 
-use crate::slot::{read, sequence_in};
+use crate::slot::{due_after, member, sequence_in};
 use im_types::layout::OPEN;
 use im_types::{Command, LAST, Refusal};
 use std::alloc::Global;
@@ -37,26 +37,34 @@ fn run_in(alloc: Global, ring: &[u8], slots: usize, first: u64) -> Result<Vec<Co
     requires slots { AreSlots slots ring.now }
     requires last { first ≤ LAST }
     ensures commands { IfOk result
-        (λ v. commands_in (run_from (ring_alone slots) slots first ring.now) ≡ Some v.items) }
+        (λ v. commands_in 0 first (run_from (ring_alone slots) slots 0 first ring.now) ≡ Some v.items) }
     ensures few { IfOk result (λ v. length v.items ≤ slots) }
     ensures last { IfOk result (λ v. first + length v.items ≤ LAST) }
     ensures bad { IsErrOf result Refusal.BadRecord
-        → commands_in (run_from (ring_alone slots) slots first ring.now) ≡ None }
+        → commands_in 0 first (run_from (ring_alone slots) slots 0 first ring.now) ≡ None }
     ensures only { IfErr result (λ e. (e ≡ Refusal.BadRecord) ⊎ (e ≡ Refusal.NoMemory)) }
 {
     let mut commands = Vec::new(alloc);
+    let mut due = 0;
     for i in 0..slots {
         let sequence = first + i as u64;
         let slot = slot_in(ring, slots, sequence);
-        if !continues(&slot, sequence) {
-            return Ok(commands);
+        if due == 0 {
+            if !continues(&slot, sequence) {
+                return Ok(commands);
+            }
         }
-        let Some(command) = read(&slot) else {
+        let Some(command) = member(due, sequence, &slot) else {
             return Err(Refusal::BadRecord);
         };
         if let Err(_) = commands.push(command) {
             return Err(Refusal::NoMemory);
         }
+        due = due_after(due, &slot);
+    }
+    // A group goes on past the ring's slots.
+    if due > 0 {
+        return Err(Refusal::BadRecord);
     }
     Ok(commands)
 }

@@ -1,18 +1,20 @@
 // A command as the 64 bytes of a slot.
-ghost use Rattle.std.specs.Prelude.{◌≡◌, ◌<◌, ◌^◌, ◌∷◌, drop, Some, IfSome};
+ghost use Rattle.std.specs.Prelude.{◌≡◌, ◌<◌, ◌≤◌, ◌^◌, ◌∷◌, drop, Some, IfSome};
 ghost use Rattle.im_types.specs.Bytes.{open_gate};
 ghost use Rattle.im_types.specs.Slot.{slot_fields, slot_body, sequence_of, FitsCommand};
-ghost use Rattle.im_types.specs.Slot.{command_of, command_in, read_slot};
+ghost use Rattle.im_types.specs.Slot.{command_of, command_in, read_in, read_slot};
+ghost use Rattle.im_types.specs.Journal.{leads, member, due_after};
 
 use byteorder::{ByteOrder, LittleEndian};
 use im_types::codes::{address_of, op_code, op_of, op_value};
 use im_types::layout::OPEN;
-use im_types::{Command, Op, Request};
+use im_types::{Command, LAST, MAX_GROUP, Op, Request};
 
 /// The code of a confirmation.
 const CONFIRM: u8 = 8;
 
 fn spell_fields(
+    group: u8,
     code: u8,
     element: u16,
     sequence: u64,
@@ -20,13 +22,13 @@ fn spell_fields(
     address: u32,
     value: u64,
 ) -> [u8; 64]
-    ensures bytes { result ≡ open_gate ∷ slot_fields 1 code element sequence number address value }
+    ensures bytes { result ≡ open_gate ∷ slot_fields group code element sequence number address value }
     ensures fits { (element < 2 ^ 16) × (sequence < 2 ^ 64) × (number < 2 ^ 64) × (address < 2 ^ 32) ×
         (value < 2 ^ 64) }
 {
     let mut slot = [0; 64];
     slot[0] = OPEN;
-    slot[1] = 1;
+    slot[1] = group;
     slot[2] = code;
     LittleEndian::write_u16(&mut slot[4..6], element);
     LittleEndian::write_u64(&mut slot[8..16], sequence);
@@ -36,16 +38,17 @@ fn spell_fields(
     slot
 }
 
-/// The slot of a command, alone in its group, under a sequence number: an open gate, and the command's fields. All
-/// numbers are little endian, and what isn't a field is zero. [`read`] gives the command back.
-pub fn spell(command: &Command, sequence: u64) -> [u8; 64]
-    ensures bytes { result ≡ open_gate ∷ slot_body 1 sequence command.now }
+/// The slot of a command with this group count, under a sequence number: an open gate, and the command's fields. All
+/// numbers are little endian, and what isn't a field is zero. [`read_in`] gives the command back.
+pub(crate) fn spell_in(group: u8, command: &Command, sequence: u64) -> [u8; 64]
+    ensures bytes { result ≡ open_gate ∷ slot_body group sequence command.now }
     ensures fits { FitsCommand command.now }
     ensures sequence { sequence_of result ≡ sequence }
-    ensures reads_back { read_slot result ≡ Some command.now }
+    ensures reads_back { read_in group result ≡ Some command.now }
 {
     match *command {
         Command::Request(r) => spell_fields(
+            group,
             op_code(r.op),
             r.element,
             sequence,
@@ -53,8 +56,20 @@ pub fn spell(command: &Command, sequence: u64) -> [u8; 64]
             address_of(r.op),
             op_value(r.op),
         ),
-        Command::Confirm { element, upto } => spell_fields(CONFIRM, element, sequence, upto, 0, 0),
+        Command::Confirm { element, upto } => {
+            spell_fields(group, CONFIRM, element, sequence, upto, 0, 0)
+        }
     }
+}
+
+/// The slot of a command, alone in its group, under a sequence number. [`read`] gives the command back.
+pub fn spell(command: &Command, sequence: u64) -> [u8; 64]
+    ensures bytes { result ≡ open_gate ∷ slot_body 1 sequence command.now }
+    ensures fits { FitsCommand command.now }
+    ensures sequence { sequence_of result ≡ sequence }
+    ensures reads_back { read_slot result ≡ Some command.now }
+{
+    spell_in(1, command, sequence)
 }
 
 fn command_of(code: u8, element: u16, number: u64, op: Option<Op>) -> Option<Command>
@@ -94,16 +109,81 @@ fn command_in(slot: &[u8; 64]) -> Option<Command>
     command_of(slot[2], element, LittleEndian::read_u64(&slot[16..24]), op)
 }
 
-/// The command of a slot, whatever its gate is, or `None` where the bytes behind the gate aren't those that [`spell`]
-/// gives: the group count isn't 1, the code is none of the eight, or a byte that has to be zero isn't.
+/// The command of a slot, whatever its gate is, or `None` where the bytes behind the gate aren't those that
+/// [`spell_in`] gives with this group count: the count is another one, the code is none of the eight, or a byte that has
+/// to be zero isn't.
+pub(crate) fn read_in(group: u8, slot: &[u8; 64]) -> Option<Command>
+    ensures found { result ≡ read_in group slot.now }
+    ensures spelled { IfSome result (λ c. drop 1 slot.now ≡ slot_body group (sequence_of slot.now) c) }
+{
+    let command = command_in(slot)?;
+    if spell_in(group, &command, sequence_in(slot))[1..] == slot[1..] {
+        Some(command)
+    } else {
+        None
+    }
+}
+
+/// The command of a slot that is alone in its group, whatever its gate is, or `None` where the bytes behind the gate
+/// aren't those that [`spell`] gives.
 pub fn read(slot: &[u8; 64]) -> Option<Command>
     ensures found { result ≡ read_slot slot.now }
     ensures spelled { IfSome result (λ c. drop 1 slot.now ≡ slot_body 1 (sequence_of slot.now) c) }
 {
-    let command = command_in(slot)?;
-    if spell(&command, sequence_in(slot))[1..] == slot[1..] {
-        Some(command)
+    read_in(1, slot)
+}
+
+// Whether a slot's count is that of a group, none of whose commands is behind the last number there is.
+fn leads(slot: &[u8; 64], sequence: u64) -> bool
+    requires low { sequence ≤ LAST }
+    ensures { result ≡ leads sequence slot.now }
+{
+    0 < slot[1] && slot[1] as usize <= MAX_GROUP && sequence + slot[1] as u64 <= LAST
+}
+
+// The command of a slot that leads a group.
+fn leader(slot: &[u8; 64], sequence: u64) -> Option<Command>
+    requires low { sequence ≤ LAST }
+    ensures { result ≡ member 0 sequence slot.now }
+{
+    if leads(slot, sequence) {
+        read_in(slot[1], slot)
     } else {
         None
+    }
+}
+
+// The command of a slot that follows in a group.
+fn follower(slot: &[u8; 64], sequence: u64) -> Option<Command>
+    ensures { result ≡ member 1 sequence slot.now }
+{
+    if sequence_in(slot) == sequence {
+        read_in(0, slot)
+    } else {
+        None
+    }
+}
+
+/// The command of a slot of the run, where so many followers are due, or `None` where it isn't spelled as it should
+/// be.
+pub(crate) fn member(due: u8, sequence: u64, slot: &[u8; 64]) -> Option<Command>
+    requires low { sequence ≤ LAST }
+    ensures { result ≡ member due sequence slot.now }
+{
+    if due == 0 {
+        leader(slot, sequence)
+    } else {
+        follower(slot, sequence)
+    }
+}
+
+/// How many followers are due behind a slot of the run, where so many were due at it.
+pub(crate) fn due_after(due: u8, slot: &[u8; 64]) -> u8
+    ensures { result ≡ due_after due slot.now }
+{
+    if due == 0 {
+        slot[1].saturating_sub(1)
+    } else {
+        due - 1
     }
 }

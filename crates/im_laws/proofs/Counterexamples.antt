@@ -1,7 +1,7 @@
 -- No law says more than it does: each one with a premise less, or with another answer, fails at a memory and at commands
 -- that are written out here. The definitions compute what these come to.
 use Rattle.std.proofs.Common.{◌≡◌, ◌≢◌, ◌↔◌, ℕ, zero, suc, ◌+◌, ◌-◌, ◌<◌, ◌≤◌, List, [], ◌∷◌, ◌++◌, length, take, Option, None, Some, Result, Ok, Err, Bool, true, false, refl, sym, ap, subst, arith}
-use Rattle.std.specs.Prelude.{IsTrue, IsOk, ◌==◌, nat_le}
+use Rattle.std.specs.Prelude.{IsTrue, IsOk, ◌==◌, nat_le, if◌then◌else◌}
 use Rattle.std.proofs.lemmas.Bool.Decides.{nat_tests}
 use Rattle.std.specs.Bool.{IsFalse}
 use Rattle.im_types.proofs.Tests.{differ}
@@ -30,6 +30,8 @@ use Rattle.im_types.specs.Window.{bounds, ask, is_waiting}
 use Rattle.im_types.specs.Step.{Stepped, asker, step, is_accepted, acceptance}
 use Rattle.im_types.specs.Run.{after, accepted, answers}
 use Rattle.im_types.specs.Memory.{IsMemory}
+use Rattle.im_types.specs.Meaning.{Reached}
+use Rattle.im_types.specs.Groups.{reached_by_all, puts_of}
 use Rattle.im_types.specs.Trace.{IsLegal, answer_to, end_of}
 use Rattle.im_types.specs.Agreement.{WaitingAgrees, times, address_of, drops}
 use Rattle.im_types.specs.Refusals.{number_of}
@@ -432,3 +434,12 @@ unfolding empty_contents
 a_forgotten_number_is_not_accepted law =
     true_false (sym (law (step answered (Confirm 1 3)).contents (request 1 2 (Fetch 0))
     (record { window = record { base = 3; kept = [] }; there = refl; below = omega arith })))
+
+-- `others_leave_acceptance`: of its own element. A request that was accepted isn't accepted once more.
+its_own_request_changes_acceptance : ((m : Contents) (r q : Request) → is_accepted (step m (Asks r)).contents (Asks q) ≡ is_accepted m (Asks q)) → ⊥
+unfolding empty_contents
+its_own_request_changes_acceptance law = true_false (sym (law sixteen_cells (request 0 1 (Fetch 0)) (request 0 1 (Fetch 0))))
+
+-- `groups_are_runs`, `room`: at the last count with room, which no journal has.
+no_group_falls_to_the_last_count : ((s : Reached) (members : List Request) → let many = length (puts_of s members) in (reached_by_all s members).room ≡ (if s.count + many == LAST then 0 else s.room - many)) → ⊥
+no_group_falls_to_the_last_count law = differ 5 0 refl (law (record { contents = sixteen_cells; count = LAST; room = 5 }) [])

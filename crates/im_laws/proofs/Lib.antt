@@ -12,6 +12,7 @@ pub mod BoundsLemmas
 pub mod AcceptLemmas
 pub mod MemoryLemmas
 pub mod RunLemmas
+pub mod GroupLemmas
 pub mod ForgetLemmas
 pub mod EntryLemmas
 pub mod JudgeLemmas

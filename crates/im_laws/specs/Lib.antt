@@ -6,3 +6,4 @@ pub mod Requests
 pub mod Entries
 pub mod Traces
 pub mod Examples
+pub mod Groups

@@ -8,6 +8,7 @@ mod blocks;
 mod cells;
 mod entries;
 mod examples;
+mod groups;
 mod memories;
 mod places;
 mod runs;
@@ -28,6 +29,7 @@ pub use examples::{
     readers_wait_for_one_store, repeat_acts_once, second_put_clashes, second_store_clashes,
     takers_are_served_in_order, takes_match_puts, waiting_block_stays,
 };
+pub use groups::{groups_are_runs, others_leave_acceptance};
 pub use memories::memory_stays_one;
 pub use places::place_is_the_least;
 pub use runs::{only_accepted_commands_matter, runs_join};

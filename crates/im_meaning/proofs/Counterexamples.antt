@@ -14,7 +14,7 @@ use Rattle.im_types.specs.declared.refusals.Refusal.TheVariants.{WrongLength, No
 use Rattle.im_types.specs.Refusals.{number_of}
 use Rattle.im_types.specs.Contents.{Contents, empty_contents}
 use Rattle.im_types.specs.Bytes.{zeros}
-use Rattle.im_types.specs.Slot.{slot_body, read_slot, command_in, sequence_of}
+use Rattle.im_types.specs.Slot.{slot_body, read_in, command_in, sequence_of}
 use Rattle.im_types.specs.Journal.{Ring, Tail, tail, slot, continues, room_of}
 use Rattle.im_types.specs.Layout.{layout_1, image_length}
 use Rattle.im_types.specs.Header.{header_of, header_place, is_open_header}
@@ -56,14 +56,14 @@ many_in (Some end) = length end.commands
 -- `tails_may_begin_later`: one command behind the run's end the room is another one, as the slot there is open.
 a_tail_begins_not_behind_the_run : ((r : Ring) (first k : ℕ) (c : List ℕ) (commands : List Command) (room : ℕ) → tail r first c ≡ Some (record { commands = commands; room = room })
     → k ≤ length commands + 1 → tail r (first + k) c ≡ Some (record { commands = drop k commands; room = room })) → ⊥
-unfolding tail slot continues read_slot command_in sequence_of
+unfolding tail slot continues read_in command_in sequence_of
 a_tail_begins_not_behind_the_run law = differ 0 1 refl (ap room_in (law two_slots 0 2 one_command (alloc ∷ []) 1 refl (omega arith)))
 
 -- `stale_gates_may_be_closed`: where the gate behind the run is opened for the next command, the run is longer.
 not_each_gate_may_be_written : ((r : Ring) (first : ℕ) (c d : List ℕ) (commands : List Command) (room : ℕ) → tail r first c ≡ Some (record { commands = commands; room = room })
     → ((i : ℕ) → i < length commands → slot r (first + i) d ≡ slot r (first + i) c)
     → tail r first d ≡ Some (record { commands = commands; room = room_of r first (length commands) d })) → ⊥
-unfolding tail slot continues read_slot command_in sequence_of
+unfolding tail slot continues read_in command_in sequence_of
 not_each_gate_may_be_written law = differ 2 1 refl (ap many_in (law two_slots 0 one_command two_commands (alloc ∷ []) 1 refl same))
   where
     same : (i : ℕ) → i < 1 → slot two_slots (0 + i) two_commands ≡ slot two_slots (0 + i) one_command
@@ -73,7 +73,7 @@ not_each_gate_may_be_written law = differ 2 1 refl (ap many_in (law two_slots 0 
 -- `slots_behind_the_room_are_stale`: in the room a closed slot may have the number of a command that is in the run.
 slots_in_the_room_need_not_be_stale : ((r : Ring) (first : ℕ) (c : List ℕ) (commands : List Command) (room : ℕ) → tail r first c ≡ Some (record { commands = commands; room = room })
     → first + length commands < LAST → (k : ℕ) → k < r.slots - length commands → sequence_of (slot r (first + length commands + k) c) < first) → ⊥
-unfolding tail slot continues read_slot command_in sequence_of
+unfolding tail slot continues read_in command_in sequence_of
 slots_in_the_room_need_not_be_stale law =
     reaches 16 16 refl (law two_slots 16 (open_slot 16 ++ closed_slot 16) (alloc ∷ []) 1 refl (omega arith) 0 (omega arith))
 
@@ -92,13 +92,13 @@ count_in (Err refusal) = 99
 -- function of the journal, `reached_after`, and goes on to the run's end.
 a_run_that_may_stop_early_has_two_meanings : ((r : Ring) (m : Contents) (file : List ℕ) (one other : Result Reached Refusal)
     → MayReach r m file one → MayReach r m file other → one ≡ other) → ⊥
-unfolding empty_contents tail slot continues read_slot command_in sequence_of
+unfolding empty_contents tail slot continues read_in command_in sequence_of
 a_run_that_may_stop_early_has_two_meanings law =
     differ 0 1 refl (ap count_in (law two_slots (empty_contents 1 1) one_command _ _
     (0, record { commands = alloc ∷ []; room = 1 }, refl, refl) (1, record { commands = alloc ∷ []; room = 1 }, refl, refl)))
 
 the_whole_run_is_read : count_in (reached_after 0 (empty_contents 1 1) (tail two_slots 0 one_command)) ≡ 1
-unfolding empty_contents tail slot continues read_slot command_in sequence_of
+unfolding empty_contents tail slot continues read_in command_in sequence_of
 the_whole_run_is_read = refl
 
 -- a fault of a file's length or of its headers, whichever is looked for first

@@ -1,12 +1,12 @@
 -- What an image reads as, by its parts.
-use Rattle.std.proofs.Common.{◌≡◌, ◌⊎◌, inl, inr, ℕ, ◌+◌, ◌*◌, ◌≤◌, ◌<◌, Bool, true, false, List, length, drop, Option, None, Some, Result, Ok, Err, MatchOption, refl, sym, ◌∙◌, ap, subst}
+use Rattle.std.proofs.Common.{◌≡◌, ◌⊎◌, inl, inr, ℕ, ◌+◌, ◌*◌, ◌<◌, Bool, true, false, List, length, drop, Option, None, Some, Result, Ok, Err, MatchOption, refl, sym, ◌∙◌, ap, subst}
 use Rattle.im_types.specs.declared.commands.Command.{Command}
 use Rattle.im_types.specs.declared.refusals.Refusal.{Refusal}
 use Rattle.im_types.specs.declared.refusals.Refusal.TheVariants.{BadPage}
 use Rattle.im_types.specs.Contents.{Contents}
 use Rattle.im_types.specs.Layout.{Layout, area_of, ring_of}
 use Rattle.im_types.specs.Header.{Header, header_of, header_fault, header_place, is_open_header}
-use Rattle.im_types.specs.Journal.{Tail, tail}
+use Rattle.im_types.specs.Journal.{IsBoundary, Tail, tail}
 use Rattle.im_types.specs.Pages.{Shows}
 use Rattle.im_types.specs.Meaning.{Reached, IsShown, Reads, accept_each, reached_by, reached_after, read_journal}
 use Rattle.im_disk.specs.Since.{SameBut}
@@ -82,10 +82,10 @@ read_image l c r it = read_by l c r (header_fault l c) refl it
 
 module _ (l : Layout) (h next : Header) (shown after : Contents) (commands : List Command) (room k : ℕ) (c d : List ℕ) (it : IsImage l h shown commands room c)
     (some : 0 < h.sizes.slots) (follows : Follows l h next) (ready : IsPrepared l h next after c) (but : SameBut (4096 * other h) 1 c d)
-    (count : next.count ≡ h.count + k) (low : k ≤ length commands) where
+    (count : next.count ≡ h.count + k) (boundary : IsBoundary (ring_of l h.sizes) h.count k c) where
   later : tail (ring_of l h.sizes) next.count c ≡ Some (record { commands = drop k commands; room = room })
   later = subst (λ (n : ℕ). tail (ring_of l h.sizes) n c ≡ Some (record { commands = drop k commands; room = room })) (sym count)
-      (tail_later (ring_of l h.sizes) h.count k c commands room it.journal low)
+      (tail_later (ring_of l h.sizes) h.count k c commands room it.journal boundary)
 
   pub opened_image : is_open_header (header_place (other h) d) ≡ true → IsImage l next after (drop k commands) room d
   opened_image opened = takes_over l h next shown after commands (drop k commands) room c d it some follows ready but later opened

@@ -11,11 +11,12 @@ ghost use Rattle.im_types.specs.declared.commands.Command.{Command};
 ghost use Rattle.im_types.specs.Contents.{Contents};
 ghost use Rattle.im_types.specs.declared.TheConstants.{LAST};
 ghost use Rattle.im_types.specs.Slot.{sequence_of};
-ghost use Rattle.im_types.specs.Journal.{Ring, tail, slot, behind, room_of};
-ghost use Rattle.im_types.specs.Layout.{Layout, area_at, area_bytes, ring_of};
+ghost use Rattle.im_types.specs.Journal.{Ring, IsBoundary, tail, slot, behind, room_of};
+ghost use Rattle.im_types.specs.Layout.{Layout, area_at, area_bytes, journal_at, ring_of};
 ghost use Rattle.im_types.specs.Header.{Header, header_place, is_open_header, generation_in};
 ghost use Rattle.im_types.specs.Meaning.{Reached, Reads, accept_each};
 ghost use Rattle.im_disk.specs.Since.{SameBut};
+ghost use Rattle.im_journal.specs.Holding.{KeepsBoundaries};
 ghost use Rattle.im_meaning.specs.Images.{other, IsImage, IsRead, Follows, IsPrepared};
 ghost use Rattle.im_meaning.specs.Rings.{HasStaleRest};
 
@@ -66,7 +67,7 @@ pub fn next_header_takes_over()
     ensures { (l : Layout) (h next : Header) (shown after : Contents) (commands : List Command) (room k : ℕ)
         (c d : List ℕ) → IsImage l h shown commands room c
         → 0 < h.sizes.slots → Follows l h next → IsPrepared l h next after c → SameBut (4096 * other h) 1 c d
-        → next.count ≡ h.count + k → k ≤ length commands
+        → next.count ≡ h.count + k → IsBoundary (ring_of l h.sizes) h.count k c
         → IsImage l h shown commands room d ⊎ IsImage l next after (drop k commands) room d }
 {}
 
@@ -75,15 +76,33 @@ pub fn open_header_is_in_force()
     ensures { (l : Layout) (h next : Header) (shown after : Contents) (commands : List Command) (room k : ℕ)
         (c d : List ℕ) → IsImage l h shown commands room c
         → 0 < h.sizes.slots → Follows l h next → IsPrepared l h next after c → SameBut (4096 * other h) 1 c d
-        → next.count ≡ h.count + k → k ≤ length commands → is_open_header (header_place (other h) d) ≡ true
-        → IsImage l next after (drop k commands) room d }
+        → next.count ≡ h.count + k → IsBoundary (ring_of l h.sizes) h.count k c
+        → is_open_header (header_place (other h) d) ≡ true → IsImage l next after (drop k commands) room d }
 {}
 
-/// The tail of a journal from a later command on is what is left of the commands, with the same room.
+/// The tail of a journal from a later command on is what is left of the commands, with the same room, where that command
+/// is the first of its group.
 pub fn tails_may_begin_later()
     ensures { (r : Ring) (first k : ℕ) (c : List ℕ) (commands : List Command) (room : ℕ)
         → tail r first c ≡ Some (record { commands = commands; room = room })
-        → k ≤ length commands → tail r (first + k) c ≡ Some (record { commands = drop k commands; room = room }) }
+        → IsBoundary r first k c
+        → tail r (first + k) c ≡ Some (record { commands = drop k commands; room = room }) }
+{}
+
+/// Where a run ends it may begin anew, and nowhere behind that.
+pub fn runs_end_at_boundaries()
+    ensures end { (r : Ring) (first : ℕ) (c : List ℕ) (commands : List Command) (room : ℕ)
+        → tail r first c ≡ Some (record { commands = commands; room = room })
+        → IsBoundary r first (length commands) c }
+    ensures low { (r : Ring) (first k : ℕ) (c : List ℕ) (commands : List Command) (room : ℕ)
+        → tail r first c ≡ Some (record { commands = commands; room = room })
+        → IsBoundary r first k c → k ≤ length commands }
+{}
+
+/// What is written before the journal, in a header or an area, leaves where its run may begin anew.
+pub fn boundaries_are_of_the_journal()
+    ensures { (l : Layout) (h : Header) (c d : List ℕ) (at n : ℕ) → SameBut at n c d → 0 < h.sizes.slots
+        → at + n ≤ journal_at l h.sizes → KeepsBoundaries (ring_of l h.sizes) h.count c d }
 {}
 
 /// The tail of a journal keeps its commands, and the room that is known, where each slot of the run stays, the gates of
@@ -96,6 +115,9 @@ pub fn stale_gates_may_be_closed()
     ensures room { (r : Ring) (first : ℕ) (c d : List ℕ) (commands : List Command) (room known : ℕ)
         → tail r first c ≡ Some (record { commands = commands; room = room })
         → HasStaleRest r first (length commands) known c d → known ≤ behind r first (length commands) d }
+    ensures boundaries { (r : Ring) (first : ℕ) (c d : List ℕ) (commands : List Command) (room known : ℕ)
+        → tail r first c ≡ Some (record { commands = commands; room = room })
+        → HasStaleRest r first (length commands) known c d → KeepsBoundaries r first c d }
 {}
 
 /// Behind its room a tail has stale slots alone.

@@ -1,8 +1,8 @@
 -- The journal: a ring of slots, the run of commands in it, and the room behind the run. (Own.)
-use Rattle.std.specs.Prelude.{ℕ, zero, suc, ◌+◌, ◌*◌, ◌-◌, ◌%◌, List, [], ◌∷◌, take, drop, length, Bool, true, false, ◌&&◌, not, ◌==◌, nat_lt, Option, None, Some, option_map, option_and_then, if◌then◌else◌}
-use Rattle.im_types.specs.declared.TheConstants.{LAST}
+use Rattle.std.specs.Prelude.{◌≡◌, ℕ, zero, suc, ◌+◌, ◌*◌, ◌-◌, ◌%◌, List, [], ◌∷◌, take, drop, length, Bool, true, false, ◌&&◌, ◌==◌, nat_lt, nat_le, Option, None, Some, option_map, option_and_then, if◌then◌else◌}
+use Rattle.im_types.specs.declared.TheConstants.{LAST, MAX_GROUP}
 use Rattle.im_types.specs.declared.commands.Command.{Command}
-use Rattle.im_types.specs.Slot.{is_open, sequence_of, read_slot}
+use Rattle.im_types.specs.Slot.{is_open, sequence_of, group_of, read_in}
 
 -- where the ring begins in the file, and how many slots it has
 pub record Ring : Type 0 where
@@ -26,24 +26,61 @@ abbrev pub next_if : Bool → List ℕ → List (List ℕ) → List (List ℕ)
 next_if true slot slots = slot ∷ slots
 next_if false slot slots = []
 
--- the slots of the run from sequence number s on, at most n of them
-abbrev pub run_from : Ring → ℕ → ℕ → List ℕ → List (List ℕ)
-run_from ring zero s file = []
-run_from ring (suc n) s file = next_if (continues (slot ring s file) s) (slot ring s file) (run_from ring n (s + 1) file)
+-- The slots of the run from sequence number s on, at most n of them, where so many followers are due first. The slot that
+-- leads a group is in the run by its gate and its number, and with it as many as the group counts, whatever they hold.
+abbrev pub run_from : Ring → ℕ → ℕ → ℕ → List ℕ → List (List ℕ)
+run_from ring zero due s file = []
+run_from ring (suc n) zero s file = next_if (continues (slot ring s file) s) (slot ring s file) (run_from ring n (group_of (slot ring s file) - 1) (s + 1) file)
+run_from ring (suc n) (suc due) s file = slot ring s file ∷ run_from ring n due (s + 1) file
 
 -- the run goes on at most once round the ring
 abbrev pub run : Ring → ℕ → List ℕ → List (List ℕ)
-run ring first file = run_from ring ring.slots first file
+run ring first file = run_from ring ring.slots 0 first file
 
 -- a command before others, where all are spelled
 abbrev pub with_first : Option Command → Option (List Command) → Option (List Command)
 with_first None commands = None
 with_first (Some command) commands = option_map (λ rest. command ∷ rest) commands
 
--- the commands that slots spell; None where one of them isn't spelled as it should be
-abbrev pub commands_in : List (List ℕ) → Option (List Command)
-commands_in [] = Some []
-commands_in (slot ∷ slots) = with_first (read_slot slot) (commands_in slots)
+-- a command, where this is so
+abbrev pub if_true : Bool → Option Command → Option Command
+if_true true command = command
+if_true false command = None
+
+-- the slot's count is that of a group, none of whose commands is behind the last number there is
+abbrev pub leads : ℕ → List ℕ → Bool
+leads s slot = nat_lt 0 (group_of slot) && nat_le (group_of slot) MAX_GROUP && nat_le (s + group_of slot) LAST
+
+-- the command of a slot of the run, where so many followers are due
+abbrev pub member : ℕ → ℕ → List ℕ → Option Command
+member zero s slot = if_true (leads s slot) (read_in (group_of slot) slot)
+member (suc due) s slot = if_true (sequence_of slot == s) (read_in 0 slot)
+
+-- how many followers are due behind the slot
+abbrev pub due_after : ℕ → List ℕ → ℕ
+due_after zero slot = group_of slot - 1
+due_after (suc due) slot = due
+
+-- The commands that slots spell from sequence number s on, where so many followers are due first. None where one of them
+-- isn't spelled as it should be, or a group isn't whole.
+abbrev pub commands_in : ℕ → ℕ → List (List ℕ) → Option (List Command)
+commands_in zero s [] = Some []
+commands_in (suc due) s [] = None
+commands_in zero s (slot ∷ slots) = with_first (member zero s slot) (commands_in (due_after zero slot) (s + 1) slots)
+commands_in (suc due) s (slot ∷ slots) = with_first (member (suc due) s slot) (commands_in (due_after (suc due) slot) (s + 1) slots)
+
+-- the first k slots are whole groups, where so many followers are due first; there are so many slots
+abbrev pub is_boundary : ℕ → ℕ → List (List ℕ) → Bool
+is_boundary zero zero slots = true
+is_boundary (suc due) zero slots = false
+is_boundary zero (suc k) [] = false
+is_boundary (suc due) (suc k) [] = false
+is_boundary zero (suc k) (slot ∷ slots) = is_boundary (group_of slot - 1) k slots
+is_boundary (suc due) (suc k) (slot ∷ slots) = is_boundary due k slots
+
+-- no group goes on behind the first k commands of the run, so it may begin anew there
+abbrev pub IsBoundary : Ring → ℕ → ℕ → List ℕ → Type 0
+IsBoundary ring first k file = is_boundary 0 k (run ring first file) ≡ true
 
 -- how many of n gates are closed, from sequence number s on up to the first open one
 abbrev pub closed_from : Ring → ℕ → ℕ → List ℕ → ℕ
@@ -83,4 +120,4 @@ tail_if false room commands = None
 unfoldable pub tail : Ring → ℕ → List ℕ → Option Tail
 tail ring first file =
     let count = length (run ring first file) in
-    option_and_then (tail_if (ends_stale ring first count file) (room_of ring first count file)) (commands_in (run ring first file))
+    option_and_then (tail_if (ends_stale ring first count file) (room_of ring first count file)) (commands_in 0 first (run ring first file))

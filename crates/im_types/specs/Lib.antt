@@ -21,3 +21,4 @@ pub mod Records
 pub mod Chains
 pub mod Pages
 pub mod Meaning
+pub mod Groups

@@ -6,7 +6,7 @@ use Rattle.im_types.specs.declared.refusals.Refusal.TheVariants.{BadPage, BadRec
 use Rattle.im_types.specs.Contents.{Contents}
 use Rattle.im_types.specs.Step.{step, is_accepted}
 use Rattle.im_types.specs.Layout.{Layout, layout_in_use, area_of, ring_of}
-use Rattle.im_types.specs.Header.{Header, header_of, header_fault}
+use Rattle.im_types.specs.Header.{header_of, header_fault}
 use Rattle.im_types.specs.Journal.{Tail, tail}
 use Rattle.im_types.specs.Pages.{Shows}
 

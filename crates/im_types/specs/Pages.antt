@@ -1,5 +1,5 @@
 -- When the pages of an area show a memory: they spell records, and the records show it. (Own.)
-use Rattle.std.specs.Prelude.{◌≡◌, ℕ, ◌+◌, ◌*◌, ◌<◌, List, [], ◌∷◌, length, drop, Option, None, Some, slice_index_or}
+use Rattle.std.specs.Prelude.{◌≡◌, ℕ, ◌*◌, ◌<◌, List, [], ◌∷◌, length, drop, Option, None, Some, slice_index_or}
 use Rattle.im_types.specs.declared.TheConstants.{NONE}
 use Rattle.im_types.specs.declared.operations.Waiter.{Waiter}
 use Rattle.im_types.specs.Contents.{CellState, Empty, Full, Clashed, Held, Window, Contents, new_window}
@@ -11,7 +11,7 @@ use Rattle.im_types.specs.declared.records.PresenceTag.TheVariants.{Empty as Tag
 use Rattle.im_types.specs.declared.records.CellRecord.{CellRecord}
 use Rattle.im_types.specs.declared.records.CellRecord.TheVariants.{Free as FreeCell, Held as BlockCell}
 use Rattle.im_types.specs.declared.records.NodeRecord.{NodeRecord}
-use Rattle.im_types.specs.declared.records.NodeRecord.TheVariants.{Free as FreeNode, Listed as ListNode}
+use Rattle.im_types.specs.declared.records.NodeRecord.TheVariants.{Free as FreeNode}
 use Rattle.im_types.specs.Records.{cell_bytes, node_bytes, session_bytes, FitsCell, FitsNode, FitsWindow}
 use Rattle.im_types.specs.Chains.{ShowLists}
 

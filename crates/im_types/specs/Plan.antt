@@ -1,14 +1,13 @@
 -- What a planned run comes to, whatever its order. (Own.)
 use Rattle.std.specs.Prelude.{◌≡◌, ◌≤◌, ℕ, List, [], ◌∷◌, Bool, true, false, Option, None, Some, slice_get, is_some, if◌then◌else◌, ◌==◌}
 use Rattle.im_types.specs.declared.TheConstants.{LAST}
-use Rattle.im_types.specs.declared.operations.Waiter.{Waiter}
 use Rattle.im_types.specs.declared.operations.Op.{Op}
 use Rattle.im_types.specs.declared.operations.Op.TheVariants.{Fetch, Store}
 use Rattle.im_types.specs.declared.operations.Kind.TheVariants.{I}
 use Rattle.im_types.specs.declared.operations.Reply.{Reply}
 use Rattle.im_types.specs.declared.operations.Reply.TheVariants.{Value, Stored, NoCell, WrongKind}
 use Rattle.im_types.specs.declared.commands.Request.{Request}
-use Rattle.im_types.specs.Contents.{CellState, Empty, Held, Window, Contents, held_at}
+use Rattle.im_types.specs.Contents.{Empty, Held, Window, Contents, held_at}
 use Rattle.im_types.specs.Window.{next_number}
 use Rattle.im_types.specs.Step.{asker}
 use Rattle.im_types.specs.Agreement.{address_of}

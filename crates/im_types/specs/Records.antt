@@ -1,9 +1,7 @@
 -- The records of an area: cells, waiter nodes and sessions, and how each is spelled. (Own.)
-use Rattle.std.specs.Prelude.{◌≡◌, ℕ, ◌+◌, ◌*◌, ◌%◌, ◌-◌, ◌^◌, ◌<◌, ◌≤◌, ◌⊎◌, List, [], ◌∷◌, ◌++◌, length, replicate, Option, None, Some, slice_get, if◌then◌else◌, ◌==◌}
+use Rattle.std.specs.Prelude.{◌≡◌, ℕ, ◌+◌, ◌*◌, ◌%◌, ◌-◌, ◌^◌, ◌<◌, ◌≤◌, ◌⊎◌, List, [], ◌∷◌, ◌++◌, length, replicate, Option, None, Some, slice_get}
 use Rattle.byteorder.specs.Endian.{little_bytes}
 use Rattle.im_types.specs.declared.TheConstants.{LAST, NONE}
-use Rattle.im_types.specs.declared.operations.Block.{Block}
-use Rattle.im_types.specs.declared.operations.Waiter.{Waiter}
 use Rattle.im_types.specs.declared.operations.Kept.{Kept}
 use Rattle.im_types.specs.declared.records.PresenceTag.{PresenceTag}
 use Rattle.im_types.specs.declared.records.PresenceTag.TheVariants.{Empty as TagEmpty, Waiting as TagWaiting, Full as TagFull, Clashed as TagClashed}

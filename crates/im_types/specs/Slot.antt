@@ -48,13 +48,21 @@ sequence_of slot = number_at 8 8 slot
 unfoldable pub command_in : List ℕ → Option Command
 command_in slot = command_of (slice_index slot 2) (number_at 2 4 slot) (number_at 8 16 slot) (op_of (slice_index slot 2) (number_at 4 24 slot) (number_at 8 32 slot))
 
--- the command of a slot, where the bytes behind its gate spell it, alone in its group
-abbrev pub if_spelled : List ℕ → Command → Option Command
-if_spelled slot command = if same_bytes (drop 1 slot) (slot_body 1 (sequence_of slot) command) then Some command else None
+-- the group count in a slot: how many commands the group has that it leads, and 0 in a slot that follows in one
+abbrev pub group_of : List ℕ → ℕ
+group_of slot = slice_index slot 1
 
--- the command of a slot, if it spells one
-unfoldable pub read_slot : List ℕ → Option Command
-read_slot slot = option_and_then (if_spelled slot) (command_in slot)
+-- the command of a slot, where the bytes behind its gate spell it with this group count
+abbrev pub if_spelled_in : ℕ → List ℕ → Command → Option Command
+if_spelled_in group slot command = if same_bytes (drop 1 slot) (slot_body group (sequence_of slot) command) then Some command else None
+
+-- the command of a slot, if it spells one with this group count
+unfoldable pub read_in : ℕ → List ℕ → Option Command
+read_in group slot = option_and_then (if_spelled_in group slot) (command_in slot)
+
+-- the command of a slot, if it spells one alone in its group
+abbrev pub read_slot : List ℕ → Option Command
+read_slot slot = read_in 1 slot
 
 -- a command's numbers fit their fields
 abbrev pub FitsCommand : Command → Type 0

@@ -1,4 +1,7 @@
 //! Commands, and what comes of them.
+ghost use Rattle.std.specs.Prelude.{◌≡◌};
+ghost use Rattle.im_types.specs.Groups.{no_request};
+
 use crate::operations::{Entry, Op};
 use crate::refusals::Refusal;
 
@@ -13,6 +16,19 @@ pub struct Request {
     pub op: Op,
 }
 
+impl Default for Request {
+    // No memory accepts it: numbers begin with 1.
+    fn default() -> Request
+        ensures { result ≡ no_request }
+    {
+        Request {
+            element: 0,
+            number: 0,
+            op: Op::Fetch(0),
+        }
+    }
+}
+
 /// What is put to the memory.
 #[derive(Clone, Copy, Debug, PartialEq, Eq)]
 pub enum Command {
@@ -20,6 +36,14 @@ pub enum Command {
     Request(Request),
     /// Leave to forget an element's entries below a number.
     Confirm { element: u16, upto: u64 },
+}
+
+impl Default for Command {
+    fn default() -> Command
+        ensures { result ≡ Command.Request no_request }
+    {
+        Command::Request(Request::default())
+    }
 }
 
 /// What a command that isn't refused comes to.

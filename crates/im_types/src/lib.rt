@@ -6,6 +6,7 @@
 mod cells;
 pub mod codes;
 mod commands;
+mod groups;
 pub mod layout;
 mod operations;
 mod records;
@@ -14,6 +15,7 @@ mod sizes;
 
 pub use cells::Cell;
 pub use commands::{Call, Command, Judged, Line, Outcome, Request};
+pub use groups::Served;
 pub use operations::{Block, Entry, Kept, Kind, Op, Reply, Waiter};
 pub use records::{CellRecord, NodeRecord, PresenceTag};
 pub use refusals::Refusal;
@@ -30,6 +32,9 @@ pub const MIN_SLOTS: u32 = 16;
 
 /// The most slots of a journal.
 pub const MAX_SLOTS: u32 = 4_096;
+
+/// The most commands in a group of the journal.
+pub const MAX_GROUP: usize = 16;
 
 /// The most entries that a window keeps.
 pub const WINDOW: u64 = 16;

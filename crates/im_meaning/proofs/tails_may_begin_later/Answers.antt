@@ -1,6 +1,5 @@
-use Rattle.std.proofs.Common.{arith}
 use Rattle.im_journal.proofs.Later.{tail_later}
 use Rattle.im_meaning.proofs.tails_may_begin_later.Goals as goal
 
 pub returns : goal.returns
-returns c = λ r first k file commands room e low. tail_later r first k file commands room e (omega (arith, low))
+returns c = λ r first k file commands room e boundary. tail_later r first k file commands room e boundary

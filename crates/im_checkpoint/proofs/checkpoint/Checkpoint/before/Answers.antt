@@ -2,7 +2,7 @@ use Rattle.std.proofs.Common.{◌≡◌, ◌≤◌, ◌+◌, ℕ, List, [], Bool
 use Rattle.std.specs.List.{Contains}
 use Rattle.im_types.specs.Layout.{page_bytes, record_at}
 use Rattle.im_memory.specs.Covering.{most_pages}
-use Rattle.im_pages.specs.PageSets.{has, size_of, IsWithin, pages_from}
+use Rattle.im_pages.specs.PageSets.{size_of, IsWithin, pages_from}
 use Rattle.im_checkpoint.specs.Step.{PagedCheckpoint, left_in}
 use Rattle.im_checkpoint.proofs.Copying.{left_none}
 use Rattle.im_checkpoint.proofs.checkpoint.Checkpoint.before.Goals as goal

@@ -12,7 +12,7 @@ use Rattle.im_image.proofs.Encoding.{counted}
 use Rattle.im_checkpoint.specs.declared.checkpoint.Step.{Step as Mark}
 use Rattle.im_checkpoint.specs.Step.{Step, PagedCheckpoint, with_left, step_of, turns_left, left_in, HasNext}
 use Rattle.im_checkpoint.specs.Keeping.{Paged, paged, IsKept}
-use Rattle.im_checkpoint.proofs.PageLists.{union_none, left_with, header_is, kept_none}
+use Rattle.im_checkpoint.proofs.PageLists.{union_none, left_with, kept_none}
 use Rattle.im_checkpoint.proofs.Fitting.{turns_with}
 use Rattle.im_checkpoint.proofs.Turning.{begun_kept}
 use Rattle.im_checkpoint.proofs.checkpoint.Checkpoint.begin.Goals as goal

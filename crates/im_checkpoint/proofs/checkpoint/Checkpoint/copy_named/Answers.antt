@@ -2,7 +2,7 @@ use Rattle.std.proofs.Common.{◌≡◌, ◌+◌, ◌<◌, ◌≤◌, ℕ, List,
 use Rattle.std.specs.List.{Contains}
 use Rattle.std.specs.Vec.{with_items}
 use Rattle.std.proofs.lemmas.List.{length-replicate, with_items_is}
-use Rattle.im_types.specs.Layout.{Sizes, layout_in_use, page_bytes, area_pages, record_at}
+use Rattle.im_types.specs.Layout.{layout_in_use, page_bytes, area_pages, record_at}
 use Rattle.im_types.specs.Header.{Header}
 use Rattle.im_memory.specs.Covering.{most_pages}
 use Rattle.im_pages.specs.PageSets.{has, size_of, pages_from}

@@ -1,6 +1,7 @@
-use Rattle.std.proofs.Common.{List, ℕ, subst, sym}
+use Rattle.std.proofs.Common.{List, ℕ, ◌-◌, subst, sym}
 use Rattle.im_journal.specs.Holding.{JournalState, Holds}
 use Rattle.im_types.specs.Header.{Header}
+use Rattle.im_types.specs.Journal.{IsBoundary}
 use Rattle.im_pages.specs.PageSets.{pages_from}
 use Rattle.im_image.specs.Headers.{seen}
 use Rattle.im_checkpoint.specs.Step.{NoCheckpoint}
@@ -23,7 +24,7 @@ returns-clause-keeps g c = λ h n m kept.
     let e = c.self.inside in
     let x : Paged = record { recent = e.recent; older = e.older; copies = e.copies.items; records = n.records } in
     let before = kept_synced c.args.self.now (seen e.header) e.step e.count (pages_from e.next e.left) e.recent e.older e.copies.items c.self.view_is n m c.args.journal.now (g.D.Disk.now c.args.disk.now) kept c.requires.ready.step in
-    let later : (file : List ℕ) → Holds c.args.journal.now file → Holds (begun_at e.count c.args.journal.now) file = λ file held. subst (λ (k : JournalState). Holds k file) c.begin_later.ensures.state (c.begin_later.ensures.holds file held) in
+    let later : (file : List ℕ) → Holds c.args.journal.now file → IsBoundary c.args.journal.now.ring c.args.journal.now.first (e.count - c.args.journal.now.first) file → Holds (begun_at e.count c.args.journal.now) file = λ file held boundary. subst (λ (k : JournalState). Holds k file) c.begin_later.ensures.state (c.begin_later.ensures.holds file held boundary) in
     record {
       leaves = c.open_next.ensures.leaves h (seen e.header) e.count _ m c.args.journal.now c.next_header-next.ensures.next before;
       kept = subst (λ (k : JournalState). IsKept (record { header = seen c.next_header-next.result; step = NoCheckpoint }) x m k (g.D.Disk.now c.open_next.new.disk)) (sym c.begin_later.ensures.state)

@@ -1,12 +1,12 @@
-use Rattle.std.proofs.Common.{◌≡◌, true, false, inl, sym, ◌∙◌, ap, subst}
+use Rattle.std.proofs.Common.{◌≡◌, true, false, [], ◌∷◌, inl, sym, ◌∙◌, ap, subst}
 use Rattle.im_disk.specs.Since.{LeavesNow, LeavesOnly, CallsBy}
 use Rattle.im_disk.proofs.SinceLemmas.{leaves_start, only_weaker}
-use Rattle.im_types.specs.Step.{is_accepted}
+use Rattle.im_types.specs.Step.{step, is_accepted}
 use Rattle.im_journal.specs.Holding.{MayAppend}
 use Rattle.im_engine.specs.State.{EngineState, MeansState, MeansEither}
-use Rattle.im_checkpoint.specs.Keeping.{paged, Fits, IsKept}
+use Rattle.im_checkpoint.specs.Keeping.{paged, Fits}
 use Rattle.im_checkpoint.specs.Step.{CheckpointState}
-use Rattle.im_engine.proofs.Keeping.{all_mean, all_hold, may_append_means, kept_prepared}
+use Rattle.im_engine.proofs.Keeping.{accept_one, all_mean, all_hold, may_append_means, kept_prepared}
 use Rattle.im_engine.proofs.Serving.{fits_longer, kept_with_it, calls_after}
 use Rattle.im_engine.proofs.engine.Engine.accept.Goals as goal
 
@@ -36,9 +36,9 @@ returns-in-Err-clause-leaves g c = λ h.
     let e = c.self.inside in
     let alive : e.failed ≡ false = ap (λ (s : EngineState g.row.D.Denot). s.failed) c.self.view_is ∙ c.requires.alive in
     let accepted : is_accepted e.memory.contents c.args.command.now ≡ true = ap (λ (s : EngineState g.row.D.Denot). is_accepted s.memory c.args.command.now) c.self.view_is ∙ c.requires.accepted in
-    let means = may_append_means e.checkpoint.state (paged e.checkpoint e.memory) e.memory.contents e.journal (g.D.Disk.now e.disk) (c.self.invariant.1 (c.append.ensures.honest h) alive) c.args.command.now accepted in
+    let means = may_append_means e.checkpoint.state (paged e.checkpoint e.memory) e.memory.contents e.journal (g.D.Disk.now e.disk) (c.self.invariant.1 (c.append.ensures.honest h) alive) (c.args.command.now ∷ []) (step e.memory.contents c.args.command.now).contents (accept_one e.memory.contents c.args.command.now accepted) in
     subst (λ (s : EngineState g.row.D.Denot). LeavesOnly g.D.Disk.now g.D.Disk.past s.disk c.append.new.disk (MeansEither s c.args.command.now)) c.self.view_is
-    (only_weaker g.D.Disk.now g.D.Disk.past e.disk c.append.new.disk (MayAppend e.journal c.args.command.now (g.D.Disk.now e.disk)) _ (c.append.ensures.leaves h) means)
+    (only_weaker g.D.Disk.now g.D.Disk.past e.disk c.append.new.disk (MayAppend e.journal (c.args.command.now ∷ []) (g.D.Disk.now e.disk)) _ (c.append.ensures.leaves h) means)
 
 pub invariant_of-self-2 : goal.invariant_of-self-2
 invariant_of-self-2 g c =
@@ -59,9 +59,9 @@ returns-clause-leaves g c = λ h.
     let e = c.self.inside in
     let alive : e.failed ≡ false = ap (λ (s : EngineState g.row.D.Denot). s.failed) c.self.view_is ∙ c.requires.alive in
     let accepted : is_accepted e.memory.contents c.args.command.now ≡ true = ap (λ (s : EngineState g.row.D.Denot). is_accepted s.memory c.args.command.now) c.self.view_is ∙ c.requires.accepted in
-    let means = may_append_means e.checkpoint.state (paged e.checkpoint e.memory) e.memory.contents e.journal (g.D.Disk.now e.disk) (c.self.invariant.1 (c.append.ensures.honest h) alive) c.args.command.now accepted in
+    let means = may_append_means e.checkpoint.state (paged e.checkpoint e.memory) e.memory.contents e.journal (g.D.Disk.now e.disk) (c.self.invariant.1 (c.append.ensures.honest h) alive) (c.args.command.now ∷ []) (step e.memory.contents c.args.command.now).contents (accept_one e.memory.contents c.args.command.now accepted) in
     subst (λ (s : EngineState g.row.D.Denot). LeavesOnly g.D.Disk.now g.D.Disk.past s.disk c.append.new.disk (MeansEither s c.args.command.now)) c.self.view_is
-    (only_weaker g.D.Disk.now g.D.Disk.past e.disk c.append.new.disk (MayAppend e.journal c.args.command.now (g.D.Disk.now e.disk)) _ (c.append.ensures.leaves h) means)
+    (only_weaker g.D.Disk.now g.D.Disk.past e.disk c.append.new.disk (MayAppend e.journal (c.args.command.now ∷ []) (g.D.Disk.now e.disk)) _ (c.append.ensures.leaves h) means)
 
 pub returns-clause-calls : goal.returns-clause-calls
 returns-clause-calls g c = λ h.

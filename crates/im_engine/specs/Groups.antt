@@ -1,0 +1,105 @@
+-- A group of requests that an engine serves together. (Own.)
+use Rattle.std.specs.Prelude.{◌≡◌, ◌⊎◌, ℕ, ◌+◌, ◌-◌, ◌<◌, ◌≤◌, ◌==◌, Bool, true, false, ◌&&◌, nat_lt, min, List, [], ◌∷◌, ◌++◌, length, map, Result, Err, if◌then◌else◌}
+use Rattle.im_types.specs.declared.TheConstants.{LAST}
+use Rattle.im_types.specs.declared.commands.Request.{Request}
+use Rattle.im_types.specs.declared.commands.Command.{Command}
+use Rattle.im_types.specs.declared.commands.Command.TheVariants.{Request as Asks}
+use Rattle.im_types.specs.declared.commands.Outcome.{Outcome}
+use Rattle.im_types.specs.declared.groups.Served.{Served}
+use Rattle.im_types.specs.declared.groups.Served.TheVariants.{Refused}
+use Rattle.im_types.specs.declared.refusals.Refusal.{Refusal}
+use Rattle.im_types.specs.declared.refusals.Refusal.TheVariants.{JournalFull, Device, Failed}
+use Rattle.im_types.specs.Contents.{Contents}
+use Rattle.im_types.specs.Step.{step, is_accepted}
+use Rattle.im_types.specs.Meaning.{Reached}
+use Rattle.im_types.specs.Groups.{as_served, answers_of, reached_by_all, puts_of}
+use Rattle.im_disk.specs.Moment.{Moment, Rises}
+use Rattle.im_disk.specs.Since.{Calls, CallsAtMost}
+use Rattle.im_engine.specs.State.{EngineState, MeansState}
+
+-- what an engine has reached: its memory, its count and its room
+abbrev pub reached_in : {D : Type 0} → EngineState D → Reached
+reached_in s = record { contents = s.memory; count = s.count; room = s.room }
+
+-- the engine after the members of a group, one after another
+abbrev pub after_group : {D : Type 0} → EngineState D → List Request → EngineState D
+after_group s members = let r = reached_by_all (reached_in s) members in record s { memory = r.contents; count = r.count; room = r.room }
+
+-- the commands that the members put on the disk
+abbrev pub group_put : {D : Type 0} → EngineState D → List Request → List Command
+group_put s members = puts_of (reached_in s) members
+
+-- the file means what the engine is before the group, or after all of it
+abbrev pub MeansGroup : {D : Type 0} → EngineState D → List Request → List ℕ → Type 0
+MeansGroup s members file = MeansState s file ⊎ MeansState (after_group s members) file
+
+-- each member is refused alike
+abbrev pub all_refused : Refusal → List Request → List Served
+all_refused refusal members = map (λ _. Refused refusal) members
+
+-- what the members would be answered one after another
+abbrev pub answers_in : {D : Type 0} → EngineState D → List Request → List Served
+answers_in s members = map as_served (answers_of (reached_in s) members)
+
+-- an engine's answers to a group, and what it comes to, on any disk
+pub record GroupAnswered {D : Type 0} (old : EngineState D) (members : List Request) (answers : List Served) (new : EngineState D) : Type 0 where
+  pub dead : old.failed ≡ true → (answers ≡ all_refused Failed members) × (new ≡ old)
+  pub none : old.failed ≡ false → group_put old members ≡ [] → (answers ≡ answers_in old members) × (new ≡ old)
+  pub put : old.failed ≡ false → 0 < length (group_put old members) →
+      ((answers ≡ answers_in old members) × (new ≡ record (after_group old members) { disk = new.disk }))
+      ⊎ ((answers ≡ all_refused Device members) × (new ≡ record old { disk = new.disk; failed = true }))
+
+-- how many calls of the disk it takes to put so many commands there as one group: a write for each, one for the gate, and two syncs
+abbrev pub calls_for_group : ℕ → ℕ
+calls_for_group many = if many == 0 then 0 else many + 3
+
+-- no more calls than these, and just so many while the disk hasn't failed
+pub record GroupCalls {D : Type 0} (past : D → List Moment) (old new : D) (failed : Bool) (many : ℕ) : Type 0 where
+  pub exactly : failed ≡ false → Calls past old new many
+  pub most : CallsAtMost past old new many
+
+-- the count of failures rises exactly where the engine fails now
+pub record GroupFaults (before after : Bool) (old new : ℕ) : Type 0 where
+  pub failed : before ≡ false → after ≡ true → Rises old new × (old ≤ new)
+  pub steady : after ≡ before → new ≡ old
+
+-- ---- the same with a count of the commands that there is room for
+
+-- how many more commands there may be
+abbrev pub places : Reached → ℕ
+places s = min s.room (LAST - s.count)
+
+-- the request is accepted at this memory, and there is a place for it
+abbrev pub takes : Contents → ℕ → Request → Bool
+takes m left r = is_accepted m (Asks r) && nat_lt 0 left
+
+-- a member's answer with so many places left
+abbrev pub answer_with : Contents → ℕ → Request → Result Outcome Refusal
+answer_with m left r = if is_accepted m (Asks r) && (left == 0) then Err JournalFull else (step m (Asks r)).answer
+
+-- the memory after it
+abbrev pub contents_with : Contents → ℕ → Request → Contents
+contents_with m left r = if takes m left r then (step m (Asks r)).contents else m
+
+-- the places that are left after it
+abbrev pub left_with : Contents → ℕ → Request → ℕ
+left_with m left r = if takes m left r then left - 1 else left
+
+-- the members' answers, one after another
+abbrev pub answers_with : Contents → ℕ → List Request → List (Result Outcome Refusal)
+answers_with m left [] = []
+answers_with m left (r ∷ rs) = answer_with m left r ∷ answers_with (contents_with m left r) (left_with m left r) rs
+
+-- the memory after all of them
+abbrev pub contents_after : Contents → ℕ → List Request → Contents
+contents_after m left [] = m
+contents_after m left (r ∷ rs) = contents_after (contents_with m left r) (left_with m left r) rs
+
+-- the command of a member that is accepted and has a place
+abbrev pub command_at : Contents → ℕ → Request → List Command
+command_at m left r = if takes m left r then Asks r ∷ [] else []
+
+-- the commands of all such members, each of them judged by one memory
+abbrev pub commands_at : Contents → ℕ → List Request → List Command
+commands_at m left [] = []
+commands_at m left (r ∷ rs) = command_at m left r ++ commands_at m (left_with m left r) rs

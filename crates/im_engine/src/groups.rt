@@ -1,0 +1,238 @@
+//! The members of a group: what is put on the disk for them, how they act, and what they are answered.
+ghost use Rattle.std.specs.Prelude.{◌≡◌, ◌↔◌, ◌⊎◌, ◌+◌, ◌-◌, ◌<◌, ◌≤◌, ℕ, [], ◌++◌, length, map, nat_lt, min, ◌&&◌, Some, Ok, OnOk, IsTrue};
+ghost use Rattle.std.specs.Prelude.{MatchResult};
+ghost use Rattle.im_types.specs.declared.TheConstants.{LAST};
+ghost use Rattle.im_types.specs.declared.commands.Command.TheVariants.{Request as Asks};
+ghost use Rattle.im_types.specs.Contents.{Contents};
+ghost use Rattle.im_types.specs.Step.{step, is_accepted};
+ghost use Rattle.im_types.specs.Meaning.{accept_each};
+ghost use Rattle.im_types.specs.Groups.{AreOthers, AreApart, as_served};
+ghost use Rattle.im_disk.specs.Moment.{Moment, Faults};
+ghost use Rattle.im_disk.specs.Since.{LeavesOnly, CallsBy};
+ghost use Rattle.im_journal.specs.Holding.{JournalState, IsJournal, AllHold, longer};
+ghost use Rattle.im_image.specs.Reading.{HasSizes};
+ghost use Rattle.im_checkpoint.specs.Step.{CheckpointState};
+ghost use Rattle.im_checkpoint.specs.Keeping.{Paged, paged, MeansWith, IsKept};
+ghost use Rattle.im_engine.specs.Groups.{all_refused, calls_for_group};
+ghost use Rattle.im_engine.specs.Groups.{answer_with, contents_with, left_with};
+ghost use Rattle.im_engine.specs.Groups.{answers_with, contents_after, command_at, commands_at};
+
+use arrayvec::ArrayVec;
+use im_checkpoint::Checkpoint;
+use im_disk::Disk;
+use im_journal::Journal;
+use im_memory::Memory;
+use im_types::{Command, LAST, Outcome, Refusal, Request, Served};
+use std::cmp::min;
+
+// Whether none of the requests is this element's.
+fn are_others(element: u16, members: &[Request]) -> bool
+    ensures { IsTrue result ↔ AreOthers element members.now }
+{
+    for member in members {
+        if member.element == element {
+            return false;
+        }
+    }
+    true
+}
+
+/// Whether each element has one of the requests at most, as the members of a group have to be.
+pub fn are_apart(members: &[Request]) -> bool
+    ensures { IsTrue result ↔ AreApart members.now }
+{
+    let mut rest = members;
+    while let Some((first, later)) = rest.split_first() {
+        if !are_others(first.element, later) {
+            return false;
+        }
+        rest = later;
+    }
+    true
+}
+
+/// Refuses each member alike.
+pub(crate) fn refuse_all(members: &[Request], refusal: Refusal, served: &mut ArrayVec<Served, 16>)
+    requires fits { length members.now ≤ 16 }
+    requires empty { served.old.items ≡ [] }
+    ensures { served.new.items ≡ all_refused refusal members.now }
+{
+    for _member in members {
+        served.push(Served::Refused(refusal));
+    }
+}
+
+/// How many more commands a journal takes: no more than there is room for, and none past the last count.
+pub(crate) fn places_in(journal: &Journal) -> u64
+    ensures places { result ≡ min journal.now.room (LAST - journal.now.count) }
+    ensures known { IsJournal journal.now }
+{
+    min(journal.room() as u64, LAST - journal.count())
+}
+
+// Adds the command of a member that is accepted and has a place.
+fn add_command(
+    memory: &Memory,
+    left: &mut u64,
+    member: &Request,
+    commands: &mut ArrayVec<Command, 16>,
+)
+    requires room { length commands.old.items < 16 }
+    ensures commands { commands.new.items
+        ≡ commands.old.items ++ command_at memory.now.contents left.old member.now }
+    ensures left { left.new ≡ left_with memory.now.contents left.old member.now }
+{
+    let command = Command::Request(*member);
+    if !takes(memory, *left, &command) {
+        return;
+    }
+    commands.push(command);
+    *left -= 1;
+}
+
+// Whether a command is accepted, and there is a place for it.
+fn takes(memory: &Memory, left: u64, command: &Command) -> bool
+    ensures { result ≡ (is_accepted memory.now.contents command.now && nat_lt 0 left) }
+{
+    match memory.judge(command) {
+        Ok(accepted) => accepted && left > 0,
+        Err(_) => false,
+    }
+}
+
+/// The commands of those members that are accepted and have a place. Each is judged by the memory before the group:
+/// the requests of other elements leave whether it is accepted.
+pub(crate) fn commands_of(
+    memory: &Memory,
+    places: u64,
+    members: &[Request],
+    commands: &mut ArrayVec<Command, 16>,
+)
+    requires fits { length members.now ≤ 16 }
+    requires empty { commands.old.items ≡ [] }
+    ensures { commands.new.items ≡ commands_at memory.now.contents places members.now }
+{
+    let mut left = places;
+    for member in members {
+        add_command(memory, &mut left, member, commands);
+    }
+}
+
+/// Puts the commands on the disk as one group, unless there are none.
+pub(crate) fn put_on<D: Disk>(
+    journal: &mut Journal,
+    disk: &mut D,
+    commands: &[Command],
+) -> Result<(), Refusal>
+    requires known { IsJournal journal.old }
+    requires few { length commands.now ≤ 16 }
+    requires room { length commands.now ≤ journal.old.room }
+    requires last { journal.old.count + length commands.now ≤ LAST }
+    requires holds { D.honest disk.old → AllHold journal.old (D.now disk.old) }
+    ensures leaves { D.honest disk.new → (c : CheckpointState) (x : Paged) (m after : Contents)
+        → accept_each m commands.now ≡ Some after → IsKept c x m journal.old (D.now disk.old)
+        → LeavesOnly D.now D.past disk.old disk.new (λ file. MeansWith m journal.old file
+        ⊎ MeansWith after (longer (length commands.now) journal.old) file) }
+    ensures kept { OnOk result (D.honest disk.new → (c : CheckpointState) (x : Paged) (m after : Contents)
+        → accept_each m commands.now ≡ Some after → IsKept c x m journal.old (D.now disk.old)
+        → IsKept c x after journal.new (D.now disk.new)) }
+    ensures state { MatchResult result (λ _. journal.new ≡ longer (length commands.now) journal.old)
+        (λ _. journal.new ≡ journal.old) }
+    ensures none { commands.now ≡ [] → (result ≡ Ok tt) × (disk.new ≡ disk.old) }
+    ensures calls { D.honest disk.new
+        → CallsBy D.past disk.old disk.new (calls_for_group (length commands.now)) result }
+    ensures faults { Faults (λ e. e ≡ Refusal.Device) result (D.failures disk.old) (D.failures disk.new) }
+    ensures honest { D.honest disk.new → D.honest disk.old }
+{
+    if commands.is_empty() {
+        return Ok(());
+    }
+    // A stop in it leaves all the commands on the disk, or none: no answer is given before.
+    journal.append_group(disk, commands)
+}
+
+// A new request acts, once the disk has it.
+fn act(
+    checkpoint: &mut Checkpoint,
+    memory: &mut Memory,
+    command: &Command,
+) -> Result<Outcome, Refusal>
+    requires sizes { HasSizes checkpoint.old.state.header.sizes memory.old.contents }
+    ensures answer { result ≡ (step memory.old.contents command.now).answer }
+    ensures contents { memory.new.contents ≡ (step memory.old.contents command.now).contents }
+    ensures sizes { HasSizes checkpoint.new.state.header.sizes memory.new.contents }
+    ensures state { checkpoint.new.state ≡ checkpoint.old.state }
+    ensures kept { (m : Contents) (j : JournalState) (now : Moment)
+        → IsKept checkpoint.old.state (paged checkpoint.old memory.old) m j now
+        → IsKept checkpoint.new.state (paged checkpoint.new memory.new) m j now }
+{
+    // Of a page that a checkpoint has still to write, what stood there before the command is wanted.
+    checkpoint.before(memory, command);
+    memory.step(command)
+}
+
+// One member acts, or is answered without acting.
+fn act_one(
+    checkpoint: &mut Checkpoint,
+    memory: &mut Memory,
+    left: &mut u64,
+    member: &Request,
+) -> Result<Outcome, Refusal>
+    requires sizes { HasSizes checkpoint.old.state.header.sizes memory.old.contents }
+    ensures answer { result ≡ answer_with memory.old.contents left.old member.now }
+    ensures contents { memory.new.contents ≡ contents_with memory.old.contents left.old member.now }
+    ensures left { left.new ≡ left_with memory.old.contents left.old member.now }
+    ensures sizes { HasSizes checkpoint.new.state.header.sizes memory.new.contents }
+    ensures state { checkpoint.new.state ≡ checkpoint.old.state }
+    ensures kept { (m : Contents) (j : JournalState) (now : Moment)
+        → IsKept checkpoint.old.state (paged checkpoint.old memory.old) m j now
+        → IsKept checkpoint.new.state (paged checkpoint.new memory.new) m j now }
+{
+    let command = Command::Request(*member);
+    match memory.judge(&command) {
+        Ok(true) => {
+            if *left == 0 {
+                return Err(Refusal::JournalFull);
+            }
+            *left -= 1;
+            act(checkpoint, memory, &command)
+        }
+        Ok(false) => memory.step(&command),
+        Err(refusal) => Err(refusal),
+    }
+}
+
+fn as_served(answer: Result<Outcome, Refusal>) -> Served
+    ensures { result ≡ as_served answer }
+{
+    match answer {
+        Ok(outcome) => Served::Done(outcome),
+        Err(refusal) => Served::Refused(refusal),
+    }
+}
+
+/// All members act in their order, once the disk has the commands of those that are accepted and have a place.
+pub(crate) fn act_all(
+    checkpoint: &mut Checkpoint,
+    memory: &mut Memory,
+    places: u64,
+    members: &[Request],
+    served: &mut ArrayVec<Served, 16>,
+)
+    requires fits { length members.now ≤ 16 }
+    requires empty { served.old.items ≡ [] }
+    requires sizes { HasSizes checkpoint.old.state.header.sizes memory.old.contents }
+    ensures answers { served.new.items ≡ map as_served (answers_with memory.old.contents places members.now) }
+    ensures contents { memory.new.contents ≡ contents_after memory.old.contents places members.now }
+    ensures sizes { HasSizes checkpoint.new.state.header.sizes memory.new.contents }
+    ensures state { checkpoint.new.state ≡ checkpoint.old.state }
+    ensures kept { (m : Contents) (j : JournalState) (now : Moment)
+        → IsKept checkpoint.old.state (paged checkpoint.old memory.old) m j now
+        → IsKept checkpoint.new.state (paged checkpoint.new memory.new) m j now }
+{
+    let mut left = places;
+    for member in members {
+        let answer = act_one(checkpoint, memory, &mut left, member);
+        served.push(as_served(answer));
+    }
+}

@@ -1,0 +1,47 @@
+-- A group of commands in the slots of a ring: what stands there, and how it is written.
+use Rattle.std.specs.Prelude.{◌≡◌, ◌≢◌, ◌⊎◌, ℕ, zero, suc, ◌+◌, ◌<◌, ◌≤◌, List, [], ◌∷◌, length, drop, slice_index}
+use Rattle.im_types.specs.declared.commands.Command.{Command}
+use Rattle.im_types.specs.Slot.{slot_body, FitsCommand}
+use Rattle.im_types.specs.Journal.{Ring, slot_at, slot}
+use Rattle.im_disk.specs.Moment.{Moment, Left}
+
+-- the group count of the slot behind k others of a group of so many commands
+abbrev pub count_at : ℕ → ℕ → ℕ
+count_at group zero = group
+count_at group (suc k) = 0
+
+-- behind the gates of the slots from sequence number s on stand these commands, the first with this group count
+abbrev pub HasBodies : Ring → ℕ → ℕ → List Command → List ℕ → Type 0
+HasBodies ring group s [] file = Unit {0}
+HasBodies ring group s (command ∷ commands) file = (drop 1 (slot ring s file) ≡ slot_body group s command) × HasBodies ring 0 (s + 1) commands file
+
+-- the numbers of each command fit their fields
+abbrev pub AllFit : List Command → Type 0
+AllFit [] = Unit {0}
+AllFit (command ∷ commands) = FitsCommand command × AllFit commands
+
+-- byte i isn't behind the gate of one of n slots, from the one of sequence number s on
+abbrev pub IsNoBody : Ring → ℕ → ℕ → ℕ → Type 0
+IsNoBody ring s n i = (k : ℕ) → k < n → (i ≤ slot_at ring (s + k)) ⊎ (slot_at ring (s + k) + 64 ≤ i)
+
+-- the files agree but for what is behind the gates of n slots, from the one of sequence number s on
+pub record SameButBodies (ring : Ring) (s n : ℕ) (c d : List ℕ) : Type 0 where
+  pub size : length d ≡ length c
+  pub same : (i : ℕ) → IsNoBody ring s n i → slice_index d i ≡ slice_index c i
+
+-- the same, and but for the gate of the first of these slots: they are a group's
+pub record SameButGroup (ring : Ring) (s n : ℕ) (c d : List ℕ) : Type 0 where
+  pub size : length d ≡ length c
+  pub same : (i : ℕ) → i ≢ slot_at ring s → IsNoBody ring s n i → slice_index d i ≡ slice_index c i
+
+-- the file is one that could be left, but for those bodies
+pub record MayWriteBodies (ring : Ring) (s n : ℕ) (m : Moment) (file : List ℕ) : Type 0 where
+  pub from : List ℕ
+  pub left : Left m from
+  pub same : SameButBodies ring s n from file
+
+-- the bodies of a group are written, and the other bytes are as they were
+pub record AreWritten (ring : Ring) (s : ℕ) (commands : List Command) (old new : Moment) : Type 0 where
+  pub kept : SameButBodies ring s (length commands) old.bytes new.bytes
+  pub bodies : HasBodies ring (length commands) s commands new.bytes
+  pub fits : AllFit commands

@@ -1,0 +1,50 @@
+// How the bodies of a group of commands are written.
+ghost use Rattle.std.specs.Prelude.{◌≡◌, ◌+◌, ◌*◌, ◌≤◌, ◌<◌, ◌^◌, length, OnOk};
+ghost use Rattle.im_types.specs.declared.TheConstants.{LAST, MAX_GROUP};
+ghost use Rattle.im_disk.specs.Moment.{Counts};
+ghost use Rattle.im_disk.specs.Since.{LeavesOnly, CallsBy};
+ghost use Rattle.im_journal.specs.Gates.{IsRing};
+ghost use Rattle.im_journal.specs.Groups.{count_at, MayWriteBodies, AreWritten};
+ghost use Rattle.im_journal.specs.Holding.{ring_at};
+
+use crate::slot::spell_in;
+use im_disk::{DeviceFault, Disk};
+use im_types::{Command, LAST, MAX_GROUP};
+
+// The group count of the slot behind so many others.
+fn count_at(group: u8, k: usize) -> u8
+    ensures { result ≡ count_at group k }
+{
+    if k == 0 { group } else { 0 }
+}
+
+/// Writes commands behind the gates of the slots from the one of a sequence number on, by a call for each of them. The
+/// first slot counts them all, each other one none. The gates stay.
+pub(crate) fn write_bodies<D: Disk>(
+    disk: &mut D,
+    base: usize,
+    slots: u32,
+    from: u64,
+    commands: &[Command],
+) -> Result<(), DeviceFault>
+    requires ring { IsRing base slots }
+    requires few { length commands.now ≤ MAX_GROUP }
+    requires once_round { length commands.now ≤ slots }
+    requires last { from + length commands.now ≤ LAST }
+    requires inside { D.honest disk.old → base + 64 * slots ≤ length (D.now disk.old).bytes }
+    ensures leaves { D.honest disk.new → LeavesOnly D.now D.past disk.old disk.new
+        (MayWriteBodies (ring_at base slots) from (length commands.now) (D.now disk.old)) }
+    ensures written { OnOk result (D.honest disk.new
+        → AreWritten (ring_at base slots) from commands.now (D.now disk.old) (D.now disk.new)) }
+    ensures calls { D.honest disk.new → CallsBy D.past disk.old disk.new (length commands.now) result }
+    ensures honest { D.honest disk.new → D.honest disk.old }
+    ensures failures { Counts result (D.failures disk.old) (D.failures disk.new) }
+{
+    let group = commands.len() as u8;
+    for i in 0..commands.len() {
+        let slot = spell_in(count_at(group, i), &commands[i], from + i as u64);
+        let at = base + 64 * (((from + i as u64) % slots as u64) as usize);
+        disk.write_at(at + 1, &slot[1..])?; // A stop may leave any bytes there: the group's gate is closed.
+    }
+    Ok(())
+}

@@ -1,0 +1,34 @@
+//! Groups of requests.
+ghost use Rattle.std.specs.Prelude.{◌≡◌, ◌≢◌, ◌+◌, ◌-◌, ◌==◌, List, length, Some, if◌then◌else◌};
+ghost use Rattle.im_types.specs.declared.TheConstants.{LAST};
+ghost use Rattle.im_types.specs.declared.commands.Request.{Request};
+ghost use Rattle.im_types.specs.declared.commands.Command.TheVariants.{Request as Asks};
+ghost use Rattle.im_types.specs.Contents.{Contents};
+ghost use Rattle.im_types.specs.Step.{step, is_accepted};
+ghost use Rattle.im_types.specs.Run.{after};
+ghost use Rattle.im_types.specs.Meaning.{Reached, accept_each};
+ghost use Rattle.im_types.specs.Groups.{AreOthers, is_new, reached_by_all, puts_of};
+ghost use Rattle.im_laws.specs.Groups.{IsCounted};
+
+/// Whether a request is accepted stays, whatever requests of other elements are served before it: one of them, or a
+/// group.
+pub fn others_leave_acceptance()
+    ensures one { (m : Contents) (r q : Request) → q.element ≢ r.element
+        → is_accepted (step m (Asks r)).contents (Asks q) ≡ is_accepted m (Asks q) }
+    ensures group { (s : Reached) (members : List Request) (q : Request) → AreOthers q.element members
+        → is_new (reached_by_all s members) q ≡ is_new s q }
+{}
+
+/// A group comes to what the commands come to that its members put into the journal: each is accepted in its turn, the
+/// count rises by their number, and the room falls by it, to none at the last count that there is.
+pub fn groups_are_runs()
+    ensures memory { (s : Reached) (members : List Request)
+        → (reached_by_all s members).contents ≡ after s.contents (puts_of s members) }
+    ensures accepted { (s : Reached) (members : List Request)
+        → accept_each s.contents (puts_of s members) ≡ Some (reached_by_all s members).contents }
+    ensures count { (s : Reached) (members : List Request)
+        → (reached_by_all s members).count ≡ s.count + length (puts_of s members) }
+    ensures room { (s : Reached) (members : List Request) → IsCounted s
+        → let many = length (puts_of s members) in
+        (reached_by_all s members).room ≡ (if s.count + many == LAST then 0 else s.room - many) }
+{}
