@@ -34,9 +34,6 @@ cut_push : (rs : List Request) (r : Request) → IsCut rs → MayJoin r.op rs �
 cut_push [] r cut may = (tt, tt)
 cut_push (q ∷ rs) r cut may = (follow_push q.op rs r cut.0 may.0, cut_push rs r cut.1 may.1)
 
-pub none_gathered : (places : List (Option UnclaimedState)) (e : ℕ) → Gathers places e []
-none_gathered places e = record { apart = tt; free = tt; below = tt; cut = tt }
-
 pub gathers_weaker : (places : List (Option UnclaimedState)) (e : ℕ) (rs : List Request) → Gathers places e rs → Gathers places (e + 1) rs
 gathers_weaker places e rs g = record { apart = g.apart; free = g.free; below = below_weaker e rs g.below; cut = g.cut }
 

@@ -1,5 +1,5 @@
 -- The answers to a group's members are the memory's, one after another, and come to the engine's memory.
-use Rattle.std.proofs.Common.{◌≡◌, ◌⊎◌, inl, inr, ⊎_elim, ℕ, zero, suc, ◌+◌, ◌<◌, ◌≤◌, ◌&&◌, ◌==◌, Bool, true, false, List, [], ◌∷◌, refl, sym, ap, ◌∙◌, subst, Result, Ok, Err, length, map, arith, if◌then◌else◌}
+use Rattle.std.proofs.Common.{◌≡◌, ◌⊎◌, inl, inr, ⊎_elim, ℕ, zero, suc, ◌<◌, ◌≤◌, ◌&&◌, ◌==◌, Bool, true, false, List, [], ◌∷◌, refl, sym, ap, ◌∙◌, subst, Result, Ok, Err, length, map, arith, if◌then◌else◌}
 use Rattle.std.specs.Prelude.{nat_lt}
 use Rattle.std.proofs.lemmas.Bool.Decides.{nat_tests}
 use Rattle.im_types.specs.declared.commands.Command.{Command}
@@ -8,14 +8,13 @@ use Rattle.im_types.specs.declared.commands.Request.{Request}
 use Rattle.im_types.specs.declared.commands.Outcome.{Outcome}
 use Rattle.im_types.specs.declared.commands.Call.TheVariants.{Command as Commands}
 use Rattle.im_types.specs.declared.groups.Served.{Served}
-use Rattle.im_types.specs.declared.groups.Served.TheVariants.{Refused}
 use Rattle.im_types.specs.declared.refusals.Refusal.{Refusal}
 use Rattle.im_types.specs.declared.refusals.Refusal.TheVariants.{JournalFull, Device, Failed, TraceFull}
 use Rattle.im_types.specs.Contents.{Contents}
 use Rattle.im_types.specs.Meaning.{Reached}
 use Rattle.im_types.specs.Run.{after}
 use Rattle.im_types.specs.Step.{step}
-use Rattle.im_types.specs.Groups.{as_served, is_new, is_put, with_request, answer_of, reached_by_one, reached_by_all, answers_of, puts_of}
+use Rattle.im_types.specs.Groups.{as_served, is_new, with_request, answer_of, reached_by_one, reached_by_all, answers_of}
 use Rattle.im_laws.proofs.Tests.{true_false}
 use Rattle.im_laws.proofs.AcceptLemmas.{unaccepted-leaves, accepted-ok}
 use Rattle.im_laws.proofs.GroupLemmas.{puts-after}

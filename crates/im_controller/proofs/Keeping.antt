@@ -44,9 +44,6 @@ pub record Keeps (m : Contents) (l0 : LogState) (rs0 : List Request) (xs0 : List
   pub room : length l.trace + lines_left xs ≤ l.limit
 
 module _ (m : Contents) (l0 : LogState) (rs0 : List Request) (xs0 : List (Result Outcome Refusal)) where
-  pub keeps_all : AreAnswersTo (end_of m l0.trace) rs0 xs0 → AreApart rs0 → AreFreeFor l0.places rs0 → length l0.trace + lines_left xs0 ≤ l0.limit → Keeps m l0 rs0 xs0 l0 rs0 xs0
-  keeps_all are_so apart free room = record { log_is = refl; end_is = refl; are_so = are_so; apart = apart; free = free; room = room }
-
   pub keeps_next : (l : LogState) (r : Request) (x : Result Outcome Refusal) (rs : List Request) (xs : List (Result Outcome Refusal)) → Keeps m l0 rs0 xs0 l (r ∷ rs) (x ∷ xs) → Keeps m l0 rs0 xs0 (with_unclaimed l r x) rs xs
   keeps_next l r x rs xs k =
       let now = end-lines m l.trace (Commands (Asks r)) x in
@@ -68,10 +65,3 @@ module _ (m : Contents) (l0 : LogState) (rs0 : List Request) (xs0 : List (Result
       let those = drop-cons ss i e there ∙ ap (λ n. get_or ss i e ∷ drop n ss) next in
       subst (λ (qs : List Request). Keeps m l0 rs0 xs0 l qs (f (get_or ss i e) ∷ map f (drop (i + 1) ss))) these
       (subst (λ (ts : List X). Keeps m l0 rs0 xs0 l (drop i rs) (map f ts)) those k)
-
--- the next member's answer fits
-pub next_room : (m : Contents) (l0 : LogState) (rs0 : List Request) (xs0 : List (Result Outcome Refusal)) (l : LogState) (r : Request) (x : Result Outcome Refusal) (rs : List Request) (xs : List (Result Outcome Refusal))
-    → Keeps m l0 rs0 xs0 l (r ∷ rs) (x ∷ xs) → leaves_line x ≡ true → length l.trace < l.limit
-next_room m l0 rs0 xs0 l r x rs xs k told =
-    let one : (if leaves_line x then 1 else 0) ≡ 1 = ap {B = ℕ} (λ b. if b then 1 else 0) told in
-    omega (arith, k.room, one)

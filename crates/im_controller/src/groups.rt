@@ -1,8 +1,11 @@
 //! Groups of requests that the engine is lent to, and whose answers wait for their ports.
-ghost use Rattle.std.specs.Prelude.{◌≡◌, ◌<◌, ◌≤◌, ◌+◌, ◌-◌, [], length, map};
+ghost use Rattle.std.specs.Prelude.{◌≡◌, ◌<◌, ◌≤◌, ◌+◌, ◌-◌, [], false, length, map};
+ghost use Rattle.im_types.specs.declared.refusals.Refusal.TheVariants.{TraceFull};
 ghost use Rattle.im_types.specs.Trace.{end_of};
 ghost use Rattle.im_types.specs.Groups.{AreApart};
-ghost use Rattle.im_engine.specs.Groups.{all_refused};
+ghost use Rattle.im_disk.specs.Since.{LeavesWithin, LeavesNow, CallsAtMost};
+ghost use Rattle.im_engine.specs.State.{MeansState};
+ghost use Rattle.im_engine.specs.Groups.{all_refused, group_put, calls_for_group, MeansGroup, GroupFaults};
 ghost use Rattle.im_controller.specs.Groups.{answer_in, with_all_unclaimed, AreAnswersTo, memory_after_all, lines_left};
 ghost use Rattle.im_controller.specs.Groups.{AreFreeFor, MembersAnswered, LendsGroup, Holds};
 
@@ -45,14 +48,14 @@ fn keep_all<K: Name>(log: &mut Log<K>, members: &[Request], served: &[Served])
     }
 }
 
-// Refuses each member alike.
-fn refuse_all(members: &[Request], refusal: Refusal, served: &mut ArrayVec<Served, 16>)
+// Refuses so many members for want of room in the trace.
+fn refuse_for_room(members: &[Request], served: &mut ArrayVec<Served, 16>)
     requires fits { length members.now ≤ 16 }
     requires empty { served.old.items ≡ [] }
-    ensures { served.new.items ≡ all_refused refusal members.now }
+    ensures { served.new.items ≡ all_refused TraceFull members.now }
 {
-    for _member in members {
-        served.push(Served::Refused(refusal));
+    for _i in 0..members.len() {
+        served.push(Served::Refused(Refusal::TraceFull));
     }
 }
 
@@ -65,10 +68,20 @@ fn serve_members<D: Disk>(
 )
     requires apart { AreApart members.now.items }
     requires empty { served.old.items ≡ [] }
-    ensures { MembersAnswered engine.old room members.now.items served.new.items engine.new }
+    ensures answered { MembersAnswered engine.old room members.now.items served.new.items engine.new }
+    ensures few { D.honest engine.new.disk → CallsAtMost D.past engine.old.disk engine.new.disk
+        (calls_for_group (length (group_put engine.old members.now.items))) }
+    ensures faults { GroupFaults engine.old.failed engine.new.failed (D.failures engine.old.disk) (D.failures engine.new.disk) }
+    ensures leaves { D.honest engine.new.disk → engine.old.failed ≡ false
+        → LeavesWithin D.now D.past engine.old.disk engine.new.disk (MeansGroup engine.old members.now.items) }
+    ensures doubt { D.honest engine.new.disk → engine.old.failed ≡ false
+        → LeavesNow (D.now engine.new.disk) (MeansGroup engine.old members.now.items) }
+    ensures means { D.honest engine.new.disk → engine.new.failed ≡ false
+        → LeavesNow (D.now engine.new.disk) (MeansState engine.new) }
+    ensures honest { D.honest engine.new.disk → D.honest engine.old.disk }
 {
     if !engine.failed() && room == 0 {
-        return refuse_all(members.as_slice(), Refusal::TraceFull, served);
+        return refuse_for_room(members.as_slice(), served);
     }
     // A stop in it leaves all that the group puts on the disk, or nothing of it: no answer is given before.
     engine.serve_group(members, served);
@@ -86,23 +99,25 @@ pub fn lend_group<D: Disk, K: Name>(shared: &mut Shared<D, K>, members: &ArrayVe
     requires room { length shared.old.log.trace < shared.old.log.limit
         → length shared.old.log.trace + length members.now.items ≤ shared.old.log.limit }
     ensures lends { LendsGroup shared.old members.now.items shared.new }
+    // What the disk is left with, as by the engine alone.
+    ensures few { D.honest shared.new.engine.disk → CallsAtMost D.past shared.old.engine.disk shared.new.engine.disk
+        (calls_for_group (length (group_put shared.old.engine members.now.items))) }
+    ensures faults { GroupFaults shared.old.engine.failed shared.new.engine.failed (D.failures shared.old.engine.disk) (D.failures shared.new.engine.disk) }
+    ensures leaves { D.honest shared.new.engine.disk → shared.old.engine.failed ≡ false
+        → LeavesWithin D.now D.past shared.old.engine.disk shared.new.engine.disk (MeansGroup shared.old.engine members.now.items) }
+    ensures doubt { D.honest shared.new.engine.disk → shared.old.engine.failed ≡ false
+        → LeavesNow (D.now shared.new.engine.disk) (MeansGroup shared.old.engine members.now.items) }
+    ensures means { D.honest shared.new.engine.disk → shared.new.engine.failed ≡ false
+        → LeavesNow (D.now shared.new.engine.disk) (MeansState shared.new.engine) }
+    ensures honest { D.honest shared.new.engine.disk → D.honest shared.old.engine.disk }
 {
     let mut served = ArrayVec::new();
-    serve_members(
-        &mut shared.engine,
-        shared.log.room(),
-        members,
-        &mut served,
-    );
+    serve_members(&mut shared.engine, shared.log.room(), members, &mut served);
     keep_all(&mut shared.log, members.as_slice(), served.as_slice());
 }
 
 // Serves all that is asked and whose answer has a free place, group by group.
-fn serve_asked<D: Disk, K: Name, R: Wait>(
-    rt: &R,
-    shared: &mut Shared<D, K>,
-    inbox: &Mutex<Inbox>,
-) {
+fn serve_asked<D: Disk, K: Name, R: Wait>(rt: &R, shared: &mut Shared<D, K>, inbox: &Mutex<Inbox>) {
     let mut from = 0;
     for _ in 0..shared.log.elements() {
         let room = shared.log.room();

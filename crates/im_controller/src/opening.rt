@@ -138,14 +138,6 @@ impl<D: Disk> Opening<D> {
             left: ports,
             ports,
         };
-        Controller::over(
-            engine,
-            log,
-            servers,
-            reserve,
-            inbox,
-            turns,
-            ports as usize,
-        )
+        Controller::over(engine, log, servers, reserve, inbox, turns, ports as usize)
     }
 }
