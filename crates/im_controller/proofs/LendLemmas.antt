@@ -19,9 +19,13 @@ data Told (m : Contents) (command : Command) (answer : Result Outcome Refusal) (
   Passes : answer ≡ (step m command).answer → (step m command).contents ≡ m → after ≡ m → Told m command answer after
   Refuses : leaves_line answer ≡ false → after ≡ m → Told m command answer after
 
-ok-leaves : (answer : Result Outcome Refusal) → IsOk answer → leaves_line answer ≡ true
+pub ok-leaves : (answer : Result Outcome Refusal) → IsOk answer → leaves_line answer ≡ true
 ok-leaves (Ok outcome) is = refl
 ok-leaves (Err refusal) is = absurd (true_false (sym is))
+
+pub same_by : (b : Bool) (m n : Contents) → n ≡ m → m ≡ (if b then n else m)
+same_by true m n is = sym is
+same_by false m n is = refl
 
 module _ {D : Type 0} (old new : EngineState D) (command : Command) (answer : Result Outcome Refusal) (a : Answered old command answer new) (alive : old.failed ≡ false) where
   told-put : is_accepted old.memory command ≡ true → (n : ℕ) → old.room ≡ n → Told old.memory command answer new.memory
@@ -41,10 +45,6 @@ module _ {D : Type 0} (old new : EngineState D) (command : Command) (answer : Re
   answer_so (Steps is left after) told = is
   answer_so (Passes is stays after) told = is
   answer_so (Refuses none after) told = absurd (true_false (sym told ∙ none))
-
-  same_by : (b : Bool) (m n : Contents) → n ≡ m → m ≡ (if b then n else m)
-  same_by true m n is = sym is
-  same_by false m n is = refl
 
   memory_so : Told old.memory command answer new.memory → new.memory ≡ memory_after old.memory (Commands command) answer
   memory_so (Steps is left after) = after ∙ sym (ap (λ b. if b then (step old.memory command).contents else old.memory) left)

@@ -20,7 +20,7 @@ use Rattle.im_controller.specs.Lines.{Counts, EndsIn, EndsInAll, leaves_line, li
 use Rattle.im_controller.specs.Log.{UnclaimedState, LogState, IsProof, IsProofIn, unclaimed_lines, with_line, with_unclaimed, without_unclaimed, AreFree, IsLog}
 
 -- the line of a call, if it leaves one
-abbrev lines_by : Bool → Call → Result Outcome Refusal → List Line
+abbrev pub lines_by : Bool → Call → Result Outcome Refusal → List Line
 lines_by b call answer = if b then line_of call answer ∷ [] else []
 
 -- what a trace with the line of an answer more comes to

@@ -4,3 +4,4 @@ pub mod Servers
 pub mod State
 pub mod Lends
 pub mod Waits
+pub mod Groups

@@ -5,9 +5,12 @@ ghost use Rattle.im_types.specs.Trace.{end_of, IsLegal};
 ghost use Rattle.im_types.specs.declared.commands.Call.TheVariants.{Command as Commands};
 ghost use Rattle.im_controller.specs.Lines.{EndsIn, line_of, lines_of, counts_after};
 ghost use Rattle.im_controller.specs.Log.{plain};
+ghost use Rattle.im_controller.specs.Groups.{Holds};
 
 use crate::bell::Bell;
 use crate::books::{Reserve, Tally};
+use crate::groups::hold;
+use crate::inbox::Inbox;
 use crate::log::Log;
 use crate::name::Name;
 use crate::ports::Port;
@@ -17,17 +20,18 @@ use crate::shared::{Kept, Shared, Sleepers, keep_once, lend, make_server, mark_e
 use crate::turns::Turns;
 use im_disk::Disk;
 use im_engine::Engine;
-use im_types::{Command, Refusal};
+use im_types::{Command, Refusal, Request};
 use std::sync::{Mutex, MutexGuard, Wait};
 
-/// The lock round an engine and its trace, the queue before the lock, and two bells beside it: one for servers that
-/// wait, one for the thread that keeps checkpoints.
+/// The lock round an engine and its trace, the queue before the lock, the inbox with a lock of its own, and two bells:
+/// one for servers that wait, one for the thread that keeps checkpoints.
 ///
 /// The lock is taken in the queue's order, is never held while the queue or a bell is waited for, and a bell is rung
-/// after the lock was let go.
+/// after the lock was let go. The inbox's lock is never held while another is asked for.
 #[derive(Drop)]
 pub struct Controller<D: Disk, K: Name> {
     pub(crate) shared: Mutex<Shared<D, K>>,
+    inbox: Mutex<Inbox>,
     pub(crate) turns: Turns,
     pub(crate) answers: Bell,
     pub(crate) work: Bell,
@@ -41,6 +45,7 @@ impl<D: Disk, K: Name> Controller<D, K> {
         log: Log<K>,
         servers: Servers,
         reserve: Reserve<K>,
+        inbox: Inbox,
         turns: Turns,
         keeper: usize,
     ) -> Controller<D, K>
@@ -55,6 +60,7 @@ impl<D: Disk, K: Name> Controller<D, K> {
                 ended: false,
                 idle: false,
             }),
+            inbox: Mutex::new(inbox),
             turns,
             answers: Bell::new(),
             work: Bell::new(),
@@ -136,6 +142,30 @@ impl<D: Disk, K: Name> Controller<D, K> {
         let turn = self.turns.wait(rt, place as usize);
         let mut guard = self.shared.lock(rt);
         let answer = lend(&mut *guard, tally, command);
+        let sleepers = who_sleeps(&mut *guard);
+        let _lock = MutexGuard::unlock(guard);
+        self.turns.pass_on(rt, turn);
+        self.wake(rt, sleepers);
+        answer
+    }
+
+    // Puts a request into the inbox.
+    pub(crate) fn ask<R: Wait>(&self, rt: &R, request: &Request) {
+        self.inbox.lock(rt).ask(request);
+    }
+
+    // Holds the lock once for a port that has asked, in the queue's order: the answer to its request, if it has one now.
+    pub(crate) fn serve_all<R: Wait>(
+        &self,
+        rt: &R,
+        tally: &mut Tally<K>,
+        request: &Request,
+    ) -> Option<Result<Receipt<K>, Refusal>>
+        ensures holds { Holds K.marks tally.old request.now result tally.new }
+    {
+        let turn = self.turns.wait(rt, request.element as usize);
+        let mut guard = self.shared.lock(rt);
+        let answer = hold(rt, &mut *guard, &self.inbox, tally, request);
         let sleepers = who_sleeps(&mut *guard);
         let _lock = MutexGuard::unlock(guard);
         self.turns.pass_on(rt, turn);

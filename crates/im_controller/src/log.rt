@@ -13,6 +13,7 @@ use crate::name::Name;
 use crate::receipts::{Found, Receipt};
 use im_types::{Call, Command, Entry, Line, Outcome, Refusal, Request};
 use std::alloc::{AllocError, Global};
+use std::cmp::min;
 use std::marker::{Model, PhantomData};
 use std::snapshot::Snapshot;
 
@@ -71,6 +72,21 @@ impl<K: Name> Log<K> {
         ensures few { length self.now.trace ≤ self.now.limit }
     {
         self.limit - self.trace.len()
+    }
+
+    // How many elements have a place: there are no more than 65,535.
+    pub(crate) fn elements(&self) -> u16 {
+        min(self.places.len(), 65535) as u16
+    }
+
+    // Whether an element has a place in which no answer waits.
+    pub(crate) fn is_free(&self, element: u16) -> bool
+        ensures { result ≡ true → slice_get self.now.places element ≡ Some None }
+    {
+        match self.places.as_slice().get(element as usize) {
+            Some(place) => place.is_none(),
+            None => false,
+        }
     }
 
     // Leaves the line of a call whose port is told the answer at once, if the answer leaves one.

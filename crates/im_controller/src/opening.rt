@@ -5,6 +5,7 @@ ghost use Rattle.im_controller.specs.Log.{AreFree};
 
 use crate::books::{Books, Reserve};
 use crate::controller::Controller;
+use crate::inbox::Inbox;
 use crate::log::{Log, Unclaimed, free_places};
 use crate::name::{Lines, Marked, Name};
 use crate::servers::Servers;
@@ -51,6 +52,7 @@ struct Parts {
     limit: usize,
     places: Vec<Option<Unclaimed>>,
     servers: Servers,
+    inbox: Inbox,
     turns: Turns,
     ports: u64,
 }
@@ -66,13 +68,14 @@ fn make_parts(alloc: Global, trace_room: usize, elements: u16) -> Result<Parts, 
         limit: trace_room,
         places: free_places(alloc, elements)?,
         servers: Servers::new(alloc, elements)?,
+        inbox: Inbox::new(alloc, elements)?,
         turns: Turns::new(alloc, elements as usize + 1)?,
         ports: u64::from(elements),
     })
 }
 
-/// Makes room for a trace of so many lines, 48 bytes each, for a server of each element, and for the ledgers that count
-/// the lines. `NoMemory`, with the engine as it was, where `alloc` refuses it.
+/// Makes room for a trace of so many lines, 48 bytes each, for the server, the request and the answer of each element,
+/// and for the ledgers that count the lines. `NoMemory`, with the engine as it was, where `alloc` refuses it.
 pub fn start<D: Disk + Drop>(
     alloc: Global,
     engine: Engine<D>,
@@ -114,6 +117,7 @@ impl<D: Disk> Opening<D> {
             limit,
             places,
             servers,
+            inbox,
             turns,
             ports,
         } = parts;
@@ -134,6 +138,6 @@ impl<D: Disk> Opening<D> {
             left: ports,
             ports,
         };
-        Controller::over(engine, log, servers, reserve, turns, ports as usize)
+        Controller::over(engine, log, servers, reserve, inbox, turns, ports as usize)
     }
 }

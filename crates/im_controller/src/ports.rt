@@ -35,8 +35,9 @@ impl<K: Name> Model for Port<K> {
 }
 
 impl<K: Name> Port<K> {
-    /// Asks for an operation under a number of this element, and waits until it is answered. Refused as by
-    /// [`lend`](crate::lend): `Failed`, `TraceFull`, a refusal of numbers, `JournalFull`, `Device`.
+    /// Asks for an operation under a number of this element, and waits until it is answered, by this port or by another
+    /// that serves it in a group. Refused as by [`lend_group`](crate::lend_group): `Failed`, `TraceFull`, a refusal of
+    /// numbers, `JournalFull`, `Device`.
     pub fn submit<D: Disk, R: Wait>(
         &mut self,
         rt: &R,
@@ -57,12 +58,13 @@ impl<K: Name> Port<K> {
             number,
             op,
         };
-        controller.serve(
-            rt,
-            self.element,
-            &mut self.tally,
-            &Command::Request(request),
-        )
+        controller.ask(rt, &request);
+        for _ in rt.forever() {
+            if let Some(answer) = controller.serve_all(rt, &mut self.tally, &request) {
+                return answer;
+            }
+        }
+        unreachable!()
     }
 
     /// Confirms this element's entries below a number, which are forgotten. Refused as by [`lend`](crate::lend):

@@ -1,0 +1,138 @@
+-- Groups of requests under the lock: how they are taken out of the inbox, and what lending one does. (Own.)
+use Rattle.std.specs.Prelude.{◌≡◌, ℕ, ◌+◌, ◌<◌, ◌≤◌, ◌==◌, List, [], ◌∷◌, Bool, true, false, Option, None, Some, Result, Ok, Err, length, map, slice_get, if◌then◌else◌}
+use Rattle.im_types.specs.declared.operations.Op.{Op}
+use Rattle.im_types.specs.declared.operations.Op.TheVariants.{Alloc, Release, Fetch, Store, Take, Put}
+use Rattle.im_types.specs.declared.commands.Command.TheVariants.{Request as Asks}
+use Rattle.im_types.specs.declared.commands.Request.{Request}
+use Rattle.im_types.specs.declared.commands.Outcome.{Outcome}
+use Rattle.im_types.specs.declared.commands.Call.TheVariants.{Command as Commands}
+use Rattle.im_types.specs.declared.commands.Line.{Line}
+use Rattle.im_types.specs.declared.groups.Served.{Served}
+use Rattle.im_types.specs.declared.groups.Served.TheVariants.{Unserved, Done, Refused}
+use Rattle.im_types.specs.declared.refusals.Refusal.{Refusal}
+use Rattle.im_types.specs.declared.refusals.Refusal.TheVariants.{NoMemory, TraceFull}
+use Rattle.im_types.specs.Contents.{Contents}
+use Rattle.im_types.specs.Trace.{answer_to}
+use Rattle.im_types.specs.Groups.{AreApart}
+use Rattle.im_engine.specs.State.{EngineState}
+use Rattle.im_engine.specs.Groups.{GroupAnswered, all_refused}
+use Rattle.im_controller.specs.Lines.{Counts, leaves_line, lines_of, memory_after, counts_after}
+use Rattle.im_controller.specs.Log.{ReceiptState, UnclaimedState, LogState, plain, IsOf, with_unclaimed}
+use Rattle.im_controller.specs.State.{SharedState}
+
+-- ---- which requests may be one group
+
+-- whether an operation is served with others: one that makes or gives back a block stands alone
+abbrev pub is_social : Op → Bool
+is_social (Alloc kind n) = false
+is_social (Release base) = false
+is_social (Fetch a) = true
+is_social (Store a v) = true
+is_social (Take a) = true
+is_social (Put a v) = true
+
+-- the address that an operation stores at
+abbrev pub stored_at : Op → Option ℕ
+stored_at (Alloc kind n) = None
+stored_at (Release base) = None
+stored_at (Fetch a) = None
+stored_at (Store a v) = Some a
+stored_at (Take a) = None
+stored_at (Put a v) = None
+
+-- two operations don't store at one address
+abbrev pub are_apart_at : Option ℕ → Option ℕ → Bool
+are_apart_at None b = true
+are_apart_at (Some a) None = true
+are_apart_at (Some a) (Some b) = if a == b then false else true
+
+-- whether the later of two operations may be served in one group with the earlier
+abbrev pub are_together : Op → Op → Bool
+are_together earlier later = if is_social earlier then (if is_social later then are_apart_at (stored_at earlier) (stored_at later) else false) else false
+
+-- an operation may stand in a group behind these requests
+abbrev pub MayJoin : Op → List Request → Type 0
+MayJoin op [] = Unit {0}
+MayJoin op (r ∷ rs) = (are_together r.op op ≡ true) × MayJoin op rs
+
+-- these may stand behind an operation
+abbrev pub MayFollow : Op → List Request → Type 0
+MayFollow op [] = Unit {0}
+MayFollow op (r ∷ rs) = (are_together op r.op ≡ true) × MayFollow op rs
+
+-- the requests may be one group: one that makes or gives back a block stands alone, and no two store at one address
+abbrev pub IsCut : List Request → Type 0
+IsCut [] = Unit {0}
+IsCut (r ∷ rs) = MayFollow r.op rs × IsCut rs
+
+-- each of the requests is of an element below this one
+abbrev pub AreBelow : ℕ → List Request → Type 0
+AreBelow element [] = Unit {0}
+AreBelow element (r ∷ rs) = (r.element < element) × AreBelow element rs
+
+-- the place of each request's element is free
+abbrev pub AreFreeFor : List (Option UnclaimedState) → List Request → Type 0
+AreFreeFor places [] = Unit {0}
+AreFreeFor places (r ∷ rs) = (slice_get places r.element ≡ Some None) × AreFreeFor places rs
+
+-- a group of requests of elements below this one, whose answers have free places
+pub record Gathers (places : List (Option UnclaimedState)) (element : ℕ) (rs : List Request) : Type 0 where
+  pub apart : AreApart rs
+  pub free : AreFreeFor places rs
+  pub below : AreBelow element rs
+  pub cut : IsCut rs
+
+-- ---- what the members are answered
+
+-- what a member was answered
+abbrev pub answer_in : Served → Result Outcome Refusal
+answer_in (Done outcome) = Ok outcome
+answer_in (Refused refusal) = Err refusal
+answer_in Unserved = Err NoMemory
+
+-- the log with the answers to these requests, one after another
+abbrev pub with_all_unclaimed : LogState → List Request → List (Result Outcome Refusal) → LogState
+with_all_unclaimed l [] answers = l
+with_all_unclaimed l (r ∷ rs) [] = l
+with_all_unclaimed l (r ∷ rs) (answer ∷ answers) = with_all_unclaimed (with_unclaimed l r answer) rs answers
+
+-- an answer that leaves a line is the memory's
+abbrev pub IsAnswerTo : Contents → Request → Result Outcome Refusal → Type 0
+IsAnswerTo m r answer = leaves_line answer ≡ true → answer ≡ answer_to m (Commands (Asks r))
+
+-- so are these, each at the memory after those before it
+abbrev pub AreAnswersTo : Contents → List Request → List (Result Outcome Refusal) → Type 0
+AreAnswersTo m [] answers = Unit {0}
+AreAnswersTo m (r ∷ rs) [] = ⊥
+AreAnswersTo m (r ∷ rs) (answer ∷ answers) = IsAnswerTo m r answer × AreAnswersTo (memory_after m (Commands (Asks r)) answer) rs answers
+
+-- the memory after them
+abbrev pub memory_after_all : Contents → List Request → List (Result Outcome Refusal) → Contents
+memory_after_all m [] answers = m
+memory_after_all m (r ∷ rs) [] = m
+memory_after_all m (r ∷ rs) (answer ∷ answers) = memory_after_all (memory_after m (Commands (Asks r)) answer) rs answers
+
+-- how many lines the answers leave
+abbrev pub lines_left : List (Result Outcome Refusal) → ℕ
+lines_left [] = 0
+lines_left (answer ∷ answers) = (if leaves_line answer then 1 else 0) + lines_left answers
+
+-- The members' answers, with room for so many lines: `TraceFull` where there is none, unless the engine has failed; else the engine's.
+pub record MembersAnswered {D : Type 0} (old : EngineState D) (room : ℕ) (members : List Request) (answers : List Served) (new : EngineState D) : Type 0 where
+  pub full : old.failed ≡ false → room ≡ 0 → (answers ≡ all_refused TraceFull members) × (new ≡ old)
+  pub dead : old.failed ≡ true → GroupAnswered old members answers new
+  pub served : 0 < room → GroupAnswered old members answers new
+
+-- A group that is lent to the engine: its members' commands lent one after another, but that their ports take the answers later, and count the lines then.
+pub record LendsGroup {D : Type 0} (s : SharedState D) (members : List Request) (s' : SharedState D) : Type 0 where
+  pub answers : List Served
+  pub full : s.engine.failed ≡ false → s.log.limit ≤ length s.log.trace → (answers ≡ all_refused TraceFull members) × (s'.engine ≡ s.engine)
+  pub dead : s.engine.failed ≡ true → GroupAnswered s.engine members answers s'.engine
+  pub served : length s.log.trace < s.log.limit → GroupAnswered s.engine members answers s'.engine
+  pub log : s'.log ≡ with_all_unclaimed s.log members (map answer_in answers)
+  pub servers : s'.servers ≡ s.servers
+
+-- what a port has of one holding of the lock: nothing yet, or the answer to its request, whose line is counted
+abbrev pub Holds : (Line → Bool) → Counts → Request → Option (Result ReceiptState Refusal) → Counts → Type 0
+Holds marks t r None t' = t' ≡ t
+Holds marks t r (Some answer) t' = (t' ≡ counts_after marks t (lines_of (Commands (Asks r)) (plain answer))) × IsOf (Asks r) answer

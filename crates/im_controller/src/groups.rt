@@ -1,0 +1,152 @@
+//! Groups of requests that the engine is lent to, and whose answers wait for their ports.
+ghost use Rattle.std.specs.Prelude.{◌≡◌, ◌<◌, ◌≤◌, ◌+◌, ◌-◌, [], false, length, map};
+ghost use Rattle.im_types.specs.declared.refusals.Refusal.TheVariants.{TraceFull};
+ghost use Rattle.im_types.specs.Trace.{end_of};
+ghost use Rattle.im_types.specs.Groups.{AreApart};
+ghost use Rattle.im_disk.specs.Since.{LeavesWithin, LeavesNow, CallsAtMost};
+ghost use Rattle.im_engine.specs.State.{MeansState};
+ghost use Rattle.im_engine.specs.Groups.{all_refused, group_put, calls_for_group, MeansGroup, GroupFaults};
+ghost use Rattle.im_controller.specs.Groups.{answer_in, with_all_unclaimed, AreAnswersTo, memory_after_all, lines_left};
+ghost use Rattle.im_controller.specs.Groups.{AreFreeFor, MembersAnswered, LendsGroup, Holds};
+
+use crate::books::Tally;
+use crate::inbox::Inbox;
+use crate::log::Log;
+use crate::name::Name;
+use crate::receipts::Receipt;
+use crate::shared::Shared;
+use arrayvec::ArrayVec;
+use im_disk::Disk;
+use im_engine::Engine;
+use im_types::{Outcome, Refusal, Request, Served};
+use std::sync::{Mutex, Wait};
+
+// What a member was answered.
+fn answer_in(served: Served) -> Result<Outcome, Refusal>
+    ensures { result ≡ answer_in served }
+{
+    match served {
+        Served::Done(outcome) => Ok(outcome),
+        Served::Refused(refusal) => Err(refusal),
+        Served::Unserved => Err(Refusal::NoMemory),
+    }
+}
+
+// Keeps the members' answers for their ports, one after another.
+fn keep_all<K: Name>(log: &mut Log<K>, members: &[Request], served: &[Served])
+    requires whole { length served.now ≡ length members.now }
+    requires are_so { AreAnswersTo (end_of K.memory log.old.trace) members.now (map answer_in served.now) }
+    requires apart { AreApart members.now }
+    requires free { AreFreeFor log.old.places members.now }
+    requires room { length log.old.trace + lines_left (map answer_in served.now) ≤ log.old.limit }
+    ensures log { log.new ≡ with_all_unclaimed log.old members.now (map answer_in served.now) }
+    ensures end { end_of K.memory log.new.trace
+        ≡ memory_after_all (end_of K.memory log.old.trace) members.now (map answer_in served.now) }
+{
+    for i in 0..members.len() {
+        log.keep(&members[i], answer_in(served[i]));
+    }
+}
+
+// Refuses so many members for want of room in the trace.
+fn refuse_for_room(members: &[Request], served: &mut ArrayVec<Served, 16>)
+    requires fits { length members.now ≤ 16 }
+    requires empty { served.old.items ≡ [] }
+    ensures { served.new.items ≡ all_refused TraceFull members.now }
+{
+    for _i in 0..members.len() {
+        served.push(Served::Refused(Refusal::TraceFull));
+    }
+}
+
+// What the members are answered, where the trace has room for so many lines.
+fn serve_members<D: Disk>(
+    engine: &mut Engine<D>,
+    room: usize,
+    members: &ArrayVec<Request, 16>,
+    served: &mut ArrayVec<Served, 16>,
+)
+    requires apart { AreApart members.now.items }
+    requires empty { served.old.items ≡ [] }
+    ensures answered { MembersAnswered engine.old room members.now.items served.new.items engine.new }
+    ensures few { D.honest engine.new.disk → CallsAtMost D.past engine.old.disk engine.new.disk
+        (calls_for_group (length (group_put engine.old members.now.items))) }
+    ensures faults { GroupFaults engine.old.failed engine.new.failed (D.failures engine.old.disk) (D.failures engine.new.disk) }
+    ensures leaves { D.honest engine.new.disk → engine.old.failed ≡ false
+        → LeavesWithin D.now D.past engine.old.disk engine.new.disk (MeansGroup engine.old members.now.items) }
+    ensures doubt { D.honest engine.new.disk → engine.old.failed ≡ false
+        → LeavesNow (D.now engine.new.disk) (MeansGroup engine.old members.now.items) }
+    ensures means { D.honest engine.new.disk → engine.new.failed ≡ false
+        → LeavesNow (D.now engine.new.disk) (MeansState engine.new) }
+    ensures honest { D.honest engine.new.disk → D.honest engine.old.disk }
+{
+    if !engine.failed() && room == 0 {
+        return refuse_for_room(members.as_slice(), served);
+    }
+    // A stop in it leaves all that the group puts on the disk, or nothing of it: no answer is given before.
+    engine.serve_group(members, served);
+}
+
+/// Lends the engine to the requests of a group: what [`lend`](crate::lend) of each would answer, one after another, but
+/// that the answers wait for their ports, and their lines are counted when the ports take them. It takes no memory.
+///
+/// `Failed` for all where the engine has failed, `TraceFull` for all where the trace has no room left, and then what
+/// [`Engine::serve_group`] answers each: a refusal of numbers; `JournalFull`; `Device` for all, with no line, after
+/// which the engine has failed.
+pub fn lend_group<D: Disk, K: Name>(shared: &mut Shared<D, K>, members: &ArrayVec<Request, 16>)
+    requires apart { AreApart members.now.items }
+    requires free { AreFreeFor shared.old.log.places members.now.items }
+    requires room { length shared.old.log.trace < shared.old.log.limit
+        → length shared.old.log.trace + length members.now.items ≤ shared.old.log.limit }
+    ensures lends { LendsGroup shared.old members.now.items shared.new }
+    // What the disk is left with, as by the engine alone.
+    ensures few { D.honest shared.new.engine.disk → CallsAtMost D.past shared.old.engine.disk shared.new.engine.disk
+        (calls_for_group (length (group_put shared.old.engine members.now.items))) }
+    ensures faults { GroupFaults shared.old.engine.failed shared.new.engine.failed (D.failures shared.old.engine.disk) (D.failures shared.new.engine.disk) }
+    ensures leaves { D.honest shared.new.engine.disk → shared.old.engine.failed ≡ false
+        → LeavesWithin D.now D.past shared.old.engine.disk shared.new.engine.disk (MeansGroup shared.old.engine members.now.items) }
+    ensures doubt { D.honest shared.new.engine.disk → shared.old.engine.failed ≡ false
+        → LeavesNow (D.now shared.new.engine.disk) (MeansGroup shared.old.engine members.now.items) }
+    ensures means { D.honest shared.new.engine.disk → shared.new.engine.failed ≡ false
+        → LeavesNow (D.now shared.new.engine.disk) (MeansState shared.new.engine) }
+    ensures honest { D.honest shared.new.engine.disk → D.honest shared.old.engine.disk }
+{
+    let mut served = ArrayVec::new();
+    serve_members(&mut shared.engine, shared.log.room(), members, &mut served);
+    keep_all(&mut shared.log, members.as_slice(), served.as_slice());
+}
+
+// Serves all that is asked and whose answer has a free place, group by group.
+fn serve_asked<D: Disk, K: Name, R: Wait>(rt: &R, shared: &mut Shared<D, K>, inbox: &Mutex<Inbox>) {
+    let mut from = 0;
+    for _ in 0..shared.log.elements() {
+        let room = shared.log.room();
+        let most = if room == 0 { 16 } else { room };
+        let group = inbox.lock(rt).next_group(&shared.log, from, most);
+        if group.next == from {
+            break;
+        }
+        from = group.next;
+        if !group.members.is_empty() {
+            lend_group(shared, &group.members);
+        }
+    }
+}
+
+// One holding of the lock by a port that has asked: the answer to its request, where that waits, and else once all that
+// is asked was served.
+pub(crate) fn hold<D: Disk, K: Name, R: Wait>(
+    rt: &R,
+    shared: &mut Shared<D, K>,
+    inbox: &Mutex<Inbox>,
+    tally: &mut Tally<K>,
+    request: &Request,
+) -> Option<Result<Receipt<K>, Refusal>>
+    ensures holds { Holds K.marks tally.old request.now result tally.new }
+{
+    if let Some(answer) = shared.log.claim(tally, request.element, request) {
+        return Some(answer);
+    }
+    serve_asked(rt, shared, inbox);
+    shared.log.claim(tally, request.element, request)
+}

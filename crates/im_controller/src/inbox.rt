@@ -1,0 +1,177 @@
+//! Requests that ask to be served: a place for each element, under a lock of its own.
+ghost use Rattle.std.specs.Prelude.{◌≡◌, ◌≤◌, ◌<◌, ◌+◌, true, length, IfSome};
+ghost use Rattle.im_types.specs.Groups.{AreApart};
+ghost use Rattle.im_controller.specs.Groups.{is_social, stored_at, are_apart_at, are_together, MayJoin, IsCut};
+ghost use Rattle.im_controller.specs.Groups.{AreFreeFor, Gathers};
+
+use crate::log::Log;
+use crate::name::Name;
+use arrayvec::ArrayVec;
+use im_types::{Op, Request};
+use std::alloc::{AllocError, Global};
+
+// What an element asks; the element is the place's.
+#[derive(Clone, Copy)]
+struct Asked {
+    number: u64,
+    op: Op,
+}
+
+// What the elements ask.
+#[derive(Drop)]
+pub(crate) struct Inbox {
+    places: Vec<Option<Asked>>,
+}
+
+// A group out of the inbox, and the first element that wasn't looked at.
+#[derive(Drop)]
+pub(crate) struct NextGroup {
+    pub(crate) members: ArrayVec<Request, 16>,
+    pub(crate) next: u16,
+}
+
+// Whether an operation is served with others.
+fn is_social(op: Op) -> bool
+    ensures { result ≡ is_social op }
+{
+    match op {
+        Op::Alloc(_, _) => false,
+        Op::Release(_) => false,
+        Op::Fetch(_) => true,
+        Op::Store(_, _) => true,
+        Op::Take(_) => true,
+        Op::Put(_, _) => true,
+    }
+}
+
+// The address that an operation stores at.
+fn stored_at(op: Op) -> Option<u32>
+    ensures { result ≡ stored_at op }
+{
+    match op {
+        Op::Alloc(_, _) => None,
+        Op::Release(_) => None,
+        Op::Fetch(_) => None,
+        Op::Store(at, _) => Some(at),
+        Op::Take(_) => None,
+        Op::Put(_, _) => None,
+    }
+}
+
+// Whether these aren't one address.
+fn are_apart_at(earlier: Option<u32>, later: Option<u32>) -> bool
+    ensures { result ≡ are_apart_at earlier later }
+{
+    match earlier {
+        None => true,
+        Some(a) => match later {
+            None => true,
+            Some(b) => a != b,
+        },
+    }
+}
+
+// Whether an operation may be served in one group with an earlier one.
+fn are_together(earlier: Op, later: Op) -> bool
+    ensures { result ≡ are_together earlier later }
+{
+    if is_social(earlier) && is_social(later) {
+        return are_apart_at(stored_at(earlier), stored_at(later));
+    }
+    false
+}
+
+// Whether an operation may stand in a group behind these requests.
+fn may_join(op: Op, members: &[Request]) -> bool
+    ensures { result ≡ true → MayJoin op members.now }
+{
+    for member in members {
+        if !are_together(member.op, op) {
+            return false;
+        }
+    }
+    true
+}
+
+impl Inbox {
+    // Places for so many elements, of which none asks.
+    pub(crate) fn new(alloc: Global, elements: u16) -> Result<Inbox, AllocError> {
+        let mut places = Vec::with_capacity(alloc, elements as usize)?;
+        for _ in 0..elements {
+            places.push(None)?;
+        }
+        Ok(Inbox { places })
+    }
+
+    // Asks for a request to be served.
+    pub(crate) fn ask(&mut self, request: &Request) {
+        if let Some(place) = self.places.get_mut(request.element as usize) {
+            *place = Some(Asked {
+                number: request.number,
+                op: request.op,
+            });
+        }
+    }
+
+    // Takes out what an element asks.
+    fn take(&mut self, element: u16) -> Option<Request>
+        ensures { IfSome result (λ r. r.element ≡ element) }
+    {
+        let asked = self.places.get_mut(element as usize)?.take()?;
+        Some(Request {
+            element,
+            number: asked.number,
+            op: asked.op,
+        })
+    }
+
+    // Adds what an element asks to a group, where its answer has a free place, and says whether the group may go on: not
+    // where the request has to wait for the next one.
+    #[tactic(auto, using(crate::proofs::Gathering::gathers_weaker, crate::proofs::Gathering::gathers_push))]
+    fn gather<K: Name>(
+        &mut self,
+        log: &Log<K>,
+        element: u16,
+        members: &mut ArrayVec<Request, 16>,
+    ) -> bool
+        requires room { length members.old.items < 16 }
+        requires before { Gathers log.now.places element members.old.items }
+        ensures gathered { Gathers log.now.places (element + 1) members.new.items }
+        ensures few { length members.new.items ≤ length members.old.items + 1 }
+    {
+        if !log.is_free(element) {
+            return true;
+        }
+        let Some(request) = self.take(element) else {
+            return true;
+        };
+        if !may_join(request.op, members.as_slice()) {
+            self.ask(&request);
+            return false;
+        }
+        members.push(request);
+        true
+    }
+
+    // Takes out the next group, of so many members at most: what is asked from an element on, in the elements' order, as
+    // far as its answers have free places.
+    pub(crate) fn next_group<K: Name>(&mut self, log: &Log<K>, from: u16, most: usize) -> NextGroup
+        ensures apart { AreApart result.members.items }
+        ensures free { AreFreeFor log.now.places result.members.items }
+        ensures cut { IsCut result.members.items }
+        ensures few { length result.members.items ≤ most }
+    {
+        let mut members = ArrayVec::new();
+        let mut next = from;
+        for element in from..log.elements() {
+            if members.len() >= most || members.len() >= 16 {
+                break;
+            }
+            if !self.gather(log, element, &mut members) {
+                break;
+            }
+            next = element + 1;
+        }
+        NextGroup { members, next }
+    }
+}
