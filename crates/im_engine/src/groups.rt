@@ -9,7 +9,7 @@ ghost use Rattle.im_types.specs.Step.{step, is_accepted};
 ghost use Rattle.im_types.specs.Meaning.{accept_each};
 ghost use Rattle.im_types.specs.Groups.{AreOthers, AreApart, as_served};
 ghost use Rattle.im_disk.specs.Moment.{Moment, Faults};
-ghost use Rattle.im_disk.specs.Since.{LeavesOnly, CallsBy};
+ghost use Rattle.im_disk.specs.Since.{LeavesOnly};
 ghost use Rattle.im_journal.specs.Holding.{JournalState, IsJournal, AllHold, longer};
 ghost use Rattle.im_image.specs.Reading.{HasSizes};
 ghost use Rattle.im_checkpoint.specs.Step.{CheckpointState};

@@ -1,5 +1,5 @@
 // How the bodies of a group of commands are written.
-ghost use Rattle.std.specs.Prelude.{◌≡◌, ◌+◌, ◌*◌, ◌≤◌, ◌<◌, ◌^◌, length, OnOk};
+ghost use Rattle.std.specs.Prelude.{◌≡◌, ◌+◌, ◌*◌, ◌≤◌, length, OnOk};
 ghost use Rattle.im_disk.specs.Moment.{Counts};
 ghost use Rattle.im_disk.specs.Since.{LeavesOnly, CallsBy};
 ghost use Rattle.im_journal.specs.Groups.{count_at, FitsRing, MayWriteBodies, AreWritten};
