@@ -4,8 +4,8 @@ use Rattle.im_types.specs.Sizes.{AreLimits}
 use Rattle.im_disk.specs.Moment.{Moment}
 use Rattle.im_disk.specs.Since.{LeavesNow, ReadsOnly}
 use Rattle.im_image.specs.Fresh.{new_image}
-use Rattle.im_program.specs.Inspecting.{Tells}
-use Rattle.im_program.specs.Serving.{ServedFrom}
+use Rattle.im_report.specs.Inspecting.{Tells}
+use Rattle.im_serial.specs.Serving.{ServedFrom}
 use Rattle.im_program.specs.Words.{Task, demonstration, format, serial, inspect}
 
 -- A task was done on this disk, with this status: its file held the first moment when it was opened, and the writer held

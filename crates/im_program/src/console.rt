@@ -1,11 +1,8 @@
 //! What a person is told on standard error.
 
-use crate::observer::{Observer, Progress};
-use crate::reasons::Reason;
-use crate::replies::make_now;
-use crate::waits::Waited;
 use crate::words::Work;
 use im_disk::OpenFault;
+use im_text::{Observer, Progress, Reason, Waited, make_now};
 use im_types::Entry;
 use std::alloc::Global;
 use std::io::Eprint;

@@ -1,0 +1,252 @@
+//! The place of an image's damage, which is looked for on the disk once the image is refused. No more than reads are made.
+ghost use Rattle.im_disk.specs.Since.{OnlyReads};
+
+use crate::damage::{
+    Damage, RecordOf, bad_block, bad_cell, bad_list, bad_node, bad_padding, bad_window, in_force,
+    of_headers, of_journal,
+};
+use im_disk::Disk;
+use im_image::{
+    Header, PAGE, area_at, area_pages, cell_pages, decode, image_length, journal_at, node_count,
+    node_pages, read_header,
+};
+use im_records::{CELLS_ON_A_PAGE, NODES_ON_A_PAGE, SESSIONS_ON_A_PAGE, read_area};
+use im_types::layout::{CELL_RECORD, NODE_RECORD, SESSION_RECORD, SLOT, cell_bytes, node_bytes};
+use im_types::{Limits, Refusal};
+use std::alloc::Global;
+
+// Reads a part of a file, if it lies in it and can be read.
+fn read_part<D: Disk>(alloc: Global, disk: &mut D, at: usize, len: usize) -> Option<Vec<u8>>
+    ensures reads { D.honest disk.new → OnlyReads D.now D.past disk.old disk.new }
+    ensures honest { D.honest disk.new → D.honest disk.old }
+{
+    let Ok(length) = disk.len() else {
+        return None;
+    };
+    if at > length || len > length - at {
+        return None;
+    }
+    let Ok(mut part) = vec![in alloc; 0; len] else {
+        return None;
+    };
+    // A read changes nothing, so a stop before or within it leaves what was there.
+    match disk.read(at, &mut part) {
+        Ok(()) => Some(part),
+        Err(_) => None,
+    }
+}
+
+// The places of the two headers.
+#[derive(Drop)]
+struct Places {
+    zero: [u8; 64],
+    one: [u8; 64],
+}
+
+// Reads the places of the two headers, where the file has them.
+fn read_headers<D: Disk>(alloc: Global, disk: &mut D) -> Option<Places>
+    ensures reads { D.honest disk.new → OnlyReads D.now D.past disk.old disk.new }
+    ensures honest { D.honest disk.new → D.honest disk.old }
+{
+    let Some(zero) = read_part(alloc, disk, 0, 64) else {
+        return None;
+    };
+    let Some(one) = read_part(alloc, disk, PAGE, 64) else {
+        return None;
+    };
+    Some(Places {
+        zero: *zero.as_array::<64>()?,
+        one: *one.as_array::<64>()?,
+    })
+}
+
+// What is wrong with the length of a file.
+fn of_length<D: Disk>(alloc: Global, disk: &mut D) -> Damage
+    ensures reads { D.honest disk.new → OnlyReads D.now D.past disk.old disk.new }
+    ensures honest { D.honest disk.new → D.honest disk.old }
+{
+    let Ok(found) = disk.len() else {
+        return Damage::Unknown;
+    };
+    match read_headers(alloc, disk) {
+        Some(places) => length_by(&places, found),
+        None => Damage::Short(found),
+    }
+}
+
+// The length that the header in force wants, beside the one that was found.
+fn length_by(places: &Places, found: usize) -> Damage {
+    let header = if in_force(&places.zero, &places.one) == 1 {
+        Header::read(&places.one, 1)
+    } else {
+        Header::read(&places.zero, 0)
+    };
+    match header {
+        Some(header) => Damage::Length(found, image_length(header.limits)),
+        None => Damage::Unknown,
+    }
+}
+
+// What is wrong with the headers of a file.
+fn of_places<D: Disk>(alloc: Global, disk: &mut D) -> Damage
+    ensures reads { D.honest disk.new → OnlyReads D.now D.past disk.old disk.new }
+    ensures honest { D.honest disk.new → D.honest disk.old }
+{
+    match read_headers(alloc, disk) {
+        Some(places) => of_headers(&places.zero, &places.one),
+        None => Damage::Unknown,
+    }
+}
+
+// The area of a header.
+fn read_pages<D: Disk>(alloc: Global, disk: &mut D, header: &Header) -> Option<Vec<u8>>
+    ensures reads { D.honest disk.new → OnlyReads D.now D.past disk.old disk.new }
+    ensures honest { D.honest disk.new → D.honest disk.old }
+{
+    let limits = header.limits;
+    let at = if header.area == 1 {
+        area_at(limits, 1)
+    } else {
+        area_at(limits, 0)
+    };
+    read_part(alloc, disk, at, PAGE * area_pages(limits))
+}
+
+// What is wrong with the pages of the area in force.
+fn of_pages<D: Disk>(alloc: Global, disk: &mut D) -> Damage
+    ensures reads { D.honest disk.new → OnlyReads D.now D.past disk.old disk.new }
+    ensures honest { D.honest disk.new → D.honest disk.old }
+{
+    let Ok(header) = read_header(disk) else {
+        return Damage::Unknown;
+    };
+    match read_pages(alloc, disk, &header) {
+        Some(area) => of_area(alloc, area.as_slice(), header.limits),
+        None => Damage::Unknown,
+    }
+}
+
+// What is wrong with the journal behind the area in force.
+fn of_slots<D: Disk>(alloc: Global, disk: &mut D) -> Damage
+    ensures reads { D.honest disk.new → OnlyReads D.now D.past disk.old disk.new }
+    ensures honest { D.honest disk.new → D.honest disk.old }
+{
+    let Ok(header) = read_header(disk) else {
+        return Damage::Unknown;
+    };
+    let Some(area) = read_pages(alloc, disk, &header) else {
+        return Damage::Unknown;
+    };
+    let limits = header.limits;
+    match read_part(
+        alloc,
+        disk,
+        journal_at(limits),
+        SLOT * limits.slots as usize,
+    ) {
+        Some(ring) => of_ring(alloc, area.as_slice(), ring.as_slice(), &header),
+        None => Damage::Unknown,
+    }
+}
+
+// What is wrong with the slots of a ring, behind this area.
+fn of_ring(alloc: Global, area: &[u8], ring: &[u8], header: &Header) -> Damage {
+    if area.len() != PAGE * area_pages(header.limits) {
+        return Damage::Unknown;
+    }
+    match decode(alloc, area, header.limits) {
+        Ok(mut memory) => of_journal(ring, &mut memory, header.limits.slots, header.count),
+        Err(_) => Damage::Unknown,
+    }
+}
+
+// What is wrong with a part of an area that begins at this page: a record, so many pages behind it, or a byte behind
+// all.
+fn of_part(
+    page: usize,
+    record: Option<(usize, RecordOf)>,
+    padding: Option<usize>,
+) -> Option<Damage> {
+    if let Some((behind, of)) = record {
+        return Some(Damage::Record(page.saturating_add(behind), of));
+    }
+    Some(Damage::Padding(page.saturating_add(padding?)))
+}
+
+// What is wrong with the cells' part.
+fn of_cells(part: &[u8], limits: Limits) -> Option<Damage> {
+    let cells = limits.cells as usize;
+    let bad = bad_cell(part, cells, node_count(limits));
+    let record = bad.map(|at| (at / CELLS_ON_A_PAGE, RecordOf::Cell(at)));
+    of_part(0, record, bad_padding(part, CELL_RECORD * cells))
+}
+
+// What is wrong with the nodes' part.
+fn of_nodes(part: &[u8], limits: Limits) -> Option<Damage> {
+    let nodes = node_count(limits);
+    let record = bad_node(part, nodes).map(|at| (at / NODES_ON_A_PAGE, RecordOf::Node(at)));
+    of_part(
+        cell_pages(limits),
+        record,
+        bad_padding(part, NODE_RECORD * nodes),
+    )
+}
+
+// What is wrong with the windows' part.
+fn of_windows(part: &[u8], limits: Limits) -> Option<Damage> {
+    let elements = limits.elements as usize;
+    let page = cell_pages(limits).saturating_add(node_pages(limits));
+    let record = bad_window(part, elements).map(|at| (
+        at / SESSIONS_ON_A_PAGE,
+        RecordOf::Window(at),
+    ));
+    of_part(page, record, bad_padding(part, SESSION_RECORD * elements))
+}
+
+// What is wrong with the records of an area, each for itself.
+fn of_records(area: &[u8], limits: Limits) -> Option<Damage> {
+    let (cells, behind) = area.split_at_checked(cell_bytes(limits))?;
+    let (nodes, windows) = behind.split_at_checked(node_bytes(limits))?;
+    if let Some(damage) = of_cells(cells, limits) {
+        return Some(damage);
+    }
+    if let Some(damage) = of_nodes(nodes, limits) {
+        return Some(damage);
+    }
+    of_windows(windows, limits)
+}
+
+// What is wrong with an area that shows no memory.
+fn of_area(alloc: Global, area: &[u8], limits: Limits) -> Damage {
+    if let Some(damage) = of_records(area, limits) {
+        return damage;
+    }
+    if area.len() != PAGE * area_pages(limits) {
+        return Damage::Unknown;
+    }
+    let Ok(records) = read_area(alloc, area, limits) else {
+        return Damage::Unknown;
+    };
+    if let Some(at) = bad_block(records.cells()) {
+        return Damage::Blocks(at / CELLS_ON_A_PAGE, at);
+    }
+    match bad_list(records.cells(), records.nodes()) {
+        Some(at) => Damage::List(at / CELLS_ON_A_PAGE, at),
+        None => Damage::Waiters,
+    }
+}
+
+/// Where an image is damaged that was refused so: its place is looked for by reading it again. `Unknown` where a call of
+/// the disk fails, where `alloc` refuses the room for it, or where nothing was damaged.
+pub fn find_damage<D: Disk>(alloc: Global, disk: &mut D, refusal: Refusal) -> Damage
+    ensures reads { D.honest disk.new → OnlyReads D.now D.past disk.old disk.new }
+    ensures honest { D.honest disk.new → D.honest disk.old }
+{
+    match refusal {
+        Refusal::WrongLength => of_length(alloc, disk),
+        Refusal::BadHeader => of_places(alloc, disk),
+        Refusal::BadPage => of_pages(alloc, disk),
+        Refusal::BadRecord => of_slots(alloc, disk),
+        _ => Damage::Unknown,
+    }
+}

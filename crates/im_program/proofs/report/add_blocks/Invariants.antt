@@ -1,7 +1,0 @@
-use Rattle.std.proofs.Common.{◌≡◌, ◌++◌, string_bytes}
-use Rattle.im_types.specs.Contents.{block_at}
-use Rattle.im_program.specs.Report.{block_line, texts_below}
-use Rattle.im_program.proofs.report.add_blocks.Given as goal
-
-abbrev pub invariant-loop-a : goal.invariant-loop-a
-invariant-loop-a l = string_bytes l.out ≡ string_bytes l.fn.out ++ texts_below (λ a. block_line a (block_at l.memory.contents.cells a)) l.a

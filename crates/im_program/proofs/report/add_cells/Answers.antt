@@ -1,8 +1,0 @@
-use Rattle.im_program.proofs.ReportLemmas.{written_none, written_more}
-use Rattle.im_program.proofs.report.add_cells.Goals as goal
-
-pub loop-a-init : goal.loop-a-init
-loop-a-init c = written_none _ _
-
-pub loop-a-preserved : goal.loop-a-preserved
-loop-a-preserved c = written_more _ _ _ _ _ c.loop-a.invariant c.in_ok-add_cell.ensures

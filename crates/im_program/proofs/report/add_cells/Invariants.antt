@@ -1,8 +1,0 @@
-use Rattle.std.proofs.Common.{◌≡◌, ◌++◌, string_bytes}
-use Rattle.im_types.specs.Contents.{held_at, waiters_at}
-use Rattle.im_types.specs.Presences.{presence_in}
-use Rattle.im_program.specs.Report.{cell_line, texts_below}
-use Rattle.im_program.proofs.report.add_cells.Given as goal
-
-abbrev pub invariant-loop-a : goal.invariant-loop-a
-invariant-loop-a l = string_bytes l.out ≡ string_bytes l.fn.out ++ texts_below (λ a. cell_line a (presence_in (held_at l.memory.contents.cells a)) (waiters_at l.memory.contents.cells a)) l.a

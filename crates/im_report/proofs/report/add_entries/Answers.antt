@@ -1,0 +1,12 @@
+use Rattle.std.proofs.Common.{◌++◌, ◌-◌, ◌∙◌, ap, arith, string_bytes}
+use Rattle.im_text.proofs.TextLemmas.{written_none_at, written_more_at}
+use Rattle.im_report.proofs.ReportLemmas.{entry_at}
+use Rattle.im_report.proofs.report.add_entries.Goals as goal
+
+pub loop-number-init : goal.loop-number-init
+loop-number-init c = λ w at from next. written_none_at _ _ _ (omega arith)
+
+pub loop-number-preserved : goal.loop-number-preserved
+loop-number-preserved c = λ w at from next.
+    written_more_at _ (c.loop-number.number - c.args.base) _ _ _ _ (omega arith) (c.loop-number.invariant w at from next)
+    (c.in_ok-add_kept.ensures ∙ ap (λ line. string_bytes c.loop-number.out ++ line) (entry_at c.args.memory.now.contents.windows c.args.element w c.args.base c.loop-number.number c.kept.result at from (omega arith) c.kept.ensures))

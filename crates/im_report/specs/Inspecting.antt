@@ -1,0 +1,16 @@
+-- What inspecting an image tells. (Own.)
+use Rattle.std.specs.Prelude.{ℕ, ◌+◌, List, Option, Ok}
+use Rattle.std.specs.Io.KnownBytes.{Appends}
+use Rattle.im_types.specs.Contents.{Contents}
+use Rattle.im_types.specs.Header.{header_of}
+use Rattle.im_types.specs.Layout.{layout_in_use}
+use Rattle.im_types.specs.Meaning.{Reads}
+use Rattle.im_report.specs.Report.{report_text}
+
+-- The bytes of a file mean a memory, and its report, with the header in force, was written.
+pub record Tells (file : List ℕ) (was now : Option (List ℕ)) : Type 0 where
+  pub memory : Contents
+  pub run : ℕ
+  pub room : ℕ
+  pub reads : Reads layout_in_use file (Ok (record { contents = memory; count = (header_of file).count + run; room = room }))
+  pub added : Appends was now (report_text (header_of file) run room memory)

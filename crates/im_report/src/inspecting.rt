@@ -1,0 +1,72 @@
+//! What an image means, told line by line.
+ghost use Rattle.std.specs.Prelude.{◌≡◌, ◌≤◌, IfOk, OnOk, string_bytes};
+ghost use Rattle.im_image.specs.Headers.{seen};
+ghost use Rattle.im_disk.specs.Since.{ReadsOnly};
+ghost use Rattle.im_report.specs.Inspecting.{Tells};
+ghost use Rattle.im_report.specs.Report.{report_text};
+
+use crate::report::add_report;
+use im_disk::Disk;
+use im_image::{Report, inspect};
+use im_text::{Observer, Reason, diagnose, end, put_through};
+use std::alloc::{AllocError, Global};
+use std::io::Write;
+
+// The text of a report.
+fn text_of(alloc: Global, report: &Report) -> Result<String, AllocError>
+    ensures { IfOk result (λ text. string_bytes text
+        ≡ report_text (seen report.now.header) report.now.run report.now.room report.now.memory.contents) }
+{
+    let mut text = String::new(alloc);
+    match add_report(&mut text, report) {
+        Ok(()) => Ok(text),
+        Err(error) => Err(error),
+    }
+}
+
+/// Writes the report of the image on a disk.
+fn tell<D: Disk, W: Write>(alloc: Global, disk: &mut D, out: &mut W) -> Result<(), Reason>
+    ensures told { OnOk result (D.honest disk.new →
+        Tells (D.now disk.old).bytes (W.contents out.old) (W.contents out.new)) }
+    ensures reads { D.honest disk.new →
+        ReadsOnly (D.now disk.old) (D.now disk.new) (D.past disk.old) (D.past disk.new) }
+    ensures honest { D.honest disk.new → D.honest disk.old }
+{
+    let report = match inspect(alloc, disk) {
+        Ok(report) => report,
+        Err(refusal) => return Err(diagnose(alloc, disk, refusal)),
+    };
+    match text_of(alloc, &report) {
+        Ok(text) => put_through(out, text.as_str()),
+        Err(_) => Err(Reason::Memory),
+    }
+}
+
+/// Tells what the image on a disk means, and gives the disk back. It only reads, the bytes as they are now. The report
+/// goes to `out`, or at last the line `refused N NAME`:
+///
+/// - `version V`, `limits CELLS ELEMENTS SLOTS`, `header H generation G area H count C` of the header in force, and
+///   `journal J room R`: how many commands stand behind it, and the room for more;
+/// - of the memory after those commands, `block BASE KIND LENGTH` for each block, by their bases;
+/// - `cell A full V`, `cell A clashed V` or `cell A waiting K.N ..` for each cell that isn't empty, by their addresses;
+/// - `element K base B kept N` for each element that has asked anything, by their numbers, each followed by
+///   `entry K.N OPERATION -> REPLY` for each request that it keeps, by theirs.
+///
+/// The status is 0, or 1 where something was refused: the image's first fault, as [`inspect`] tells it; `Device` where
+/// a call of the disk failed; `NoMemory` where `alloc` refused the room for the report, of which nothing is written
+/// then; or where a write failed. The observer is told why.
+pub fn inspect_on<D: Disk, W: Write, N: Observer>(
+    alloc: Global,
+    mut disk: D,
+    out: &mut W,
+    observer: &mut N,
+) -> (u8, D)
+    ensures status { result.0 ≤ 1 }
+    ensures told { D.honest result.1 → result.0 ≡ 0 →
+        Tells (D.now disk).bytes (W.contents out.old) (W.contents out.new) }
+    ensures reads { D.honest result.1 → ReadsOnly (D.now disk) (D.now result.1) (D.past disk) (D.past result.1) }
+    ensures honest { D.honest result.1 → D.honest disk }
+{
+    let told = tell(alloc, &mut disk, out);
+    (end(alloc, told, out, observer), disk)
+}

@@ -1,0 +1,7 @@
+//! What an image means, told line by line.
+#![tactic(auto)]
+
+mod inspecting;
+mod report;
+
+pub use inspecting::inspect_on;

@@ -1,0 +1,106 @@
+//! Room for the next request: in the journal, and in its element's window.
+ghost use Rattle.std.specs.Prelude.{◌≡◌, ℕ, false, Ok, IfOk, MatchResult};
+ghost use Rattle.im_types.specs.Window.{bounds};
+ghost use Rattle.im_serial.specs.Serving.{GoesOn, Halts};
+
+use im_checkpoint::TurnDone;
+use im_disk::Disk;
+use im_engine::Engine;
+use im_text::Progress;
+use im_types::layout::MOST_AREA_PAGES;
+use im_types::{Command, Entry, Refusal};
+
+// As many turns as two checkpoints take at the largest sizes, each with its beginning, its pages, its sync, its header
+// and a sweep. The rest of one that is under way and a whole one end with room, or with nothing left to do.
+const MOST_TURNS: usize = 2 * (MOST_AREA_PAGES + 4);
+
+// Counts a checkpoint that was put in force.
+fn count(progress: &mut Progress, done: TurnDone) {
+    if let TurnDone::InForce = done {
+        progress.checkpoints = progress.checkpoints.saturating_add(1);
+    }
+}
+
+// Takes one turn of a checkpoint.
+fn take_turn<D: Disk>(engine: &mut Engine<D>, progress: &mut Progress) -> Result<TurnDone, Refusal>
+    ensures goes { MatchResult result
+        (λ _. GoesOn D.now D.past D.failures D.honest engine.old engine.new)
+        (λ _. Halts D.now D.past D.failures D.honest engine.old engine.new) }
+{
+    match engine.turn() {
+        Ok(done) => {
+            count(progress, done);
+            Ok(done)
+        }
+        Err(refusal) => Err(refusal),
+    }
+}
+
+/// Takes turns of a checkpoint while there is no room for a command, and something is left to do.
+pub fn make_room<D: Disk>(engine: &mut Engine<D>, progress: &mut Progress) -> Result<(), Refusal>
+    ensures goes { MatchResult result
+        (λ _. GoesOn D.now D.past D.failures D.honest engine.old engine.new)
+        (λ _. Halts D.now D.past D.failures D.honest engine.old engine.new) }
+{
+    for _turn in 0..MOST_TURNS {
+        if engine.room() > 0 {
+            return Ok(());
+        }
+        let done = match take_turn(engine, progress) {
+            Ok(done) => done,
+            Err(refusal) => return Err(refusal),
+        };
+        if let TurnDone::Idle = done {
+            return Ok(());
+        }
+    }
+    Ok(())
+}
+
+// Confirms an element's entries below a number.
+fn serve_confirm<D: Disk>(engine: &mut Engine<D>, element: u16, upto: u64) -> Result<(), Refusal>
+    ensures goes { MatchResult result
+        (λ _. GoesOn D.now D.past D.failures D.honest engine.old engine.new)
+        (λ _. Halts D.now D.past D.failures D.honest engine.old engine.new) }
+{
+    match engine.serve(&Command::Confirm { element, upto }) {
+        Ok(_) => Ok(()),
+        Err(refusal) => Err(refusal),
+    }
+}
+
+/// Confirms an element's entries below a number, once there is room for it.
+pub fn confirm<D: Disk>(
+    engine: &mut Engine<D>,
+    progress: &mut Progress,
+    element: u16,
+    upto: u64,
+) -> Result<(), Refusal>
+    ensures goes { MatchResult result
+        (λ _. GoesOn D.now D.past D.failures D.honest engine.old engine.new)
+        (λ _. Halts D.now D.past D.failures D.honest engine.old engine.new) }
+{
+    make_room(engine, progress)?;
+    serve_confirm(engine, element, upto)
+}
+
+/// The first number from `base` on, and before `next`, whose entry still waits. `next`, where none does.
+pub fn first_waiting<D: Disk>(engine: &Engine<D>, element: u16, base: u64, next: u64) -> u64 {
+    for number in base..next {
+        if engine.collect(element, number) == Ok(Entry::Waiting) {
+            return number;
+        }
+    }
+    next
+}
+
+/// The number of an element's next request.
+pub fn next_number<D: Disk>(engine: &Engine<D>, element: u16) -> Result<u64, Refusal>
+    ensures { IfOk result (λ next. engine.now.failed ≡ false
+        → (base : ℕ) × (bounds engine.now.memory.windows element ≡ Ok (base, next))) }
+{
+    match engine.window(element) {
+        Ok((_, next)) => Ok(next),
+        Err(refusal) => Err(refusal),
+    }
+}

@@ -1,0 +1,3 @@
+pub mod TextLemmas
+pub mod WindowLemmas
+pub mod PrintingLemmas

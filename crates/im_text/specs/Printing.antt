@@ -1,0 +1,99 @@
+-- The lines that are printed while a script is served, and how far they were written. (Own.)
+use Rattle.std.specs.Prelude.{◌≡◌, ◌⊎◌, ℕ, ◌≤◌, false, List, [], ◌∷◌, ◌++◌, length, take, codes, decimal, Option, None, Some, Result, Ok, Err, slice_get}
+use Rattle.std.specs.Io.KnownBytes.{Appends}
+use Rattle.im_types.specs.declared.commands.Command.{Command}
+use Rattle.im_types.specs.declared.commands.Command.TheVariants.{Request as Asks, Confirm}
+use Rattle.im_types.specs.declared.commands.Outcome.{Outcome}
+use Rattle.im_types.specs.declared.commands.Outcome.TheVariants.{Entry as Tells, Confirmed}
+use Rattle.im_types.specs.declared.operations.Entry.{Entry}
+use Rattle.im_types.specs.declared.operations.Entry.TheVariants.{Waiting, Answered}
+use Rattle.im_types.specs.declared.operations.Waiter.{Waiter}
+use Rattle.im_types.specs.declared.refusals.Refusal.{Refusal}
+use Rattle.im_types.specs.Refusals.{number_of}
+use Rattle.im_types.specs.Contents.{Contents}
+use Rattle.im_types.specs.Step.{step, asker}
+use Rattle.im_text.specs.declared.lines.Lines.{Lines}
+use Rattle.im_text.specs.declared.replies.Waited.{Waited}
+use Rattle.im_text.specs.Texts.{entry_text, line_feed, texts_below}
+
+-- ---- lines
+
+-- K.N REPLY: a request that was served
+abbrev pub told_line : ℕ → ℕ → Entry → List ℕ
+told_line element number entry = decimal element ++ codes "." ++ decimal number ++ codes " " ++ entry_text entry ++ line_feed
+
+-- K.N now REPLY: a request that had to wait, with its entry as last kept
+abbrev pub now_line : Option Waited → List ℕ
+now_line None = []
+now_line (Some w) = decimal w.element ++ codes "." ++ decimal w.number ++ codes " now " ++ entry_text w.entry ++ line_feed
+
+-- refused N NAME
+abbrev pub refused_line : Refusal → List ℕ → List ℕ
+refused_line refusal name = codes "refused " ++ decimal (number_of refusal) ++ codes " " ++ name ++ line_feed
+
+-- the line of a command by its answer: a confirmation has none
+abbrev pub reply_line : Command → Result Outcome Refusal → List ℕ
+reply_line (Asks r) (Ok (Tells entry)) = told_line r.element r.number entry
+reply_line (Asks r) (Ok Confirmed) = []
+reply_line (Asks r) (Err refusal) = []
+reply_line (Confirm element upto) answer = []
+
+-- the lines of commands, one after another
+abbrev pub replies : Contents → List Command → List ℕ
+replies m [] = []
+replies m (command ∷ commands) = reply_line command (step m command).answer ++ replies (step m command).contents commands
+
+-- who has to wait, by the entry of a request
+abbrev pub waits_if : Waiter → Entry → List Waiter
+waits_if who Waiting = who ∷ []
+waits_if who (Answered reply) = []
+
+-- who has to wait, by a command's answer
+abbrev pub waits_by : Command → Result Outcome Refusal → List Waiter
+waits_by (Asks r) (Ok (Tells entry)) = waits_if (asker r) entry
+waits_by (Asks r) (Ok Confirmed) = []
+waits_by (Asks r) (Err refusal) = []
+waits_by (Confirm element upto) answer = []
+
+-- those of the commands that had to wait, in their order
+abbrev pub waits : Contents → List Command → List Waiter
+waits m [] = []
+waits m (command ∷ commands) = waits_by command (step m command).answer ++ waits (step m command).contents commands
+
+-- whose line it is
+abbrev pub who_of : Waited → Waiter
+who_of w = record { element = w.element; number = w.number }
+
+-- the lines of the first of those that had to wait
+abbrev pub nows : List Waited → ℕ → List ℕ
+nows waited many = texts_below (λ i. now_line (slice_get waited i)) many
+
+-- ---- how far they were written
+
+-- a beginning of the text was written
+abbrev pub Begins : Option (List ℕ) → Option (List ℕ) → List ℕ → Type 0
+Begins old new text = (many : ℕ) × Appends old new (take many text)
+
+-- Of a text, so much was written since the start, and the rest is kept back as long as no write has failed.
+pub record Prints (start now : Option (List ℕ)) (lines : Lines) (text : List ℕ) : Type 0 where
+  pub written : List ℕ
+  pub rest : List ℕ
+  pub split : text ≡ written ++ rest
+  pub there : Appends start now written
+  pub back : lines.broken ≡ false → rest ≡ lines.pending.items
+
+-- no text more
+abbrev pub PrintsOn : Option (List ℕ) → Lines → Option (List ℕ) → Lines → Type 0
+PrintsOn was before is after = (start : Option (List ℕ)) (text : List ℕ) → Prints start was before text → Prints start is after text
+
+-- this text more
+abbrev pub PrintsMore : Option (List ℕ) → Lines → Option (List ℕ) → Lines → List ℕ → Type 0
+PrintsMore was before is after more = (start : Option (List ℕ)) (text : List ℕ) → Prints start was before text → Prints start is after (text ++ more)
+
+-- some of the lines of those that had to wait
+abbrev pub PrintsNows : Option (List ℕ) → Lines → Option (List ℕ) → Lines → List Waited → Type 0
+PrintsNows was before is after waited = (many : ℕ) × (many ≤ length waited) × PrintsMore was before is after (nows waited many)
+
+-- the line of a refusal, or none
+abbrev pub IsLast : List ℕ → Type 0
+IsLast last = (last ≡ []) ⊎ ((refusal : Refusal) × ((name : List ℕ) × (last ≡ refused_line refusal name)))

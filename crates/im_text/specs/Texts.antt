@@ -1,0 +1,52 @@
+-- The texts that lines are made of: numbers below one another, kinds, operations, answers. (Own.)
+use Rattle.std.specs.Prelude.{ℕ, zero, suc, List, [], ◌∷◌, ◌++◌, codes, decimal}
+use Rattle.im_types.specs.declared.operations.Kind.{Kind}
+use Rattle.im_types.specs.declared.operations.Kind.TheVariants.{I, M}
+use Rattle.im_types.specs.declared.operations.Op.{Op}
+use Rattle.im_types.specs.declared.operations.Op.TheVariants.{Alloc, Release, Fetch, Store, Take, Put}
+use Rattle.im_types.specs.declared.operations.Reply.{Reply}
+use Rattle.im_types.specs.declared.operations.Reply.TheVariants.{Base, NoSpace, BadLength, Value, Stored, Clash, NoCell, WrongKind, Released, NoBlock, StillWaiting}
+use Rattle.im_types.specs.declared.operations.Entry.{Entry}
+use Rattle.im_types.specs.declared.operations.Entry.TheVariants.{Waiting, Answered}
+
+-- the end of a line
+abbrev pub line_feed : List ℕ
+line_feed = 10 ∷ []
+
+-- the texts of 0, of 1, and so on below n, one after another
+unfoldable pub texts_below : (ℕ → List ℕ) → ℕ → List ℕ
+texts_below text zero = []
+texts_below text (suc n) = texts_below text n ++ text n
+
+-- a kind
+abbrev pub kind_text : Kind → List ℕ
+kind_text I = codes "i"
+kind_text M = codes "m"
+
+-- an operation
+abbrev pub op_text : Op → List ℕ
+op_text (Alloc kind n) = codes "alloc " ++ kind_text kind ++ codes " " ++ decimal n
+op_text (Release a) = codes "release " ++ decimal a
+op_text (Fetch a) = codes "fetch " ++ decimal a
+op_text (Store a v) = codes "store " ++ decimal a ++ codes " " ++ decimal v
+op_text (Take a) = codes "take " ++ decimal a
+op_text (Put a v) = codes "put " ++ decimal a ++ codes " " ++ decimal v
+
+-- an answer
+abbrev pub reply_text : Reply → List ℕ
+reply_text (Base a) = codes "base " ++ decimal a
+reply_text NoSpace = codes "nospace"
+reply_text BadLength = codes "badlength"
+reply_text (Value v) = codes "value " ++ decimal v
+reply_text Stored = codes "stored"
+reply_text Clash = codes "clash"
+reply_text NoCell = codes "nocell"
+reply_text WrongKind = codes "wrongkind"
+reply_text Released = codes "released"
+reply_text NoBlock = codes "noblock"
+reply_text StillWaiting = codes "stillwaiting"
+
+-- what is kept for a request
+abbrev pub entry_text : Entry → List ℕ
+entry_text Waiting = codes "waiting"
+entry_text (Answered reply) = reply_text reply

@@ -1,0 +1,110 @@
+//! How work ends: what was kept back is written, and a refusal's line.
+ghost use Rattle.std.specs.Prelude.{◌≡◌, ◌⊎◌, ◌≤◌, ◌++◌, List, ℕ, Option, IsOk, OnOk, OnErr};
+ghost use Rattle.std.specs.Io.KnownBytes.{Appends, Keeps};
+ghost use Rattle.im_text.specs.Printing.{Begins, IsLast, Prints};
+
+use crate::lines::{Lines, put_through};
+use crate::observer::Observer;
+use crate::reasons::Reason;
+use crate::replies::make_refusal;
+use im_types::Refusal;
+use std::alloc::Global;
+use std::io::Write;
+
+// Prints a last line behind the others, if it can be printed.
+fn push_through<W: Write>(lines: &mut Lines, line: &str, out: &mut W)
+    ensures { (start : Option (List ℕ)) (text : List ℕ) → Prints start (W.contents out.old) lines.old text
+        → Prints start (W.contents out.new) lines.new text
+        ⊎ Prints start (W.contents out.new) lines.new (text ++ line.now) }
+{
+    match lines.push(out, line) {
+        Ok(()) => {
+            let _written = lines.flush(out);
+        }
+        Err(_) => {}
+    }
+}
+
+// Prints the line of a refusal behind the others, if it can be printed.
+fn print_refusal<W: Write>(
+    alloc: Global,
+    refusal: Refusal,
+    lines: &mut Lines,
+    line: &mut String,
+    out: &mut W,
+)
+    ensures { (start : Option (List ℕ)) (text : List ℕ) → Prints start (W.contents out.old) lines.old text
+        → (last : List ℕ) × (IsLast last × Prints start (W.contents out.new) lines.new (text ++ last)) }
+{
+    match make_refusal(alloc, line, refusal) {
+        Ok(()) => push_through(lines, line.as_str(), out),
+        Err(_) => {}
+    }
+}
+
+/// Writes what is kept back, or the line of a refusal, of which the observer is told why; and answers the status.
+pub fn finish<W: Write, N: Observer>(
+    alloc: Global,
+    done: Result<(), Reason>,
+    lines: &mut Lines,
+    line: &mut String,
+    out: &mut W,
+    observer: &mut N,
+) -> u8
+    ensures status { result ≤ 1 }
+    ensures whole { result ≡ 0 → IsOk done × ((start : Option (List ℕ)) (text : List ℕ)
+        → Prints start (W.contents out.old) lines.old text → Appends start (W.contents out.new) text) }
+    ensures last { (start : Option (List ℕ)) (text : List ℕ) → Prints start (W.contents out.old) lines.old text
+        → (last : List ℕ) × (IsLast last × Prints start (W.contents out.new) lines.new (text ++ last)) }
+{
+    match done {
+        Ok(()) => match lines.flush(out) {
+            Ok(()) => 0,
+            Err(reason) => {
+                observer.refused(reason);
+                1
+            }
+        },
+        Err(reason) => {
+            observer.refused(reason);
+            if let Some(refusal) = reason.refusal() {
+                print_refusal(alloc, refusal, lines, line, out);
+            }
+            1
+        }
+    }
+}
+
+/// Prints the line of a refusal, alone.
+pub fn put_refusal<W: Write>(alloc: Global, refusal: Refusal, out: &mut W)
+    ensures { (last : List ℕ) × (IsLast last × Begins (W.contents out.old) (W.contents out.new) last) }
+{
+    let mut line = String::new(alloc);
+    if make_refusal(alloc, &mut line, refusal).is_ok() {
+        let _written = put_through(out, line.as_str());
+    }
+}
+
+/// The status of work that is done or refused. Of a refusal the observer is told why, and its line is printed.
+pub fn end<W: Write, N: Observer>(
+    alloc: Global,
+    done: Result<(), Reason>,
+    out: &mut W,
+    observer: &mut N,
+) -> u8
+    ensures done { OnOk done (result ≡ 0) }
+    ensures refused { OnErr done (result ≡ 1) }
+    ensures same { OnOk done (Keeps (W.contents out.old) (W.contents out.new)) }
+    ensures last { (last : List ℕ) × (IsLast last × Begins (W.contents out.old) (W.contents out.new) last) }
+{
+    match done {
+        Ok(()) => 0,
+        Err(reason) => {
+            observer.refused(reason);
+            if let Some(refusal) = reason.refusal() {
+                put_refusal(alloc, refusal, out);
+            }
+            1
+        }
+    }
+}

@@ -1,0 +1,16 @@
+//! What is printed of requests, refusals and damage, and how lines go to a writer.
+#![tactic(auto)]
+
+mod diagnosis;
+mod ending;
+mod lines;
+mod observer;
+mod reasons;
+mod replies;
+
+pub use diagnosis::diagnose;
+pub use ending::{end, finish, put_refusal};
+pub use lines::{BATCH, Lines, put_through};
+pub use observer::{Observer, Progress};
+pub use reasons::Reason;
+pub use replies::{Waited, add_entry, add_op, kind_text, make_line, make_now, make_refusal};

@@ -1,0 +1,150 @@
+//! Lines on their way to a writer.
+ghost use Rattle.std.specs.Prelude.{◌≡◌, ◌≤◌, [], false, take, length, IfOk, OnOk, MatchResult};
+ghost use Rattle.std.specs.Io.KnownBytes.{Appends, WriteAppends};
+ghost use Rattle.im_text.specs.Printing.{Begins, PrintsMore, PrintsOn};
+
+use crate::reasons::Reason;
+use std::alloc::{AllocError, Global};
+use std::io::{ErrorKind, Write};
+
+/// The most bytes of lines that are kept back while more work is at hand: a pipe's buffer.
+pub const BATCH: usize = 4_096;
+
+// Writes some of the bytes, and answers how many: none where the write was interrupted.
+fn write_some<W: Write>(out: &mut W, bytes: &[u8]) -> Result<usize, ErrorKind>
+    ensures bound { IfOk result (λ count. count ≤ length bytes.now) }
+    ensures bytes { WriteAppends (W.contents out.old) (W.contents out.new) result bytes.now }
+{
+    match out.write(bytes) {
+        Ok(0) => Err(ErrorKind::WriteZero),
+        Ok(count) => Ok(count),
+        Err(error) => {
+            if error.kind() == ErrorKind::Interrupted {
+                Ok(0)
+            } else {
+                Err(error.kind())
+            }
+        }
+    }
+}
+
+// Writes bytes as far as the writer takes them, and answers how many it took.
+fn write_out<W: Write>(out: &mut W, bytes: &[u8]) -> (usize, Result<(), ErrorKind>)
+    ensures bound { result.0 ≤ length bytes.now }
+    ensures bytes { Appends (W.contents out.old) (W.contents out.new) (take result.0 bytes.now) }
+    ensures whole { OnOk result.1 (result.0 ≡ length bytes.now) }
+{
+    let mut written = 0;
+    for _turn in 0..u64::MAX {
+        if written >= bytes.len() {
+            return (written, Ok(()));
+        }
+        match write_some(out, &bytes[written..]) {
+            Ok(count) => written += count,
+            Err(kind) => return (written, Err(kind)),
+        }
+    }
+    (written, Err(ErrorKind::Interrupted))
+}
+
+/// Writes a text whole, and has the writer put it through.
+pub fn put_through<W: Write>(out: &mut W, text: &str) -> Result<(), Reason>
+    ensures whole { OnOk result (Appends (W.contents out.old) (W.contents out.new) text.now) }
+    ensures begins { Begins (W.contents out.old) (W.contents out.new) text.now }
+{
+    match write_out(out, text.as_bytes()).1 {
+        Ok(()) => match out.flush() {
+            Ok(()) => Ok(()),
+            Err(error) => Err(Reason::Output(error.kind())),
+        },
+        Err(kind) => Err(Reason::Output(kind)),
+    }
+}
+
+/// Whole lines that are written in batches.
+#[derive(Drop)]
+pub struct Lines {
+    /// The lines that aren't written yet.
+    pending: Vec<u8>,
+    /// A write has failed: nothing more is written.
+    broken: bool,
+}
+
+impl Lines {
+    /// No line. The room for a batch is taken here.
+    pub fn new(alloc: Global) -> Result<Lines, AllocError>
+        ensures pending { IfOk result (λ lines. lines.pending.items ≡ []) }
+        ensures works { IfOk result (λ lines. lines.broken ≡ false) }
+    {
+        Ok(Lines {
+            pending: Vec::with_capacity(alloc, BATCH)?,
+            broken: false,
+        })
+    }
+
+    // Writes what is kept back.
+    fn write<W: Write>(&mut self, out: &mut W) -> Result<(), Reason>
+        requires works { self.old.broken ≡ false }
+        ensures on { PrintsOn (W.contents out.old) self.old (W.contents out.new) self.new }
+        ensures pending { OnOk result (self.new.pending.items ≡ []) }
+        ensures works { OnOk result (self.new.broken ≡ false) }
+    {
+        match write_out(out, self.pending.as_slice()).1 {
+            Ok(()) => {
+                self.pending.clear();
+                Ok(())
+            }
+            Err(kind) => {
+                self.broken = true; // A part of it may be there.
+                Err(Reason::Output(kind))
+            }
+        }
+    }
+
+    /// Writes what is kept back, and has the writer put it through. After a fault of the writer no more is written.
+    pub fn flush<W: Write>(&mut self, out: &mut W) -> Result<(), Reason>
+        ensures on { PrintsOn (W.contents out.old) self.old (W.contents out.new) self.new }
+        ensures pending { OnOk result (self.new.pending.items ≡ []) }
+        ensures works { OnOk result (self.new.broken ≡ false) }
+    {
+        if self.broken {
+            return Err(Reason::Output(ErrorKind::BrokenPipe));
+        }
+        self.write(out)?;
+        match out.flush() {
+            Ok(()) => Ok(()),
+            Err(error) => {
+                self.broken = true;
+                Err(Reason::Output(error.kind()))
+            }
+        }
+    }
+
+    // Has room for so many bytes more in the batch.
+    fn make_space<W: Write>(&mut self, out: &mut W, len: usize) -> Result<(), Reason>
+        requires works { self.old.broken ≡ false }
+        ensures on { PrintsOn (W.contents out.old) self.old (W.contents out.new) self.new }
+        ensures works { OnOk result (self.new.broken ≡ false) }
+    {
+        if self.pending.len().saturating_add(len) <= BATCH {
+            return Ok(());
+        }
+        self.write(out)
+    }
+
+    /// Takes a line. Those before it are written first where they don't fit into one batch with it.
+    pub fn push<W: Write>(&mut self, out: &mut W, line: &str) -> Result<(), Reason>
+        ensures more { MatchResult result
+            (λ _. PrintsMore (W.contents out.old) self.old (W.contents out.new) self.new line.now)
+            (λ _. PrintsOn (W.contents out.old) self.old (W.contents out.new) self.new) }
+    {
+        if self.broken {
+            return Err(Reason::Output(ErrorKind::BrokenPipe));
+        }
+        self.make_space(out, line.len())?;
+        match self.pending.extend_from_slice(line.as_bytes()) {
+            Ok(()) => Ok(()),
+            Err(_) => Err(Reason::Memory),
+        }
+    }
+}

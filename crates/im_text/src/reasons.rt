@@ -1,0 +1,130 @@
+//! Why work is refused, for a person to read.
+
+use im_damage::Damage;
+use im_disk::OpenFault;
+use im_script::ScriptFault;
+use im_types::{MAX_CELLS, MAX_ELEMENTS, MAX_SLOTS, MIN_SLOTS, Refusal};
+use std::fmt;
+use std::fmt::{Display, Formatter};
+use std::io::ErrorKind;
+
+/// Why work is refused, or was given up. Its text is for a person, and names no file.
+#[derive(Clone, Copy, Debug, PartialEq, Eq)]
+pub enum Reason {
+    /// There was not enough memory.
+    Memory,
+    /// A write of the output failed. It has no number, as there is nowhere to print it.
+    Output(ErrorKind),
+    /// The script can't be read.
+    ScriptFile(ErrorKind),
+    /// The script isn't in the grammar: at which line and word, and what was expected there.
+    Script(ScriptFault),
+    /// The image's file can't be made or opened: with the system's reason, where it tells one.
+    File(OpenFault, Option<ErrorKind>),
+    /// The file is no image, or one that is damaged, and where; or one that can't be read or written.
+    Image(Refusal, Damage),
+    /// So many cells were asked for.
+    Cells(u32),
+    /// So many elements were asked for.
+    Elements(u32),
+    /// So many journal slots were asked for.
+    Slots(u32),
+    /// A block of the setup can't be made: its place among them, from 1.
+    Block(usize),
+    /// A place of this element's part lies past the last address.
+    Place(u16),
+    /// A request of this element, or what comes before it, is refused.
+    Request(u16, Refusal),
+}
+
+// What a refusal says of an image or a request.
+fn words(refusal: Refusal) -> &'static str {
+    match refusal {
+        Refusal::Gap => "its numbers have reached the last that there is",
+        Refusal::NoElement => "the image has no such element",
+        Refusal::WindowFull => "all 16 places of its window wait",
+        Refusal::JournalFull => "the journal is full, and no checkpoint makes room",
+        Refusal::Device =>
+            "a call of the system failed on the image's file, and the last command is there or not",
+        Refusal::Failed => "an earlier call failed on the image's file",
+        Refusal::NoMemory => "there is not enough memory",
+        Refusal::WrongLength => "the file has not the length of an image",
+        Refusal::NoHeader =>
+            "neither header is open: it is no image, or one that was never made whole",
+        Refusal::BadHeader => "the header in force is damaged",
+        Refusal::BadPage => "a page of the area in force is damaged",
+        Refusal::BadRecord => "a slot of the journal is damaged",
+        Refusal::Forgotten => "its number was confirmed",
+        Refusal::Mismatch => "its number is kept for another operation",
+        Refusal::NotAnswered => "an entry still waits",
+        _ => "it is refused",
+    }
+}
+
+// What there is at a path that can't be opened.
+fn file_words(kind: Option<ErrorKind>) -> &'static str {
+    match kind {
+        Some(ErrorKind::NotFound) => "there is no such file",
+        Some(ErrorKind::PermissionDenied) => "there is no permission to open it",
+        Some(ErrorKind::IsADirectory) => "it is a folder",
+        Some(ErrorKind::OutOfMemory) => "there is not enough memory",
+        _ => "a call of the system failed",
+    }
+}
+
+impl Reason {
+    /// The refusal that is printed for it, if one is.
+    pub fn refusal(&self) -> Option<Refusal> {
+        match *self {
+            Reason::Memory => Some(Refusal::NoMemory),
+            Reason::Output(_) => None,
+            Reason::ScriptFile(ErrorKind::OutOfMemory) => Some(Refusal::NoMemory),
+            Reason::Script(fault) => Some(fault.refusal()),
+            Reason::ScriptFile(_) | Reason::Block(_) | Reason::Place(_) => Some(Refusal::BadScript),
+            Reason::File(_, _) => Some(Refusal::Device),
+            Reason::Cells(_) | Reason::Elements(_) | Reason::Slots(_) => Some(Refusal::BadLimits),
+            Reason::Image(refusal, _) | Reason::Request(_, refusal) => Some(refusal),
+        }
+    }
+
+    /// Whether it speaks of the script's file, and not of the image's.
+    pub fn is_of_script(&self) -> bool {
+        matches!(
+            self,
+            Reason::ScriptFile(_) | Reason::Script(_) | Reason::Block(_) | Reason::Place(_)
+        )
+    }
+}
+
+impl Display for Reason {
+    fn fmt<W: fmt::Write>(&self, f: &mut Formatter<W>) -> fmt::Result {
+        match *self {
+            Reason::Memory => write!(f, "there is not enough memory"),
+            Reason::Output(kind) => write!(f, "the output can't be written: {kind}"),
+            Reason::ScriptFile(kind) => write!(f, "the script can't be read: {kind}"),
+            Reason::Script(fault) => write!(f, "{fault}"),
+            Reason::File(OpenFault::InUse, _) => write!(f, "it is in use by another program"),
+            Reason::File(OpenFault::Device, kind) => f.write_str(file_words(kind)),
+            Reason::Image(refusal, Damage::Unknown) => f.write_str(words(refusal)),
+            Reason::Image(_, damage) => write!(f, "{damage}"),
+            Reason::Cells(cells) => write!(f, "{cells} cells: there may be 1 to {MAX_CELLS}"),
+            Reason::Elements(elements) => {
+                write!(f, "{elements} elements: there may be 1 to {MAX_ELEMENTS}")
+            }
+            Reason::Slots(slots) => {
+                write!(f, "{slots} slots: there may be {MIN_SLOTS} to {MAX_SLOTS}")
+            }
+            Reason::Block(place) => write!(f, "block {place} of the setup can't be made"),
+            Reason::Place(element) => {
+                write!(
+                    f,
+                    "a place in a part of element {element} lies past the last address"
+                )
+            }
+            Reason::Request(element, refusal) => {
+                let words = words(refusal);
+                write!(f, "a request of element {element}: {words}")
+            }
+        }
+    }
+}

@@ -1,0 +1,136 @@
+//! What is printed of requests and refusals.
+ghost use Rattle.std.specs.Prelude.{◌≡◌, ◌++◌, ℕ, List, Some, OnOk, string_bytes};
+ghost use Rattle.im_text.specs.Printing.{now_line, refused_line, told_line};
+ghost use Rattle.im_text.specs.Texts.{entry_text, kind_text, op_text, reply_text};
+
+use im_types::{Entry, Kind, Op, Refusal, Reply};
+use std::alloc::{AllocError, Global};
+
+/// A request that had to wait, with its entry as last kept.
+#[derive(Clone, Copy, Debug, PartialEq, Eq)]
+pub struct Waited {
+    /// The element that asked.
+    pub element: u16,
+    /// The request's number.
+    pub number: u64,
+    /// What was last kept for it.
+    pub entry: Entry,
+}
+
+/// The letter of a kind.
+pub fn kind_text(kind: Kind) -> &'static str
+    ensures { result.now ≡ kind_text kind }
+{
+    match kind {
+        Kind::I => "i",
+        Kind::M => "m",
+    }
+}
+
+/// Adds the text of an operation.
+pub fn add_op(out: &mut String, op: Op) -> Result<(), AllocError>
+    ensures { OnOk result (string_bytes out.new ≡ string_bytes out.old ++ op_text op) }
+{
+    match op {
+        Op::Alloc(kind, length) => {
+            let kind = kind_text(kind);
+            write!(out, "alloc {kind} {length}")
+        }
+        Op::Release(a) => write!(out, "release {a}"),
+        Op::Fetch(a) => write!(out, "fetch {a}"),
+        Op::Store(a, value) => write!(out, "store {a} {value}"),
+        Op::Take(a) => write!(out, "take {a}"),
+        Op::Put(a, value) => write!(out, "put {a} {value}"),
+    }
+}
+
+/// Adds the text of an answer.
+fn add_reply(out: &mut String, reply: Reply) -> Result<(), AllocError>
+    ensures { OnOk result (string_bytes out.new ≡ string_bytes out.old ++ reply_text reply) }
+{
+    match reply {
+        Reply::Base(base) => write!(out, "base {base}"),
+        Reply::NoSpace => out.push_str("nospace"),
+        Reply::BadLength => out.push_str("badlength"),
+        Reply::Value(value) => write!(out, "value {value}"),
+        Reply::Stored => out.push_str("stored"),
+        Reply::Clash => out.push_str("clash"),
+        Reply::NoCell => out.push_str("nocell"),
+        Reply::WrongKind => out.push_str("wrongkind"),
+        Reply::Released => out.push_str("released"),
+        Reply::NoBlock => out.push_str("noblock"),
+        Reply::StillWaiting => out.push_str("stillwaiting"),
+    }
+}
+
+/// Adds the text of what is kept for a request.
+pub fn add_entry(out: &mut String, entry: Entry) -> Result<(), AllocError>
+    ensures { OnOk result (string_bytes out.new ≡ string_bytes out.old ++ entry_text entry) }
+{
+    match entry {
+        Entry::Waiting => out.push_str("waiting"),
+        Entry::Answered(reply) => add_reply(out, reply),
+    }
+}
+
+/// Adds the line `K.N REPLY` of a request that was served.
+fn add_line(out: &mut String, element: u16, number: u64, entry: Entry) -> Result<(), AllocError>
+    ensures { OnOk result (string_bytes out.new ≡ string_bytes out.old ++ told_line element number entry) }
+{
+    write!(out, "{element}.{number} ")?; // K.N
+    add_entry(out, entry)?;
+    out.push_str("\n")
+}
+
+/// Adds the line `K.N now REPLY` of a request that had to wait.
+fn add_now(out: &mut String, waited: Waited) -> Result<(), AllocError>
+    ensures { OnOk result (string_bytes out.new ≡ string_bytes out.old ++ now_line (Some waited)) }
+{
+    let element = waited.element;
+    let number = waited.number;
+    write!(out, "{element}.{number} now ")?;
+    add_entry(out, waited.entry)?;
+    out.push_str("\n")
+}
+
+/// Makes the line `K.N REPLY` of a request that was served.
+pub fn make_line(
+    line: &mut String,
+    element: u16,
+    number: u64,
+    entry: Entry,
+) -> Result<(), AllocError>
+    ensures { OnOk result (string_bytes line.new ≡ told_line element number entry) }
+{
+    line.clear();
+    add_line(line, element, number, entry)
+}
+
+/// Makes the line `K.N now REPLY` of a request that had to wait, if there is one.
+pub fn make_now(line: &mut String, waited: Option<Waited>) -> Result<(), AllocError>
+    ensures { OnOk result (string_bytes line.new ≡ now_line waited) }
+{
+    line.clear();
+    match waited {
+        Some(waited) => add_now(line, waited),
+        None => Ok(()),
+    }
+}
+
+// Makes the line of a refusal with this name.
+fn make_named(line: &mut String, refusal: Refusal, name: &str) -> Result<(), AllocError>
+    ensures { OnOk result (string_bytes line.new ≡ refused_line refusal name.now) }
+{
+    let number = refusal.number();
+    line.clear();
+    writeln!(line, "refused {number} {name}")
+}
+
+/// The line `refused N NAME`.
+pub fn make_refusal(alloc: Global, line: &mut String, refusal: Refusal) -> Result<(), AllocError>
+    ensures { OnOk result ((name : List ℕ) × (string_bytes line.new ≡ refused_line refusal name)) }
+{
+    let mut name = String::new(alloc);
+    write!(name, "{refusal}")?;
+    make_named(line, refusal, name.as_str())
+}
