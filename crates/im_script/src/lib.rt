@@ -9,7 +9,8 @@ mod places;
 mod script;
 
 pub use faults::{Expected, LineFault, Quoted, ScriptFault};
-pub use grammar::read_u32;
+pub use grammar::{is_plain, read_number, read_u32, split_words};
+pub use lines::read_action;
 pub use places::{Action, Place};
 pub use script::{Allocation, Reader, Said, Script, ScriptLine, read_script, split_line};
 

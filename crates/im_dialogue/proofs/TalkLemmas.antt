@@ -1,0 +1,248 @@
+-- What was said over an engine, line by line.
+use Rattle.std.proofs.Common.{◌≡◌, ◌∙◌, inl, inr, ⊎_elim, ℕ, ◌+◌, ◌≤◌, Bool, true, false, List, [], ◌∷◌, ◌++◌, length, refl, sym, ap, subst, length-append, arith, if◌then◌else◌}
+use Rattle.std.specs.Prelude.{◌⊎◌, Option, Some, None, Result, Ok, Err, MatchResult}
+use Rattle.std.proofs.lemmas.List.{append-nil}
+use Rattle.im_types.specs.declared.operations.Waiter.{Waiter}
+use Rattle.im_types.specs.declared.commands.Command.{Command}
+use Rattle.im_types.specs.declared.commands.Outcome.{Outcome}
+use Rattle.im_types.specs.declared.refusals.Refusal.{Refusal}
+use Rattle.im_types.specs.declared.refusals.Refusal.TheVariants.{Device, JournalFull}
+use Rattle.im_types.specs.Contents.{Contents}
+use Rattle.im_types.specs.Step.{step, is_accepted}
+use Rattle.im_types.specs.Run.{after}
+use Rattle.im_laws.proofs.Tests.{true_or_false}
+use Rattle.im_disk.specs.Moment.{Moment, Left}
+use Rattle.im_disk.specs.Since.{Leaves, LeavesNow}
+use Rattle.im_disk.proofs.SinceLemmas.{leaves_start}
+use Rattle.im_checkpoint.specs.declared.checkpoint.TurnDone.{TurnDone}
+use Rattle.im_checkpoint.proofs.Fitting.{none_or_some}
+use Rattle.im_engine.specs.State.{EngineState, MeansState, MeansEither, with_command}
+use Rattle.im_engine.specs.Run.{Answered, TurnAnswered, TurnTaken, HasRun, MeansAfter, MeansBeginning, MeansAllOrInDoubt, put_by_command}
+use Rattle.im_engine.proofs.Running.{AllOrLess, Went, far_on, far_start, far_turned, fails_by_device, leaves_on, leaves_turned, means_all, now_on, went}
+use Rattle.im_dialogue.specs.declared.asking.Asked.{Asked}
+use Rattle.im_dialogue.specs.declared.asking.Asked.TheVariants as asks
+use Rattle.im_dialogue.specs.declared.answers.Answer.{Answer}
+use Rattle.im_dialogue.specs.declared.answers.Answer.TheVariants.{Served, Kept, Window, Room, Turned, Count, Wrong}
+use Rattle.im_dialogue.specs.declared.answers.Expected.{Expected}
+use Rattle.im_dialogue.specs.Asking.{asked_of}
+use Rattle.im_dialogue.specs.Talk.{Exchange, IsOf, Answers, AreAnswered, put_by, put_of, is_end, IsAt, MeansSaid, HasEnded, Going, Ended, GoesOn, Halts, Says}
+
+true_false : (b : Bool) → b ≡ true → b ≡ false → ⊥
+true_false true t f = absurd (cc)
+true_false false t f = absurd (cc)
+
+-- what a command is answered, where the engine works still
+is_of : {D : Type 0} (old new : EngineState D) (c : Command) (a : Result Outcome Refusal) → old.failed ≡ false → new.failed ≡ false → Answered old c a new → IsOf old.memory c a
+is_of old new c a f g it = ⊎_elim
+    (λ accepted. ⊎_elim
+    (λ none. inr (accepted, (it.full f accepted none).0))
+    (λ some. ⊎_elim
+    (λ done. inl done.0)
+    (λ fault. absurd (true_false new.failed (ap (λ (s : EngineState _). s.failed) fault.1) g))
+    (it.put f accepted some))
+    (none_or_some old.room))
+    (λ un. inl (it.unaccepted f un).0)
+    (true_or_false (is_accepted old.memory c))
+
+-- an answer that doesn't end the dialogue leaves the engine working
+works_on : {D : Type 0} (old new : EngineState D) (c : Command) (a : Result Outcome Refusal) → Answered old c a new → old.failed ≡ false → (a ≡ Err Device → ⊥) → new.failed ≡ false
+works_on old new c a it f unless = ⊎_elim (λ dead. absurd (unless (fails_by_device old new c a it f dead))) (λ g. g) (true_or_false new.failed)
+
+pub ok_no_device : (outcome : Outcome) → (a : Result Outcome Refusal) → a ≡ Ok outcome → a ≡ Err Device → ⊥
+ok_no_device outcome a is e = absurd (cc)
+
+-- what doesn't end the dialogue is no failed call
+pub no_device : (refusal : Refusal) (b : Bool) → b ≡ is_end refusal → b ≡ false → (a : Result Outcome Refusal) → a ≡ Err refusal → a ≡ Err Device → ⊥
+no_device refusal b is not a told e = by_refusal refusal (err_same a refusal told e) (sym is ∙ not)
+  where
+    err_same : (a : Result Outcome Refusal) (r : Refusal) → a ≡ Err r → a ≡ Err Device → r ≡ Device
+    err_same a r told e = cc
+
+    by_refusal : (r : Refusal) → r ≡ Device → is_end r ≡ false → ⊥
+    by_refusal r same f = true_false (is_end r) (ap is_end same) f
+
+module _ {D : Type 0} (now : D → Moment) (past : D → List Moment) (honest : D → Type 0) where
+  -- nothing was said yet
+  pub at_start : (start : EngineState D) → start.failed ≡ false → LeavesNow (now start.disk) (MeansState start) → IsAt now past start start []
+  at_start start f means = record {
+    answered = tt;
+    works = f;
+    run = far_start start;
+    leaves = leaves_start (now start.disk) (past start.disk) (MeansBeginning start []);
+    kept = means;
+  }
+
+  -- all that was said is in every file
+  said_now : (start old : EngineState D) (said : List Exchange) (file : List ℕ) → IsAt now past start old said → MeansState old file → MeansSaid start said [] file
+  said_now start old said file at means =
+      let put : List Command = put_of start.memory said in
+      let all : MeansAfter start put (length put) file = means_all start old put at.run at.works file means in
+      let same : put ++ [] ≡ put = append-nil put in (
+        length put,
+        omega arith,
+        subst (λ (l : List Command). length put ≤ length l) (sym same) (omega arith),
+        subst (λ (l : List Command). MeansAfter start l (length put) file) (sym same) all,
+      )
+
+  ended_at : (start old : EngineState D) (said : List Exchange) → IsAt now past start old said → HasEnded now past start old.disk said []
+  ended_at start old said at = record {
+    answered = at.answered;
+    leaves = subst (λ (l : List Command). Leaves (now start.disk) (now old.disk) (past start.disk) (past old.disk) (MeansBeginning start l)) (sym (append-nil (put_of start.memory said))) at.leaves;
+    kept = λ file left. said_now start old said file at (at.kept file left);
+  }
+
+  -- it is ended where it stands
+  pub ends_here : (engine : EngineState D) → Halts now past honest engine engine
+  ends_here engine = λ start said so_far h. let far = so_far h in (far.0, ([], omega arith, ended_at start engine said far.1))
+
+  -- ---- turns
+
+  turned_at : (start old new : EngineState D) (said : List Exchange) (a : Result TurnDone Refusal) (done : TurnDone) → IsAt now past start old said → TurnAnswered old a new
+      → (old.failed ≡ false → Leaves (now old.disk) (now new.disk) (past old.disk) (past new.disk) (MeansState old))
+      → (new.failed ≡ false → LeavesNow (now new.disk) (MeansState new)) → a ≡ Ok done → IsAt now past start new said
+  turned_at start old new said a done at it leaves means is =
+      let f : new.failed ≡ false = elim (it.alive at.works) [
+        | inl taken ↦ taken.2.alive
+        | inr fault ↦ let device = fault.0 in absurd (cc)
+      ] in
+      record {
+        answered = at.answered;
+        works = f;
+        run = far_turned start old new (put_of start.memory said) a at.run it;
+        leaves = leaves_turned start old new (put_of start.memory said) a at.run it now past at.leaves leaves;
+        kept = means f;
+      }
+
+  pub turn_goes : (old new : EngineState D) (a : Result TurnDone Refusal) (done : TurnDone) → TurnAnswered old a new → (honest new.disk → honest old.disk)
+      → (honest new.disk → old.failed ≡ false → Leaves (now old.disk) (now new.disk) (past old.disk) (past new.disk) (MeansState old))
+      → (honest new.disk → new.failed ≡ false → LeavesNow (now new.disk) (MeansState new)) → a ≡ Ok done → GoesOn now past honest old new
+  turn_goes old new a done it back leaves means is = λ start said so_far h. let far = so_far (back h) in (far.0, turned_at start old new said a done far.1 it (leaves h) (means h) is)
+
+  turn_ended : (start old new : EngineState D) (said : List Exchange) (a : Result TurnDone Refusal) → IsAt now past start old said → TurnAnswered old a new
+      → (old.failed ≡ false → Leaves (now old.disk) (now new.disk) (past old.disk) (past new.disk) (MeansState old))
+      → (old.failed ≡ false → LeavesNow (now new.disk) (MeansState old)) → HasEnded now past start new.disk said []
+  turn_ended start old new said a at it leaves means = record {
+    answered = at.answered;
+    leaves = subst (λ (l : List Command). Leaves (now start.disk) (now new.disk) (past start.disk) (past new.disk) (MeansBeginning start l)) (sym (append-nil (put_of start.memory said)))
+        (leaves_turned start old new (put_of start.memory said) a at.run it now past at.leaves leaves);
+    kept = λ file left. said_now start old said file at (means at.works file left);
+  }
+
+  pub turn_halts : (old new : EngineState D) (a : Result TurnDone Refusal) → TurnAnswered old a new → (honest new.disk → honest old.disk)
+      → (honest new.disk → old.failed ≡ false → Leaves (now old.disk) (now new.disk) (past old.disk) (past new.disk) (MeansState old))
+      → (honest new.disk → old.failed ≡ false → LeavesNow (now new.disk) (MeansState old)) → Halts now past honest old new
+  turn_halts old new a it back leaves means = λ start said so_far h. let far = so_far (back h) in (far.0, ([], omega arith, turn_ended start old new said a far.1 it (leaves h) (means h)))
+
+  -- ---- commands
+
+  served_at : (start old new : EngineState D) (said : List Exchange) (line name : List ℕ) (c : Command) (a : Result Outcome Refusal) → asked_of line ≡ Some (asks.Serve c) → IsAt now past start old said → Answered old c a new
+      → (old.failed ≡ false → Leaves (now old.disk) (now new.disk) (past old.disk) (past new.disk) (MeansEither old c))
+      → (new.failed ≡ false → LeavesNow (now new.disk) (MeansState new)) → (a ≡ Err Device → ⊥)
+      → IsAt now past start new (record { line = line; answer = Served c a; name = name } ∷ said)
+  served_at start old new said line name c a asked at it leaves means unless =
+      let put : List Command = put_of start.memory said in
+      let f : new.failed ≡ false = works_on old new c a it at.works unless in
+      let m : old.memory ≡ after start.memory (put_of start.memory said) = at.run.memory at.works in
+      record {
+        answered = (
+          subst (λ (o : Option Asked). Answers (after start.memory (put_of start.memory said)) (start.count + length (put_of start.memory said)) o (Served c a)) (sym asked)
+              (a, refl, subst (λ (m : Contents). IsOf m c a) m (is_of old new c a at.works f it)),
+          at.answered,
+        );
+        works = f;
+        run = far_on start old new (put_of start.memory said) c a at.run it;
+        leaves = leaves_on start old new (put_of start.memory said) c a at.run it now past at.leaves leaves;
+        kept = means f;
+      }
+
+  pub serve_says : (old new : EngineState D) (c : Command) (a told : Result Outcome Refusal) → Answered old c a new → (honest new.disk → honest old.disk)
+      → (honest new.disk → old.failed ≡ false → Leaves (now old.disk) (now new.disk) (past old.disk) (past new.disk) (MeansEither old c))
+      → (honest new.disk → new.failed ≡ false → LeavesNow (now new.disk) (MeansState new)) → a ≡ told → (a ≡ Err Device → ⊥)
+      → Says now past honest old new (Some (asks.Serve c)) (Served c told)
+  serve_says old new c a told it back leaves means is unless = λ start said line name asked so_far h.
+      let far = so_far (back h) in (
+        far.0,
+        subst (λ (a : Result Outcome Refusal). IsAt now past start new (record { line = line; answer = Served c a; name = name } ∷ said)) is
+            (served_at start old new said line name c a asked far.1 it (leaves h) (means h) unless),
+      )
+
+  -- the file has what was said, and the command in doubt or not
+  in_doubt : (start : EngineState D) (said : List Exchange) (c : Command) (more : List Command) (file : List ℕ) → more ≡ c ∷ [] → AllOrLess start (put_of start.memory said ++ more) file → MeansSaid start said more file
+  in_doubt start said c more file one (many, inl all, means) =
+      let len = length-append (put_of start.memory said) more in (many, omega (arith), omega (arith), means)
+  in_doubt start said c more file one (many, inr less, means) =
+      let len = length-append (put_of start.memory said) more in
+      let single : length more ≡ 1 = ap (λ (l : List Command). length l) one in
+      let e = less.1 in
+      (many, omega (arith), omega (arith), means)
+
+  serve_ended : (start old new : EngineState D) (said : List Exchange) (c : Command) (a : Result Outcome Refusal) → IsAt now past start old said → Answered old c a new
+      → (old.failed ≡ false → Leaves (now old.disk) (now new.disk) (past old.disk) (past new.disk) (MeansEither old c))
+      → (old.failed ≡ false → LeavesNow (now new.disk) (MeansEither old c))
+      → (doubt : List Command) × (length doubt ≤ 1) × HasEnded now past start new.disk said doubt
+  serve_ended start old new said c a at it leaves doubt = elim (went start old new (put_of start.memory said) c a at.run it) [
+    | inl same ↦ ([], omega arith, subst (λ (s : EngineState D). HasEnded now past start s.disk said []) (sym same.0) (ended_at start old said at))
+    | inr on ↦ (
+      put_by_command (after start.memory (put_of start.memory said)) c a,
+      subst (λ (l : List Command). length l ≤ 1) (sym on.0) (omega arith),
+      record {
+        answered = at.answered;
+        leaves = leaves_on start old new (put_of start.memory said) c a at.run it now past at.leaves leaves;
+        kept = λ file left. in_doubt start said c (put_by_command (after start.memory (put_of start.memory said)) c a) file on.0
+            (now_on start old new (put_of start.memory said) c a at.run it now
+            (λ f l. (length (put_of start.memory said), inl refl, means_all start old (put_of start.memory said) at.run at.works f (at.kept f l))) doubt file left);
+      },
+    )
+  ]
+
+  pub serve_halts : (old new : EngineState D) (c : Command) (a : Result Outcome Refusal) → Answered old c a new → (honest new.disk → honest old.disk)
+      → (honest new.disk → old.failed ≡ false → Leaves (now old.disk) (now new.disk) (past old.disk) (past new.disk) (MeansEither old c))
+      → (honest new.disk → old.failed ≡ false → LeavesNow (now new.disk) (MeansEither old c)) → Halts now past honest old new
+  serve_halts old new c a it back leaves doubt = λ start said so_far h. let far = so_far (back h) in (far.0, serve_ended start old new said c a far.1 it (leaves h) (doubt h))
+
+  -- ---- answers that leave the engine as it is
+
+  quiet_at : (start engine : EngineState D) (said : List Exchange) (line name : List ℕ) (asked : Option Asked) (answer : Answer) → asked_of line ≡ asked → IsAt now past start engine said
+      → ((m : Contents) → put_by m answer ≡ []) → Answers engine.memory engine.count asked answer
+      → IsAt now past start engine (record { line = line; answer = answer; name = name } ∷ said)
+  quiet_at start engine said line name asked answer is at none answers =
+      let m : engine.memory ≡ after start.memory (put_of start.memory said) = at.run.memory at.works in
+      let n : engine.count ≡ start.count + length (put_of start.memory said) = at.run.count at.works in
+      let same : put_of start.memory said ++ put_by (after start.memory (put_of start.memory said)) answer ≡ put_of start.memory said
+      = ap (λ (l : List Command). put_of start.memory said ++ l) (none (after start.memory (put_of start.memory said))) ∙ append-nil (put_of start.memory said) in
+      record {
+        answered = (
+          subst (λ (o : Option Asked). Answers (after start.memory (put_of start.memory said)) (start.count + length (put_of start.memory said)) o answer) (sym is)
+              (subst (λ (m : Contents). Answers m (start.count + length (put_of start.memory said)) asked answer) m
+              (subst (λ (n : ℕ). Answers engine.memory n asked answer) n answers)),
+          at.answered,
+        );
+        works = at.works;
+        run = subst (λ (l : List Command). HasRun start engine l) (sym same) at.run;
+        leaves = subst (λ (l : List Command). Leaves (now start.disk) (now engine.disk) (past start.disk) (past engine.disk) (MeansBeginning start l)) (sym same) at.leaves;
+        kept = at.kept;
+      }
+
+  pub quiet : (engine : EngineState D) (asked : Option Asked) (answer : Answer) → ((m : Contents) → put_by m answer ≡ []) → (engine.failed ≡ false → Answers engine.memory engine.count asked answer)
+      → Says now past honest engine engine asked answer
+  quiet engine asked answer none answers = λ start said line name is so_far h. let far = so_far h in (far.0, quiet_at start engine said line name asked answer is far.1 none (answers far.1.works))
+
+  -- after a call that said nothing
+  pub says_after : (old mid new : EngineState D) (asked : Option Asked) (answer : Answer) → GoesOn now past honest old mid → Says now past honest mid new asked answer → Says now past honest old new asked answer
+  says_after old mid new asked answer goes says = λ start said line name is so_far. says start said line name is (goes start said so_far)
+
+  pub halts_after : (old mid new : EngineState D) → GoesOn now past honest old mid → Halts now past honest mid new → Halts now past honest old new
+  halts_after old mid new goes halts = λ start said so_far. halts start said (goes start said so_far)
+
+  pub goes_after : (old mid new : EngineState D) → GoesOn now past honest old mid → GoesOn now past honest mid new → GoesOn now past honest old new
+  goes_after old mid new one two = λ start said so_far. two start said (one start said so_far)
+
+  -- the answer of the last call, after one that said nothing
+  pub then_says : (old mid new : EngineState D) (asked : Option Asked) (result : Result Answer Refusal) → GoesOn now past honest old mid
+      → MatchResult result (λ answer. Says now past honest mid new asked answer) (λ e. Halts now past honest mid new)
+      → MatchResult result (λ answer. Says now past honest old new asked answer) (λ e. Halts now past honest old new)
+  then_says old mid new asked (Ok answer) goes it = says_after old mid new asked answer goes it
+  then_says old mid new asked (Err refusal) goes it = halts_after old mid new goes it
+
+  pub says_as : (old new : EngineState D) (asked other : Option Asked) (answer : Answer) → other ≡ asked → Says now past honest old new asked answer → Says now past honest old new other answer
+  says_as old new asked other answer same says = λ start said line name is. says start said line name (is ∙ same)

@@ -1,0 +1,76 @@
+-- The line that each answer of a dialogue is. (Own.)
+use Rattle.std.specs.Prelude.{ℕ, List, [], ◌++◌, codes, decimal, Result, Ok, Err}
+use Rattle.im_types.specs.declared.operations.Entry.{Entry}
+use Rattle.im_types.specs.declared.operations.Waiter.{Waiter}
+use Rattle.im_types.specs.declared.commands.Command.{Command}
+use Rattle.im_types.specs.declared.commands.Command.TheVariants.{Request as Asks, Confirm}
+use Rattle.im_types.specs.declared.commands.Outcome.{Outcome}
+use Rattle.im_types.specs.declared.commands.Outcome.TheVariants.{Entry as Tells, Confirmed}
+use Rattle.im_types.specs.declared.refusals.Refusal.{Refusal}
+use Rattle.im_types.specs.Refusals.{number_of}
+use Rattle.im_checkpoint.specs.declared.checkpoint.TurnDone.{TurnDone}
+use Rattle.im_checkpoint.specs.declared.checkpoint.TurnDone.TheVariants.{Idle, Began, Page, Synced, InForce, Swept}
+use Rattle.im_text.specs.Texts.{line_feed}
+use Rattle.im_text.specs.Printing.{told_line, refused_line}
+use Rattle.im_dialogue.specs.declared.answers.Expected.{Expected}
+use Rattle.im_dialogue.specs.declared.answers.Expected.TheVariants as expected
+use Rattle.im_dialogue.specs.declared.answers.Answer.{Answer}
+use Rattle.im_dialogue.specs.declared.answers.Answer.TheVariants.{Served, Kept, Window, Room, Turned, Count, Wrong}
+
+-- E.N refused NUMBER NAME
+abbrev pub request_refused : ℕ → ℕ → Refusal → List ℕ → List ℕ
+request_refused element number refusal name = decimal element ++ codes "." ++ decimal number ++ codes " " ++ refused_line refusal name
+
+-- E refused NUMBER NAME
+abbrev pub element_refused : ℕ → Refusal → List ℕ → List ℕ
+element_refused element refusal name = decimal element ++ codes " " ++ refused_line refusal name
+
+-- E.N REPLY, or E.N refused NUMBER NAME
+abbrev pub kept_line : ℕ → ℕ → List ℕ → Result Entry Refusal → List ℕ
+kept_line element number name (Ok entry) = told_line element number entry
+kept_line element number name (Err refusal) = request_refused element number refusal name
+
+-- E confirmed UPTO
+abbrev pub confirmed_line : ℕ → ℕ → List ℕ
+confirmed_line element upto = decimal element ++ codes " confirmed " ++ decimal upto ++ line_feed
+
+-- the line of a command: no request is answered as a confirmation is, and no confirmation as a request is
+abbrev pub served_line : List ℕ → Command → Result Outcome Refusal → List ℕ
+served_line name (Asks r) (Ok (Tells entry)) = kept_line r.element r.number name (Ok entry)
+served_line name (Asks r) (Ok Confirmed) = []
+served_line name (Asks r) (Err refusal) = kept_line r.element r.number name (Err refusal)
+served_line name (Confirm element upto) (Ok outcome) = confirmed_line element upto
+served_line name (Confirm element upto) (Err refusal) = element_refused element refusal name
+
+-- E window BASE NEXT
+abbrev pub window_line : ℕ → List ℕ → Result (ℕ × ℕ) Refusal → List ℕ
+window_line element name (Ok (base, next)) = decimal element ++ codes " window " ++ decimal base ++ codes " " ++ decimal next ++ line_feed
+window_line element name (Err refusal) = element_refused element refusal name
+
+-- what a turn did
+abbrev pub turn_text : TurnDone → List ℕ
+turn_text Idle = codes "turn idle"
+turn_text Began = codes "turn began"
+turn_text (Page page) = codes "turn page " ++ decimal page
+turn_text Synced = codes "turn synced"
+turn_text InForce = codes "turn inforce"
+turn_text Swept = codes "turn swept"
+
+-- what a line was expected to be
+abbrev pub expected_text : Expected → List ℕ
+expected_text expected.Line = codes "E.N and a request, collect E.N, confirm E UPTO, window E, room, turn, count or quit"
+expected_text expected.Request = codes "E.N with alloc i|m LENGTH, release A, fetch A, store A VALUE, take A or put A VALUE"
+expected_text expected.Collect = codes "collect E.N"
+expected_text expected.Confirm = codes "confirm E UPTO"
+expected_text expected.Window = codes "window E"
+expected_text expected.Alone = codes "the word alone"
+
+-- the line of an answer, with this name where it is a refusal
+abbrev pub answer_text : List ℕ → Answer → List ℕ
+answer_text name (Served command outcome) = served_line name command outcome
+answer_text name (Kept who answer) = kept_line who.element who.number name answer
+answer_text name (Window element answer) = window_line element name answer
+answer_text name (Room room) = codes "room " ++ decimal room ++ line_feed
+answer_text name (Turned done) = turn_text done ++ line_feed
+answer_text name (Count count) = codes "count " ++ decimal count ++ line_feed
+answer_text name (Wrong number wanted) = codes "error " ++ decimal number ++ codes ": " ++ expected_text wanted ++ line_feed

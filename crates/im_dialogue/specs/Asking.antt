@@ -1,0 +1,72 @@
+-- What a line of a dialogue asks, by its bytes. (Own.)
+use Rattle.std.specs.Prelude.{ℕ, ◌==◌, List, [], ◌∷◌, Option, Some, None, if◌then◌else◌, codes}
+use Rattle.std.specs.Char.{is_ascii}
+use Rattle.std.specs.List.{list_all, slice_split}
+use Rattle.std.specs.Option.{option_map, option_and_then, option_or}
+use Rattle.std.specs.Str.{bytes_eq}
+use Rattle.im_types.specs.declared.operations.Op.{Op}
+use Rattle.im_types.specs.declared.operations.Waiter.{Waiter}
+use Rattle.im_types.specs.declared.commands.Command.TheVariants.{Request as Asks, Confirm}
+use Rattle.im_script.specs.Grammar.{number_up_to, words_of}
+use Rattle.im_script.specs.Lines.{action_of}
+use Rattle.im_script.specs.Places.{op_of}
+use Rattle.im_dialogue.specs.declared.asking.Asked.{Asked}
+use Rattle.im_dialogue.specs.declared.asking.Asked.TheVariants.{Serve, Collect, Window, Room, Turn, Count, Quit}
+
+-- an element's number
+abbrev pub element_of : List ℕ → Option ℕ
+element_of word = number_up_to 65535 word
+
+-- a number of a request
+abbrev pub number_of : List ℕ → Option ℕ
+number_of word = number_up_to 18446744073709551615 word
+
+-- an element and a number, by their words
+abbrev pub waiter_in : List ℕ → List ℕ → Option Waiter
+waiter_in element number = option_and_then (λ e. option_map (λ n. record { element = e; number = n }) (number_of number)) (element_of element)
+
+-- an element and a number, by the parts of a word between its dots
+abbrev pub waiter_by : List (List ℕ) → Option Waiter
+waiter_by (element ∷ number ∷ []) = waiter_in element number
+waiter_by _ = None
+
+-- E.N
+abbrev pub waiter_of : List ℕ → Option Waiter
+waiter_of word = waiter_by (slice_split (λ byte. byte == 46) word)
+
+-- a request of a script with addresses alone, as it stands behind E.N
+abbrev pub op_in : List (List ℕ) → Option Op
+op_in words = option_and_then (op_of []) (action_of [] words)
+
+-- room, turn, count or quit
+abbrev pub asked_by_one : List ℕ → Option Asked
+asked_by_one word = if bytes_eq word (codes "room") then Some Room
+    else (if bytes_eq word (codes "turn") then Some Turn
+    else (if bytes_eq word (codes "count") then Some Count
+    else (if bytes_eq word (codes "quit") then Some Quit else None)))
+
+-- collect E.N or window E
+abbrev pub asked_by_two : List ℕ → List ℕ → Option Asked
+asked_by_two word what = if bytes_eq word (codes "collect") then option_map Collect (waiter_of what)
+    else (if bytes_eq word (codes "window") then option_map Window (element_of what) else None)
+
+-- confirm E UPTO
+abbrev pub asked_by_three : List ℕ → List ℕ → List ℕ → Option Asked
+asked_by_three word element upto = if bytes_eq word (codes "confirm")
+    then option_and_then (λ e. option_map (λ n. Serve (Confirm e n)) (number_of upto)) (element_of element) else None
+
+-- E.N and a request
+abbrev pub request_by : List ℕ → List (List ℕ) → Option Asked
+request_by first rest = option_and_then (λ who. option_map (λ op. Serve (Asks (record { element = who.element; number = who.number; op = op }))) (op_in rest)) (waiter_of first)
+
+-- what a line asks by its words
+abbrev pub asked_in : List (List ℕ) → Option Asked
+asked_in (word ∷ []) = asked_by_one word
+asked_in (word ∷ what ∷ []) = asked_by_two word what
+asked_in (word ∷ first ∷ second ∷ []) = option_or (asked_by_three word first second) (request_by word (first ∷ second ∷ []))
+asked_in (word ∷ first ∷ second ∷ third ∷ []) = request_by word (first ∷ second ∷ third ∷ [])
+asked_in _ = None
+
+-- what a line asks, which has to be ASCII; none where it isn't in the grammar
+abbrev pub asked_of : List ℕ → Option Asked
+asked_of line = if list_all is_ascii line then asked_in (words_of line) else None

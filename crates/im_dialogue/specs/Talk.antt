@@ -1,0 +1,116 @@
+-- A dialogue over an engine: what was asked, what it was answered, and what a crash leaves of it. (Own.)
+use Rattle.std.specs.Prelude.{◌≡◌, ◌⊎◌, ℕ, ◌+◌, ◌≤◌, Bool, true, false, List, [], ◌∷◌, ◌++◌, length, Option, None, Some, Result, Ok, Err}
+use Rattle.std.specs.Io.KnownBytes.{Appends}
+use Rattle.im_types.specs.declared.operations.Waiter.{Waiter}
+use Rattle.im_types.specs.declared.commands.Command.{Command}
+use Rattle.im_types.specs.declared.commands.Outcome.{Outcome}
+use Rattle.im_types.specs.declared.refusals.Refusal.{Refusal}
+use Rattle.im_types.specs.declared.refusals.Refusal.TheVariants.{JournalFull, Device, Failed}
+use Rattle.im_types.specs.Contents.{Contents}
+use Rattle.im_types.specs.Window.{ask, bounds}
+use Rattle.im_types.specs.Step.{step, is_accepted}
+use Rattle.im_types.specs.Run.{after}
+use Rattle.im_disk.specs.Moment.{Moment, Left}
+use Rattle.im_disk.specs.Since.{Leaves, LeavesNow}
+use Rattle.im_engine.specs.State.{EngineState, MeansState}
+use Rattle.im_engine.specs.Run.{HasRun, MeansAfter, MeansBeginning, put_by_command}
+use Rattle.im_text.specs.Printing.{Begins, IsLast}
+use Rattle.im_checkpoint.specs.declared.checkpoint.TurnDone.{TurnDone}
+use Rattle.im_dialogue.specs.declared.asking.Asked.{Asked}
+use Rattle.im_dialogue.specs.declared.asking.Asked.TheVariants as asks
+use Rattle.im_dialogue.specs.declared.answers.Expected.{Expected}
+use Rattle.im_dialogue.specs.declared.answers.Answer.{Answer}
+use Rattle.im_dialogue.specs.declared.answers.Answer.TheVariants.{Served, Kept, Window, Room, Turned, Count, Wrong}
+use Rattle.im_dialogue.specs.Asking.{asked_of}
+use Rattle.im_dialogue.specs.Answers.{answer_text}
+
+-- ---- what was said
+
+-- a line that was asked, without its line feed; what it was answered; and the name of the refusal, where it was refused
+pub record Exchange : Type 0 where
+  pub line : List ℕ
+  pub answer : Answer
+  pub name : List ℕ
+
+-- what an answer tells of a command: what it comes to on this memory, or that the journal has no room for it
+abbrev pub IsOf : Contents → Command → Result Outcome Refusal → Type 0
+IsOf m command answer = (answer ≡ (step m command).answer) ⊎ ((is_accepted m command ≡ true) × (answer ≡ Err JournalFull))
+
+-- the answer to what is asked, on this memory after so many commands
+abbrev pub Answers : Contents → ℕ → Option Asked → Answer → Type 0
+Answers m commands (Some (asks.Serve command)) answer = (outcome : Result Outcome Refusal) × (answer ≡ Served command outcome) × IsOf m command outcome
+Answers m commands (Some (asks.Collect who)) answer = answer ≡ Kept who (ask m.windows who)
+Answers m commands (Some (asks.Window element)) answer = answer ≡ Window element (bounds m.windows element)
+Answers m commands (Some asks.Room) answer = (room : ℕ) × (answer ≡ Room room)
+Answers m commands (Some asks.Turn) answer = (done : TurnDone) × (answer ≡ Turned done)
+Answers m commands (Some asks.Count) answer = answer ≡ Count commands
+Answers m commands (Some asks.Quit) answer = ⊥
+Answers m commands None answer = (number : ℕ) × ((expected : Expected) × (answer ≡ Wrong number expected))
+
+-- the command, if this answer says that it was put on the disk
+abbrev pub put_by : Contents → Answer → List Command
+put_by m (Served command outcome) = put_by_command m command outcome
+put_by m answer = []
+
+-- the commands that were put on the disk, by what was said, the last first
+abbrev pub put_of : Contents → List Exchange → List Command
+put_of m [] = []
+put_of m (x ∷ xs) = put_of m xs ++ put_by (after m (put_of m xs)) x.answer
+
+-- each line was answered on the memory after what was put before it
+abbrev pub AreAnswered : Contents → ℕ → List Exchange → Type 0
+AreAnswered m commands [] = Unit {0}
+AreAnswered m commands (x ∷ xs) = Answers (after m (put_of m xs)) (commands + length (put_of m xs)) (asked_of x.line) x.answer × AreAnswered m commands xs
+
+-- the lines that were answered, one below the other
+abbrev pub texts_of : List Exchange → List ℕ
+texts_of [] = []
+texts_of (x ∷ xs) = texts_of xs ++ answer_text x.name x.answer
+
+-- the refusal says that a call of the disk failed, and ends the dialogue
+abbrev pub is_end : Refusal → Bool
+is_end Device = true
+is_end Failed = true
+is_end refusal = false
+
+-- ---- what it comes to on the disk
+
+-- All that was said was done: the memory is that after all commands that were put, and every file that a crash leaves means it.
+pub record IsAt {D : Type 0} (now : D → Moment) (past : D → List Moment) (start engine : EngineState D) (said : List Exchange) : Type 0 where
+  pub answered : AreAnswered start.memory start.count said
+  pub works : engine.failed ≡ false
+  pub run : HasRun start engine (put_of start.memory said)
+  pub leaves : Leaves (now start.disk) (now engine.disk) (past start.disk) (past engine.disk) (MeansBeginning start (put_of start.memory said))
+  pub kept : LeavesNow (now engine.disk) (MeansState engine)
+
+-- the file means what the engine is after all commands that were put by what was said, and perhaps after those in doubt
+abbrev pub MeansSaid : {D : Type 0} → EngineState D → List Exchange → List Command → List ℕ → Type 0
+MeansSaid s said doubt file = (many : ℕ) × (length (put_of s.memory said) ≤ many) × (many ≤ length (put_of s.memory said ++ doubt)) × MeansAfter s (put_of s.memory said ++ doubt) many file
+
+-- All that was said was done, and it was ended, by a command in doubt or without one: what was said is in every file that a
+-- crash leaves.
+pub record HasEnded {D : Type 0} (now : D → Moment) (past : D → List Moment) (start : EngineState D) (disk : D) (said : List Exchange) (doubt : List Command) : Type 0 where
+  pub answered : AreAnswered start.memory start.count said
+  pub leaves : Leaves (now start.disk) (now disk) (past start.disk) (past disk) (MeansBeginning start (put_of start.memory said ++ doubt))
+  pub kept : LeavesNow (now disk) (MeansSaid start said doubt)
+
+-- a disk that is honest now was honest at the start, and this was said since
+abbrev pub Going : {D : Type 0} → (D → Moment) → (D → List Moment) → (D → Type 0) → EngineState D → EngineState D → List Exchange → Type 0
+Going now past honest start engine said = honest engine.disk → honest start.disk × IsAt now past start engine said
+
+-- the same, and it was ended
+abbrev pub Ended : {D : Type 0} → (D → Moment) → (D → List Moment) → (D → Type 0) → EngineState D → D → List Exchange → Type 0
+Ended now past honest start disk said = honest disk → honest start.disk × ((doubt : List Command) × (length doubt ≤ 1) × HasEnded now past start disk said doubt)
+
+-- nothing more was said
+abbrev pub GoesOn : {D : Type 0} → (D → Moment) → (D → List Moment) → (D → Type 0) → EngineState D → EngineState D → Type 0
+GoesOn {D} now past honest old new = (start : EngineState D) (said : List Exchange) → Going now past honest start old said → Going now past honest start new said
+
+-- nothing more was said, and it was ended
+abbrev pub Halts : {D : Type 0} → (D → Moment) → (D → List Moment) → (D → Type 0) → EngineState D → EngineState D → Type 0
+Halts {D} now past honest old new = (start : EngineState D) (said : List Exchange) → Going now past honest start old said → Ended now past honest start new.disk said
+
+-- this was asked and answered, where a line asks so
+abbrev pub Says : {D : Type 0} → (D → Moment) → (D → List Moment) → (D → Type 0) → EngineState D → EngineState D → Option Asked → Answer → Type 0
+Says {D} now past honest old new asked answer = (start : EngineState D) (said : List Exchange) (line name : List ℕ) → asked_of line ≡ asked → Going now past honest start old said
+    → Going now past honest start new (record { line = line; answer = answer; name = name } ∷ said)

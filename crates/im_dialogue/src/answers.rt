@@ -1,0 +1,231 @@
+//! What a line is answered.
+ghost use Rattle.std.specs.Prelude.{◌≡◌, ◌++◌, [], OnOk, string_bytes};
+ghost use Rattle.im_text.specs.Printing.{refused_line, told_line};
+ghost use Rattle.im_dialogue.specs.declared.answers.Answer.TheVariants.{Wrong};
+ghost use Rattle.im_dialogue.specs.Answers.{answer_text, confirmed_line, element_refused, expected_text, kept_line};
+ghost use Rattle.im_dialogue.specs.Answers.{request_refused, served_line, turn_text, window_line};
+
+use im_checkpoint::TurnDone;
+use im_text::add_entry;
+use im_types::{Command, Entry, Outcome, Refusal, Waiter};
+use std::alloc::AllocError;
+
+/// What a line was expected to be that isn't in the grammar.
+#[derive(Clone, Copy, Debug, PartialEq, Eq)]
+pub enum Expected {
+    /// A line that begins as one may.
+    Line,
+    /// A request behind `E.N`.
+    Request,
+    /// `collect E.N`
+    Collect,
+    /// `confirm E UPTO`
+    Confirm,
+    /// `window E`
+    Window,
+    /// A word with nothing behind it.
+    Alone,
+}
+
+/// What a line of a dialogue is answered.
+#[derive(Clone, Copy, Debug, PartialEq, Eq)]
+pub enum Answer {
+    /// To a command: what it comes to.
+    Served(Command, Result<Outcome, Refusal>),
+    /// To `collect E.N`: what is kept.
+    Kept(Waiter, Result<Entry, Refusal>),
+    /// To `window E`: the first number that is kept, and the next one.
+    Window(u16, Result<(u64, u64), Refusal>),
+    /// To `room`: for so many more commands there is room.
+    Room(u32),
+    /// To `turn`: what was done.
+    Turned(TurnDone),
+    /// To `count`: so many commands were accepted.
+    Count(u64),
+    /// To the line with this number, from 1, which isn't in the grammar.
+    Wrong(u64, Expected),
+}
+
+impl Answer {
+    /// The refusal that it is, if it is one.
+    pub fn refusal(&self) -> Option<Refusal> {
+        match *self {
+            Answer::Served(_, Err(refusal)) => Some(refusal),
+            Answer::Kept(_, Err(refusal)) => Some(refusal),
+            Answer::Window(_, Err(refusal)) => Some(refusal),
+            _ => None,
+        }
+    }
+}
+
+// Adds `refused NUMBER NAME`.
+fn add_refused(out: &mut String, refusal: Refusal, name: &str) -> Result<(), AllocError>
+    ensures { OnOk result (string_bytes out.new ≡ string_bytes out.old ++ refused_line refusal name.now) }
+{
+    let number = refusal.number();
+    write!(out, "refused {number} {name}\n")
+}
+
+// Adds `E.N refused NUMBER NAME`.
+fn add_request_refused(
+    out: &mut String,
+    who: Waiter,
+    refusal: Refusal,
+    name: &str,
+) -> Result<(), AllocError>
+    ensures { OnOk result (string_bytes out.new
+        ≡ string_bytes out.old ++ request_refused who.element who.number refusal name.now) }
+{
+    let element = who.element;
+    let number = who.number;
+    write!(out, "{element}.{number} ")?;
+    add_refused(out, refusal, name)
+}
+
+// Adds `E refused NUMBER NAME`.
+fn add_element_refused(
+    out: &mut String,
+    element: u16,
+    refusal: Refusal,
+    name: &str,
+) -> Result<(), AllocError>
+    ensures { OnOk result (string_bytes out.new ≡ string_bytes out.old ++ element_refused element refusal name.now) }
+{
+    write!(out, "{element} ")?;
+    add_refused(out, refusal, name)
+}
+
+// Adds `E.N REPLY`.
+fn add_told(out: &mut String, who: Waiter, entry: Entry) -> Result<(), AllocError>
+    ensures { OnOk result (string_bytes out.new ≡ string_bytes out.old ++ told_line who.element who.number entry) }
+{
+    let element = who.element;
+    let number = who.number;
+    write!(out, "{element}.{number} ")?;
+    add_entry(out, entry)?;
+    out.push_str("\n")
+}
+
+// Adds what is kept for a request, or why nothing is.
+fn add_kept(
+    out: &mut String,
+    who: Waiter,
+    answer: Result<Entry, Refusal>,
+    name: &str,
+) -> Result<(), AllocError>
+    ensures { OnOk result (string_bytes out.new
+        ≡ string_bytes out.old ++ kept_line who.element who.number name.now answer) }
+{
+    match answer {
+        Ok(entry) => add_told(out, who, entry),
+        Err(refusal) => add_request_refused(out, who, refusal, name),
+    }
+}
+
+// Adds `E confirmed UPTO`.
+fn add_confirmed(out: &mut String, element: u16, upto: u64) -> Result<(), AllocError>
+    ensures { OnOk result (string_bytes out.new ≡ string_bytes out.old ++ confirmed_line element upto) }
+{
+    write!(out, "{element} confirmed {upto}\n")
+}
+
+// Adds the answer to a command.
+fn add_served(
+    out: &mut String,
+    command: Command,
+    answer: Result<Outcome, Refusal>,
+    name: &str,
+) -> Result<(), AllocError>
+    ensures { OnOk result (string_bytes out.new ≡ string_bytes out.old ++ served_line name.now command answer) }
+{
+    match command {
+        Command::Request(request) => {
+            let who = Waiter {
+                element: request.element,
+                number: request.number,
+            };
+            match answer {
+                Ok(Outcome::Entry(entry)) => add_kept(out, who, Ok(entry), name),
+                Ok(Outcome::Confirmed) => Ok(()), // No request is answered so.
+                Err(refusal) => add_kept(out, who, Err(refusal), name),
+            }
+        }
+        Command::Confirm { element, upto } => match answer {
+            Ok(_) => add_confirmed(out, element, upto),
+            Err(refusal) => add_element_refused(out, element, refusal, name),
+        },
+    }
+}
+
+// Adds `E window BASE NEXT`, or why there is no window.
+fn add_window(
+    out: &mut String,
+    element: u16,
+    answer: Result<(u64, u64), Refusal>,
+    name: &str,
+) -> Result<(), AllocError>
+    ensures { OnOk result (string_bytes out.new ≡ string_bytes out.old ++ window_line element name.now answer) }
+{
+    match answer {
+        Ok((base, next)) => write!(out, "{element} window {base} {next}\n"),
+        Err(refusal) => add_element_refused(out, element, refusal, name),
+    }
+}
+
+// Adds what a turn did.
+fn add_turn(out: &mut String, done: TurnDone) -> Result<(), AllocError>
+    ensures { OnOk result (string_bytes out.new ≡ string_bytes out.old ++ turn_text done) }
+{
+    match done {
+        TurnDone::Idle => out.push_str("turn idle"),
+        TurnDone::Began => out.push_str("turn began"),
+        TurnDone::Page(page) => write!(out, "turn page {page}"),
+        TurnDone::Synced => out.push_str("turn synced"),
+        TurnDone::InForce => out.push_str("turn inforce"),
+        TurnDone::Swept => out.push_str("turn swept"),
+    }
+}
+
+// The words for what was expected.
+fn expected_words(expected: Expected) -> &'static str
+    ensures { result.now ≡ expected_text expected }
+{
+    match expected {
+        Expected::Line =>
+            "E.N and a request, collect E.N, confirm E UPTO, window E, room, turn, count or quit",
+        Expected::Request =>
+            "E.N with alloc i|m LENGTH, release A, fetch A, store A VALUE, take A or put A VALUE",
+        Expected::Collect => "collect E.N",
+        Expected::Confirm => "confirm E UPTO",
+        Expected::Window => "window E",
+        Expected::Alone => "the word alone",
+    }
+}
+
+// Adds `error LINE: ` and what was expected.
+fn add_wrong(out: &mut String, number: u64, expected: Expected) -> Result<(), AllocError>
+    ensures { OnOk result (string_bytes out.new
+        ≡ string_bytes out.old ++ answer_text [] (Wrong number expected)) }
+{
+    let words = expected_words(expected);
+    write!(out, "error {number}: {words}\n")
+}
+
+/// Adds the line of an answer. The name is that of the refusal, where it is one. At an error a part of the line may be
+/// there.
+pub fn add_answer(out: &mut String, answer: Answer, name: &str) -> Result<(), AllocError>
+    ensures { OnOk result (string_bytes out.new ≡ string_bytes out.old ++ answer_text name.now answer) }
+{
+    match answer {
+        Answer::Served(command, answer) => add_served(out, command, answer, name),
+        Answer::Kept(who, answer) => add_kept(out, who, answer, name),
+        Answer::Window(element, answer) => add_window(out, element, answer, name),
+        Answer::Room(room) => write!(out, "room {room}\n"),
+        Answer::Turned(done) => {
+            add_turn(out, done)?;
+            out.push_str("\n")
+        }
+        Answer::Count(count) => write!(out, "count {count}\n"),
+        Answer::Wrong(number, expected) => add_wrong(out, number, expected),
+    }
+}

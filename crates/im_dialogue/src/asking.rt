@@ -1,0 +1,213 @@
+//! What a line asks.
+ghost use Rattle.std.specs.Prelude.{◌≡◌, ◌==◌, ◌∷◌, [], IfOk};
+ghost use Rattle.im_types.specs.declared.commands.Command.TheVariants.{Request as Asks};
+ghost use Rattle.im_dialogue.specs.declared.asking.Asked.TheVariants.{Collect, Serve, Window};
+ghost use Rattle.std.specs.List.{slice_split};
+ghost use Rattle.std.specs.Option.{option_and_then, option_map, option_or};
+ghost use Rattle.im_script.specs.Grammar.{texts, words_of};
+ghost use Rattle.im_dialogue.specs.Asking.{asked_by_one, asked_by_three, asked_by_two, asked_in, asked_of, element_of};
+ghost use Rattle.im_dialogue.specs.Asking.{number_of, op_in, request_by, waiter_by, waiter_in, waiter_of};
+
+use im_script::{is_plain, read_action, read_number, split_words};
+use im_types::{Command, Op, Request, Waiter};
+use indexmap::IndexSet;
+use std::alloc::{AllocError, Global};
+
+/// What a line of a dialogue asks.
+#[derive(Clone, Copy, Debug, PartialEq, Eq)]
+pub enum Asked {
+    /// `E.N` and a request, or `confirm E UPTO`: a command is served.
+    Serve(Command),
+    /// `collect E.N`: what is kept for a request.
+    Collect(Waiter),
+    /// `window E`: the first number that an element keeps, and its next one.
+    Window(u16),
+    /// `room`: for how many more commands the journal has room.
+    Room,
+    /// `turn`: one turn of a checkpoint.
+    Turn,
+    /// `count`: how many commands were accepted.
+    Count,
+    /// `quit`: the end of the dialogue.
+    Quit,
+}
+
+// An element's number.
+fn read_element(word: &[u8]) -> Option<u16>
+    ensures { result ≡ element_of word.now }
+{
+    match read_number(word, u16::MAX as u64) {
+        Some(number) => Some(number as u16),
+        None => None,
+    }
+}
+
+// An element and a number, by their words.
+fn read_pair(element: &[u8], number: &[u8]) -> Option<Waiter>
+    ensures { result ≡ waiter_in element.now number.now }
+{
+    Some(Waiter {
+        element: read_element(element)?,
+        number: read_number(number, u64::MAX)?,
+    })
+}
+
+// The parts of a word between its dots.
+fn split_dots<'a>(alloc: Global, word: &'a [u8]) -> Result<Vec<&'a [u8]>, AllocError>
+    ensures { IfOk result (λ parts. texts parts.items ≡ slice_split (λ byte. byte == 46) word.entry.now) }
+{
+    word.split(|byte| *byte == b'.').collect(alloc)
+}
+
+// An element and a number, by the parts of a word.
+fn read_parts(parts: &[&[u8]]) -> Option<Waiter>
+    ensures { result ≡ waiter_by (texts parts.now) }
+{
+    match parts {
+        [element, number] => read_pair(element, number),
+        _ => None,
+    }
+}
+
+// E.N
+fn read_waiter(alloc: Global, word: &[u8]) -> Result<Option<Waiter>, AllocError>
+    ensures { IfOk result (λ who. who ≡ waiter_of word.now) }
+{
+    let parts = split_dots(alloc, word)?;
+    Ok(read_parts(parts.as_slice()))
+}
+
+// A request as it stands behind E.N.
+fn read_op(alloc: Global, words: &[&[u8]]) -> Option<Op>
+    ensures { result ≡ op_in (texts words.now) }
+{
+    let names = IndexSet::new(alloc);
+    read_action(&names, words)?.op(&[])
+}
+
+// A line of one word.
+fn read_one(word: &[u8]) -> Option<Asked>
+    ensures { result ≡ asked_by_one word.now }
+{
+    if word == b"room".as_slice() {
+        Some(Asked::Room)
+    } else if word == b"turn".as_slice() {
+        Some(Asked::Turn)
+    } else if word == b"count".as_slice() {
+        Some(Asked::Count)
+    } else if word == b"quit".as_slice() {
+        Some(Asked::Quit)
+    } else {
+        None
+    }
+}
+
+// The window of an element.
+fn read_window(element: &[u8]) -> Option<Asked>
+    ensures { result ≡ option_map Window (element_of element.now) }
+{
+    match read_element(element) {
+        Some(element) => Some(Asked::Window(element)),
+        None => None,
+    }
+}
+
+// What is kept for a request.
+fn ask_collect(who: Option<Waiter>) -> Option<Asked>
+    ensures { result ≡ option_map Collect who }
+{
+    match who {
+        Some(who) => Some(Asked::Collect(who)),
+        None => None,
+    }
+}
+
+// A line of two words.
+fn read_two(alloc: Global, word: &[u8], what: &[u8]) -> Result<Option<Asked>, AllocError>
+    ensures { IfOk result (λ asked. asked ≡ asked_by_two word.now what.now) }
+{
+    if word == b"collect".as_slice() {
+        let who = read_waiter(alloc, what)?;
+        Ok(ask_collect(who))
+    } else if word == b"window".as_slice() {
+        Ok(read_window(what))
+    } else {
+        Ok(None)
+    }
+}
+
+// A confirmation.
+fn read_confirm(word: &[u8], element: &[u8], upto: &[u8]) -> Option<Asked>
+    ensures { result ≡ asked_by_three word.now element.now upto.now }
+{
+    if word != b"confirm".as_slice() {
+        return None;
+    }
+    let element = read_element(element)?;
+    let upto = read_number(upto, u64::MAX)?;
+    Some(Asked::Serve(Command::Confirm { element, upto }))
+}
+
+// A request by who asks, and what for.
+fn ask_request(who: Option<Waiter>, op: Option<Op>) -> Option<Asked>
+    ensures { result ≡ option_and_then (λ w. option_map (λ o. Serve (Asks (record { element = w.element; number = w.number; op = o }))) op) who }
+{
+    let who = who?;
+    let op = op?;
+    Some(Asked::Serve(Command::Request(Request {
+        element: who.element,
+        number: who.number,
+        op,
+    })))
+}
+
+// A request.
+fn read_request(alloc: Global, first: &[u8], rest: &[&[u8]]) -> Result<Option<Asked>, AllocError>
+    ensures { IfOk result (λ asked. asked ≡ request_by first.now (texts rest.now)) }
+{
+    let who = read_waiter(alloc, first)?;
+    Ok(ask_request(who, read_op(alloc, rest)))
+}
+
+// A line of three words.
+fn read_three(
+    alloc: Global,
+    word: &[u8],
+    first: &[u8],
+    second: &[u8],
+) -> Result<Option<Asked>, AllocError>
+    ensures { IfOk result (λ asked. asked ≡ option_or (asked_by_three word.now first.now second.now)
+        (request_by word.now (first.now ∷ second.now ∷ []))) }
+{
+    match read_confirm(word, first, second) {
+        Some(asked) => Ok(Some(asked)),
+        None => read_request(alloc, word, [first, second].as_slice()),
+    }
+}
+
+// A line, by its words.
+fn read_words(alloc: Global, words: &[&[u8]]) -> Result<Option<Asked>, AllocError>
+    ensures { IfOk result (λ asked. asked ≡ asked_in (texts words.now)) }
+{
+    match words {
+        [word] => Ok(read_one(word)),
+        [word, what] => read_two(alloc, word, what),
+        [word, first, second] => read_three(alloc, word, first, second),
+        [word, first, second, third] => {
+            read_request(alloc, word, [*first, *second, *third].as_slice())
+        }
+        _ => Ok(None),
+    }
+}
+
+/// What a line asks, which has no line feed; `None` where it isn't in the grammar. A growth that `alloc` refused is the
+/// one error, and nothing is left of it.
+pub fn read_asked(alloc: Global, line: &[u8]) -> Result<Option<Asked>, AllocError>
+    ensures { IfOk result (λ asked. asked ≡ asked_of line.now) }
+{
+    if !is_plain(line) {
+        return Ok(None);
+    }
+    let words = split_words(alloc, line)?;
+    read_words(alloc, words.as_slice())
+}

@@ -1,0 +1,10 @@
+//! A dialogue over an image: a line asked, a line answered.
+#![tactic(auto)]
+
+mod answers;
+mod asking;
+mod talk;
+
+pub use answers::{Answer, Expected, add_answer};
+pub use asking::{Asked, read_asked};
+pub use talk::{answer, make_room};

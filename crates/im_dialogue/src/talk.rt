@@ -1,0 +1,167 @@
+//! What is asked, done on an engine.
+ghost use Rattle.std.specs.Prelude.{◌≡◌, Some, None, MatchOption, MatchResult};
+ghost use Rattle.im_dialogue.specs.declared.asking.Asked.TheVariants.{Collect, Count, Quit, Room, Serve, Turn, Window};
+ghost use Rattle.im_dialogue.specs.declared.answers.Answer.TheVariants as answer;
+ghost use Rattle.im_dialogue.specs.Talk.{GoesOn, Halts, Says, is_end};
+
+use crate::answers::{Answer, Expected};
+use crate::asking::Asked;
+use im_checkpoint::TurnDone;
+use im_disk::Disk;
+use im_engine::Engine;
+use im_types::layout::MOST_AREA_PAGES;
+use im_types::{Command, Refusal, Waiter};
+
+// As many turns as two checkpoints take at the largest sizes: the rest of one that is under way, and a whole one.
+const MOST_TURNS: usize = 2 * (MOST_AREA_PAGES + 4);
+
+// Takes a turn of a checkpoint.
+fn take_turn<D: Disk>(engine: &mut Engine<D>) -> Result<TurnDone, Refusal>
+    ensures goes { MatchResult result
+        (λ _. GoesOn D.now D.past D.honest engine.old engine.new)
+        (λ _. Halts D.now D.past D.honest engine.old engine.new) }
+{
+    // A stop in it leaves the memory as it is.
+    match engine.turn() {
+        Ok(done) => Ok(done),
+        Err(refusal) => Err(refusal),
+    }
+}
+
+/// Takes turns of a checkpoint while there is room for less than so many commands, and something is left to do.
+/// `Device`, where a call of the disk failed, or `Failed`, where one had failed before: what was said stays.
+pub fn make_room<D: Disk>(engine: &mut Engine<D>, least: u32) -> Result<(), Refusal>
+    ensures goes { MatchResult result
+        (λ _. GoesOn D.now D.past D.honest engine.old engine.new)
+        (λ _. Halts D.now D.past D.honest engine.old engine.new) }
+{
+    for _turn in 0..MOST_TURNS {
+        if engine.room() >= least {
+            return Ok(());
+        }
+        // A stop in it leaves the memory as it is.
+        let done = match take_turn(engine) {
+            Ok(done) => done,
+            Err(refusal) => return Err(refusal),
+        };
+        if let TurnDone::Idle = done {
+            return Ok(());
+        }
+    }
+    Ok(())
+}
+
+// Whether a refusal ends the dialogue: a call of the disk has failed.
+fn ends(refusal: Refusal) -> bool
+    ensures { result ≡ is_end refusal }
+{
+    matches!(refusal, Refusal::Device | Refusal::Failed)
+}
+
+// Serves a command for which there is room, if there can be.
+fn serve<D: Disk>(engine: &mut Engine<D>, command: Command) -> Result<Answer, Refusal>
+    ensures says { MatchResult result
+        (λ answer. Says D.now D.past D.honest engine.old engine.new (Some (Serve command)) answer)
+        (λ _. Halts D.now D.past D.honest engine.old engine.new) }
+{
+    // A stop in it leaves the memory with the command, or without it: it isn't answered yet.
+    match engine.serve(&command) {
+        Ok(outcome) => Ok(Answer::Served(command, Ok(outcome))),
+        Err(refusal) => {
+            if ends(refusal) {
+                Err(refusal)
+            } else {
+                Ok(Answer::Served(command, Err(refusal)))
+            }
+        }
+    }
+}
+
+// Makes room for a command, and serves it.
+fn serve_with_room<D: Disk>(engine: &mut Engine<D>, command: Command) -> Result<Answer, Refusal>
+    ensures says { MatchResult result
+        (λ answer. Says D.now D.past D.honest engine.old engine.new (Some (Serve command)) answer)
+        (λ _. Halts D.now D.past D.honest engine.old engine.new) }
+{
+    match make_room(engine, 1) {
+        Ok(()) => serve(engine, command),
+        Err(refusal) => Err(refusal),
+    }
+}
+
+// Takes a turn, and answers what was done.
+fn turn<D: Disk>(engine: &mut Engine<D>) -> Result<Answer, Refusal>
+    ensures says { MatchResult result
+        (λ answer. Says D.now D.past D.honest engine.old engine.new (Some Turn) answer)
+        (λ _. Halts D.now D.past D.honest engine.old engine.new) }
+{
+    match take_turn(engine) {
+        Ok(done) => Ok(Answer::Turned(done)),
+        Err(refusal) => Err(refusal),
+    }
+}
+
+// Answers what is kept for a request.
+fn collect<D: Disk>(engine: &Engine<D>, who: Waiter) -> Answer
+    ensures { Says D.now D.past D.honest engine.now engine.now (Some (Collect who)) result }
+{
+    Answer::Kept(who, engine.collect(who.element, who.number))
+}
+
+// Answers an element's window.
+fn window<D: Disk>(engine: &Engine<D>, element: u16) -> Answer
+    ensures { Says D.now D.past D.honest engine.now engine.now (Some (Window element)) result }
+{
+    Answer::Window(element, engine.window(element))
+}
+
+// Answers how many commands were accepted.
+fn count<D: Disk>(engine: &Engine<D>) -> Answer
+    ensures { Says D.now D.past D.honest engine.now engine.now (Some Count) result }
+{
+    Answer::Count(engine.count())
+}
+
+// Answers for how many more commands there is room.
+fn room<D: Disk>(engine: &Engine<D>) -> Answer
+    ensures says { Says D.now D.past D.honest engine.now engine.now (Some Room) result }
+    ensures room { result ≡ answer.Room engine.now.room }
+{
+    Answer::Room(engine.room())
+}
+
+// Answers a line that isn't in the grammar.
+fn wrong<D: Disk>(engine: &Engine<D>, number: u64, expected: Expected) -> Answer
+    ensures says { Says D.now D.past D.honest engine.now engine.now None result }
+    ensures answer { result ≡ answer.Wrong number expected }
+{
+    Answer::Wrong(number, expected)
+}
+
+/// Does on an engine what is asked, and answers it; `None` where that is the end of the dialogue. Before a command
+/// turns of a checkpoint are taken while there is no room for one.
+///
+/// `Device` or `Failed`, where a call of the disk failed: then a command is in doubt, at most, and what was said before
+/// stays. Any other refusal is an answer.
+pub fn answer<D: Disk>(engine: &mut Engine<D>, asked: Asked) -> Result<Option<Answer>, Refusal>
+    ensures says { MatchResult result
+        (λ given. MatchOption given ((asked ≡ Quit) × (engine.new ≡ engine.old))
+        (λ answer. Says D.now D.past D.honest engine.old engine.new (Some asked) answer))
+        (λ _. Halts D.now D.past D.honest engine.old engine.new) }
+{
+    match asked {
+        Asked::Serve(command) => match serve_with_room(engine, command) {
+            Ok(answer) => Ok(Some(answer)),
+            Err(refusal) => Err(refusal),
+        },
+        Asked::Turn => match turn(engine) {
+            Ok(answer) => Ok(Some(answer)),
+            Err(refusal) => Err(refusal),
+        },
+        Asked::Collect(who) => Ok(Some(collect(engine, who))),
+        Asked::Window(element) => Ok(Some(window(engine, element))),
+        Asked::Room => Ok(Some(room(engine))),
+        Asked::Count => Ok(Some(count(engine))),
+        Asked::Quit => Ok(None),
+    }
+}
