@@ -16,11 +16,12 @@ enum { SIDE = 6 };
 
 static struct lt_engine engine;
 
-/* Where a row is: its next column, the number of its next request, the cell to its left, and whether it waits. */
+static uint64_t grid[SIDE][SIDE];
+
+/* Where a row is: its next column, the number of its next request, and whether it waits. */
 static struct row {
     uint32_t column;
     uint64_t number;
-    uint64_t left;
     int waits;
 } rows[SIDE];
 
@@ -74,13 +75,11 @@ static int go_on(uint16_t at) {
         if (at > 0 && row->column > 0) {
             int64_t value = above(at);
             if (value < 0) return 0;
-            cell = row->left + (uint64_t)value;
+            cell = grid[at][row->column - 1] + (uint64_t)value;
         }
         serve(LT_STORE, at, at * SIDE + row->column, row->number++, cell);
         serve(LT_CONFIRM, at, 0, row->number, 0);
-        row->left = cell;
-        row->column++;
-        printf("%" PRIu64 "%s", cell, row->column < SIDE ? " " : "\n");
+        grid[at][row->column++] = cell;
     }
     return 1;
 }
@@ -94,12 +93,15 @@ int main(int argc, char **argv) {
     uint8_t refusal = lt_format(fd, &limits, &engine);
     if (refusal) stop("format", refusal);
     serve(LT_ALLOC_I, 0, SIDE * SIDE, 1, 0);
-    for (uint16_t at = 0; at < SIDE; at++) rows[at] = (struct row){0, at == 0 ? 2 : 1, 0, 0};
+    for (uint16_t at = 0; at < SIDE; at++) rows[at] = (struct row){0, at == 0 ? 2 : 1, 0};
     /* The last row first: each asks before there is an answer. */
     while (ended < SIDE) {
         ended = 0;
         for (int at = SIDE - 1; at >= 0; at--) ended += go_on((uint16_t)at);
     }
+    for (int at = 0; at < SIDE; at++)
+        for (int column = 0; column < SIDE; column++)
+            printf("%" PRIu64 "%s", grid[at][column], column < SIDE - 1 ? " " : "\n");
     printf("%d fetches waited, %" PRIu64 " commands\n", waited, lt_count(engine, &engine));
     lt_close(engine);
     close(fd);

@@ -4,7 +4,8 @@ ghost use Rattle.std.specs.declared.option.Option.{Option};
 ghost use Rattle.im_checkpoint.specs.declared.checkpoint.TurnDone.{TurnDone};
 ghost use Rattle.im_types.specs.declared.refusals.Refusal.{Refusal};
 ghost use Rattle.im_c.specs.declared.engine.Served.{Served as Seen};
-ghost use Rattle.im_types.specs.Layout.{sizes_of};
+ghost use Rattle.im_types.specs.Layout.{sizes_of, image_length, layout_in_use};
+ghost use Rattle.im_types.specs.Sizes.{AreLimits};
 ghost use Rattle.im_c.specs.Held.{holds_engine};
 ghost use Rattle.im_c.specs.Plain.{turn_of, window_of};
 ghost use Rattle.im_c.specs.Engine.{Opens, Formats, ServesIt, Turns, entry_in, bounds_in, told};
@@ -16,6 +17,7 @@ use crate::plain::{
 };
 use im_engine::Engine;
 use im_fd::{FdDisk, Opening};
+use im_types::layout::image_length;
 use im_types::{Limits, Outcome, Refusal};
 use std::alloc::Global;
 use std::marker::Model;
@@ -142,6 +144,19 @@ fn hand_out(alloc: Global, engine: Engine<FdDisk>, next: &mut LtEngine) -> u8
             0
         }
         Err(_) => Refusal::NoMemory.number(),
+    }
+}
+
+/// The length in bytes of an image with these limits, or 0 exactly where a number is out of its range.
+#[unsafe(no_mangle)]
+pub extern "C" fn lt_image_length(limits: &LtLimits) -> u64
+    ensures length { let l = limits.now in AreLimits l.cells l.elements l.slots
+        → result ≡ image_length layout_in_use (record { cells = l.cells; elements = l.elements; slots = l.slots }) }
+    ensures bad { let l = limits.now in (AreLimits l.cells l.elements l.slots → ⊥) → result ≡ 0 }
+{
+    match Limits::new(limits.cells, limits.elements, limits.slots) {
+        Some(limits) => image_length(limits) as u64,
+        None => 0,
     }
 }
 
