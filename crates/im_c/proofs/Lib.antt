@@ -1,1 +1,2 @@
+mod AsEngine
 mod AsMemory

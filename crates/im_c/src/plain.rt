@@ -1,8 +1,9 @@
 //! Commands and what they come to, as C spells them.
 ghost use Rattle.std.specs.Prelude.{◌≡◌};
 ghost use Rattle.im_types.specs.Bytes.{entry_code, entry_number};
-ghost use Rattle.im_c.specs.Plain.{meant, outcome_of, refused, no_call};
+ghost use Rattle.im_c.specs.Plain.{meant, outcome_of, refused, turn_of, window_of};
 
+use im_checkpoint::TurnDone;
 use im_types::codes::op_of;
 use im_types::{Command, Entry, Outcome, Refusal, Reply, Request};
 
@@ -43,6 +44,27 @@ pub struct LtOutcome {
     pub refusal: u8,
     pub tag: u8,
     pub value: u64,
+}
+
+/// What a turn came to. `refusal` is 0 or the number of the refusal; then the rest is 0. `done` is 0 where there was nothing
+/// to do, 1 a checkpoint began, 2 the page with the number `page` was written, 3 the pages were put on the disk, 4 the
+/// area that was written is in force, 5 gates were closed.
+#[repr(C)]
+#[derive(Clone, Copy)]
+pub struct LtTurn {
+    pub refusal: u8,
+    pub done: u8,
+    pub page: u32,
+}
+
+/// The bounds of a window: `refusal` is 0 or the number of the refusal; then the rest is 0. From `base` on the entries are
+/// kept, and `next` is the number of the next new request.
+#[repr(C)]
+#[derive(Clone, Copy)]
+pub struct LtWindow {
+    pub refusal: u8,
+    pub base: u64,
+    pub next: u64,
 }
 
 /// The command that is meant; `None` where the tag is none of a command.
@@ -126,5 +148,43 @@ pub(crate) fn outcome_of(answer: Result<Outcome, Refusal>) -> LtOutcome
             value: entry_number(entry),
         },
         Err(refusal) => refused(refusal.number()),
+    }
+}
+
+/// What stands for the answer to a turn.
+pub(crate) fn turn_of(answer: Result<TurnDone, Refusal>) -> LtTurn
+    ensures { result ≡ turn_of answer }
+{
+    let (refusal, done, page) = match answer {
+        Ok(TurnDone::Idle) => (0, 0, 0),
+        Ok(TurnDone::Began) => (0, 1, 0),
+        Ok(TurnDone::Page(page)) => (0, 2, page),
+        Ok(TurnDone::Synced) => (0, 3, 0),
+        Ok(TurnDone::InForce) => (0, 4, 0),
+        Ok(TurnDone::Swept) => (0, 5, 0),
+        Err(refusal) => (refusal.number(), 0, 0),
+    };
+    LtTurn {
+        refusal,
+        done,
+        page,
+    }
+}
+
+/// What stands for the bounds of a window.
+pub(crate) fn window_of(answer: Result<(u64, u64), Refusal>) -> LtWindow
+    ensures { result ≡ window_of answer }
+{
+    match answer {
+        Ok((base, next)) => LtWindow {
+            refusal: 0,
+            base,
+            next,
+        },
+        Err(refusal) => LtWindow {
+            refusal: refusal.number(),
+            base: 0,
+            next: 0,
+        },
     }
 }

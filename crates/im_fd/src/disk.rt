@@ -7,7 +7,8 @@ ghost use Rattle.im_disk.specs.Account.{event_of, is_usable};
 use crate::account::Ledger;
 use crate::transfer::{filled, wrote};
 use im_disk::{DeviceFault, Disk};
-use std::marker::{Model, PhantomData};
+use std::alloc::Global;
+use std::marker::Model;
 
 // How a call is noted.
 const MEASURED: u64 = 1;
@@ -23,7 +24,7 @@ const SYNCED: u64 = 4;
 #[repr(C)]
 #[derive(Drop)]
 pub struct Opening {
-    marker: PhantomData<u8>,
+    alloc: Global,
     /// The bytes, and the ranges that an earlier process left in doubt.
     pub ghost first: { Moment },
     /// What the failing calls come to, the first one first.
