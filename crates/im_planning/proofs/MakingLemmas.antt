@@ -100,13 +100,6 @@ cons-plan r plan b is = record { planned = planned; numbered = numbered; stored_
     stored_once (suc i) zero a q s x y e f = absurd (one_store a q i x (ap (λ (r : Request). is_some (stored_by a r.op)) (same_Some r s y) ∙ f) e)
     stored_once (suc i) (suc j) a q s x y e f = ap suc (is.stored_once i j a q s x y e f)
 
-pub no-requests : IsPlan []
-no-requests = record {
-  planned = λ i r at. absurd (none-some r at);
-  numbered = λ i j r s x y same. absurd (none-some r x);
-  stored_once = λ i j a r s x y e f. absurd (none-some r x);
-}
-
 -- what stands behind a plan's first request
 same_suc : (i j : ℕ) → suc i ≡ suc j → i ≡ j
 same_suc i j e = omega arith
