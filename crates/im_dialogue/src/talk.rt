@@ -20,6 +20,7 @@ fn take_turn<D: Disk>(engine: &mut Engine<D>) -> Result<TurnDone, Refusal>
     ensures goes { MatchResult result
         (λ _. GoesOn D.now D.past D.honest engine.old engine.new)
         (λ _. Halts D.now D.past D.honest engine.old engine.new) }
+    ensures honest { D.honest engine.new.disk → D.honest engine.old.disk }
 {
     // A stop in it leaves the memory as it is.
     match engine.turn() {
@@ -34,6 +35,7 @@ pub fn make_room<D: Disk>(engine: &mut Engine<D>, least: u32) -> Result<(), Refu
     ensures goes { MatchResult result
         (λ _. GoesOn D.now D.past D.honest engine.old engine.new)
         (λ _. Halts D.now D.past D.honest engine.old engine.new) }
+    ensures honest { D.honest engine.new.disk → D.honest engine.old.disk }
 {
     for _turn in 0..MOST_TURNS {
         if engine.room() >= least {
@@ -63,6 +65,7 @@ fn serve<D: Disk>(engine: &mut Engine<D>, command: Command) -> Result<Answer, Re
     ensures says { MatchResult result
         (λ answer. Says D.now D.past D.honest engine.old engine.new (Some (Serve command)) answer)
         (λ _. Halts D.now D.past D.honest engine.old engine.new) }
+    ensures honest { D.honest engine.new.disk → D.honest engine.old.disk }
 {
     // A stop in it leaves the memory with the command, or without it: it isn't answered yet.
     match engine.serve(&command) {
@@ -82,6 +85,7 @@ fn serve_with_room<D: Disk>(engine: &mut Engine<D>, command: Command) -> Result<
     ensures says { MatchResult result
         (λ answer. Says D.now D.past D.honest engine.old engine.new (Some (Serve command)) answer)
         (λ _. Halts D.now D.past D.honest engine.old engine.new) }
+    ensures honest { D.honest engine.new.disk → D.honest engine.old.disk }
 {
     match make_room(engine, 1) {
         Ok(()) => serve(engine, command),
@@ -94,6 +98,7 @@ fn turn<D: Disk>(engine: &mut Engine<D>) -> Result<Answer, Refusal>
     ensures says { MatchResult result
         (λ answer. Says D.now D.past D.honest engine.old engine.new (Some Turn) answer)
         (λ _. Halts D.now D.past D.honest engine.old engine.new) }
+    ensures honest { D.honest engine.new.disk → D.honest engine.old.disk }
 {
     match take_turn(engine) {
         Ok(done) => Ok(Answer::Turned(done)),
@@ -130,8 +135,8 @@ fn room<D: Disk>(engine: &Engine<D>) -> Answer
     Answer::Room(engine.room())
 }
 
-// Answers a line that isn't in the grammar.
-fn wrong<D: Disk>(engine: &Engine<D>, number: u64, expected: Expected) -> Answer
+/// Answers the line with this number, which isn't in the grammar.
+pub fn wrong<D: Disk>(engine: &Engine<D>, number: u64, expected: Expected) -> Answer
     ensures says { Says D.now D.past D.honest engine.now engine.now None result }
     ensures answer { result ≡ answer.Wrong number expected }
 {
@@ -148,6 +153,7 @@ pub fn answer<D: Disk>(engine: &mut Engine<D>, asked: Asked) -> Result<Option<An
         (λ given. MatchOption given ((asked ≡ Quit) × (engine.new ≡ engine.old))
         (λ answer. Says D.now D.past D.honest engine.old engine.new (Some asked) answer))
         (λ _. Halts D.now D.past D.honest engine.old engine.new) }
+    ensures honest { D.honest engine.new.disk → D.honest engine.old.disk }
 {
     match asked {
         Asked::Serve(command) => match serve_with_room(engine, command) {
