@@ -5,7 +5,7 @@ use Rattle.std.specs.Io.KnownBytes.{Appends}
 use Rattle.std.proofs.KnownBytes.{Appends-trans}
 use Rattle.std.proofs.lemmas.List.{append-nil}
 use Rattle.im_text.specs.Printing.{Begins}
-use Rattle.im_text.proofs.PrintingLemmas.{take-all}
+use Rattle.im_text.proofs.PrintingLemmas.{take-all, true_false}
 use Rattle.im_dialogue.specs.Answers.{answer_text}
 use Rattle.im_types.specs.declared.commands.Command.{Command}
 use Rattle.im_types.specs.declared.commands.Outcome.{Outcome}
@@ -29,10 +29,6 @@ use Rattle.im_dialogue.specs.declared.answers.Answer.{Answer}
 use Rattle.im_dialogue.specs.declared.answers.Answer.TheVariants.{Served}
 use Rattle.im_dialogue.specs.Asking.{asked_of}
 use Rattle.im_dialogue.specs.Talk.{Exchange, IsOf, Answers, put_by, put_of, is_end, IsAt, MeansSaid, HasEnded, GoesOn, Halts, Says, texts_of, Silent, TalksOn, TalkEnds}
-
-true_false : (b : Bool) → b ≡ true → b ≡ false → ⊥
-true_false true t f = absurd (cc)
-true_false false t f = absurd (cc)
 
 -- what a command is answered, where the engine works still
 is_of : {D : Type 0} (old new : EngineState D) (c : Command) (a : Result Outcome Refusal) → old.failed ≡ false → new.failed ≡ false → Answered old c a new → IsOf old.memory c a

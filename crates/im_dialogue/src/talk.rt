@@ -62,7 +62,7 @@ fn ends(refusal: Refusal) -> bool
 
 // Serves a command for which there is room, if there can be.
 fn serve<D: Disk>(engine: &mut Engine<D>, command: Command) -> Result<Answer, Refusal>
-    ensures says { MatchResult result
+    ensures answered { MatchResult result
         (λ answer. Says D.now D.past D.honest engine.old engine.new (Some (Serve command)) answer)
         (λ _. Halts D.now D.past D.honest engine.old engine.new) }
     ensures honest { D.honest engine.new.disk → D.honest engine.old.disk }
@@ -82,7 +82,7 @@ fn serve<D: Disk>(engine: &mut Engine<D>, command: Command) -> Result<Answer, Re
 
 // Makes room for a command, and serves it.
 fn serve_with_room<D: Disk>(engine: &mut Engine<D>, command: Command) -> Result<Answer, Refusal>
-    ensures says { MatchResult result
+    ensures answered { MatchResult result
         (λ answer. Says D.now D.past D.honest engine.old engine.new (Some (Serve command)) answer)
         (λ _. Halts D.now D.past D.honest engine.old engine.new) }
     ensures honest { D.honest engine.new.disk → D.honest engine.old.disk }
@@ -95,7 +95,7 @@ fn serve_with_room<D: Disk>(engine: &mut Engine<D>, command: Command) -> Result<
 
 // Takes a turn, and answers what was done.
 fn turn<D: Disk>(engine: &mut Engine<D>) -> Result<Answer, Refusal>
-    ensures says { MatchResult result
+    ensures answered { MatchResult result
         (λ answer. Says D.now D.past D.honest engine.old engine.new (Some Turn) answer)
         (λ _. Halts D.now D.past D.honest engine.old engine.new) }
     ensures honest { D.honest engine.new.disk → D.honest engine.old.disk }
@@ -129,7 +129,7 @@ fn count<D: Disk>(engine: &Engine<D>) -> Answer
 
 // Answers for how many more commands there is room.
 fn room<D: Disk>(engine: &Engine<D>) -> Answer
-    ensures says { Says D.now D.past D.honest engine.now engine.now (Some Room) result }
+    ensures answered { Says D.now D.past D.honest engine.now engine.now (Some Room) result }
     ensures room { result ≡ answer.Room engine.now.room }
 {
     Answer::Room(engine.room())
@@ -137,7 +137,7 @@ fn room<D: Disk>(engine: &Engine<D>) -> Answer
 
 /// Answers the line with this number, which isn't in the grammar.
 pub fn wrong<D: Disk>(engine: &Engine<D>, number: u64, expected: Expected) -> Answer
-    ensures says { Says D.now D.past D.honest engine.now engine.now None result }
+    ensures answered { Says D.now D.past D.honest engine.now engine.now None result }
     ensures answer { result ≡ answer.Wrong number expected }
 {
     Answer::Wrong(number, expected)
@@ -149,7 +149,7 @@ pub fn wrong<D: Disk>(engine: &Engine<D>, number: u64, expected: Expected) -> An
 /// `Device` or `Failed`, where a call of the disk failed: then a command is in doubt, at most, and what was said before
 /// stays. Any other refusal is an answer.
 pub fn answer<D: Disk>(engine: &mut Engine<D>, asked: Asked) -> Result<Option<Answer>, Refusal>
-    ensures says { MatchResult result
+    ensures answered { MatchResult result
         (λ given. MatchOption given ((asked ≡ Quit) × (engine.new ≡ engine.old))
         (λ answer. Says D.now D.past D.honest engine.old engine.new (Some asked) answer))
         (λ _. Halts D.now D.past D.honest engine.old engine.new) }
