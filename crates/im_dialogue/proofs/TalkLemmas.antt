@@ -240,9 +240,6 @@ module _ {D : Type 0} (now : D → Moment) (past : D → List Moment) (honest : 
   pub halts_after : (old mid new : EngineState D) → GoesOn now past honest old mid → Halts now past honest mid new → Halts now past honest old new
   halts_after old mid new goes halts = λ start said so_far. halts start said (goes start said so_far)
 
-  pub goes_after : (old mid new : EngineState D) → GoesOn now past honest old mid → GoesOn now past honest mid new → GoesOn now past honest old new
-  goes_after old mid new one two = λ start said so_far. two start said (one start said so_far)
-
   -- the answer of the last call, after one that said nothing
   pub then_says : (old mid new : EngineState D) (asked : Option Asked) (result : Result Answer Refusal) → GoesOn now past honest old mid
       → MatchResult result (λ answer. Says now past honest mid new asked answer) (λ e. Halts now past honest mid new)
