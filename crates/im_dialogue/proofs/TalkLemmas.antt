@@ -1,35 +1,34 @@
 -- What was said over an engine, line by line.
-use Rattle.std.proofs.Common.{◌≡◌, ◌∙◌, inl, inr, ⊎_elim, ℕ, ◌+◌, ◌≤◌, Bool, true, false, List, [], ◌∷◌, ◌++◌, length, refl, sym, ap, subst, length-append, arith, if◌then◌else◌}
-use Rattle.std.specs.Prelude.{◌⊎◌, Option, Some, None, Result, Ok, Err, MatchResult}
+use Rattle.std.proofs.Common.{◌≡◌, ◌∙◌, inl, inr, ⊎_elim, ℕ, suc, ◌+◌, ◌≤◌, Bool, true, false, List, [], ◌∷◌, ◌++◌, length, take, refl, sym, ap, subst, length-append, arith}
+use Rattle.std.specs.Prelude.{Option, Some, Result, Ok, Err, MatchResult}
+use Rattle.std.specs.Io.KnownBytes.{Appends}
+use Rattle.std.proofs.KnownBytes.{Appends-trans}
 use Rattle.std.proofs.lemmas.List.{append-nil}
-use Rattle.im_types.specs.declared.operations.Waiter.{Waiter}
+use Rattle.im_text.specs.Printing.{Begins}
+use Rattle.im_text.proofs.PrintingLemmas.{take-all, true_false}
+use Rattle.im_dialogue.specs.Answers.{answer_text}
 use Rattle.im_types.specs.declared.commands.Command.{Command}
 use Rattle.im_types.specs.declared.commands.Outcome.{Outcome}
 use Rattle.im_types.specs.declared.refusals.Refusal.{Refusal}
-use Rattle.im_types.specs.declared.refusals.Refusal.TheVariants.{Device, JournalFull}
+use Rattle.im_types.specs.declared.refusals.Refusal.TheVariants.{Device}
 use Rattle.im_types.specs.Contents.{Contents}
-use Rattle.im_types.specs.Step.{step, is_accepted}
+use Rattle.im_types.specs.Step.{is_accepted}
 use Rattle.im_types.specs.Run.{after}
 use Rattle.im_laws.proofs.Tests.{true_or_false}
-use Rattle.im_disk.specs.Moment.{Moment, Left}
+use Rattle.im_disk.specs.Moment.{Moment}
 use Rattle.im_disk.specs.Since.{Leaves, LeavesNow}
 use Rattle.im_disk.proofs.SinceLemmas.{leaves_start}
 use Rattle.im_checkpoint.specs.declared.checkpoint.TurnDone.{TurnDone}
 use Rattle.im_checkpoint.proofs.Fitting.{none_or_some}
-use Rattle.im_engine.specs.State.{EngineState, MeansState, MeansEither, with_command}
-use Rattle.im_engine.specs.Run.{Answered, TurnAnswered, TurnTaken, HasRun, MeansAfter, MeansBeginning, MeansAllOrInDoubt, put_by_command}
-use Rattle.im_engine.proofs.Running.{AllOrLess, Went, far_on, far_start, far_turned, fails_by_device, leaves_on, leaves_turned, means_all, now_on, went}
+use Rattle.im_engine.specs.State.{EngineState, MeansState, MeansEither}
+use Rattle.im_engine.specs.Run.{Answered, TurnAnswered, HasRun, MeansAfter, MeansBeginning, put_by_command}
+use Rattle.im_engine.proofs.Running.{AllOrLess, far_on, far_start, far_turned, fails_by_device, leaves_on, leaves_turned, means_all, now_on, went}
 use Rattle.im_dialogue.specs.declared.asking.Asked.{Asked}
 use Rattle.im_dialogue.specs.declared.asking.Asked.TheVariants as asks
 use Rattle.im_dialogue.specs.declared.answers.Answer.{Answer}
-use Rattle.im_dialogue.specs.declared.answers.Answer.TheVariants.{Served, Kept, Window, Room, Turned, Count, Wrong}
-use Rattle.im_dialogue.specs.declared.answers.Expected.{Expected}
+use Rattle.im_dialogue.specs.declared.answers.Answer.TheVariants.{Served}
 use Rattle.im_dialogue.specs.Asking.{asked_of}
-use Rattle.im_dialogue.specs.Talk.{Exchange, IsOf, Answers, AreAnswered, put_by, put_of, is_end, IsAt, MeansSaid, HasEnded, Going, Ended, GoesOn, Halts, Says}
-
-true_false : (b : Bool) → b ≡ true → b ≡ false → ⊥
-true_false true t f = absurd (cc)
-true_false false t f = absurd (cc)
+use Rattle.im_dialogue.specs.Talk.{Exchange, IsOf, Answers, put_by, put_of, is_end, IsAt, MeansSaid, HasEnded, GoesOn, Halts, Says, texts_of, Silent, TalksOn, TalkEnds}
 
 -- what a command is answered, where the engine works still
 is_of : {D : Type 0} (old new : EngineState D) (c : Command) (a : Result Outcome Refusal) → old.failed ≡ false → new.failed ≡ false → Answered old c a new → IsOf old.memory c a
@@ -60,6 +59,13 @@ no_device refusal b is not a told e = by_refusal refusal (err_same a refusal tol
 
     by_refusal : (r : Refusal) → r ≡ Device → is_end r ≡ false → ⊥
     by_refusal r same f = true_false (is_end r) (ap is_end same) f
+
+-- the beginning of a text, and so many bytes of what follows
+take-past : {A : Type 0} (xs ys : List A) (n : ℕ) → take (length xs + n) (xs ++ ys) ≡ xs ++ take n ys
+take-past [] ys n = ap (λ k. take k ys) (omega arith)
+take-past (x ∷ xs) ys n =
+    let e : length (x ∷ xs) + n ≡ suc (length xs + n) = omega arith in
+    ap (λ k. take k (x ∷ (xs ++ ys))) e ∙ ap (λ l. x ∷ l) (take-past xs ys n)
 
 module _ {D : Type 0} (now : D → Moment) (past : D → List Moment) (honest : D → Type 0) where
   -- nothing was said yet
@@ -234,9 +240,6 @@ module _ {D : Type 0} (now : D → Moment) (past : D → List Moment) (honest : 
   pub halts_after : (old mid new : EngineState D) → GoesOn now past honest old mid → Halts now past honest mid new → Halts now past honest old new
   halts_after old mid new goes halts = λ start said so_far. halts start said (goes start said so_far)
 
-  pub goes_after : (old mid new : EngineState D) → GoesOn now past honest old mid → GoesOn now past honest mid new → GoesOn now past honest old new
-  goes_after old mid new one two = λ start said so_far. two start said (one start said so_far)
-
   -- the answer of the last call, after one that said nothing
   pub then_says : (old mid new : EngineState D) (asked : Option Asked) (result : Result Answer Refusal) → GoesOn now past honest old mid
       → MatchResult result (λ answer. Says now past honest mid new asked answer) (λ e. Halts now past honest mid new)
@@ -246,3 +249,67 @@ module _ {D : Type 0} (now : D → Moment) (past : D → List Moment) (honest : 
 
   pub says_as : (old new : EngineState D) (asked other : Option Asked) (answer : Answer) → other ≡ asked → Says now past honest old new asked answer → Says now past honest old new other answer
   says_as old new asked other answer same says = λ start said line name is. says start said line name (is ∙ same)
+
+  -- ---- what was printed
+
+  silent : (start engine : EngineState D) (held was is : Option (List ℕ)) (said : List Exchange) (x : Exchange) → IsAt now past start engine (x ∷ said) → Appends held was (texts_of said)
+      → Begins was is (answer_text x.name x.answer) → Silent now past start held engine.disk is
+  silent start engine held was is said x at before (many, more) = record {
+    said = x ∷ said;
+    doubt = [];
+    one = omega arith;
+    ended = ended_at start engine (x ∷ said) at;
+    printed = (
+      length (texts_of said) + many,
+      subst (Appends held is) (sym (take-past (texts_of said) (answer_text x.name x.answer) many)) (Appends-trans held was is (texts_of said) (take many (answer_text x.name x.answer)) before more),
+    );
+  }
+
+  -- nothing more was printed of what was said and is ended
+  silent_here : (start engine : EngineState D) (held is : Option (List ℕ)) (said : List Exchange) (doubt : List Command) → length doubt ≤ 1 → HasEnded now past start engine.disk said doubt → Appends held is (texts_of said)
+      → Silent now past start held engine.disk is
+  silent_here start engine held is said doubt one ended printed = record {
+    said = said;
+    doubt = doubt;
+    one = one;
+    ended = ended;
+    printed = (length (texts_of said), subst (Appends held is) (sym (take-all (texts_of said))) printed);
+  }
+
+  -- it is ended with nothing more said
+  pub halts_talk : (old new : EngineState D) (was : Option (List ℕ)) → (honest new.disk → honest old.disk) → Halts now past honest old new → TalkEnds now past honest old was new was
+  halts_talk old new was back halts = λ start held so_far h.
+      let far = so_far (back h) in
+      let ended = halts start far.1.0 (λ b. (far.0, far.1.1.0)) h in
+      (far.0, silent_here start new held was far.1.0 ended.1.0 ended.1.1 ended.1.2 far.1.1.1)
+
+  pub talk_ends_here : (engine : EngineState D) (was : Option (List ℕ)) → TalkEnds now past honest engine was engine was
+  talk_ends_here engine was = halts_talk engine engine was (λ h. h) (ends_here engine)
+
+  -- the line of an answer was printed
+  pub talks_on : (old new : EngineState D) (was is : Option (List ℕ)) (asked : Option Asked) (answer : Answer) (line name : List ℕ) → asked_of line ≡ asked → (honest new.disk → honest old.disk)
+      → Says now past honest old new asked answer → Appends was is (answer_text name answer) → TalksOn now past honest old was new is
+  talks_on old new was is asked answer line name read back says printed = λ start held so_far h.
+      let far = so_far (back h) in
+      let said = says start far.1.0 line name read (λ b. (far.0, far.1.1.0)) h in (
+        far.0,
+        (
+          record { line = line; answer = answer; name = name } ∷ far.1.0,
+          (said.1, Appends-trans held was is (texts_of far.1.0) (answer_text name answer) far.1.1.1 printed),
+        ),
+      )
+
+  -- a beginning of it was printed
+  pub talk_ends : (old new : EngineState D) (was is : Option (List ℕ)) (asked : Option Asked) (answer : Answer) (line name : List ℕ) → asked_of line ≡ asked → (honest new.disk → honest old.disk)
+      → Says now past honest old new asked answer → Begins was is (answer_text name answer) → TalkEnds now past honest old was new is
+  talk_ends old new was is asked answer line name read back says printed = λ start held so_far h.
+      let far = so_far (back h) in
+      let said = says start far.1.0 line name read (λ b. (far.0, far.1.1.0)) h in
+      (far.0, silent start new held was is far.1.0 (record { line = line; answer = answer; name = name }) said.1 far.1.1.1 printed)
+
+  pub ends_after : (old mid new : EngineState D) (was been is : Option (List ℕ)) → TalksOn now past honest old was mid been → TalkEnds now past honest mid been new is → TalkEnds now past honest old was new is
+  ends_after old mid new was been is on ends = λ start held so_far. ends start held (on start held so_far)
+
+  -- what was said is ended where it stands
+  pub end_here : (old new : EngineState D) (was is : Option (List ℕ)) → TalksOn now past honest old was new is → TalkEnds now past honest old was new is
+  end_here old new was is on = ends_after old new new was is is on (talk_ends_here new is)

@@ -1,7 +1,6 @@
 -- A dialogue over an engine: what was asked, what it was answered, and what a crash leaves of it. (Own.)
-use Rattle.std.specs.Prelude.{◌≡◌, ◌⊎◌, ℕ, ◌+◌, ◌≤◌, Bool, true, false, List, [], ◌∷◌, ◌++◌, length, Option, None, Some, Result, Ok, Err}
+use Rattle.std.specs.Prelude.{◌≡◌, ◌⊎◌, ℕ, ◌+◌, ◌≤◌, Bool, true, false, List, [], ◌∷◌, ◌++◌, length, Option, None, Some, Result, Err}
 use Rattle.std.specs.Io.KnownBytes.{Appends}
-use Rattle.im_types.specs.declared.operations.Waiter.{Waiter}
 use Rattle.im_types.specs.declared.commands.Command.{Command}
 use Rattle.im_types.specs.declared.commands.Outcome.{Outcome}
 use Rattle.im_types.specs.declared.refusals.Refusal.{Refusal}
@@ -10,11 +9,11 @@ use Rattle.im_types.specs.Contents.{Contents}
 use Rattle.im_types.specs.Window.{ask, bounds}
 use Rattle.im_types.specs.Step.{step, is_accepted}
 use Rattle.im_types.specs.Run.{after}
-use Rattle.im_disk.specs.Moment.{Moment, Left}
+use Rattle.im_disk.specs.Moment.{Moment}
 use Rattle.im_disk.specs.Since.{Leaves, LeavesNow}
 use Rattle.im_engine.specs.State.{EngineState, MeansState}
 use Rattle.im_engine.specs.Run.{HasRun, MeansAfter, MeansBeginning, put_by_command}
-use Rattle.im_text.specs.Printing.{Begins, IsLast}
+use Rattle.im_text.specs.Printing.{Begins}
 use Rattle.im_checkpoint.specs.declared.checkpoint.TurnDone.{TurnDone}
 use Rattle.im_dialogue.specs.declared.asking.Asked.{Asked}
 use Rattle.im_dialogue.specs.declared.asking.Asked.TheVariants as asks
@@ -114,3 +113,29 @@ Halts {D} now past honest old new = (start : EngineState D) (said : List Exchang
 abbrev pub Says : {D : Type 0} → (D → Moment) → (D → List Moment) → (D → Type 0) → EngineState D → EngineState D → Option Asked → Answer → Type 0
 Says {D} now past honest old new asked answer = (start : EngineState D) (said : List Exchange) (line name : List ℕ) → asked_of line ≡ asked → Going now past honest start old said
     → Going now past honest start new (record { line = line; answer = answer; name = name } ∷ said)
+
+-- ---- and printed
+
+-- since the writer held this, what was said was printed, line by line
+abbrev pub Talking : {D : Type 0} → (D → Moment) → (D → List Moment) → (D → Type 0) → EngineState D → Option (List ℕ) → EngineState D → Option (List ℕ) → Type 0
+Talking now past honest start was engine is = honest engine.disk → honest start.disk × ((said : List Exchange) × (IsAt now past start engine said × Appends was is (texts_of said)))
+
+-- what was said, of which a beginning was printed, and the command in doubt, if there is one
+pub record Silent {D : Type 0} (now : D → Moment) (past : D → List Moment) (start : EngineState D) (was : Option (List ℕ)) (disk : D) (is : Option (List ℕ)) : Type 0 where
+  pub said : List Exchange
+  pub doubt : List Command
+  pub one : length doubt ≤ 1
+  pub ended : HasEnded now past start disk said doubt
+  pub printed : Begins was is (texts_of said)
+
+-- the same, and it was ended
+abbrev pub Silenced : {D : Type 0} → (D → Moment) → (D → List Moment) → (D → Type 0) → EngineState D → Option (List ℕ) → D → Option (List ℕ) → Type 0
+Silenced now past honest start was disk is = honest disk → honest start.disk × Silent now past start was disk is
+
+-- lines were asked and answered, and their answers printed
+abbrev pub TalksOn : {D : Type 0} → (D → Moment) → (D → List Moment) → (D → Type 0) → EngineState D → Option (List ℕ) → EngineState D → Option (List ℕ) → Type 0
+TalksOn {D} now past honest old was new is = (start : EngineState D) (held : Option (List ℕ)) → Talking now past honest start held old was → Talking now past honest start held new is
+
+-- the same, and it was ended
+abbrev pub TalkEnds : {D : Type 0} → (D → Moment) → (D → List Moment) → (D → Type 0) → EngineState D → Option (List ℕ) → EngineState D → Option (List ℕ) → Type 0
+TalkEnds {D} now past honest old was new is = (start : EngineState D) (held : Option (List ℕ)) → Talking now past honest start held old was → Silenced now past honest start held new.disk is

@@ -3,8 +3,10 @@
 
 mod answers;
 mod asking;
+mod serving;
 mod talk;
 
 pub use answers::{Answer, Expected, add_answer};
 pub use asking::{Asked, read_asked};
+pub use serving::serve_lines;
 pub use talk::{answer, make_room};

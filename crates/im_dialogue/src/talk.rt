@@ -20,6 +20,7 @@ fn take_turn<D: Disk>(engine: &mut Engine<D>) -> Result<TurnDone, Refusal>
     ensures goes { MatchResult result
         (λ _. GoesOn D.now D.past D.honest engine.old engine.new)
         (λ _. Halts D.now D.past D.honest engine.old engine.new) }
+    ensures honest { D.honest engine.new.disk → D.honest engine.old.disk }
 {
     // A stop in it leaves the memory as it is.
     match engine.turn() {
@@ -34,6 +35,7 @@ pub fn make_room<D: Disk>(engine: &mut Engine<D>, least: u32) -> Result<(), Refu
     ensures goes { MatchResult result
         (λ _. GoesOn D.now D.past D.honest engine.old engine.new)
         (λ _. Halts D.now D.past D.honest engine.old engine.new) }
+    ensures honest { D.honest engine.new.disk → D.honest engine.old.disk }
 {
     for _turn in 0..MOST_TURNS {
         if engine.room() >= least {
@@ -60,9 +62,10 @@ fn ends(refusal: Refusal) -> bool
 
 // Serves a command for which there is room, if there can be.
 fn serve<D: Disk>(engine: &mut Engine<D>, command: Command) -> Result<Answer, Refusal>
-    ensures says { MatchResult result
+    ensures answered { MatchResult result
         (λ answer. Says D.now D.past D.honest engine.old engine.new (Some (Serve command)) answer)
         (λ _. Halts D.now D.past D.honest engine.old engine.new) }
+    ensures honest { D.honest engine.new.disk → D.honest engine.old.disk }
 {
     // A stop in it leaves the memory with the command, or without it: it isn't answered yet.
     match engine.serve(&command) {
@@ -79,9 +82,10 @@ fn serve<D: Disk>(engine: &mut Engine<D>, command: Command) -> Result<Answer, Re
 
 // Makes room for a command, and serves it.
 fn serve_with_room<D: Disk>(engine: &mut Engine<D>, command: Command) -> Result<Answer, Refusal>
-    ensures says { MatchResult result
+    ensures answered { MatchResult result
         (λ answer. Says D.now D.past D.honest engine.old engine.new (Some (Serve command)) answer)
         (λ _. Halts D.now D.past D.honest engine.old engine.new) }
+    ensures honest { D.honest engine.new.disk → D.honest engine.old.disk }
 {
     match make_room(engine, 1) {
         Ok(()) => serve(engine, command),
@@ -91,9 +95,10 @@ fn serve_with_room<D: Disk>(engine: &mut Engine<D>, command: Command) -> Result<
 
 // Takes a turn, and answers what was done.
 fn turn<D: Disk>(engine: &mut Engine<D>) -> Result<Answer, Refusal>
-    ensures says { MatchResult result
+    ensures answered { MatchResult result
         (λ answer. Says D.now D.past D.honest engine.old engine.new (Some Turn) answer)
         (λ _. Halts D.now D.past D.honest engine.old engine.new) }
+    ensures honest { D.honest engine.new.disk → D.honest engine.old.disk }
 {
     match take_turn(engine) {
         Ok(done) => Ok(Answer::Turned(done)),
@@ -124,15 +129,15 @@ fn count<D: Disk>(engine: &Engine<D>) -> Answer
 
 // Answers for how many more commands there is room.
 fn room<D: Disk>(engine: &Engine<D>) -> Answer
-    ensures says { Says D.now D.past D.honest engine.now engine.now (Some Room) result }
+    ensures answered { Says D.now D.past D.honest engine.now engine.now (Some Room) result }
     ensures room { result ≡ answer.Room engine.now.room }
 {
     Answer::Room(engine.room())
 }
 
-// Answers a line that isn't in the grammar.
-fn wrong<D: Disk>(engine: &Engine<D>, number: u64, expected: Expected) -> Answer
-    ensures says { Says D.now D.past D.honest engine.now engine.now None result }
+/// Answers the line with this number, which isn't in the grammar.
+pub fn wrong<D: Disk>(engine: &Engine<D>, number: u64, expected: Expected) -> Answer
+    ensures answered { Says D.now D.past D.honest engine.now engine.now None result }
     ensures answer { result ≡ answer.Wrong number expected }
 {
     Answer::Wrong(number, expected)
@@ -144,10 +149,11 @@ fn wrong<D: Disk>(engine: &Engine<D>, number: u64, expected: Expected) -> Answer
 /// `Device` or `Failed`, where a call of the disk failed: then a command is in doubt, at most, and what was said before
 /// stays. Any other refusal is an answer.
 pub fn answer<D: Disk>(engine: &mut Engine<D>, asked: Asked) -> Result<Option<Answer>, Refusal>
-    ensures says { MatchResult result
+    ensures answered { MatchResult result
         (λ given. MatchOption given ((asked ≡ Quit) × (engine.new ≡ engine.old))
         (λ answer. Says D.now D.past D.honest engine.old engine.new (Some asked) answer))
         (λ _. Halts D.now D.past D.honest engine.old engine.new) }
+    ensures honest { D.honest engine.new.disk → D.honest engine.old.disk }
 {
     match asked {
         Asked::Serve(command) => match serve_with_room(engine, command) {

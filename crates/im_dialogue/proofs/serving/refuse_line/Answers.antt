@@ -1,0 +1,9 @@
+use Rattle.std.specs.Prelude.{None}
+use Rattle.im_dialogue.proofs.TalkLemmas.{talk_ends, talks_on}
+use Rattle.im_dialogue.proofs.serving.refuse_line.Goals as goal
+
+pub returns-in-Ok : goal.returns-in-Ok
+returns-in-Ok g c = talks_on g.D.Disk.now g.D.Disk.past g.D.Disk.honest c.args.engine.now c.args.engine.now (g.W.Write.contents c.args.out.now) (g.W.Write.contents c.say.new.out) None c.wrong.result c.args.line.now c.in-Ok.ensures.0 c.requires.wrong (λ h. h) c.wrong.ensures.answered c.in-Ok.ensures.1
+
+pub returns-in-Err : goal.returns-in-Err
+returns-in-Err g c = talk_ends g.D.Disk.now g.D.Disk.past g.D.Disk.honest c.args.engine.now c.args.engine.now (g.W.Write.contents c.args.out.now) (g.W.Write.contents c.say.new.out) None c.wrong.result c.args.line.now c.in-Err.ensures.0 c.requires.wrong (λ h. h) c.wrong.ensures.answered c.in-Err.ensures.1

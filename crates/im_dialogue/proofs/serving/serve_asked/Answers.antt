@@ -1,0 +1,14 @@
+use Rattle.std.specs.Prelude.{Some}
+use Rattle.im_dialogue.proofs.TalkLemmas.{halts_talk, talk_ends, talks_on}
+use Rattle.im_dialogue.proofs.serving.serve_asked.Goals as goal
+
+pub returns-in-Ok : goal.returns-in-Ok
+returns-in-Ok g c = λ line read. talks_on g.D.Disk.now g.D.Disk.past g.D.Disk.honest c.args.engine.now c.answer.new.engine (g.W.Write.contents c.args.out.now) (g.W.Write.contents c.say.new.out) (Some c.args.asked) c.in-Ok-Some.answer line c.in-Ok.ensures.0 read c.answer.ensures.honest
+    (rw c.in-Ok-Some.field-0-is at c.in-Ok-Some.ensures.answered) c.in-Ok.ensures.1
+
+pub returns-in-Err-say : goal.returns-in-Err-say
+returns-in-Err-say g c = λ line read. talk_ends g.D.Disk.now g.D.Disk.past g.D.Disk.honest c.args.engine.now c.answer.new.engine (g.W.Write.contents c.args.out.now) (g.W.Write.contents c.say.new.out) (Some c.args.asked) c.in-Ok-Some.answer line c.in-Err-say.ensures.0 read c.answer.ensures.honest
+    (rw c.in-Ok-Some.field-0-is at c.in-Ok-Some.ensures.answered) c.in-Err-say.ensures.1
+
+pub returns-in-Err : goal.returns-in-Err
+returns-in-Err g c = λ line read. halts_talk g.D.Disk.now g.D.Disk.past g.D.Disk.honest c.args.engine.now c.answer.new.engine (g.W.Write.contents c.args.out.now) c.answer.ensures.honest c.in-Err.ensures.answered
