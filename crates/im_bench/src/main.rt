@@ -8,6 +8,7 @@ mod cells;
 mod engine;
 mod lists;
 mod memory;
+mod records;
 mod windows;
 
 use im_types::{Kind, MAX_CELLS, Refusal};
@@ -40,6 +41,7 @@ fn checksum(alloc: Global, workload: &str, count: u32) -> Option<Result<u64, Ref
         "fetch_and_store" => memory::read_and_write(alloc, Kind::I, count),
         "take_and_put" => memory::read_and_write(alloc, Kind::M, count),
         "release_and_allocate" => memory::release_and_allocate(alloc, count),
+        "read_cell" => Ok(records::read(count)),
         "memory_of_cells" => memory::cells(alloc, count),
         "memory_of_elements" => memory::elements(alloc, count),
         "table_of_cells" => memory::table(alloc, count),
