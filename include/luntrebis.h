@@ -46,7 +46,7 @@ enum lt_answer {
     LT_RELEASED = 9,
     LT_NO_BLOCK = 10,
     LT_STILL_WAITING = 11,
-    LT_CONFIRMED = 12
+    LT_CONFIRMED = 128
 };
 
 /* Why a call is refused. 0 is no refusal. */
