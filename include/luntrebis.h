@@ -46,7 +46,7 @@ enum lt_answer {
     LT_RELEASED = 9,
     LT_NO_BLOCK = 10,
     LT_STILL_WAITING = 11,
-    LT_CONFIRMED = 12
+    LT_CONFIRMED = 128
 };
 
 /* Why a call is refused. 0 is no refusal. */
@@ -152,6 +152,16 @@ void lt_memory_step(struct lt_memory memory, const struct lt_command *command, s
 void lt_memory_collect(struct lt_memory memory, uint16_t element, uint64_t number, struct lt_memory *next,
                        struct lt_outcome *outcome);
 void lt_memory_free(struct lt_memory memory);
+
+/* The name of a refusal, by its number; "NoCall" for LT_NO_CALL, and "" for 0 and for a number that is none. */
+static inline const char *lt_refusal_name(uint8_t refusal) {
+    static const char *const names[] = {
+        "", "Gap", "Forgotten", "WindowFull", "Mismatch", "NoElement", "NotAnswered", "JournalFull", "Device",
+        "Failed", "NoMemory", "TraceFull", "WrongLength", "NoHeader", "BadHeader", "BadPage", "BadRecord",
+        "BadLimits", "BadScript", "Stalled", "OffPlan", "OldVersion", "NotBlank", "BadPlan", "PaneGone"
+    };
+    return refusal == LT_NO_CALL ? "NoCall" : refusal < sizeof names / sizeof *names ? names[refusal] : "";
+}
 
 #ifdef __cplusplus
 }

@@ -14,13 +14,17 @@ static struct lt_outcome step(uint8_t tag, uint16_t element, uint32_t address, u
 }
 
 static void show(const char *what, struct lt_outcome outcome) {
-    printf("%s: refusal %d tag %d value %" PRIu64 "\n", what, outcome.refusal, outcome.tag, outcome.value);
+    if (outcome.refusal)
+        printf("%s: refused %d %s\n", what, outcome.refusal, lt_refusal_name(outcome.refusal));
+    else
+        printf("%s: tag %d value %" PRIu64 "\n", what, outcome.tag, outcome.value);
 }
 
 int main(void) {
     struct lt_outcome outcome = {0, 0, 0};
     uint64_t sum = 0;
-    printf("no cells: refusal %d\n", lt_memory_new(0, 2, &memory));
+    uint8_t refusal = lt_memory_new(0, 2, &memory);
+    printf("no cells: refused %d %s\n", refusal, lt_refusal_name(refusal));
     if (lt_memory_new(64, 2, &memory)) return 1;
     show("block", step(LT_ALLOC_M, 0, 8, 1, 0));
     show("take", step(LT_TAKE, 1, 3, 1, 0));

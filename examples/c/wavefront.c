@@ -28,7 +28,7 @@ static struct row {
 static int waited;
 
 static void stop(const char *what, int refusal) {
-    fprintf(stderr, "%s: refusal %d\n", what, refusal);
+    fprintf(stderr, "%s: refused %d %s\n", what, refusal, lt_refusal_name((uint8_t)refusal));
     exit(1);
 }
 

@@ -3,8 +3,8 @@ import ctypes as c
 import os
 
 TAGS = {"alloc i": 1, "alloc m": 2, "release": 3, "fetch": 4, "store": 5, "take": 6, "put": 7, "confirm": 8}
-ANSWERS = ("waiting base no-space bad-length value stored clash no-cell wrong-kind released no-block still-waiting "
-           "confirmed").split()
+ANSWERS = ("waiting base no-space bad-length value stored clash no-cell wrong-kind released no-block still-waiting").split()
+CONFIRMED = 128
 REFUSALS = {1: "Gap", 2: "Forgotten", 3: "WindowFull", 4: "Mismatch", 5: "NoElement", 6: "NotAnswered", 7: "JournalFull",
             8: "Device", 9: "Failed", 10: "NoMemory", 12: "WrongLength", 13: "NoHeader", 14: "BadHeader", 15: "BadPage",
             16: "BadRecord", 17: "BadLimits", 255: "NoCall"}
@@ -76,7 +76,7 @@ def read(outcome):
     """An answer's word and its number, or the refusal."""
     if outcome.refusal:
         raise Refused(outcome.refusal)
-    return ANSWERS[outcome.tag], outcome.value
+    return "confirmed" if outcome.tag == CONFIRMED else ANSWERS[outcome.tag], outcome.value
 
 
 class Held:

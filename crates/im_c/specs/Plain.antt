@@ -28,7 +28,7 @@ no_call = refused 255
 
 -- what stands for an answer: an entry is spelled as in the image
 abbrev pub outcome_of : Result Outcome Refusal → LtOutcome
-outcome_of (Ok Confirmed) = record { refusal = 0; tag = 12; value = 0 }
+outcome_of (Ok Confirmed) = record { refusal = 0; tag = 128; value = 0 }
 outcome_of (Ok (Tells entry)) = record { refusal = 0; tag = entry_code entry; value = entry_number entry }
 outcome_of (Err refusal) = refused (number_of refusal)
 

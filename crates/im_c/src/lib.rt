@@ -7,6 +7,9 @@ mod memory;
 mod parts;
 mod plain;
 
-pub use engine::{LtEngine, lt_close, lt_collect, lt_count, lt_format, lt_image_length, lt_open, lt_room, lt_serve, lt_turn, lt_window};
+pub use engine::{
+    LtEngine, lt_close, lt_collect, lt_count, lt_format, lt_image_length, lt_open, lt_room,
+    lt_serve, lt_turn, lt_window,
+};
 pub use memory::{LtMemory, lt_memory_collect, lt_memory_free, lt_memory_new, lt_memory_step};
 pub use plain::{LtCommand, LtLimits, LtOutcome, LtTurn, LtWindow};

@@ -11,7 +11,7 @@ use im_types::{Command, Entry, Outcome, Refusal, Reply, Request};
 pub(crate) const NO_CALL: u8 = 255;
 
 // The tag of a confirmation that was accepted.
-const CONFIRMED: u8 = 12;
+const CONFIRMED: u8 = 128;
 
 /// How many cells, elements and journal slots there are: 1 to 65,536, 1 to 64, and 16 to 4,096.
 #[repr(C)]
@@ -37,7 +37,7 @@ pub struct LtCommand {
 
 /// What a call came to. `refusal` is 0, or the number of the refusal, or 255 for what is no call; then the rest is 0.
 /// The tag is the code that the image has for an entry: 0 it waits, 1 a base in `value`, 2 no space, 3 bad length, 4 a
-/// value in `value`, 5 stored, 6 clash, 7 no cell, 8 wrong kind, 9 released, 10 no block, 11 still waiting; or 12, confirmed.
+/// value in `value`, 5 stored, 6 clash, 7 no cell, 8 wrong kind, 9 released, 10 no block, 11 still waiting; or 128, confirmed.
 #[repr(C)]
 #[derive(Clone, Copy)]
 pub struct LtOutcome {
