@@ -2,13 +2,13 @@
 use Rattle.std.specs.Prelude.{IsTrue, ◌↔◌, nat_eq}
 use Rattle.std.proofs.lemmas.Bool.Decides.{nat_tests}
 use Rattle.std.proofs.Common.{◌≡◌, ℕ, zero, suc, ◌+◌, ◌-◌, ◌<◌, ◌≤◌, List, length, get_or, slice_range, Bool, true, false, inl, inr, refl, sym, ap, ◌∙◌, arith, take, drop}
-use Rattle.std.proofs.lemmas.Bool.{cases_eq, cases_lt}
+use Rattle.std.proofs.lemmas.Bool.{cases_eq}
 use Rattle.std.proofs.lemmas.List.{get_or-take, get_or-drop}
 use Rattle.std.proofs.lemmas.Grind.{same_number_lists}
 use Rattle.byteorder.specs.Endian.{little_from}
 use Rattle.im_types.specs.Bytes.{same_bytes, number_at}
 use Rattle.im_records.specs.Words.{SameAt}
-use Rattle.im_formats.proofs.Same.{same_bytes_self, same_bytes_true}
+use Rattle.im_formats.proofs.Same.{same_bytes_self}
 
 -- numbers of the same bytes are the same
 same_from : (n i : ℕ) (xs ys : List ℕ) → ((k : ℕ) → i ≤ k → k < i + n → get_or xs k 0 ≡ get_or ys k 0) → little_from i n xs ≡ little_from i n ys
@@ -47,27 +47,11 @@ same_of_word xs ys at few less e k high =
     (omega arith) (omega arith)
     ∙ in_range ys at k high
 
--- eight places more
-pub same_more : (xs ys : List ℕ) (n : ℕ) → SameAt xs ys 0 n → SameAt xs ys n 8 → SameAt xs ys 0 (n + 8)
-same_more xs ys n same more k less = elim (cases_lt k n) [
-  | inl under ↦ same k under
-  | inr past ↦
-      let e : n + (k - n) ≡ 0 + k = omega arith in
-      ap (λ j. get_or xs j 0) (sym e) ∙ more (k - n) (omega arith) ∙ ap (λ j. get_or ys j 0) e
-]
-
 pub all_same : (xs ys : List ℕ) (n : ℕ) → length xs ≡ n → length ys ≡ n → SameAt xs ys 0 n → true ≡ same_bytes xs ys
 all_same xs ys n long as_long same =
     let first : (k : ℕ) → 0 + k ≡ k = λ k. omega arith in
     let e : xs ≡ ys = same_number_lists xs ys (omega arith) (λ k less. ap (λ j. get_or xs j 0) (sym (first k)) ∙ same k (omega arith) ∙ ap (λ j. get_or ys j 0) (first k)) in
     sym (same_bytes_self xs) ∙ ap (same_bytes xs) e
-
-pub not_same : (xs ys : List ℕ) (at : ℕ) → (SameAt xs ys at 8 → ⊥) → false ≡ same_bytes xs ys
-not_same xs ys at other = by_test (same_bytes xs ys) refl
-  where
-    by_test : (b : Bool) → same_bytes xs ys ≡ b → false ≡ b
-    by_test true e = absurd (other (λ k less. ap (λ zs. get_or zs (at + k) 0) (same_bytes_true xs ys e)))
-    by_test false e = refl
 
 same_told : (n m : ℕ) → IsTrue (nat_eq n m) → n ≡ m
 same_told n m e = grind (arith, nat_tests)
