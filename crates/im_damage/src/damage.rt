@@ -6,7 +6,9 @@ use im_image::{PAGE, VERSION};
 use im_memory::Memory;
 use im_records::{read_cell, read_node, read_session};
 use im_types::layout::{CELL_RECORD, NODE_RECORD, OPEN, SESSION_RECORD, SLOT};
-use im_types::{Block, CellRecord, LAST, Limits, NONE, NodeRecord, PresenceTag};
+use im_types::{
+    Block, CellRecord, Command, LAST, Limits, MAX_GROUP, NONE, NodeRecord, PresenceTag,
+};
 use std::fmt;
 use std::fmt::{Display, Formatter};
 
@@ -45,6 +47,15 @@ pub enum RecordOf {
 pub enum SlotFault {
     /// In the run the command of this number stands here, and the bytes spell none.
     Unspelled(u64),
+    /// The command of this number leads a group here, and the slot counts so many commands, not 1 to [`MAX_GROUP`].
+    Counts(u64, u8),
+    /// The command of this number leads a group here, and so many commands go more than once round the ring, or past
+    /// [`LAST`].
+    TooLong(u64, u8),
+    /// The command of the first number follows in a group here, and the slot has the second.
+    NotNext(u64, u64),
+    /// The command of this number follows in a group here, and the slot counts so many commands, not 0.
+    LeadsWithin(u64, u8),
     /// The command of this number stands here, and the memory reached before it doesn't accept it.
     Refused(u64),
     /// It lies behind the run with the first number, where only numbers below the second may stand.
@@ -115,6 +126,30 @@ impl Display for SlotFault {
         match *self {
             SlotFault::Unspelled(sequence) => {
                 write!(f, "the bytes of command {sequence} spell none")
+            }
+            SlotFault::Counts(sequence, count) => {
+                write!(
+                    f,
+                    "command {sequence} leads a group of {count}, where there may be 1 to {MAX_GROUP}"
+                )
+            }
+            SlotFault::TooLong(sequence, count) => {
+                write!(
+                    f,
+                    "the group of {count} that command {sequence} leads goes too far"
+                )
+            }
+            SlotFault::NotNext(sequence, found) => {
+                write!(
+                    f,
+                    "command {sequence} follows in a group here, and the slot has command {found}"
+                )
+            }
+            SlotFault::LeadsWithin(sequence, count) => {
+                write!(
+                    f,
+                    "command {sequence} follows in a group here, and the slot leads one of {count}"
+                )
             }
             SlotFault::Refused(sequence) => {
                 write!(f, "the memory before command {sequence} doesn't accept it")
@@ -397,36 +432,50 @@ fn is_open(slot: &[u8]) -> bool {
     slot.first() == Some(&OPEN)
 }
 
-// What is wrong with a slot of the run, the one of this command. The memory takes the command.
-fn take_slot(memory: &mut Memory, slot: &[u8], sequence: u64) -> Option<SlotFault> {
-    let Some(bytes) = slot.as_array::<64>() else {
-        return Some(SlotFault::Unspelled(sequence));
-    };
-    let Some(command) = im_journal::read(bytes) else {
-        return Some(SlotFault::Unspelled(sequence));
-    };
-    if memory.judge(&command) != Ok(true) {
-        return Some(SlotFault::Refused(sequence));
-    }
-    let _answer = memory.step(&command);
-    None
+// How many commands a slot counts for a group.
+fn count_in(slot: &[u8]) -> u8 {
+    slot.get(1).copied().unwrap_or(0)
 }
 
-// How far a journal was gone over.
+// The command that a slot spells, whatever its gate and its count are.
+fn command_in(slot: &[u8]) -> Option<Command> {
+    let mut bytes = *slot.as_array::<64>()?;
+    bytes[1] = 1; // The count of a group is looked at apart.
+    im_journal::read(&bytes)
+}
+
+// Where a slot of a journal stands.
 #[derive(Clone, Copy, Debug, PartialEq, Eq)]
 enum Part {
-    // In the run.
-    Run,
-    // In the room behind it.
+    // In the run, and leads a group.
+    Leads,
+    // In the run, and follows in a group, of which so many slots are due from this one on.
+    Follows(u8),
+    // In the room behind the run.
     Room,
-    // From the first open gate behind it on.
+    // From the first open gate behind the run on.
     Rest,
 }
 
-// Where a slot stands, behind one that stood there.
-fn part_of(before: Part, slot: &[u8], sequence: u64) -> Part {
+// How many followers are due behind a slot that stands there.
+fn due_behind(part: Part, slot: &[u8]) -> u8 {
+    match part {
+        Part::Leads => count_in(slot).saturating_sub(1),
+        Part::Follows(due) => due.saturating_sub(1),
+        Part::Room | Part::Rest => 0,
+    }
+}
+
+// Whether the run goes on with a slot that leads.
+fn goes_on(slot: &[u8], sequence: u64) -> bool {
+    is_open(slot) && sequence_in(slot) == sequence && sequence < LAST
+}
+
+// Where a slot stands behind one that stood there, where so many followers are due.
+fn part_of(before: Part, due: u8, slot: &[u8], sequence: u64) -> Part {
     match before {
-        Part::Run if is_open(slot) && sequence_in(slot) == sequence => Part::Run,
+        Part::Leads | Part::Follows(_) if due > 0 => Part::Follows(due),
+        Part::Leads | Part::Follows(_) if goes_on(slot, sequence) => Part::Leads,
         Part::Rest => Part::Rest,
         _ => if is_open(slot) {
             Part::Rest
@@ -436,23 +485,85 @@ fn part_of(before: Part, slot: &[u8], sequence: u64) -> Part {
     }
 }
 
+// What is wrong with the count of a slot that leads, where so many slots are left of the ring.
+fn of_leader(slot: &[u8], sequence: u64, left: usize) -> Option<SlotFault> {
+    let count = count_in(slot);
+    if count == 0 || count as usize > MAX_GROUP {
+        Some(SlotFault::Counts(sequence, count))
+    } else if count as usize > left || count as u64 > LAST.saturating_sub(sequence) {
+        Some(SlotFault::TooLong(sequence, count))
+    } else {
+        None
+    }
+}
+
+// What is wrong with the count or the number of a slot that follows.
+fn of_follower(slot: &[u8], sequence: u64) -> Option<SlotFault> {
+    let number = sequence_in(slot);
+    let count = count_in(slot);
+    if number != sequence {
+        Some(SlotFault::NotNext(sequence, number))
+    } else if count > 0 {
+        Some(SlotFault::LeadsWithin(sequence, count))
+    } else {
+        None
+    }
+}
+
+// What is wrong with the command of a slot of the run. The memory takes the command.
+fn take_slot(memory: &mut Memory, slot: &[u8], sequence: u64) -> Option<SlotFault> {
+    let Some(command) = command_in(slot) else {
+        return Some(SlotFault::Unspelled(sequence));
+    };
+    if memory.judge(&command) != Ok(true) {
+        return Some(SlotFault::Refused(sequence));
+    }
+    let _answer = memory.step(&command);
+    None
+}
+
+// What is wrong with a slot that stands there, with so many left of the ring, itself among them. The memory takes the
+// command of a slot of the run.
+fn of_slot(
+    part: Part,
+    slot: &[u8],
+    memory: &mut Memory,
+    numbers: (u64, u64),
+    left: usize,
+) -> Option<SlotFault> {
+    let (sequence, first) = numbers;
+    let fault = match part {
+        Part::Leads => of_leader(slot, sequence, left),
+        Part::Follows(_) => of_follower(slot, sequence),
+        Part::Room => return None,
+        Part::Rest => {
+            let number = sequence_in(slot);
+            return if number < first {
+                None
+            } else {
+                Some(SlotFault::NotStale(number, first))
+            };
+        }
+    };
+    match fault {
+        Some(fault) => Some(fault),
+        None => take_slot(memory, slot, sequence),
+    }
+}
+
 /// What is wrong with a journal, by its slots, the memory before its run, and the sequence number of the run's first
 /// command.
 pub fn of_journal(ring: &[u8], memory: &mut Memory, slots: u32, first: u64) -> Damage {
     let slots = slots as usize;
-    let mut part = Part::Run;
+    let mut part = Part::Leads;
+    let mut due = 0;
     for past in 0..slots {
         let sequence = first.saturating_add(past as u64);
         let place = (sequence % slots as u64) as usize;
         let slot = ring.get(place * SLOT..place * SLOT + SLOT).unwrap_or(&[]);
-        part = part_of(part, slot, sequence);
-        let number = sequence_in(slot);
-        let fault = match part {
-            Part::Run => take_slot(memory, slot, sequence),
-            Part::Rest if number >= first => Some(SlotFault::NotStale(number, first)),
-            _ => None,
-        };
-        if let Some(fault) = fault {
+        part = part_of(part, due, slot, sequence);
+        due = due_behind(part, slot);
+        if let Some(fault) = of_slot(part, slot, memory, (sequence, first), slots - past) {
             return Damage::Slot(place, fault);
         }
     }

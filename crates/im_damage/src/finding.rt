@@ -1,4 +1,4 @@
-//! The place of an image's damage, which is looked for on the disk once the image is refused. No more than reads are made.
+//! The place of an image's damage, which is looked for on the disk once the image is refused, by reads alone.
 ghost use Rattle.im_disk.specs.Since.{OnlyReads};
 
 use crate::damage::{
@@ -236,8 +236,8 @@ fn of_area(alloc: Global, area: &[u8], limits: Limits) -> Damage {
     }
 }
 
-/// Where an image is damaged that was refused so: its place is looked for by reading it again. `Unknown` where a call of
-/// the disk fails, where `alloc` refuses the room for it, or where nothing was damaged.
+/// Where an image is damaged that was refused so: its place is looked for by reading it again. `Unknown` where a call
+/// of the disk fails, where `alloc` refuses the room for it, or where no place is to be found.
 pub fn find_damage<D: Disk>(alloc: Global, disk: &mut D, refusal: Refusal) -> Damage
     ensures reads { D.honest disk.new → OnlyReads D.now D.past disk.old disk.new }
     ensures honest { D.honest disk.new → D.honest disk.old }

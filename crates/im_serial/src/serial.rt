@@ -13,7 +13,9 @@ use crate::waits::{Places, learn, learn_all, note, tell_earlier, waited_at};
 use im_disk::Disk;
 use im_engine::Engine;
 use im_script::{Allocation, Reader, Said, Script, ScriptLine, split_line};
-use im_text::{Lines, Observer, Progress, Reason, Waited, diagnose, end, finish, make_line, make_now};
+use im_text::{
+    Lines, Observer, Progress, Reason, Waited, diagnose, end, finish, make_line, make_now,
+};
 use im_types::{Command, Entry, Op, Outcome, Refusal, Reply, Request, WINDOW};
 use std::alloc::{AllocError, Global};
 use std::io::Write;

@@ -500,6 +500,66 @@ printed = 1 lines
 printed 0 = refused 16 BadRecord
 told 0 = slot 7 of the journal: behind the run its command is 200, which isn't below 21
 
+# A group of commands, and what may be wrong with it
+disk 33792 = 33792 bytes
+format 1 1 16 = formatted
+read element 0 / alloc i 1 / store 0 42 / fetch 0 / = 0 blocks, 1 parts, 3 requests
+serve = 0
+-- As one group of three they differ in bytes 0 and 1 of their slots alone: the first counts them, and only its gate is open.
+write 32769 03 = 01
+write 32832 00 00 = a5 01
+write 32896 00 00 = a5 01
+inspect = 0
+printed 3 = journal 3 room 13
+-- The gate of one that follows isn't looked at.
+write 32832 a5 = 00
+inspect = 0
+printed 3 = journal 3 room 13
+write 32832 00 = a5
+-- Until the gate of the first is open nothing is there.
+write 32768 00 = a5
+inspect = 0
+printed 3 = journal 0 room 16
+write 32768 a5 = 00
+-- A group of none, one of 17, and one of four, whose last slot is all zero.
+write 32769 00 = 03
+inspect = 1
+printed 0 = refused 16 BadRecord
+told 0 = slot 0 of the journal: command 0 leads a group of 0, where there may be 1 to 16
+write 32769 11 = 00
+inspect = 1
+printed 0 = refused 16 BadRecord
+told 0 = slot 0 of the journal: command 0 leads a group of 17, where there may be 1 to 16
+write 32769 04 = 11
+inspect = 1
+printed 0 = refused 16 BadRecord
+told 0 = slot 3 of the journal: command 3 follows in a group here, and the slot has command 0
+write 32769 03 = 04
+-- The last of the three leads a group of one, then has no operation, then another number than its element's next.
+write 32897 01 = 00
+inspect = 1
+printed 0 = refused 16 BadRecord
+told 0 = slot 2 of the journal: command 2 follows in a group here, and the slot leads one of 1
+write 32897 00 = 01
+write 32898 09 = 04
+inspect = 1
+printed 0 = refused 16 BadRecord
+told 0 = slot 2 of the journal: the bytes of command 2 spell none
+write 32898 04 = 09
+write 32912 04 = 03
+inspect = 1
+printed 0 = refused 16 BadRecord
+told 0 = slot 2 of the journal: the memory before command 2 doesn't accept it
+write 32912 03 = 04
+inspect = 0
+printed 3 = journal 3 room 13
+-- The first alone, and a group of 16 from slot 1 on, where the ring has 15.
+write 32769 01 = 03
+write 32832 a5 10 = 00 00
+inspect = 1
+printed 0 = refused 16 BadRecord
+told 0 = slot 1 of the journal: the group of 16 that command 1 leads goes too far
+
 # An image of another length is refused
 disk 327680 = 327680 bytes
 format 4096 16 256 = formatted

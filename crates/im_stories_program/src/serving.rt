@@ -6,9 +6,12 @@ use crate::images::Image;
 use crate::writers::{Notes, Paper};
 use anyhow::{Result, anyhow};
 use im_disk::{FuseDisk, Mode, OpenFault};
-use im_program::{Reason, inspect_on, refuse, serial_on};
+use im_program::refuse;
+use im_report::inspect_on;
 use im_script::{Script, read_script};
+use im_serial::serial_on;
 use im_story::{address, element, number, place};
+use im_text::Reason;
 use im_types::{LAST, Refusal};
 use std::alloc::Global;
 

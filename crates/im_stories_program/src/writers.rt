@@ -1,7 +1,7 @@
 //! Writers in memory, and who is told of the work beside its output.
 
 use anyhow::{Result, anyhow};
-use im_program::{Observer, Progress, Reason};
+use im_text::{Observer, Progress, Reason};
 use im_types::{Entry, Reply};
 use std::alloc::{AllocError, Global};
 use std::io;
