@@ -1,5 +1,5 @@
-// Requests to an engine on a file, one by one and as groups of sixteen. Their elements take turns, none asks more than its
-// window keeps, and each stores into a cell of its own.
+// Requests to an engine on a file, one by one and as groups of sixteen. Their elements take turns, none asks more than
+// its window keeps, and each stores into a cell of its own.
 use arrayvec::ArrayVec;
 use im_disk::{Disk, FileDisk, Unknown};
 use im_engine::{Engine, are_apart};

@@ -1,11 +1,11 @@
-//! An engine beside the plain memory, which has what was answered: random commands, groups and turns, a stop at any call
-//! of the disk, and what an opening finds then.
+//! An engine beside the plain memory, which has what was answered: random commands, groups and turns, a stop at any
+//! call of the disk, and what an opening finds then.
 
 use crate::alike::are_alike;
 use crate::walks::Walk;
 use anyhow::{Result, anyhow};
 use arrayvec::ArrayVec;
-use im_disk::{Crash, FuseDisk, MemDisk, Mode};
+use im_disk::{Crash, FuseDisk};
 use im_engine::{Engine, are_apart};
 use im_plain::PlainMemory;
 use im_types::{Command, Limits, Outcome, Refusal, Request, Served};
@@ -14,8 +14,8 @@ use std::alloc::Global;
 /// The cells of the memory, which has sixteen elements.
 pub const CELLS: u32 = 24;
 
-/// What was answered: the memory after it, how many commands that is, and the commands of the last call, of which nobody
-/// knows whether all are on the disk or none.
+/// What was answered: the memory after it, how many commands that is, and the commands of the last call, of which
+/// nobody knows whether all are on the disk or none.
 #[derive(Drop)]
 pub struct Answered {
     plain: PlainMemory,
@@ -148,7 +148,8 @@ fn serves_group(
     Ok(true)
 }
 
-// A turn, a group or a command, as chance has it, and mostly a turn where there is no room. Whether the disk still works.
+// A turn, a group or a command, as chance has it, and mostly a turn where there is no room. Whether the disk still
+// works.
 fn goes(engine: &mut Engine<FuseDisk>, known: &mut Answered, walk: &mut Walk) -> Result<bool> {
     if engine.room() == 0 && walk.below(8) > 0 {
         return turns(engine);
@@ -181,8 +182,8 @@ pub fn goes_on(
     Ok(true)
 }
 
-/// Sees that what an opening found is all that was answered, or that and all commands in doubt. These are known from then
-/// on.
+/// Sees that what an opening found is all that was answered, or that and all commands in doubt. These are known from
+/// then on.
 pub fn has_all(engine: &Engine<FuseDisk>, known: &mut Answered, limits: Limits) -> Result<()> {
     if engine.count() != known.count {
         for command in known.doubt.as_slice() {

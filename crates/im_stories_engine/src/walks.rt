@@ -80,8 +80,8 @@ impl Walk {
         }
     }
 
-    // A request of this asker. Element 0 asks for nothing that may wait, so that there is always one that goes on. One in
-    // two requests under a number that is kept asks for what was asked for before.
+    // A request of this asker. Element 0 asks for nothing that may wait, so that there is always one that goes on. One
+    // in two requests under a number that is kept asks for what was asked for before.
     fn asked(&mut self, plain: &PlainMemory, asker: Asker, cells: u32) -> Request {
         let op = if asker.element == 0 {
             self.answered_at_once(cells)
@@ -118,8 +118,8 @@ impl Walk {
         Command::Request(self.asked(plain, asker, cells))
     }
 
-    /// One to sixteen requests for a memory of sixteen elements, each of another element of it, or of one more. Seventeen
-    /// is a prime number, so any step goes through all of them.
+    /// One to sixteen requests for a memory of sixteen elements, each of another element of it, or of one more.
+    /// Seventeen is a prime number, so any step goes through all of them.
     pub fn group(&mut self, plain: &PlainMemory, cells: u32) -> ArrayVec<Request, 16> {
         let mut members = ArrayVec::new();
         let step = self.below(16) + 1;

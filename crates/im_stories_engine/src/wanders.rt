@@ -1,5 +1,5 @@
-//! Random walks: the fast memory beside the plain one; an engine that is stopped again and again, and one that is stopped
-//! at each call in turn, with the plain memory beside it.
+//! Random walks: the fast memory beside the plain one; an engine that is stopped again and again, and one that is
+//! stopped at each call in turn, with the plain memory beside it.
 
 use crate::alike::are_alike;
 use crate::disks::{formatted, limits, opened, steady};
@@ -137,8 +137,8 @@ fn are_enough(found: u64, least: u64) -> Result<()> {
     Ok(())
 }
 
-/// Whether the words are `walk`, `wander` or `explore`: so many commands, stops or events, a seed, and how many commands
-/// are to be accepted, or calls to be stopped at.
+/// Whether the words are `walk`, `wander` or `explore`: so many commands, stops or events, a seed, and how many
+/// commands are to be accepted, or calls to be stopped at.
 pub fn tell(alloc: Global, words: &[&str], said: &mut String) -> Result<bool> {
     match words {
         ["walk", commands, "from", seed, "over", least] => {
