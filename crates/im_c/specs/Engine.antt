@@ -1,5 +1,5 @@
 -- What calls of an engine come to, as C spells them.
-use Rattle.std.specs.Prelude.{◌≡◌, ◌⊎◌, ◌+◌, ℕ, Bool, true, false, List, [], Result, Ok, Err, MatchOption, if◌then◌else◌}
+use Rattle.std.specs.Prelude.{◌≡◌, ℕ, false, Result, Ok, Err, MatchOption, if◌then◌else◌}
 use Rattle.im_types.specs.declared.commands.Command.{Command}
 use Rattle.im_types.specs.declared.commands.Outcome.{Outcome}
 use Rattle.im_types.specs.declared.commands.Outcome.TheVariants.{Entry as Tells}

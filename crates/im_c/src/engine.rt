@@ -35,6 +35,7 @@ pub struct Served {
 pub struct LtEngine {
     ptr: *mut u8,
     alloc: Global,
+    /// The engine, as contracts see it, or none.
     pub ghost value: { Option Seen },
 }
 

@@ -23,6 +23,7 @@ use std::marker::Model;
 pub struct LtMemory {
     ptr: *mut u8,
     alloc: Global,
+    /// The memory, as contracts see it, or none.
     pub ghost value: { Option MemoryState },
 }
 

@@ -17,8 +17,11 @@ const CONFIRMED: u8 = 128;
 #[repr(C)]
 #[derive(Clone, Copy)]
 pub struct LtLimits {
+    /// Cells, 1 to 65,536.
     pub cells: u32,
+    /// Elements, 1 to 64.
     pub elements: u16,
+    /// Journal slots, 16 to 4,096.
     pub slots: u32,
 }
 
@@ -28,10 +31,15 @@ pub struct LtLimits {
 #[repr(C)]
 #[derive(Clone, Copy)]
 pub struct LtCommand {
+    /// What is asked, 1 to 8.
     pub tag: u8,
+    /// The element that asks, from 0.
     pub element: u16,
+    /// The address, or the length of an allocation; else of no account.
     pub address: u32,
+    /// The request's number, or the one up to which is confirmed.
     pub number: u64,
+    /// The value of a store or a put; else of no account.
     pub value: u64,
 }
 
@@ -41,8 +49,11 @@ pub struct LtCommand {
 #[repr(C)]
 #[derive(Clone, Copy)]
 pub struct LtOutcome {
+    /// 0, or the number of the refusal.
     pub refusal: u8,
+    /// The code of the entry, or 128.
     pub tag: u8,
+    /// The base or the value, else 0.
     pub value: u64,
 }
 
@@ -52,8 +63,11 @@ pub struct LtOutcome {
 #[repr(C)]
 #[derive(Clone, Copy)]
 pub struct LtTurn {
+    /// 0, or the number of the refusal.
     pub refusal: u8,
+    /// What was done, 0 to 5.
     pub done: u8,
+    /// The page that was written, else 0.
     pub page: u32,
 }
 
@@ -62,8 +76,11 @@ pub struct LtTurn {
 #[repr(C)]
 #[derive(Clone, Copy)]
 pub struct LtWindow {
+    /// 0, or the number of the refusal.
     pub refusal: u8,
+    /// The least number whose entry is kept.
     pub base: u64,
+    /// The number of the next new request.
     pub next: u64,
 }
 
