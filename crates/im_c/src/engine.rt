@@ -28,8 +28,9 @@ pub struct Served {
     pub(crate) engine: Engine<FdDisk>,
 }
 
-/// An engine as C holds it, or none, as which a struct of zero bytes counts. A call that takes it leaves nothing behind:
-/// it hands it out again at `next`, which may be the place that it came from. A handle that is written over is lost.
+/// An engine as C holds it, or none, as which a struct of zero bytes counts. A call that takes it leaves nothing
+/// behind: it hands it out again at `next`, which may be the place that it came from. A handle that is written over is
+/// lost.
 #[repr(C)]
 #[derive(Drop)]
 pub struct LtEngine {
@@ -194,8 +195,8 @@ pub extern "C" fn lt_format(
 /// the descriptor is open.
 ///
 /// Else the number of the refusal, and `next` is as it was. The first fault of the file: `WrongLength`, `NoHeader`,
-/// `BadHeader`, `BadPage` or `BadRecord`. `NoMemory`. `Device` where another opening has the lock or a call of the system
-/// failed.
+/// `BadHeader`, `BadPage` or `BadRecord`. `NoMemory`. `Device` where another opening has the lock or a call of the
+/// system failed.
 #[unsafe(no_mangle)]
 pub extern "C" fn lt_open(alloc: Global, fd: i32, opening: Opening, next: &mut LtEngine) -> u8
     ensures made { result ≡ 0 → IsSome next.new.value }
@@ -207,8 +208,8 @@ pub extern "C" fn lt_open(alloc: Global, fd: i32, opening: Opening, next: &mut L
     }
 }
 
-/// Serves one command: what it comes to, at `outcome`. An accepted one is on the disk by then. The refusals are those of
-/// a request and of a confirmation, `JournalFull`, `Failed` where an earlier call failed on the disk, and 255 for an
+/// Serves one command: what it comes to, at `outcome`. An accepted one is on the disk by then. The refusals are those
+/// of a request and of a confirmation, `JournalFull`, `Failed` where an earlier call failed on the disk, and 255 for an
 /// unknown tag; then nothing changes. `Device` where a call of the system failed: then the command is on the disk or
 /// not, and the image has to be closed and opened again. It takes no memory.
 #[unsafe(no_mangle)]
@@ -228,9 +229,9 @@ pub extern "C" fn lt_serve(
     *next = LtEngine::of_parts(Parts::of(held));
 }
 
-/// Makes one turn of a checkpoint: what was done, at `done`. At most four calls of the disk. Refused with `Failed` where
-/// an earlier call failed on the disk, and with `Device` where one fails now: no command is in doubt, and the image has
-/// to be closed and opened again.
+/// Makes one turn of a checkpoint: what was done, at `done`. At most four calls of the disk. Refused with `Failed`
+/// where an earlier call failed on the disk, and with `Device` where one fails now: no command is in doubt, and the
+/// image has to be closed and opened again.
 #[unsafe(no_mangle)]
 pub extern "C" fn lt_turn(engine: LtEngine, next: &mut LtEngine, done: &mut LtTurn)
     requires some { IsSome engine.value }
@@ -243,9 +244,9 @@ pub extern "C" fn lt_turn(engine: LtEngine, next: &mut LtEngine, done: &mut LtTu
     *next = LtEngine::of_parts(Parts::of(held));
 }
 
-/// What is kept under an element's number, at `outcome`. Refused with `Failed` where an earlier call failed on the disk,
-/// with `NoElement`, with `Forgotten` below the window, and with `Gap` where the number isn't used yet. No call of the
-/// disk, and nothing changes.
+/// What is kept under an element's number, at `outcome`. Refused with `Failed` where an earlier call failed on the
+/// disk, with `NoElement`, with `Forgotten` below the window, and with `Gap` where the number isn't used yet. No call
+/// of the disk, and nothing changes.
 #[unsafe(no_mangle)]
 pub extern "C" fn lt_collect(
     engine: LtEngine,
@@ -307,8 +308,8 @@ pub extern "C" fn lt_count(engine: LtEngine, next: &mut LtEngine) -> u64
     count
 }
 
-/// Frees the engine. It makes no call of the system: the descriptor and its lock stay, and each file that a crash may leave
-/// means what it meant before.
+/// Frees the engine. It makes no call of the system: the descriptor and its lock stay, and each file that a crash may
+/// leave means what it meant before.
 #[unsafe(no_mangle)]
 pub extern "C" fn lt_close(engine: LtEngine)
     requires some { IsSome engine.value }

@@ -1,5 +1,5 @@
-//! What C may call: a memory, and an engine over a file that the caller has opened. `include/luntrebis.h` declares it, and
-//! docs/EMBEDDING.md tells how it is used.
+//! What C may call: a memory, and an engine over a file that the caller has opened. `include/luntrebis.h` declares it,
+//! and docs/EMBEDDING.md tells how it is used.
 #![tactic(auto)]
 
 mod engine;

@@ -25,8 +25,8 @@ pub struct LtLimits {
     pub slots: u32,
 }
 
-/// A command. The tag is the code that the journal has for it: 1 and 2 an allocation of `address` cells of kind I and M,
-/// 3 a release of the block with the base `address`, 4 a fetch, 5 a store, 6 a take and 7 a put at `address`, 8 a
+/// A command. The tag is the code that the journal has for it: 1 and 2 an allocation of `address` cells of kind I and
+/// M, 3 a release of the block with the base `address`, 4 a fetch, 5 a store, 6 a take and 7 a put at `address`, 8 a
 /// confirmation of all below `number`. Any other tag is no command.
 #[repr(C)]
 #[derive(Clone, Copy)]
@@ -45,7 +45,8 @@ pub struct LtCommand {
 
 /// What a call came to. `refusal` is 0, or the number of the refusal, or 255 for what is no call; then the rest is 0.
 /// The tag is the code that the image has for an entry: 0 it waits, 1 a base in `value`, 2 no space, 3 bad length, 4 a
-/// value in `value`, 5 stored, 6 clash, 7 no cell, 8 wrong kind, 9 released, 10 no block, 11 still waiting; or 128, confirmed.
+/// value in `value`, 5 stored, 6 clash, 7 no cell, 8 wrong kind, 9 released, 10 no block, 11 still waiting; or 128,
+/// confirmed.
 #[repr(C)]
 #[derive(Clone, Copy)]
 pub struct LtOutcome {
@@ -57,9 +58,9 @@ pub struct LtOutcome {
     pub value: u64,
 }
 
-/// What a turn came to. `refusal` is 0 or the number of the refusal; then the rest is 0. `done` is 0 where there was nothing
-/// to do, 1 a checkpoint began, 2 the page with the number `page` was written, 3 the pages were put on the disk, 4 the
-/// area that was written is in force, 5 gates were closed.
+/// What a turn came to. `refusal` is 0 or the number of the refusal; then the rest is 0. `done` is 0 where there was
+/// nothing to do, 1 a checkpoint began, 2 the page with the number `page` was written, 3 the pages were put on the
+/// disk, 4 the area that was written is in force, 5 gates were closed.
 #[repr(C)]
 #[derive(Clone, Copy)]
 pub struct LtTurn {
@@ -71,8 +72,8 @@ pub struct LtTurn {
     pub page: u32,
 }
 
-/// The bounds of a window: `refusal` is 0 or the number of the refusal; then the rest is 0. From `base` on the entries are
-/// kept, and `next` is the number of the next new request.
+/// The bounds of a window: `refusal` is 0 or the number of the refusal; then the rest is 0. From `base` on the entries
+/// are kept, and `next` is the number of the next new request.
 #[repr(C)]
 #[derive(Clone, Copy)]
 pub struct LtWindow {

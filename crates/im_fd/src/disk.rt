@@ -19,8 +19,8 @@ const WRITTEN: u64 = 3;
 
 const SYNCED: u64 = 4;
 
-/// What a file holds as it is handed over, and what its failing calls come to. No memory holds it, and clauses alone read
-/// it. A function that takes one asks nothing of its members, so that it is proved for every file.
+/// What a file holds as it is handed over, and what its failing calls come to. No memory holds it, and clauses alone
+/// read it. A function that takes one asks nothing of its members, so that it is proved for every file.
 #[repr(C)]
 #[derive(Drop)]
 pub struct Opening {
@@ -39,7 +39,8 @@ impl Model for Opening {
 ///
 /// What its clauses say of bytes and crashes has honesty as its premise, and nothing promises that a real file is
 /// honest: its members are read off the list of its calls with their answers, and off its [`Opening`], as those of a
-/// [`FileDisk`](im_disk::FileDisk) are off its start. What is assumed of a real file is the same, and docs/CRASH.md tells it.
+/// [`FileDisk`](im_disk::FileDisk) are off its start. What is assumed of a real file is the same, and docs/CRASH.md
+/// tells it.
 #[derive(Drop)]
 pub struct FdDisk {
     fd: i32,

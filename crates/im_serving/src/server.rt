@@ -267,8 +267,8 @@ fn await_rest<D: Disk, K: Name, R: Wait>(
 /// confirms it; where the journal is full it makes a turn of a checkpoint and asks again. After the last one it waits,
 /// in order, for each of its requests that is still kept. At the end its port is retired.
 ///
-/// Refused with what the port refuses, `JournalFull` where no turn makes room, and `NoMemory` where there is no room for
-/// one answer more: then it serves nothing more, but receives until the pipe ends, so that its sender returns.
+/// Refused with what the port refuses, `JournalFull` where no turn makes room, and `NoMemory` where there is no room
+/// for one answer more: then it serves nothing more, but receives until the pipe ends, so that its sender returns.
 pub fn serve_element<D: Disk, K: Name, G: Gate, R: Wait>(
     rt: &R,
     controller: &Controller<D, K>,
