@@ -1,2 +1,0 @@
-mod AsEngine
-mod AsMemory

@@ -1,4 +1,0 @@
-pub mod Held
-pub mod Plain
-pub mod Memory
-pub mod Engine
