@@ -1,15 +1,4 @@
 //! A fetch that comes before its store, from Rust: an `extern` block, and a safe wrapper over it.
-//!
-//! usage: first_fetch IMAGE
-use std::fs::OpenOptions;
-use std::os::fd::AsRawFd;
-
-#[repr(C)]
-struct Limits {
-    cells: u32,
-    elements: u16,
-    slots: u32,
-}
 
 #[repr(C)]
 #[derive(Clone, Copy)]
@@ -34,68 +23,60 @@ struct Outcome {
 
 #[link(name = "luntrebis", kind = "static")]
 unsafe extern "C" {
-    fn lt_image_length(limits: &Limits) -> u64;
-    fn lt_format(fd: i32, limits: &Limits, next: &mut Handle) -> u8;
-    fn lt_open(fd: i32, next: &mut Handle) -> u8;
-    fn lt_close(engine: Handle);
-    fn lt_serve(engine: Handle, command: &Command, next: &mut Handle, outcome: &mut Outcome);
+    fn lt_memory_new(cells: u32, elements: u16, next: &mut Handle) -> u8;
+    fn lt_memory_step(memory: Handle, command: &Command, next: &mut Handle, outcome: &mut Outcome);
+    fn lt_memory_collect(memory: Handle, element: u16, number: u64, next: &mut Handle, outcome: &mut Outcome);
+    fn lt_memory_free(memory: Handle);
 }
 
-/// An image that is open, and its file, which is open longer. It stays on its thread: a `Handle` holds a raw pointer.
-struct Image {
+/// A memory with no disk. It stays on its thread: a `Handle` holds a raw pointer.
+struct Memory {
     handle: Handle,
-    _file: std::fs::File,
 }
 
-impl Image {
-    /// Makes the image of an empty memory of the file.
-    fn format(path: &str, limits: &Limits) -> Result<Image, u8> {
-        let file = OpenOptions::new().read(true).write(true).create(true).truncate(true).open(path).map_err(|_| 8u8)?;
-        file.set_len(unsafe { lt_image_length(limits) }).map_err(|_| 8u8)?;
-        Image::held(file, |fd, next| unsafe { lt_format(fd, limits, next) })
-    }
-
-    /// Opens the image of the file.
-    fn open(path: &str) -> Result<Image, u8> {
-        let file = OpenOptions::new().read(true).write(true).open(path).map_err(|_| 8u8)?;
-        Image::held(file, |fd, next| unsafe { lt_open(fd, next) })
-    }
-
-    fn held(file: std::fs::File, call: impl Fn(i32, &mut Handle) -> u8) -> Result<Image, u8> {
+impl Memory {
+    /// A memory of so many cells and elements, or the number of the refusal.
+    fn new(cells: u32, elements: u16) -> Result<Memory, u8> {
         let mut handle = Handle(core::ptr::null_mut());
-        match call(file.as_raw_fd(), &mut handle) {
-            0 => Ok(Image { handle, _file: file }),
+        match unsafe { lt_memory_new(cells, elements, &mut handle) } {
+            0 => Ok(Memory { handle }),
             refusal => Err(refusal),
         }
     }
 
-    /// Serves one command, or the number of the refusal.
-    fn serve(&mut self, tag: u8, element: u16, address: u32, number: u64, value: u64) -> Result<(u8, u64), u8> {
+    /// One command: the tag of its answer and the value, or the number of the refusal.
+    fn step(&mut self, tag: u8, element: u16, address: u32, number: u64, value: u64) -> Result<(u8, u64), u8> {
         let command = Command { tag, element, address, number, value };
+        self.call(|handle, next, outcome| unsafe { lt_memory_step(handle, &command, next, outcome) })
+    }
+
+    /// What is kept under an element's number, or the number of the refusal.
+    fn collect(&mut self, element: u16, number: u64) -> Result<(u8, u64), u8> {
+        self.call(|handle, next, outcome| unsafe { lt_memory_collect(handle, element, number, next, outcome) })
+    }
+
+    fn call(&mut self, call: impl FnOnce(Handle, &mut Handle, &mut Outcome)) -> Result<(u8, u64), u8> {
         let (mut next, mut outcome) = (Handle(core::ptr::null_mut()), Outcome::default());
-        unsafe { lt_serve(self.handle, &command, &mut next, &mut outcome) };
+        call(self.handle, &mut next, &mut outcome);
         self.handle = next;
         if outcome.refusal == 0 { Ok((outcome.tag, outcome.value)) } else { Err(outcome.refusal) }
     }
 }
 
-impl Drop for Image {
+impl Drop for Memory {
     fn drop(&mut self) {
-        unsafe { lt_close(self.handle) }
+        unsafe { lt_memory_free(self.handle) }
     }
 }
 
 fn main() -> Result<(), u8> {
-    let path = std::env::args().nth(1).ok_or(2u8)?;
-    let mut image = Image::format(&path, &Limits { cells: 16, elements: 2, slots: 16 })?;
-    println!("block {:?}", image.serve(1, 0, 4, 1, 0));
-    println!("fetch {:?}", image.serve(4, 1, 2, 1, 0));
-    println!("in use {:?}", Image::open(&path).err());
-    drop(image);
-    let mut image = Image::open(&path)?;
-    println!("store {:?}", image.serve(5, 0, 2, 2, 7));
-    println!("fetch {:?}", image.serve(4, 1, 2, 1, 0));
-    println!("again {:?}", image.serve(5, 0, 2, 3, 8));
-    println!("gap {:?}", image.serve(4, 1, 2, 9, 0));
+    println!("no cells {:?}", Memory::new(0, 2).err());
+    let mut memory = Memory::new(16, 2)?;
+    println!("block {:?}", memory.step(1, 0, 4, 1, 0));
+    println!("fetch {:?}", memory.step(4, 1, 2, 1, 0));
+    println!("store {:?}", memory.step(5, 0, 2, 2, 7));
+    println!("collected {:?}", memory.collect(1, 1));
+    println!("again {:?}", memory.step(5, 0, 2, 3, 8));
+    println!("gap {:?}", memory.step(4, 1, 2, 9, 0));
     Ok(())
 }
