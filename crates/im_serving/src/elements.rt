@@ -174,6 +174,9 @@ fn end<K: Name, R: Threads>(rt: &R, running: Running<K>) -> Done<K> {
 /// that keeps checkpoints. The ports come back in the order of the parts, each retired. An element one of whose threads
 /// can't be made is refused with `NoMemory`, and nothing of it is served. Without a thread that keeps checkpoints the
 /// servers make the turns that they need.
+///
+/// `AllocError` where there is no room for a list of the elements: then no thread began, and the ports are gone with
+/// the parts, not retired.
 pub fn serve_elements<
     D: Disk + Drop + Send,
     K: Name + Send + Sync,
