@@ -4,10 +4,12 @@
 //! Stands on `im_controller` and `im_pipes`.
 #![tactic(auto)]
 
+mod elements;
 mod gate;
 mod sender;
 mod server;
 
+pub use elements::{Done, PIPE, Part, serve_elements};
 pub use gate::{Gate, Open};
 pub use sender::send_all;
 pub use server::{Served, serve_element};
