@@ -1,0 +1,6 @@
+use Rattle.im_text.specs.Printing.{PrintsMore}
+use Rattle.im_run.specs.Running.{finals}
+use Rattle.im_run.proofs.telling.print_finals.Given as goal
+
+abbrev pub invariant-loop-at : goal.invariant-loop-at
+invariant-loop-at g l = PrintsMore (g.W.Write.contents l.fn.out) l.fn.lines (g.W.Write.contents l.out) l.lines (finals l.memory.contents l.sent l.at)

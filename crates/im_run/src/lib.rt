@@ -1,0 +1,12 @@
+//! A script's requests, each element's by a server of its own, all at once on the image of a disk.
+//!
+//! Stands on `im_serving`. The setup is served first, through the engine.
+#![tactic(auto)]
+
+mod orders;
+mod run;
+mod served;
+mod setup;
+mod telling;
+
+pub use run::{STALLED, run_on};

@@ -1,0 +1,159 @@
+//! What each element asks for in a script.
+ghost use Rattle.std.specs.Prelude.{◌≡◌};
+ghost use Rattle.im_run.specs.Running.{PrintsSome};
+
+use crate::setup::{Desk, make_block};
+use im_disk::Disk;
+use im_engine::Engine;
+use im_script::{Reader, Said, Script, ScriptLine, split_line};
+use im_text::{Observer, Reason};
+use im_types::{MAX_ELEMENTS, Op};
+use std::alloc::{AllocError, Global};
+use std::io::Write;
+
+/// What an element asks for, in its order.
+#[derive(Drop)]
+pub struct Order {
+    /// The element.
+    pub element: u16,
+    /// The least of its numbers that is kept.
+    pub base: u64,
+    /// The number of its next request.
+    pub next: u64,
+    /// Its operations.
+    pub ops: Vec<Op>,
+}
+
+// An order of each element that a script can name, which asks for nothing yet.
+fn no_orders(alloc: Global) -> Result<Vec<Order>, AllocError> {
+    let mut orders = Vec::with_capacity(alloc, MAX_ELEMENTS as usize)?;
+    for element in 0..MAX_ELEMENTS {
+        orders.push(Order {
+            element,
+            base: 0,
+            next: 0,
+            ops: Vec::new(alloc),
+        })?;
+    }
+    Ok(orders)
+}
+
+// Adds a request to its element's order.
+fn add_line(orders: &mut [Order], bases: &[u32], line: ScriptLine) -> Result<(), Reason> {
+    let Some(op) = line.action.op(bases) else {
+        return Err(Reason::Place(line.element));
+    };
+    match orders.get_mut(line.element as usize) {
+        Some(order) => match order.ops.push(op) {
+            Ok(()) => Ok(()),
+            Err(_) => Err(Reason::Memory),
+        },
+        None => Err(Reason::Place(line.element)), // No script names such an element.
+    }
+}
+
+// Does what a line says.
+fn take_said<D: Disk, W: Write, N: Observer>(
+    engine: &mut Engine<D>,
+    desk: &mut Desk,
+    orders: &mut [Order],
+    said: Said,
+    out: &mut W,
+    observer: &mut N,
+) -> Result<(), Reason>
+    ensures some { PrintsSome (W.contents out.old) desk.old.lines (W.contents out.new) desk.new.lines }
+{
+    match said {
+        Said::Nothing | Said::Begins(_) => Ok(()),
+        Said::Block(block) => make_block(engine, desk, block, out, observer),
+        Said::Asks(line) => add_line(orders, desk.bases.as_slice(), line),
+    }
+}
+
+// Does what each line says, one after another.
+fn take_lines<D: Disk, W: Write, N: Observer>(
+    alloc: Global,
+    engine: &mut Engine<D>,
+    desk: &mut Desk,
+    orders: &mut [Order],
+    script: &Script<'_>,
+    out: &mut W,
+    observer: &mut N,
+) -> Result<(), Reason>
+    ensures some { PrintsSome (W.contents out.old) desk.old.lines (W.contents out.new) desk.new.lines }
+{
+    let mut reader = Reader::new(alloc);
+    let mut rest = Some(script.text());
+    for number in 1..usize::MAX {
+        let Some(text) = rest else {
+            return Ok(());
+        };
+        let (line, behind) = split_line(text);
+        rest = behind;
+        let said = match reader.read(alloc, number, line) {
+            Ok(said) => said,
+            Err(fault) => return Err(Reason::Script(fault)), // There was no memory for it.
+        };
+        match take_said(engine, desk, orders, said, out, observer) {
+            Ok(()) => {}
+            Err(reason) => return Err(reason),
+        }
+    }
+    Ok(())
+}
+
+// The orders that ask for something, with their elements' numbers. An element that isn't there has none.
+fn number_orders<D: Disk>(
+    alloc: Global,
+    engine: &Engine<D>,
+    orders: Vec<Order>,
+) -> Result<Vec<Order>, AllocError> {
+    let mut numbered = Vec::with_capacity(alloc, orders.len())?;
+    for order in orders {
+        if order.ops.is_empty() {
+            continue;
+        }
+        let (base, next) = engine.memory().window(order.element).unwrap_or((0, 0));
+        numbered.push(Order {
+            element: order.element,
+            base,
+            next,
+            ops: order.ops,
+        })?;
+    }
+    Ok(numbered)
+}
+
+/// Serves the setup of a script, whose lines are printed at once, and answers what each element asks for, from the
+/// least. Nothing behind the setup is served.
+///
+/// Refused is what serving a block is refused, `Place` where a request's place lies past the last address, and `Memory`.
+pub fn read_orders<D: Disk, W: Write, N: Observer>(
+    alloc: Global,
+    engine: &mut Engine<D>,
+    desk: &mut Desk,
+    script: &Script<'_>,
+    out: &mut W,
+    observer: &mut N,
+) -> Result<Vec<Order>, Reason>
+    ensures some { PrintsSome (W.contents out.old) desk.old.lines (W.contents out.new) desk.new.lines }
+{
+    let Ok(mut orders) = no_orders(alloc) else {
+        return Err(Reason::Memory);
+    };
+    match take_lines(
+        alloc,
+        engine,
+        desk,
+        orders.as_mut_slice(),
+        script,
+        out,
+        observer,
+    ) {
+        Ok(()) => match desk.lines.flush(out) {
+            Ok(()) => number_orders(alloc, engine, orders).map_err(|_| Reason::Memory),
+            Err(reason) => Err(reason),
+        },
+        Err(reason) => Err(reason),
+    }
+}

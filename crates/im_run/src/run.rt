@@ -1,0 +1,227 @@
+//! A script on the image of a disk, from its opening to its end.
+ghost use Rattle.std.specs.Prelude.{◌≡◌, ◌⊎◌, ◌≤◌, ◌++◌, ℕ, List, Option, [], false, length, IsOk};
+ghost use Rattle.std.specs.Io.KnownBytes.{Appends};
+ghost use Rattle.im_disk.specs.Since.{LeavesNow};
+ghost use Rattle.im_engine.specs.State.{MeansState};
+ghost use Rattle.im_text.specs.Printing.{Prints};
+ghost use Rattle.im_run.specs.Running.{Ran, finals};
+
+use crate::orders::{Order, read_orders};
+use crate::served::{Outcome, serve_orders};
+use crate::setup::Desk;
+use crate::telling::print_finals;
+use im_controller::start;
+use im_disk::{Disk, OpenFault};
+use im_engine::Engine;
+use im_script::Script;
+use im_serving::Gate;
+use im_text::{Observer, Reason, Waited, diagnose, end, finish};
+use im_types::Refusal;
+use std::alloc::Global;
+use std::io::Write;
+use std::marker::Brand;
+use std::sync::Wait;
+use std::thread::Threads;
+
+/// The status of a run in which servers waited for each other, and nothing else was refused.
+pub const STALLED: u8 = 3;
+
+// How many lines the trace has room for: five for each request, and 32 for each element.
+fn trace_room(orders: &[Order], elements: u16) -> usize {
+    let mut room = (elements as usize).saturating_mul(32);
+    for order in orders {
+        room = room.saturating_add(order.ops.len().saturating_mul(5));
+    }
+    room
+}
+
+// What the servers were refused, if anything was.
+fn reason_of(refused: Option<(u16, Refusal)>) -> Result<(), Reason> {
+    match refused {
+        None => Ok(()),
+        Some((element, refusal)) => Err(Reason::Request(element, refusal)),
+    }
+}
+
+// Whether servers that wait for each other are all that ended it.
+fn is_stalled(done: &Result<(), Reason>) -> bool {
+    match done {
+        Err(Reason::Request(_, refusal)) => refusal.number() == Refusal::Stalled.number(),
+        _ => false,
+    }
+}
+
+// What was refused, which is the disk's fault where nothing else was but a wait.
+fn with_disk(done: Result<(), Reason>, failed: bool) -> Result<(), Reason>
+    ensures done { IsOk result → IsOk done }
+{
+    if failed && (done.is_ok() || is_stalled(&done)) {
+        return Err(Reason::File(OpenFault::Device, None));
+    }
+    done
+}
+
+// What was refused first, if anything was.
+fn both(served: Result<(), Reason>, told: Result<(), Reason>) -> Result<(), Reason>
+    ensures served { IsOk result → IsOk served }
+    ensures told { IsOk result → IsOk told }
+{
+    match served {
+        Ok(()) => told,
+        Err(reason) => Err(reason),
+    }
+}
+
+// The status, which is 1 where the disk failed.
+fn status_of(failed: bool, stalled: bool, status: u8) -> u8
+    requires { status ≤ 1 }
+    ensures status { (result ≤ 1) ⊎ (result ≡ STALLED) }
+    ensures works { (result ≡ 0) ⊎ (result ≡ STALLED) → failed ≡ false }
+    ensures done { result ≡ 0 → status ≡ 0 }
+{
+    if failed {
+        1
+    } else if stalled {
+        STALLED
+    } else {
+        status
+    }
+}
+
+// Prints the lines of the requests that were sent, and what was refused; and gives the engine's disk back.
+fn close<D: Disk, W: Write, N: Observer>(
+    alloc: Global,
+    engine: Engine<D>,
+    sent: Vec<Waited>,
+    done: Result<(), Reason>,
+    desk: Desk,
+    out: &mut W,
+    observer: &mut N,
+) -> (u8, D)
+    ensures status { (result.0 ≤ 1) ⊎ (result.0 ≡ STALLED) }
+    ensures means { D.honest result.1 → (result.0 ≡ 0) ⊎ (result.0 ≡ STALLED)
+        → LeavesNow (D.now result.1) (MeansState engine) }
+    ensures printed { result.0 ≡ 0 → (start : Option (List ℕ)) (text : List ℕ)
+        → Prints start (W.contents out.old) desk.lines text
+        → Appends start (W.contents out.new) (text ++ finals engine.memory sent.items (length sent.items)) }
+{
+    let Desk {
+        bases: _,
+        mut lines,
+        mut line,
+        progress: _,
+    } = desk;
+    let failed = engine.failed();
+    let done = with_disk(done, failed);
+    let told = print_finals(engine.memory(), sent.as_slice(), &mut line, &mut lines, out);
+    let stalled = is_stalled(&done);
+    let status = finish(
+        alloc,
+        both(done, told),
+        &mut lines,
+        &mut line,
+        out,
+        observer,
+    );
+    (status_of(failed, stalled, status), engine.close())
+}
+
+// Serves a script on an engine, and gives its disk back.
+fn run_engine<
+    D: Disk + Drop + Send,
+    W: Write,
+    N: Observer,
+    G: Gate + Sync,
+    R: Threads + Wait + Sync,
+>(
+    rt: &R,
+    alloc: Global,
+    engine: Engine<D>,
+    desk: Desk,
+    script: &Script<'_>,
+    gate: &G,
+    out: &mut W,
+    observer: &mut N,
+) -> (u8, D)
+    requires pending { desk.lines.pending.items ≡ [] }
+    ensures status { (result.0 ≤ 1) ⊎ (result.0 ≡ STALLED) }
+    ensures ran { D.honest result.1 → (result.0 ≡ 0) ⊎ (result.0 ≡ STALLED)
+        → Ran D.now result.1 (W.contents out.old) (W.contents out.new) result.0 }
+{
+    let mut engine = engine;
+    let mut desk = desk;
+    let none = Vec::new(alloc);
+    let orders = match read_orders(alloc, &mut engine, &mut desk, script, out, observer) {
+        Ok(orders) => orders,
+        Err(reason) => return close(alloc, engine, none, Err(reason), desk, out, observer),
+    };
+    let room = trace_room(orders.as_slice(), engine.memory().elements());
+    match start(alloc, engine, room) {
+        Ok(opening) => {
+            let Outcome {
+                engine,
+                sent,
+                refused,
+            } = serve_orders::<D, Brand, G, R>(rt, alloc, opening, orders, gate);
+            close(alloc, engine, sent, reason_of(refused), desk, out, observer)
+        }
+        Err((_, engine)) => close(
+            alloc,
+            engine,
+            none,
+            Err(Reason::Memory),
+            desk,
+            out,
+            observer,
+        ),
+    }
+}
+
+/// Serves a script on the image of a disk, each element's requests by a server of its own, all at once, and gives the
+/// disk back. What it prints goes to `out`: the lines `0.N REPLY` of the setup, which is served first; then for each
+/// element from the least its requests in order as `K.N REPLY`, K being its element and N its number, each with its
+/// final entry; and at last `refused N NAME` where something was refused. A request that wasn't sent has no line.
+///
+/// A server waits for what its element asked for, and confirms it as its window fills. The gate is called round each
+/// request. Where the journal is full servers make turns of a checkpoint, beside the thread that keeps them.
+///
+/// The status is 0; or 3, with `refused 19 Stalled`, where servers that wait for each other are all that was refused;
+/// or 1: the image is refused at opening; a block of the setup can't be made, or a place lies past the last address
+/// (`BadScript`), and then no element's request is served; `NoMemory`; a call of the disk failed; a write of the output
+/// failed; or a server was refused something else than `Stalled`: the least such element's refusal is printed, and the
+/// others went on. The observer is told why.
+///
+/// Where the status is 0 or 3, each file that a crash may leave at the return means one memory; where it is 0, the lines
+/// of the elements are all written, and tell the entries that this memory keeps, or what a server was told of an entry
+/// that it confirmed.
+pub fn run_on<
+    D: Disk + Drop + Send,
+    W: Write,
+    N: Observer,
+    G: Gate + Sync,
+    R: Threads + Wait + Sync,
+>(
+    rt: &R,
+    alloc: Global,
+    disk: D,
+    script: &Script<'_>,
+    gate: &G,
+    out: &mut W,
+    observer: &mut N,
+) -> (u8, D)
+    ensures status { (result.0 ≤ 1) ⊎ (result.0 ≡ STALLED) }
+    ensures ran { D.honest result.1 → (result.0 ≡ 0) ⊎ (result.0 ≡ STALLED)
+        → Ran D.now result.1 (W.contents out.old) (W.contents out.new) result.0 }
+{
+    let desk = match Desk::new(alloc) {
+        Ok(desk) => desk,
+        Err(_) => return (end(alloc, Err(Reason::Memory), out, observer), disk),
+    };
+    match Engine::open(alloc, disk) {
+        Ok(engine) => run_engine(rt, alloc, engine, desk, script, gate, out, observer),
+        Err((refusal, mut disk)) => {
+            let reason = diagnose(alloc, &mut disk, refusal);
+            (end(alloc, Err(reason), out, observer), disk)
+        }
+    }
+}

@@ -1,0 +1,174 @@
+//! All elements served through one controller.
+ghost use Rattle.std.specs.Prelude.{◌≡◌};
+ghost use Rattle.im_types.specs.Trace.{IsLegal, end_of};
+ghost use Rattle.im_types.specs.declared.commands.Line.{Line};
+ghost use Rattle.im_run.specs.Running.{Follows};
+
+use crate::orders::Order;
+use im_controller::{Controller, Name, Opening, Port, finish};
+use im_disk::Disk;
+use im_engine::Engine;
+use im_serving::{Done, Gate, Part, Served, serve_elements};
+use im_text::Waited;
+use im_types::Refusal;
+use std::alloc::{AllocError, Global};
+use std::sync::Wait;
+use std::thread::Threads;
+
+/// What the servers came to.
+#[derive(Drop)]
+pub struct Outcome<D: Disk> {
+    /// The engine.
+    pub engine: Engine<D>,
+    /// The requests that were sent, by elements and numbers, each with its entry as its server was last told.
+    pub sent: Vec<Waited>,
+    /// The refusal of the least element that has one, `Stalled` only where there is no other.
+    pub refused: Option<(u16, Refusal)>,
+}
+
+// What is noted while the elements' ports are made and come back.
+#[derive(Drop)]
+struct Notes<K: Name> {
+    ports: Vec<Port<K>>,
+    sent: Vec<Waited>,
+    refused: Option<(u16, Refusal)>,
+}
+
+impl<K: Name> Notes<K> {
+    // Nothing was noted.
+    fn new(alloc: Global) -> Notes<K> {
+        Notes {
+            ports: Vec::new(alloc),
+            sent: Vec::new(alloc),
+            refused: None,
+        }
+    }
+
+    // Notes an element's refusal. Elements come from the least.
+    fn refuse(&mut self, element: u16, refusal: Refusal) {
+        self.refused = match self.refused {
+            None => Some((element, refusal)),
+            Some((_, Refusal::Stalled)) if refusal.number() != Refusal::Stalled.number() => {
+                Some((element, refusal))
+            }
+            Some(earlier) => Some(earlier),
+        };
+    }
+
+    // Notes the requests that an element's server sent.
+    fn send(&mut self, served: &Served) -> Result<(), AllocError> {
+        let mut number = served.first;
+        for entry in served.entries.iter() {
+            self.sent.push(Waited {
+                element: served.element,
+                number,
+                entry: *entry,
+            })?;
+            number = number.saturating_add(1);
+        }
+        Ok(())
+    }
+
+    // Notes what became of an element.
+    fn take(&mut self, done: Done<K>) {
+        let Done { port, served, done } = done;
+        let element = served.element;
+        if self.send(&served).is_err() || self.ports.push(port).is_err() {
+            self.refuse(element, Refusal::NoMemory);
+        }
+        if let Err(refusal) = done {
+            self.refuse(element, refusal);
+        }
+    }
+}
+
+// A port for an element, which serves from its next number on.
+fn make_part<D: Disk, K: Name, R: Wait>(
+    rt: &R,
+    alloc: Global,
+    controller: &Controller<D, K>,
+    order: Order,
+) -> Result<Part<K>, Refusal> {
+    let Order {
+        element,
+        base,
+        next,
+        ops,
+    } = order;
+    let port = match controller.port(rt, element) {
+        Ok(port) => port,
+        Err(refusal) => return Err(refusal),
+    };
+    Ok(Part {
+        port,
+        served: Served {
+            element,
+            first: next,
+            base,
+            entries: Vec::new(alloc),
+        },
+        ops,
+    })
+}
+
+// A port for each element that asks for something. An element that isn't there is noted as refused.
+fn make_parts<D: Disk, K: Name, R: Wait>(
+    rt: &R,
+    alloc: Global,
+    controller: &Controller<D, K>,
+    orders: Vec<Order>,
+    notes: &mut Notes<K>,
+) -> Vec<Part<K>> {
+    let mut parts = Vec::new(alloc);
+    for order in orders {
+        let element = order.element;
+        match make_part(rt, alloc, controller, order) {
+            Ok(part) => {
+                if parts.push(part).is_err() {
+                    notes.refuse(element, Refusal::NoMemory);
+                }
+            }
+            Err(refusal) => notes.refuse(element, refusal),
+        }
+    }
+    parts
+}
+
+/// Serves what each element asks for, all at once, through a controller over an engine, and gives the engine back.
+///
+/// An element that isn't there is refused with `NoElement`, one for which there is no memory or thread with
+/// `NoMemory`: then nothing of it is served. Another's requests go on.
+pub fn serve_orders<
+    D: Disk + Drop + Send,
+    K: Name + Send + Sync,
+    G: Gate + Sync,
+    R: Threads + Wait + Sync,
+>(rt: &R, alloc: Global, opening: Opening<D>, orders: Vec<Order>, gate: &G) -> Outcome<D>
+    requires memory { opening.engine.memory ≡ K.memory }
+    requires lines { opening.lines_name ≡ K.lines_name }
+    requires marked { opening.marked_name ≡ K.marked_name }
+    requires ports { opening.ports ≡ K.ports }
+    ensures follows { Follows K.memory result.engine.memory }
+{
+    let controller = opening.named::<K>();
+    let mut notes = Notes::new(alloc);
+    let parts = make_parts(rt, alloc, &controller, orders, &mut notes);
+    match serve_elements(rt, alloc, &controller, gate, parts) {
+        Ok(all) => {
+            for done in all {
+                notes.take(done);
+            }
+        }
+        Err(_) => notes.refuse(0, Refusal::NoMemory),
+    }
+    let Notes {
+        ports,
+        sent,
+        refused,
+    } = notes;
+    Outcome {
+        engine: finish(controller, ports).engine,
+        sent,
+        refused,
+    }
+}
