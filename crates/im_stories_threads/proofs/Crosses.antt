@@ -1,0 +1,70 @@
+-- Which values of a controller may cross threads. Part by part: one search through all of them runs out of steps.
+use denote.RattleType.{RattleType}
+use denote.Param.Send.{IsSend, IsSync, sendable}
+use Rattle.std.proofs.Crossing.{crosses}
+use Rattle.core.proofs.ledger.Sent.{book_send, share_send}
+use Rattle.im_disk.specs.declared.disk.Disk as disk
+use Rattle.im_controller.specs.declared.name.Name as name
+use Rattle.im_memory.specs.contracts.memory.Memory as Memory
+use Rattle.im_checkpoint.specs.contracts.checkpoint.Checkpoint as Checkpoint
+use Rattle.im_engine.specs.contracts.engine.Engine as Engine
+use Rattle.im_controller.specs.contracts.books.Books as Books
+use Rattle.im_controller.specs.contracts.log.Unclaimed as Unclaimed
+use Rattle.im_controller.specs.contracts.log.Log as Log
+use Rattle.im_controller.specs.contracts.servers.Servers as Servers
+use Rattle.im_controller.specs.contracts.books.Reserve as Reserve
+use Rattle.im_controller.specs.contracts.books.Tally as Tally
+use Rattle.im_controller.specs.contracts.ports.Port as Port
+use Rattle.im_controller.specs.contracts.shared.Shared as Shared
+use Rattle.im_controller.specs.contracts.inbox.Inbox as Inbox
+use Rattle.im_controller.specs.contracts.turns.Turns as Turns
+use Rattle.im_controller.specs.contracts.bell.Bell as Bell
+use Rattle.im_controller.specs.contracts.controller.Controller as Controller
+
+pub Memory-send : IsSend Memory.the_field.row
+Memory-send = search (sendable, crosses) depth 40 fits 30000
+
+pub Checkpoint-send : IsSend Checkpoint.the_field.row
+Checkpoint-send = search (sendable, crosses) depth 40
+
+module _ (D : RattleType) (d : disk.Ghosts D.Denot) where
+  pub Engine-send : IsSend D → IsSend (Engine.the_field D d).row
+  Engine-send s = let m = Memory-send in let k = Checkpoint-send in search (sendable, crosses) depth 40
+
+pub Unclaimed-send : IsSend Unclaimed.the_field.row
+Unclaimed-send = search (sendable, crosses) depth 40 fits 30000
+
+module _ (K : RattleType) (n : name.Ghosts K.Denot) where
+  pub Books-send : IsSend (Books.the_field K n).row
+  Books-send = search (sendable, crosses, book_send) depth 40 fits 30000
+
+  pub Log-send : IsSend (Log.the_field K n).row
+  Log-send = let b = Books-send in let u = Unclaimed-send in search (sendable, crosses) depth 40 fits 30000
+
+  pub Reserve-send : IsSend (Reserve.the_field K n).row
+  Reserve-send = search (sendable, crosses, share_send) depth 40 fits 30000
+
+  pub Tally-send : IsSend (Tally.the_field K n).row
+  Tally-send = search (sendable, crosses, share_send) depth 40 fits 30000
+
+  pub Port-send : IsSend (Port.the_field K n).row
+  Port-send = let t = Tally-send in search (sendable, crosses) depth 40 fits 30000
+
+pub Servers-send : IsSend Servers.the_field.row
+Servers-send = search (sendable, crosses) depth 40
+
+pub Inbox-send : IsSend Inbox.the_field.row
+Inbox-send = search (sendable, crosses) depth 40
+
+pub Turns-sync : IsSync Turns.the_field.row
+Turns-sync = search (sendable, crosses) depth 40
+
+pub Bell-sync : IsSync Bell.the_field.row
+Bell-sync = search (sendable, crosses) depth 40
+
+module _ (D K : RattleType) (d : disk.Ghosts D.Denot) (n : name.Ghosts K.Denot) where
+  pub Shared-send : IsSend D → IsSend (Shared.the_field D K d n).row
+  Shared-send s = let e = Engine-send D d s in let l = Log-send K n in let r = Reserve-send K n in let v = Servers-send in search (sendable, crosses) depth 40
+
+  pub Controller-sync : IsSend D → IsSync (Controller.the_field D K d n).row
+  Controller-sync s = let e = Shared-send s in let i = Inbox-send in let t = Turns-sync in let b = Bell-sync in search (sendable, crosses) depth 40

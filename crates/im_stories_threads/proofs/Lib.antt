@@ -1,0 +1,2 @@
+pub mod Crosses
+pub mod Tasks
