@@ -26,7 +26,7 @@ impl<'a, R: Eprint + AllocGlobal> Console<'a, R> {
         let (image, script) = match work {
             Work::Demonstration => ("", ""),
             Work::Format { image, .. } | Work::Inspect { image } => (image, ""),
-            Work::Serial { image, script } => (image, script),
+            Work::Serial { image, script } | Work::Run { image, script } => (image, script),
         };
         Console {
             rt,

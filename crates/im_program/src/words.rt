@@ -5,7 +5,8 @@ ghost use Rattle.clap.specs.Words.{app_of, fault_of, found_of, kind_of, rows_of,
 ghost use Rattle.clap.specs.declared.builder.command.Command.TheViews.{out-Command};
 ghost use Rattle.im_script.specs.Grammar.{texts};
 ghost use Rattle.im_program.specs.Words.{asked, format_app, format_task, imem_app, inspect_app, inspect_task};
-ghost use Rattle.im_program.specs.Words.{number_in, option_rule, path_in, path_rule, serial_app, serial_task};
+ghost use Rattle.im_program.specs.Words.{number_in, option_rule, path_in, path_rule, run_app, run_task};
+ghost use Rattle.im_program.specs.Words.{serial_app, serial_task};
 ghost use Rattle.im_program.specs.Words.{task_in, task_of};
 
 use clap::error::ErrorKind;
@@ -45,6 +46,13 @@ pub enum Work<'a> {
         /// The script's path.
         script: &'a str,
     },
+    /// Serve a script's lines, each element's by a server of its own.
+    Run {
+        /// The image's path.
+        image: &'a str,
+        /// The script's path.
+        script: &'a str,
+    },
     /// Tell what an image means.
     Inspect {
         /// The image's path.
@@ -72,13 +80,15 @@ const EXAMPLES: &str =
 Example:
   imem format a.img
   imem serial a.img fetch.script
+  imem run b.img fetch.script
   imem inspect a.img
 
 While imem works on an image it holds the file's lock: another imem is refused 8 Device, and a line on
 standard error says that the image is in use. Any number may inspect it at the same time. The lock is
 advisory: it keeps no other program from writing the file, nor one that makes another file of its name.
 
-Exit status: 0 done; 1 refused, with 'refused N NAME' as the last line; 2 a bad command line.";
+Exit status: 0 done; 1 refused, with 'refused N NAME' as the last line; 2 a bad command line; 3 servers
+of a run wait for each other.";
 
 const FORMAT: &str =
     "Make an image: an empty memory of this size, in a new file or over an old one";
@@ -117,6 +127,22 @@ file fetch.script, served on the image a.img
 
 Exit status: 0 all was served; 1 something was refused, with 'refused N NAME' as the last line, or the
 output can't be written; 2 a bad command line. Standard error has one line more about a refusal.";
+
+const RUN: &str = "Serve the requests of a script, each element's by threads of its own";
+
+const RUN_EXAMPLES: &str =
+    "The setup is served first, and prints its lines. Then a server for each element serves its requests, all
+at once, and waits for each answer. At the end each request that was sent prints 'K.N REPLY', by elements
+and numbers, with what it was answered in the end. A script is what 'imem serial' reads, or - for
+standard input.
+
+Example: the lines 'setup', 'alloc x i 1', 'element 1', 'fetch x', 'element 2', 'store x 5' in the
+file both.script, run on the image a.img
+  imem run a.img both.script
+
+Exit status: 0 all was answered; 1 something was refused, with 'refused N NAME' as the last line, or the
+output can't be written; 2 a bad command line; 3 servers wait for each other, with 'refused 19 Stalled' as
+the last line. Standard error has one line more about a refusal.";
 
 const INSPECT: &str = "Print what an image means, and change nothing";
 
@@ -205,6 +231,25 @@ fn serial_command<'a>(alloc: Global) -> Result<Command<'a>, AllocError>
     Ok(two)
 }
 
+/// The subcommand `run`.
+fn run_command<'a>(alloc: Global) -> Result<Command<'a>, AllocError>
+    ensures app { IfOk result (λ c. app_of c ≡ run_app) }
+    ensures local { IfOk result (λ c. (out-Command c).has_globals ≡ false) }
+{
+    let empty = Command::new(alloc, "run")
+        .about(RUN)
+        .after_help(RUN_EXAMPLES);
+    let image = path_argument(alloc, "IMAGE", "The image, made by 'imem format'");
+    let script = path_argument(
+        alloc,
+        "SCRIPT",
+        "The file of requests, or - for standard input",
+    );
+    let one = empty.arg(image)?;
+    let two = one.arg(script)?;
+    Ok(two)
+}
+
 /// The subcommand `inspect`.
 fn inspect_command<'a>(alloc: Global) -> Result<Command<'a>, AllocError>
     ensures app { IfOk result (λ c. app_of c ≡ inspect_app) }
@@ -228,11 +273,13 @@ fn imem_command<'a>(alloc: Global) -> Result<Command<'a>, AllocError>
         .after_help(EXAMPLES);
     let format = format_command(alloc)?;
     let serial = serial_command(alloc)?;
+    let run = run_command(alloc)?;
     let inspect = inspect_command(alloc)?;
     let one = empty.subcommand(format)?;
     let two = one.subcommand(serial)?;
-    let three = two.subcommand(inspect)?;
-    Ok(three)
+    let three = two.subcommand(run)?;
+    let four = three.subcommand(inspect)?;
+    Ok(four)
 }
 
 /// The number of an option, or `fallback` where it is not given. `None` where it is no decimal number of a u32.
@@ -280,6 +327,15 @@ fn serial_work<'a>(found: &ArgMatches<'a>) -> Work<'a>
     Work::Serial { image, script }
 }
 
+/// What `run` is asked for.
+fn run_work<'a>(found: &ArgMatches<'a>) -> Work<'a>
+    ensures { task_of result ≡ run_task (rows_of (found_of found.now)) }
+{
+    let image = path_of(found, "IMAGE");
+    let script = path_of(found, "SCRIPT");
+    Work::Run { image, script }
+}
+
 /// What `inspect` is asked for.
 fn inspect_work<'a>(found: &ArgMatches<'a>) -> Work<'a>
     ensures { task_of result ≡ inspect_task (rows_of (found_of found.now)) }
@@ -299,6 +355,8 @@ fn work_of<'a>(matches: &ArgMatches<'a>) -> Option<Work<'a>>
                 format_work(found)
             } else if name == "serial" {
                 Some(serial_work(found))
+            } else if name == "run" {
+                Some(run_work(found))
             } else {
                 Some(inspect_work(found))
             }

@@ -9,6 +9,7 @@ ghost use Rattle.im_image.specs.Fresh.{new_image};
 ghost use Rattle.im_report.specs.Inspecting.{Tells};
 ghost use Rattle.im_text.specs.Printing.{Begins, IsLast};
 ghost use Rattle.im_serial.specs.Serving.{ServedFrom};
+ghost use Rattle.im_run.specs.Running.{Ran};
 ghost use Rattle.im_program.specs.Words.{demonstration, task_of};
 ghost use Rattle.im_program.specs.Working.{DoneOn};
 
@@ -19,14 +20,18 @@ use im_disk::{Disk, FileDisk, MemDisk, OpenFault, Start};
 use im_engine::Engine;
 use im_image::image_length;
 use im_report::inspect_on;
+use im_run::{STALLED, run_on};
 use im_script::{Script, ScriptFault, read_script};
 use im_serial::serial_on;
+use im_serving::Open;
 use im_text::{Observer, Reason, put_refusal};
 use im_types::{Limits, MAX_CELLS, MAX_ELEMENTS, Refusal};
 use std::alloc::Global;
 use std::fs::{self, File, OpenOptions};
 use std::io::{self, Eprint, ErrorKind, Input, Read, Write};
 use std::rt::Files;
+use std::sync::Wait;
+use std::thread::Threads;
 
 /// The script that is served where no work is named.
 const DEMONSTRATION: &str = "setup
@@ -227,6 +232,50 @@ pub fn serve_file<R: Files<File = File> + AllocGlobal + Input, S: Start, W: Writ
     }
 }
 
+/// Runs the script of a file on the image of another, each element's requests by threads of its own, and gives the
+/// image's disk back, with the status and the lines of [`run_on`]. The script is read first; the path `-` is standard
+/// input.
+///
+/// Refused are, with nothing printed and the image as it was: `BadScript` for a script that can't be read or isn't in
+/// the grammar, and `NoMemory` for one that there is no room for; `Device` for an image that can't be opened: it is no
+/// regular file, another opening has its lock, or a call of the system fails. The observer is told why. What
+/// [`run_on`] refuses is its status and its last line.
+///
+/// That an image is ever opened is no clause: none knows what a folder holds.
+pub fn run_file<
+    R: Files<File = File> + AllocGlobal + Input + Threads + Wait + Sync,
+    S: Start + Send,
+    W: Write,
+    N: Observer,
+>(
+    rt: &R,
+    image: &str,
+    script: &str,
+    out: &mut W,
+    observer: &mut N,
+    start: S,
+) -> Result<(u8, FileDisk<S>), Refusal>
+    ensures status { IfOk result (λ r. (r.0 ≤ 1) ⊎ (r.0 ≡ STALLED)) }
+    ensures ran { IfOk result (λ r. ⟦<FileDisk<S> as Disk>⟧.honest r.1 →
+        (r.0 ≡ 0) ⊎ (r.0 ≡ STALLED)
+        → Ran ⟦<FileDisk<S> as Disk>⟧.now r.1 (W.contents out.old) (W.contents out.new) r.0) }
+    ensures refused { IfErr result (λ refusal. (refusal ≡ BadScript) ⊎ (refusal ≡ NoMemory) ⊎ (refusal ≡ Device)) }
+    ensures same { OnErr result (Keeps (W.contents out.old) (W.contents out.new)) }
+{
+    let text = match read_file(rt, script, observer) {
+        Ok(text) => text,
+        Err(refusal) => return Err(refusal),
+    };
+    let script = match script_in(rt.alloc(), text.as_slice(), observer) {
+        Ok(script) => script,
+        Err(refusal) => return Err(refusal),
+    };
+    match FileDisk::open(rt, image, start) {
+        Ok(disk) => Ok(run_on(rt, rt.alloc(), disk, &script, &Open, out, observer)),
+        Err(fault) => Err(refusal_of(rt, image, fault, observer)),
+    }
+}
+
 /// Tells what the image of a file means, and gives its disk back, with the status and the lines of [`inspect_on`].
 ///
 /// Whatever the image held when it was opened (`S`): where the file was honest and the status is 0, the report of those
@@ -316,14 +365,19 @@ fn format_image<R: Files<File = File> + AllocGlobal, S: Start, N: Observer>(
 }
 
 /// Does the work. The status, and the disk of the file that was opened for it, if one was.
-fn do_work<R: Files<File = File> + AllocGlobal + Input, S: Start, W: Write, N: Observer>(
+fn do_work<
+    R: Files<File = File> + AllocGlobal + Input + Threads + Wait + Sync,
+    S: Start + Send,
+    W: Write,
+    N: Observer,
+>(
     rt: &R,
     work: &Work,
     out: &mut W,
     observer: &mut N,
     start: S,
 ) -> Result<(u8, Option<FileDisk<S>>), Refusal>
-    ensures status { IfOk result (λ r. r.0 ≤ 1) }
+    ensures status { IfOk result (λ r. (r.0 ≤ 1) ⊎ (r.0 ≡ STALLED)) }
     ensures done { IfOk result (λ r. IfSome r.1 (λ disk. ⟦<FileDisk<S> as Disk>⟧.honest disk →
         DoneOn ⟦<FileDisk<S> as Disk>⟧.now ⟦<FileDisk<S> as Disk>⟧.past ⟦<FileDisk<S> as Disk>⟧.failures S.first
         (task_of work.now) (W.contents out.old) (W.contents out.new) r.0 disk)) }
@@ -349,6 +403,10 @@ fn do_work<R: Files<File = File> + AllocGlobal + Input, S: Start, W: Write, N: O
             Ok((status, disk)) => Ok((status, Some(disk))),
             Err(refusal) => Err(refusal),
         },
+        Work::Run { image, script } => match run_file(rt, image, script, out, observer, start) {
+            Ok((status, disk)) => Ok((status, Some(disk))),
+            Err(refusal) => Err(refusal),
+        },
         Work::Inspect { image } => match inspect_file(rt, image, out, observer, start) {
             Ok((status, disk)) => Ok((status, Some(disk))),
             Err(refusal) => Err(refusal),
@@ -356,25 +414,23 @@ fn do_work<R: Files<File = File> + AllocGlobal + Input, S: Start, W: Write, N: O
     }
 }
 
-/// Does the work, and answers the status that the program ends with: 0, or 1 where something was refused or a write of
-/// the output failed; and the disk of the image, where its file was made or opened. What it prints goes to `out`, a
+/// Does the work, and answers the status that the program ends with: 0, 1 where something was refused or a write of
+/// the output failed, or 3 where servers of a run wait for each other; and the disk of the image, where its file was made or opened. What it prints goes to `out`, a
 /// refusal as its last line `refused N NAME`. Standard error has one line of reason for a refusal, and a line
 /// `K.N now REPLY` for a request that waited when the image was opened and whose entry is confirmed; and, where
 /// `is_watched`, how far a long script has come.
 ///
 /// Refused are: `BadLimits` for an image with a number out of its range, and then no file is made; and what
-/// [`format_file`], [`serve_file`] and [`inspect_file`] refuse. Where there is a disk, its status and what was printed
+/// [`format_file`], [`serve_file`], [`run_file`] and [`inspect_file`] refuse. Where there is a disk, its status and what was printed
 /// are those of the one that was called; where there is none, the status is 1, but for the demonstration.
 ///
 /// `start` stands for what the image holds when it is opened. It is used up, and no code reads it.
-pub fn act<R: Files<File = File> + AllocGlobal + Input + Eprint, S: Start, W: Write>(
-    rt: &R,
-    work: &Work,
-    out: &mut W,
-    is_watched: bool,
-    start: S,
-) -> (u8, Option<FileDisk<S>>)
-    ensures status { result.0 ≤ 1 }
+pub fn act<
+    R: Files<File = File> + AllocGlobal + Input + Eprint + Threads + Wait + Sync,
+    S: Start + Send,
+    W: Write,
+>(rt: &R, work: &Work, out: &mut W, is_watched: bool, start: S) -> (u8, Option<FileDisk<S>>)
+    ensures status { (result.0 ≤ 1) ⊎ (result.0 ≡ STALLED) }
     ensures done { IfSome result.1 (λ disk. ⟦<FileDisk<S> as Disk>⟧.honest disk →
         DoneOn ⟦<FileDisk<S> as Disk>⟧.now ⟦<FileDisk<S> as Disk>⟧.past ⟦<FileDisk<S> as Disk>⟧.failures S.first
         (task_of work.now) (W.contents out.old) (W.contents out.new) result.0 disk) }

@@ -13,8 +13,8 @@ use std::{env, io};
 
 /// The status that the program ends with, once its text is printed.
 fn status_after(printed: io::Result<()>, status: u8) -> u8
-    requires { status ≤ 2 }
-    ensures { result ≤ 2 }
+    requires { status ≤ 3 }
+    ensures { result ≤ 3 }
 {
     match printed {
         Ok(()) => status,
@@ -24,7 +24,7 @@ fn status_after(printed: io::Result<()>, status: u8) -> u8
 
 /// Does what the words ask for.
 fn run<W: Write>(rt: &HostRuntime, words: &[&str], out: &mut W) -> u8
-    ensures { result ≤ 2 }
+    ensures { result ≤ 3 }
 {
     match read_words(rt.alloc(), words) {
         Ok(work) => {
@@ -50,7 +50,7 @@ fn texts<'a>(alloc: Global, words: &'a [String]) -> Result<Vec<&'a str>, AllocEr
 
 /// Says why the command line can't be read.
 fn no_words<W: Write>(rt: &HostRuntime, error: &io::Error, out: &mut W) -> u8
-    ensures { result ≤ 2 }
+    ensures { result ≤ 3 }
 {
     if error.kind() == io::ErrorKind::OutOfMemory {
         return refuse(rt.alloc(), Refusal::NoMemory, out);
@@ -61,7 +61,7 @@ fn no_words<W: Write>(rt: &HostRuntime, error: &io::Error, out: &mut W) -> u8
 
 /// Reads the command line, and does what it asks for.
 fn start<W: Write>(rt: &HostRuntime, out: &mut W) -> u8
-    ensures { result ≤ 2 }
+    ensures { result ≤ 3 }
 {
     let words = match env::args(rt) {
         Ok(words) => words,
