@@ -1,4 +1,4 @@
-.PHONY: check test imem examples demo try try-tests
+.PHONY: check test imem examples demo library install c-examples try try-tests
 
 # What the gate can't see, in seconds: documents against the sources, links, layout, what stands twice.
 check:
@@ -19,6 +19,17 @@ examples demo: imem
 # The same at first sight, with no proof.
 try:
 	scripts/examples --unproved
+
+# The proved library for C, as out/libluntrebis.a; and in place, with its header: make install PREFIX=FOLDER
+library:
+	scripts/library
+
+install:
+	scripts/library --install $(PREFIX)
+
+# Programs in C, Rust and Python that use it, what they print compared with what lies beside them.
+c-examples: library
+	scripts/c-examples
 
 # Every story, with no proof.
 try-tests:

@@ -4,7 +4,7 @@ from dataclasses import dataclass, field
 from pathlib import Path
 
 TOP = Path(__file__).resolve().parent.parent
-FUNCTION = re.compile(r"( *)(pub(?:\([a-z]+\))? )?(?:unsafe )?fn (\w+)")
+FUNCTION = re.compile(r"( *)(pub(?:\([a-z]+\))? )?(?:unsafe )?(?:extern \"C\" )?fn (\w+)")
 OWNER = re.compile(r"(?:pub )?(impl|trait)\b(?:<[^{]*?>)? *(?:[^{]* for )?(\w+)")
 CLAUSE = re.compile(r"\s*(requires|ensures)\*? *(\w*) *\{")
 LEMMA = re.compile(r"(|  )(?:(?:pub|abbrev|unfoldable) )*([^\s:(){},|]+) : ")

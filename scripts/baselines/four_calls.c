@@ -1,10 +1,10 @@
 // The four calls that put a command into a journal, made in C on the file of a program that makes them too: a slot's body,
-// a sync, its gate, a sync.
+// a sync, its gate, a sync. Of a group there are as many bodies as FOUR_CALLS_BODIES says.
 //
-// It is loaded before the C library (LD_PRELOAD). After each command of the program, which is each second sync after the
-// opening's, it makes the four calls itself, twice, into slots from the offset FOUR_CALLS_AT on. So the program's command
+// It is loaded before the C library (LD_PRELOAD). After each command or group of the program, which is each second sync after
+// the opening's, it makes the calls itself, twice, into slots from the offset FOUR_CALLS_AT on. So the program's command
 // and those two meet the same disk at the same time. At the program's end the file that FOUR_CALLS_TOLD names has a line for
-// each command but the first: the nanoseconds that the program's took, those of the first four calls, those of the second.
+// each command but the first: the nanoseconds that the program's took, those of the first calls, those of the second.
 #include <stdio.h>
 #include <stdlib.h>
 #include <string.h>
@@ -14,7 +14,7 @@
 
 enum { MOST = 4096 };
 static long long taken[MOST][3];
-static int syncs, commands;
+static int syncs, commands, bodies = 1;
 static long long last;
 
 static long long now(void) {
@@ -29,12 +29,19 @@ static long long since_last(void) {
     return last - before;
 }
 
-static void four_calls(int file, off_t at) {
+static int puts_body(int file, off_t at) {
     static unsigned char body[63] = {1, 5};
-    static const unsigned char gate = 0xA5;
     memcpy(body + 7, &at, sizeof at);
-    if (pwrite(file, body, sizeof body, at + 1) != sizeof body || syscall(SYS_fdatasync, file) != 0
-        || pwrite(file, &gate, 1, at) != 1 || syscall(SYS_fdatasync, file) != 0) {
+    return pwrite(file, body, sizeof body, at + 1) == sizeof body;
+}
+
+static void four_calls(int file, off_t at) {
+    static const unsigned char gate = 0xA5;
+    int good = 1;
+    for (int i = 0; i < bodies; i++)
+        good = good && puts_body(file, at + 64L * i);
+    if (!good || syscall(SYS_fdatasync, file) != 0 || pwrite(file, &gate, 1, at) != 1
+        || syscall(SYS_fdatasync, file) != 0) {
         perror("four_calls");
         _exit(1);
     }
@@ -46,12 +53,14 @@ int fdatasync(int file) {
     // The first sync is the opening's, which reads the slots after it.
     if (result != 0 || from == NULL || ++syncs == 1 || syncs % 2 == 0 || commands == MOST)
         return result;
+    const char *many = getenv("FOUR_CALLS_BODIES");
+    bodies = many ? atoi(many) : 1;
     long long *times = taken[commands++];
-    off_t at = strtoll(from, NULL, 10) + 128LL * commands;
+    off_t at = strtoll(from, NULL, 10) + 128LL * bodies * commands;
     times[0] = since_last();
     four_calls(file, at);
     times[1] = since_last();
-    four_calls(file, at + 64);
+    four_calls(file, at + 64LL * bodies);
     times[2] = since_last();
     return result;
 }

@@ -1,11 +1,14 @@
 //! Workloads over the structures of the memory, to count what a call costs: `im_bench WORKLOAD COUNT` makes a
 //! workload's call COUNT times and prints a line with its checksum. What a call costs is the difference of two counts.
+//! `im_bench WORKLOAD COUNT IMAGE` does so on an engine over the image in a file.
 #![tactic(auto)]
 
 mod blocks;
 mod cells;
+mod engine;
 mod lists;
 mod memory;
+mod records;
 mod windows;
 
 use im_types::{Kind, MAX_CELLS, Refusal};
@@ -38,6 +41,7 @@ fn checksum(alloc: Global, workload: &str, count: u32) -> Option<Result<u64, Ref
         "fetch_and_store" => memory::read_and_write(alloc, Kind::I, count),
         "take_and_put" => memory::read_and_write(alloc, Kind::M, count),
         "release_and_allocate" => memory::release_and_allocate(alloc, count),
+        "read_cell" => Ok(records::read(count)),
         "memory_of_cells" => memory::cells(alloc, count),
         "memory_of_elements" => memory::elements(alloc, count),
         "table_of_cells" => memory::table(alloc, count),
@@ -48,20 +52,18 @@ fn checksum(alloc: Global, workload: &str, count: u32) -> Option<Result<u64, Ref
 }
 
 fn usage(rt: &HostRuntime) -> io::Result<u8> {
-    rt.eprintln("usage: im_bench WORKLOAD COUNT")?;
+    rt.eprintln("usage: im_bench WORKLOAD COUNT [IMAGE]")?;
     Ok(2)
 }
 
-/// Does what the words of the command line ask for, and returns the status to end with.
-fn start(rt: &HostRuntime) -> io::Result<u8> {
-    let words = env::args(rt)?.collect::<Vec<String>>(rt.alloc())?;
-    let [_, workload, count] = words.as_slice() else {
-        return usage(rt);
-    };
-    let Ok(count) = count.parse::<u32>() else {
-        return usage(rt);
-    };
-    match checksum(rt.alloc(), workload.as_str(), count) {
+// Prints what a workload came to, and returns the status to end with.
+fn tell(
+    rt: &HostRuntime,
+    workload: &str,
+    count: u32,
+    done: Option<Result<u64, Refusal>>,
+) -> io::Result<u8> {
+    match done {
         Some(Ok(sum)) => {
             println!(rt; "{workload} {count} {sum}")?;
             Ok(0)
@@ -72,6 +74,24 @@ fn start(rt: &HostRuntime) -> io::Result<u8> {
         }
         None => usage(rt),
     }
+}
+
+/// Does what the words of the command line ask for, and returns the status to end with.
+fn start(rt: &HostRuntime) -> io::Result<u8> {
+    let words = env::args(rt)?.collect::<Vec<String>>(rt.alloc())?;
+    let [_, workload, count, rest @ ..] = words.as_slice() else {
+        return usage(rt);
+    };
+    let Ok(count) = count.parse::<u32>() else {
+        return usage(rt);
+    };
+    let workload = workload.as_str();
+    let done = match rest {
+        [] => checksum(rt.alloc(), workload, count),
+        [image] => engine::on_file(rt, workload, image.as_str(), count),
+        _ => None,
+    };
+    tell(rt, workload, count, done)
 }
 
 fn main(rt: HostRuntime) -> ExitCode {

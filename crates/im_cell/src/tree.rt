@@ -31,9 +31,12 @@ fn part(records: &[Record], leaf: usize) -> &[Record]
     requires { leaf < 2 ^ 32 }
     ensures { marks_of result.now ≡ part_at (marks_of records.now) leaf }
 {
-    let from = (leaf * PART).min(records.len());
-    let to = (from + PART).min(records.len());
-    &records[from..to]
+    let from = leaf * PART;
+    let to = from + PART;
+    if to <= records.len() {
+        return &records[from..to];
+    }
+    &records[from.min(records.len())..]
 }
 
 // The base of the least place of a block in a leaf that has one.
@@ -129,27 +132,7 @@ fn join_row(nodes: &mut [Summary], first: usize, last: usize) -> bool
     changed
 }
 
-// Makes the nodes above those from `first` to `last` anew, up to a row that stays as it was.
-fn renew_rows(nodes: &mut [Summary], first: usize, last: usize)
-    requires even { 2 * (leaves_of nodes.old) ≡ length nodes.old }
-    requires inside { last < length nodes.old }
-    requires inner { (k : ℕ) → 0 < k → k < leaves_of nodes.old → (first / 2 ≤ k → k ≤ last / 2 → ⊥) →
-        IsJoined nodes.old k }
-    ensures inner { HasJoined nodes.new }
-    ensures leaves { (k : ℕ) → leaves_of nodes.old ≤ k → node_at nodes.new k ≡ node_at nodes.old k }
-{
-    let mut low = first;
-    let mut high = last;
-    while high > 1 {
-        low /= 2;
-        high /= 2;
-        if !join_row(nodes, low, high) {
-            return;
-        }
-    }
-}
-
-// The same of the nodes above a single one.
+// Makes the nodes above a single one anew, up to one that stays as it was.
 fn renew_path(nodes: &mut [Summary], from: usize)
     requires even { 2 * (leaves_of nodes.old) ≡ length nodes.old }
     requires inside { from < length nodes.old }
@@ -166,7 +149,8 @@ fn renew_path(nodes: &mut [Summary], from: usize)
     }
 }
 
-// Makes the nodes above those from `first` to `last` anew.
+// Makes the nodes above those from `first` to `last` anew, up to a row that stays as it was: rows, as long as they have
+// more than one of these nodes, and then one node of each.
 fn renew_above(nodes: &mut [Summary], first: usize, last: usize)
     requires even { 2 * (leaves_of nodes.old) ≡ length nodes.old }
     requires inside { last < length nodes.old }
@@ -175,11 +159,16 @@ fn renew_above(nodes: &mut [Summary], first: usize, last: usize)
     ensures inner { HasJoined nodes.new }
     ensures leaves { (k : ℕ) → leaves_of nodes.old ≤ k → node_at nodes.new k ≡ node_at nodes.old k }
 {
-    if first == last {
-        renew_path(nodes, last);
-    } else {
-        renew_rows(nodes, first, last);
+    let mut low = first;
+    let mut high = last;
+    while low < high {
+        low /= 2;
+        high /= 2;
+        if !join_row(nodes, low, high) {
+            return;
+        }
     }
+    renew_path(nodes, high);
 }
 
 // Makes the tree anew over the leaves from `first` to `last`.

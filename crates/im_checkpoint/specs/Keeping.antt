@@ -17,8 +17,9 @@ use Rattle.im_memory.specs.Covering.{KeepsOutside, most_pages}
 use Rattle.im_meaning.specs.Images.{other, IsImage}
 use Rattle.im_pages.specs.PageSets.{has, size_of, IsWithin}
 use Rattle.im_image.specs.Encoding.{IsAreaPage, AreCounted, SameOn}
+use Rattle.im_image.specs.Reading.{HasSizes}
 use Rattle.im_checkpoint.specs.declared.checkpoint.TurnDone.{TurnDone}
-use Rattle.im_checkpoint.specs.Step.{Step, NoCheckpoint, PagesLeft, PagesDone, Synced, CheckpointState, PagedCheckpoint, IsUnderWay, IsSynced, turns_left, left_in}
+use Rattle.im_checkpoint.specs.Step.{Step, NoCheckpoint, PagesLeft, PagesDone, Synced, CheckpointState, PagedCheckpoint, IsUnderWay, IsPagesLeft, IsSynced, turns_left, left_in}
 use Rattle.im_checkpoint.specs.Turns.{Turned, Moved}
 
 -- the file means this memory after as many commands as the journal has, with its room at the least
@@ -49,6 +50,11 @@ pub record Fits (c : CheckpointState) (m : Contents) (j : JournalState) : Type 0
 pub record IsAtRest (c : CheckpointState) (m : Contents) (j : JournalState) : Type 0 where
   pub step : c.step ≡ NoCheckpoint
   pub fits : Fits c m j
+
+-- pages are left to be written, and the memory has the header's sizes
+pub record HasPagesLeft (c : CheckpointState) (m : Contents) : Type 0 where
+  pub step : IsPagesLeft c.step
+  pub sizes : HasSizes c.header.sizes m
 
 -- all pages are on the disk, the journal's run begins at the header's count, and what was taken is of a count between that and the journal's
 pub record IsReady (c : CheckpointState) (j : JournalState) : Type 0 where

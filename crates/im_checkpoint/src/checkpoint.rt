@@ -38,7 +38,7 @@ ghost use Rattle.im_checkpoint.specs.Step.{IsPagesLeft, IsPagesDone, IsSynced};
 ghost use Rattle.im_checkpoint.specs.Turns.{Turned, Moved, Begins, IsIdle, is_due, most_calls};
 ghost use Rattle.im_image.specs.Reading.{HasSizes};
 ghost use Rattle.im_checkpoint.specs.Keeping.{Paged, paged, Fits, IsKept, Prepares};
-ghost use Rattle.im_checkpoint.specs.Keeping.{IsAtRest, IsReady, ComesTo, KeepsMeaning};
+ghost use Rattle.im_checkpoint.specs.Keeping.{IsAtRest, HasPagesLeft, IsReady, ComesTo, KeepsMeaning};
 
 use crate::header::{close_other, next_header, open_next};
 use im_disk::Disk;
@@ -327,8 +327,7 @@ impl Checkpoint {
 
     // Writes the next page into the area that isn't in force.
     fn write_page<D: Disk>(&mut self, disk: &mut D, memory: &Memory) -> Result<TurnDone, Refusal>
-        requires step { IsPagesLeft self.old.state.step }
-        requires sizes { HasSizes self.old.state.header.sizes memory.now.contents }
+        requires step { HasPagesLeft self.old.state memory.now.contents }
         requires inside { D.honest disk.old
             → layout.journal_at layout_in_use self.old.state.header.sizes ≤ length (D.now disk.old).bytes }
         ensures turned { IfOk result (λ answer. ((j : JournalState) → Turned self.old.state j answer self.new.state j)

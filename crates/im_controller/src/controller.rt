@@ -154,7 +154,7 @@ impl<D: Disk, K: Name> Controller<D, K> {
         self.inbox.lock(rt).ask(request);
     }
 
-    // Holds the lock once for a port that has asked, in the queue's order: the answer to its request, if it has one now.
+    // Holds the lock once for a port that has asked, in the queue's order: the answer to its request, if it has one.
     pub(crate) fn serve_all<R: Wait>(
         &self,
         rt: &R,

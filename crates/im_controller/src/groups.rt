@@ -71,7 +71,8 @@ fn serve_members<D: Disk>(
     ensures answered { MembersAnswered engine.old room members.now.items served.new.items engine.new }
     ensures few { D.honest engine.new.disk → CallsAtMost D.past engine.old.disk engine.new.disk
         (calls_for_group (length (group_put engine.old members.now.items))) }
-    ensures faults { GroupFaults engine.old.failed engine.new.failed (D.failures engine.old.disk) (D.failures engine.new.disk) }
+    ensures faults { GroupFaults engine.old.failed engine.new.failed (D.failures engine.old.disk)
+        (D.failures engine.new.disk) }
     ensures leaves { D.honest engine.new.disk → engine.old.failed ≡ false
         → LeavesWithin D.now D.past engine.old.disk engine.new.disk (MeansGroup engine.old members.now.items) }
     ensures doubt { D.honest engine.new.disk → engine.old.failed ≡ false
@@ -102,9 +103,11 @@ pub fn lend_group<D: Disk, K: Name>(shared: &mut Shared<D, K>, members: &ArrayVe
     // What the disk is left with, as by the engine alone.
     ensures few { D.honest shared.new.engine.disk → CallsAtMost D.past shared.old.engine.disk shared.new.engine.disk
         (calls_for_group (length (group_put shared.old.engine members.now.items))) }
-    ensures faults { GroupFaults shared.old.engine.failed shared.new.engine.failed (D.failures shared.old.engine.disk) (D.failures shared.new.engine.disk) }
+    ensures faults { GroupFaults shared.old.engine.failed shared.new.engine.failed
+        (D.failures shared.old.engine.disk) (D.failures shared.new.engine.disk) }
     ensures leaves { D.honest shared.new.engine.disk → shared.old.engine.failed ≡ false
-        → LeavesWithin D.now D.past shared.old.engine.disk shared.new.engine.disk (MeansGroup shared.old.engine members.now.items) }
+        → LeavesWithin D.now D.past shared.old.engine.disk shared.new.engine.disk
+        (MeansGroup shared.old.engine members.now.items) }
     ensures doubt { D.honest shared.new.engine.disk → shared.old.engine.failed ≡ false
         → LeavesNow (D.now shared.new.engine.disk) (MeansGroup shared.old.engine members.now.items) }
     ensures means { D.honest shared.new.engine.disk → shared.new.engine.failed ≡ false

@@ -125,8 +125,8 @@ impl Inbox {
         })
     }
 
-    // Adds what an element asks to a group, where its answer has a free place, and says whether the group may go on: not
-    // where the request has to wait for the next one.
+    // Adds what an element asks to a group, where its answer has a free place, and says whether the group may go on:
+    // not where the request has to wait for the next one.
     #[tactic(auto, using(crate::proofs::Gathering::gathers_weaker, crate::proofs::Gathering::gathers_push))]
     fn gather<K: Name>(
         &mut self,
@@ -153,8 +153,8 @@ impl Inbox {
         true
     }
 
-    // Takes out the next group, of so many members at most: what is asked from an element on, in the elements' order, as
-    // far as its answers have free places.
+    // Takes out the next group, of so many members at most: what is asked from an element on, in the elements' order,
+    // as far as its answers have free places.
     pub(crate) fn next_group<K: Name>(&mut self, log: &Log<K>, from: u16, most: usize) -> NextGroup
         ensures apart { AreApart result.members.items }
         ensures free { AreFreeFor log.now.places result.members.items }

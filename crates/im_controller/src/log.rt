@@ -5,7 +5,8 @@ ghost use Rattle.im_types.specs.declared.commands.Call.TheVariants.{Command as C
 ghost use Rattle.im_types.specs.declared.commands.Outcome.TheVariants.{Entry as Tells};
 ghost use Rattle.im_types.specs.declared.commands.Command.TheVariants.{Request as Asks};
 ghost use Rattle.im_types.specs.Trace.{answer_to, end_of, IsLegal};
-ghost use Rattle.im_controller.specs.Lines.{leaves_line, lines_of, memory_after, counts_after, EndsIn, EndsInAll, line_of};
+ghost use Rattle.im_controller.specs.Lines.{leaves_line, lines_of, memory_after, counts_after};
+ghost use Rattle.im_controller.specs.Lines.{EndsIn, EndsInAll, line_of};
 ghost use Rattle.im_controller.specs.Log.{with_line, with_unclaimed, Takes, Claims, IsProof, AreFree, receipt_for};
 
 use crate::books::{Books, Tally};

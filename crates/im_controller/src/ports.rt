@@ -50,7 +50,8 @@ impl<K: Name> Port<K> {
         ensures legal { IfOk result (λ r. IsLegal K.memory r.history) }
         ensures last { IfOk result (λ r. EndsIn r.history (line_of (Commands r.command) (Ok r.outcome))) }
         ensures counts { self.new.told ≡ counts_after K.marks self.old.told
-            (lines_of (Commands (Asks (record { element = self.old.element; number = number; op = op }))) (plain result)) }
+            (lines_of (Commands (Asks (record { element = self.old.element; number = number; op = op })))
+            (plain result)) }
         ensures element { self.new.element ≡ self.old.element }
     {
         let request = Request {

@@ -150,7 +150,11 @@ fn read_confirm(word: &[u8], element: &[u8], upto: &[u8]) -> Option<Asked>
 
 // A request by who asks, and what for.
 fn ask_request(who: Option<Waiter>, op: Option<Op>) -> Option<Asked>
-    ensures { result ≡ option_and_then (λ w. option_map (λ o. Serve (Asks (record { element = w.element; number = w.number; op = o }))) op) who }
+    ensures { result ≡ option_and_then (λ w. option_map (λ o. Serve (Asks (record {
+      element = w.element;
+      number = w.number;
+      op = o;
+    }))) op) who }
 {
     let who = who?;
     let op = op?;

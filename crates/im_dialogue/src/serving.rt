@@ -154,9 +154,9 @@ fn next_line<R: BufRead>(input: &mut R, line: &mut Vec<u8>) -> Result<bool, Reas
 }
 
 /// Serves a dialogue on an engine, until the input ends or `quit` is asked. Each line of the input is answered by one
-/// line, in their order, which is written and put through once what it tells is on the disk, and before the next line is
-/// read. A line that isn't in the grammar is answered by what was expected, and changes nothing. The end of the input
-/// without a line feed is no line.
+/// line, in their order, which is written and put through once what it tells is on the disk, and before the next line
+/// is read. A line that isn't in the grammar is answered by what was expected, and changes nothing. The end of the
+/// input without a line feed is no line.
 ///
 /// A refusal is an answer, but for `Device` and `Failed`, where a call of the disk failed: they end it, as do an input
 /// that can't be read, an output that can't be written, and want of memory. What was printed is then a beginning of the

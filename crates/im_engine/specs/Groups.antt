@@ -1,6 +1,6 @@
 -- A group of requests that an engine serves together. (Own.)
-use Rattle.std.specs.Prelude.{◌≡◌, ◌⊎◌, ℕ, ◌+◌, ◌-◌, ◌<◌, ◌≤◌, ◌==◌, Bool, true, false, ◌&&◌, nat_lt, min, List, [], ◌∷◌, ◌++◌, length, map, Result, Err, if◌then◌else◌}
-use Rattle.im_types.specs.declared.TheConstants.{LAST}
+use Rattle.std.specs.Prelude.{◌≡◌, ◌⊎◌, ℕ, ◌+◌, ◌-◌, ◌<◌, ◌≤◌, ◌==◌, Bool, true, false, ◌&&◌, nat_lt, min, List, [], ◌∷◌, ◌++◌, length, map, Result, Ok, Err, if◌then◌else◌}
+use Rattle.im_types.specs.declared.TheConstants.{LAST, MAX_GROUP}
 use Rattle.im_types.specs.declared.commands.Request.{Request}
 use Rattle.im_types.specs.declared.commands.Command.{Command}
 use Rattle.im_types.specs.declared.commands.Command.TheVariants.{Request as Asks}
@@ -14,7 +14,8 @@ use Rattle.im_types.specs.Step.{step, is_accepted}
 use Rattle.im_types.specs.Meaning.{Reached}
 use Rattle.im_types.specs.Groups.{as_served, answers_of, reached_by_all, puts_of}
 use Rattle.im_disk.specs.Moment.{Moment, Rises}
-use Rattle.im_disk.specs.Since.{Calls, CallsAtMost}
+use Rattle.im_disk.specs.Since.{Calls, CallsAtMost, CallsBy}
+use Rattle.im_journal.specs.Holding.{JournalState, IsJournal}
 use Rattle.im_engine.specs.State.{EngineState, MeansState}
 
 -- what an engine has reached: its memory, its count and its room
@@ -52,6 +53,19 @@ pub record GroupAnswered {D : Type 0} (old : EngineState D) (members : List Requ
 -- how many calls of the disk it takes to put so many commands there as one group: a write for each, one for the gate, and two syncs
 abbrev pub calls_for_group : ℕ → ℕ
 calls_for_group many = if many == 0 then 0 else many + 3
+
+-- these commands can be put into a journal as one group
+pub record FitsGroup (j : JournalState) (commands : List Command) : Type 0 where
+  pub known : IsJournal j
+  pub few : length commands ≤ MAX_GROUP
+  pub room : length commands ≤ j.room
+  pub last : j.count + length commands ≤ LAST
+
+-- The calls that putting commands on the disk as one group makes: just so many, or fewer at a refusal. Where there are no
+-- commands there is nothing to fail, and the disk is as it was.
+pub record GroupPut {D : Type 0} (past : D → List Moment) (honest : Type 0) (old new : D) (commands : List Command) (result : Result (Unit {0}) Refusal) : Type 0 where
+  pub made : honest → CallsBy past old new (calls_for_group (length commands)) result
+  pub none : commands ≡ [] → (result ≡ Ok tt) × (new ≡ old)
 
 -- no more calls than these, and just so many while the disk hasn't failed
 pub record GroupCalls {D : Type 0} (past : D → List Moment) (old new : D) (failed : Bool) (many : ℕ) : Type 0 where

@@ -2,12 +2,14 @@
 use Rattle.std.specs.Prelude.{◌⊎◌, ℕ, ◌+◌, Bool, List, Ok, Err, ◌≡◌}
 use Rattle.im_types.specs.declared.commands.Command.{Command}
 use Rattle.im_types.specs.declared.refusals.Refusal.{Refusal}
-use Rattle.im_types.specs.Contents.{Contents}
+use Rattle.im_types.specs.declared.sizes.Limits.{Limits}
+use Rattle.im_types.specs.Contents.{Contents, empty_contents}
 use Rattle.im_types.specs.Step.{step}
 use Rattle.im_types.specs.Layout.{layout_in_use, ring_of}
 use Rattle.im_types.specs.Header.{Header, header_of}
 use Rattle.im_types.specs.Meaning.{Means, Reads}
 use Rattle.im_journal.specs.Holding.{JournalState, room_after}
+use Rattle.im_memory.specs.State.{MemoryState, empty_records}
 use Rattle.im_checkpoint.specs.Step.{Step, CheckpointState}
 
 -- an engine: its disk, the header in force and how far the next one has come, the memory, the count of all commands, the room for more, and whether the disk has failed it
@@ -19,6 +21,10 @@ pub record EngineState (D : Type 0) : Type 0 where
   pub count : ℕ
   pub room : ℕ
   pub failed : Bool
+
+-- a memory is empty, and its records are those of an empty one
+abbrev pub IsEmptyMemory : Limits → MemoryState → Type 0
+IsEmptyMemory limits m = (m.contents ≡ empty_contents limits.cells limits.elements) × (m.records ≡ empty_records limits.cells limits.elements)
 
 -- the file means what the engine is, with its room at the least
 abbrev pub MeansState : {D : Type 0} → EngineState D → List ℕ → Type 0

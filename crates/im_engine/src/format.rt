@@ -10,10 +10,9 @@ ghost use Rattle.im_disk.specs.Since.{LeavesNow};
 ghost use Rattle.im_types.specs.Layout.{sizes_of};
 ghost use Rattle.im_image.specs.Headers.{seen};
 ghost use Rattle.im_image.specs.Fresh.{new_header, new_image};
-ghost use Rattle.im_memory.specs.State.{empty_records};
 ghost use Rattle.im_checkpoint.specs.Step.{NoCheckpoint};
 ghost use Rattle.im_checkpoint.specs.Turns.{IsIdle};
-ghost use Rattle.im_engine.specs.State.{MeansState};
+ghost use Rattle.im_engine.specs.State.{IsEmptyMemory, MeansState};
 
 use crate::engine::Engine;
 use im_checkpoint::Checkpoint;
@@ -57,8 +56,7 @@ fn lay_down<D: Disk>(
     disk: &mut D,
     limits: Limits,
 ) -> Result<(Memory, Checkpoint), Refusal>
-    ensures empty { IfOk result (λ r. r.0.contents ≡ empty_contents limits.cells limits.elements) }
-    ensures records { IfOk result (λ r. r.0.records ≡ empty_records limits.cells limits.elements) }
+    ensures empty { IfOk result (λ r. IsEmptyMemory limits r.0) }
     ensures idle { IfOk result (λ r. IsIdle (new_header (sizes_of limits)) true r.1) }
     ensures written { OnOk result (D.honest disk.new → (D.now disk.new).bytes ≡ new_image 0xA5 (sizes_of limits)) }
     ensures calm { OnOk result (D.honest disk.new → (D.now disk.new).ranges ≡ []) }

@@ -9,12 +9,12 @@ ghost use Rattle.im_types.specs.Step.{step, is_accepted};
 ghost use Rattle.im_types.specs.Meaning.{accept_each};
 ghost use Rattle.im_types.specs.Groups.{AreOthers, AreApart, as_served};
 ghost use Rattle.im_disk.specs.Moment.{Moment, Faults};
-ghost use Rattle.im_disk.specs.Since.{LeavesOnly, CallsBy};
+ghost use Rattle.im_disk.specs.Since.{LeavesOnly};
 ghost use Rattle.im_journal.specs.Holding.{JournalState, IsJournal, AllHold, longer};
 ghost use Rattle.im_image.specs.Reading.{HasSizes};
 ghost use Rattle.im_checkpoint.specs.Step.{CheckpointState};
 ghost use Rattle.im_checkpoint.specs.Keeping.{Paged, paged, MeansWith, IsKept};
-ghost use Rattle.im_engine.specs.Groups.{all_refused, calls_for_group};
+ghost use Rattle.im_engine.specs.Groups.{all_refused, FitsGroup, GroupPut};
 ghost use Rattle.im_engine.specs.Groups.{answer_with, contents_with, left_with};
 ghost use Rattle.im_engine.specs.Groups.{answers_with, contents_after, command_at, commands_at};
 
@@ -125,10 +125,7 @@ pub(crate) fn put_on<D: Disk>(
     disk: &mut D,
     commands: &[Command],
 ) -> Result<(), Refusal>
-    requires known { IsJournal journal.old }
-    requires few { length commands.now ≤ 16 }
-    requires room { length commands.now ≤ journal.old.room }
-    requires last { journal.old.count + length commands.now ≤ LAST }
+    requires fits { FitsGroup journal.old commands.now }
     requires holds { D.honest disk.old → AllHold journal.old (D.now disk.old) }
     ensures leaves { D.honest disk.new → (c : CheckpointState) (x : Paged) (m after : Contents)
         → accept_each m commands.now ≡ Some after → IsKept c x m journal.old (D.now disk.old)
@@ -139,9 +136,7 @@ pub(crate) fn put_on<D: Disk>(
         → IsKept c x after journal.new (D.now disk.new)) }
     ensures state { MatchResult result (λ _. journal.new ≡ longer (length commands.now) journal.old)
         (λ _. journal.new ≡ journal.old) }
-    ensures none { commands.now ≡ [] → (result ≡ Ok tt) × (disk.new ≡ disk.old) }
-    ensures calls { D.honest disk.new
-        → CallsBy D.past disk.old disk.new (calls_for_group (length commands.now)) result }
+    ensures calls { GroupPut D.past (D.honest disk.new) disk.old disk.new commands.now result }
     ensures faults { Faults (λ e. e ≡ Refusal.Device) result (D.failures disk.old) (D.failures disk.new) }
     ensures honest { D.honest disk.new → D.honest disk.old }
 {

@@ -11,6 +11,10 @@ use Rattle.im_glass.specs.Copies.{History, CopyState, IsKept}
 abbrev pub state_of : Copy → CopyState
 state_of copy = (copy.seen, copy.cells, copy.count)
 
+-- a copy that is kept, and of this book
+abbrev pub IsKeptOf : Book → Copy → Type 0
+IsKeptOf book copy = (copy.seen.book ≡ book) × IsKept (state_of copy)
+
 -- what it has seen, if anything, is of this book
 abbrev pub IsOf : Known → Book → Type 0
 IsOf known book = (seen : History) → known.seen ≡ Some seen → seen.book ≡ book

@@ -8,7 +8,7 @@ ghost use Rattle.left_right.specs.Sides.{view};
 ghost use Rattle.im_types.specs.declared.refusals.Refusal.TheVariants.{NoMemory};
 ghost use Rattle.im_types.specs.Changes.{is_below};
 ghost use Rattle.im_glass.specs.Copies.{IsKept, IsIdle, GoesOn, after_all, changes_ahead};
-ghost use Rattle.im_glass.specs.Rule.{state_of};
+ghost use Rattle.im_glass.specs.Rule.{state_of, IsKeptOf};
 ghost use Rattle.im_glass.specs.Panes.{PaneView, with_name};
 
 use crate::book::{Beginning, Book, NewBook, PaneName, UnnamedBook};
@@ -453,12 +453,10 @@ fn publish<R: Wait>(rt: &R, both: Both) -> (Both, ())
 fn show_all<J: PaneName, R: Wait>(rt: &R, both: Both) -> (Both, ())
     requires goes_on { GoesOn (length both.desk.shown.value.cells) J.book both.desk.shown.value.seen.log
         (drop both.behind both.log.items) }
-    requires book { both.desk.shown.value.seen.book ≡ J.book }
-    requires kept { IsKept (state_of both.desk.shown.value) }
+    requires kept { IsKeptOf J.book both.desk.shown.value }
     ensures log { result.0.desk.shown.value.seen.log
         ≡ both.desk.shown.value.seen.log ++ changes_ahead (drop both.behind both.log.items) }
-    ensures book { result.0.desk.shown.value.seen.book ≡ J.book }
-    ensures kept { IsKept (state_of result.0.desk.shown.value) }
+    ensures kept { IsKeptOf J.book result.0.desk.shown.value }
     ensures cells { length result.0.desk.shown.value.cells ≡ length both.desk.shown.value.cells }
     ensures known { (view result.0.desk.place).seen ≡ Some result.0.desk.shown.value.seen }
     ensures none { drop result.0.behind result.0.log.items ≡ [] }

@@ -1,14 +1,24 @@
 -- A group of commands in the slots of a ring: what stands there, and how it is written.
 use Rattle.std.specs.Prelude.{◌≡◌, ◌≢◌, ◌⊎◌, ℕ, zero, suc, ◌+◌, ◌<◌, ◌≤◌, List, [], ◌∷◌, length, drop, slice_index}
+use Rattle.im_types.specs.declared.TheConstants.{LAST, MAX_GROUP}
 use Rattle.im_types.specs.declared.commands.Command.{Command}
 use Rattle.im_types.specs.Slot.{slot_body, FitsCommand}
 use Rattle.im_types.specs.Journal.{Ring, slot_at, slot}
 use Rattle.im_disk.specs.Moment.{Moment, Left}
+use Rattle.im_journal.specs.Gates.{IsRing}
 
 -- the group count of the slot behind k others of a group of so many commands
 abbrev pub count_at : ℕ → ℕ → ℕ
 count_at group zero = group
 count_at group (suc k) = 0
+
+-- So many commands from this sequence number on go as one group into the ring of so many slots at this offset: once round
+-- it at most, and no further than the last count there is.
+pub record FitsRing (base slots s n : ℕ) : Type 0 where
+  pub ring : IsRing base slots
+  pub few : n ≤ MAX_GROUP
+  pub once_round : n ≤ slots
+  pub last : s + n ≤ LAST
 
 -- behind the gates of the slots from sequence number s on stand these commands, the first with this group count
 abbrev pub HasBodies : Ring → ℕ → ℕ → List Command → List ℕ → Type 0

@@ -1,10 +1,8 @@
 // How the bodies of a group of commands are written.
-ghost use Rattle.std.specs.Prelude.{◌≡◌, ◌+◌, ◌*◌, ◌≤◌, ◌<◌, ◌^◌, length, OnOk};
-ghost use Rattle.im_types.specs.declared.TheConstants.{LAST, MAX_GROUP};
+ghost use Rattle.std.specs.Prelude.{◌≡◌, ◌+◌, ◌*◌, ◌≤◌, length, OnOk};
 ghost use Rattle.im_disk.specs.Moment.{Counts};
 ghost use Rattle.im_disk.specs.Since.{LeavesOnly, CallsBy};
-ghost use Rattle.im_journal.specs.Gates.{IsRing};
-ghost use Rattle.im_journal.specs.Groups.{count_at, MayWriteBodies, AreWritten};
+ghost use Rattle.im_journal.specs.Groups.{count_at, FitsRing, MayWriteBodies, AreWritten};
 ghost use Rattle.im_journal.specs.Holding.{ring_at};
 
 use crate::slot::spell_in;
@@ -27,10 +25,7 @@ pub(crate) fn write_bodies<D: Disk>(
     from: u64,
     commands: &[Command],
 ) -> Result<(), DeviceFault>
-    requires ring { IsRing base slots }
-    requires few { length commands.now ≤ MAX_GROUP }
-    requires once_round { length commands.now ≤ slots }
-    requires last { from + length commands.now ≤ LAST }
+    requires fits { FitsRing base slots from (length commands.now) }
     requires inside { D.honest disk.old → base + 64 * slots ≤ length (D.now disk.old).bytes }
     ensures leaves { D.honest disk.new → LeavesOnly D.now D.past disk.old disk.new
         (MayWriteBodies (ring_at base slots) from (length commands.now) (D.now disk.old)) }

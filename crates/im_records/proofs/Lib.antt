@@ -7,3 +7,4 @@ pub mod Unique
 pub mod Joining
 pub mod Places
 pub mod Counterexamples
+pub mod Words

@@ -2,3 +2,4 @@ pub mod Rows
 pub mod Entries
 pub mod Placed
 pub mod Paging
+pub mod Words

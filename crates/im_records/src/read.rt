@@ -1,9 +1,10 @@
 //! How the records of an area are read: the fields say what a record may be, and its spelling says whether it is.
-ghost use Rattle.std.specs.Prelude.{◌≡◌, length, Some, None, if◌then◌else◌};
-ghost use Rattle.im_types.specs.Bytes.{same_bytes};
+ghost use Rattle.std.specs.Prelude.{◌≡◌, ◌≤◌, ◌+◌, ◌*◌, ◌↔◌, IsTrue, length, Some, None, if◌then◌else◌};
+ghost use Rattle.im_types.specs.Bytes.{same_bytes, number_at};
 ghost use Rattle.im_types.specs.Records.{node_bytes};
 ghost use Rattle.im_formats.specs.Reading.{read_cell, read_node, read_place, cell_in, node_in, place_in, cell_if};
 ghost use Rattle.im_formats.specs.Reading.{place_if, kept_of, block_cell};
+ghost use Rattle.im_records.specs.Words.{SameAt};
 
 use crate::fields::{entry_of, kind_of, tag_of};
 use crate::spell::{spell_cell, spell_node, spell_place};
@@ -52,10 +53,38 @@ fn cell_in(bytes: &[u8; CELL_RECORD]) -> Option<CellRecord>
     )
 }
 
+// The number in eight bytes at a place.
+fn word(bytes: &[u8; CELL_RECORD], at: usize) -> u64
+    requires { at + 8 ≤ CELL_RECORD }
+    ensures { result ≡ number_at 8 at bytes.now }
+{
+    LittleEndian::read_u64(&bytes[at..at + 8])
+}
+
+// Whether eight bytes at a place are the same.
+fn has_same_word(bytes: &[u8; CELL_RECORD], others: &[u8; CELL_RECORD], at: usize) -> bool
+    requires { at + 8 ≤ CELL_RECORD }
+    ensures { IsTrue result ↔ SameAt bytes.now others.now at 8 }
+{
+    word(bytes, at) == word(others, at)
+}
+
+// Whether bytes are these, eight at once.
+fn are_same(bytes: &[u8; CELL_RECORD], others: &[u8; CELL_RECORD]) -> bool
+    ensures { result ≡ same_bytes bytes.now others.now }
+{
+    for i in 0..4 {
+        if !has_same_word(bytes, others, 8 * i) {
+            return false;
+        }
+    }
+    true
+}
+
 fn cell_if(bytes: &[u8; CELL_RECORD], cell: CellRecord) -> Option<CellRecord>
     ensures { result ≡ cell_if bytes.now cell }
 {
-    if *bytes == spell_cell(&cell) {
+    if are_same(bytes, &spell_cell(&cell)) {
         Some(cell)
     } else {
         None

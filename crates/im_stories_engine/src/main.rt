@@ -31,6 +31,7 @@ mod calls;
 mod damage;
 mod disks;
 mod engines;
+mod explorer;
 mod files;
 mod groups;
 mod runs;

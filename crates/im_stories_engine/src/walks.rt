@@ -2,6 +2,7 @@
 
 ghost use Rattle.std.specs.Prelude.{◌<◌};
 
+use arrayvec::ArrayVec;
 use im_plain::PlainMemory;
 use im_types::{Command, Kind, Op, Request};
 
@@ -17,6 +18,15 @@ struct Asker {
     element: u16,
     base: u64,
     next: u64,
+}
+
+fn asker_of(plain: &PlainMemory, element: u16) -> Asker {
+    let (base, next) = plain.window(element).unwrap_or((1, 1));
+    Asker {
+        element,
+        base,
+        next,
+    }
 }
 
 impl Walk {
@@ -70,48 +80,54 @@ impl Walk {
         }
     }
 
-    // A command of this asker: one in five confirms. Element 0 asks for nothing that may wait, so that there is always
-    // one that goes on.
-    fn asked(&mut self, asker: Asker, cells: u32) -> Command {
-        if self.below(5) == 0 {
-            let upto = asker.base.saturating_add(self.below(18));
-            return Command::Confirm {
-                element: asker.element,
-                upto,
-            };
-        }
+    // A request of this asker. Element 0 asks for nothing that may wait, so that there is always one that goes on. One
+    // in two requests under a number that is kept asks for what was asked for before.
+    fn asked(&mut self, plain: &PlainMemory, asker: Asker, cells: u32) -> Request {
         let op = if asker.element == 0 {
             self.answered_at_once(cells)
         } else {
             self.operation(cells)
         };
-        Command::Request(Request {
+        let request = Request {
             element: asker.element,
             number: self.number(asker),
             op,
-        })
-    }
-
-    /// A command for a memory of four elements, of one of these or of one more. One in two requests under a number that
-    /// is kept asks for what was asked for before.
-    pub fn command(&mut self, plain: &PlainMemory, cells: u32) -> Command {
-        let element = self.below(5) as u16;
-        let (base, next) = plain.window(element).unwrap_or((1, 1));
-        let asker = Asker {
-            element,
-            base,
-            next,
         };
-        let command = self.asked(asker, cells);
-        let Command::Request(request) = command else {
-            return command;
-        };
-        match plain.kept(element, request.number) {
-            Some(kept) if self.below(2) == 0 => Command::Request(Request {
+        match plain.kept(asker.element, request.number) {
+            Some(kept) if self.below(2) == 0 => Request {
                 op: kept.op,
                 ..request
-            }),
-            _ => command,
+            },
+            _ => request,
         }
+    }
+
+    // A request of an element.
+    fn request(&mut self, plain: &PlainMemory, element: u16, cells: u32) -> Request {
+        self.asked(plain, asker_of(plain, element), cells)
+    }
+
+    /// A command of an element of a memory, or of one more: one in five confirms.
+    pub fn command(&mut self, plain: &PlainMemory, cells: u32) -> Command {
+        let element = self.below(plain.elements() as u64 + 1) as u16;
+        let asker = asker_of(plain, element);
+        if self.below(5) == 0 {
+            let upto = asker.base.saturating_add(self.below(18));
+            return Command::Confirm { element, upto };
+        }
+        Command::Request(self.asked(plain, asker, cells))
+    }
+
+    /// One to sixteen requests for a memory of sixteen elements, each of another element of it, or of one more.
+    /// Seventeen is a prime number, so any step goes through all of them.
+    pub fn group(&mut self, plain: &PlainMemory, cells: u32) -> ArrayVec<Request, 16> {
+        let mut members = ArrayVec::new();
+        let step = self.below(16) + 1;
+        let mut element = self.below(17);
+        for _ in 0..self.below(16) + 1 {
+            element = element.wrapping_add(step);
+            let _is_full = members.try_push(self.request(plain, (element % 17) as u16, cells));
+        }
+        members
     }
 }

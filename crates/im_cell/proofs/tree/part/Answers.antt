@@ -20,3 +20,9 @@ marks-clipped records leaf =
 
 pub returns : goal.returns
 returns c = ap marks_of (clipped c.args.records.now (c.args.leaf * PART) _ _ PART (omega arith) (omega arith)) ∙ marks-clipped c.args.records.now c.args.leaf
+
+pub returns-then-to-records : goal.returns-then-to-records
+returns-then-to-records c =
+    let from = c.args.leaf * PART in
+    let e : from + PART - from ≡ PART = omega arith in
+    ap (λ n. marks_of (take n (drop from c.args.records.now))) e ∙ marks-clipped c.args.records.now c.args.leaf

@@ -30,7 +30,7 @@ returns-then-is_empty-clause-kept g c = λ h k x m after accepts kept.
 pub returns-then-is_empty-clause-state : goal.returns-then-is_empty-clause-state
 returns-then-is_empty-clause-state g c =
     let none : length c.args.commands.now ≡ 0 = search rules in
-    subst (λ (n : ℕ). c.args.journal.now ≡ longer n c.args.journal.now) (sym none) (sym (longer_none c.args.journal.now c.requires.known))
+    subst (λ (n : ℕ). c.args.journal.now ≡ longer n c.args.journal.now) (sym none) (sym (longer_none c.args.journal.now c.requires.fits.known))
 
 pub returns-clause-leaves : goal.returns-clause-leaves
 returns-clause-leaves g c = λ h k x m after accepts kept.

@@ -22,7 +22,7 @@ returns-in_err-write_at-clause-leaves g c = λ h1.
     let h = c.write_at.ensures.honest h1 in
     let h0 = c.loop-i.invariant.honest h in
     let so_many : length (take c.loop-i.i c.args.commands.now) ≡ c.loop-i.i = omega (arith, length-take c.loop-i.i c.args.commands.now, c.loop-i-test.true) in
-    torn_leaves g.D.Disk.now g.D.Disk.past (ring_at c.args.base c.args.slots) c.args.«from» (length c.args.commands.now) c.args.disk.now (take c.loop-i.i c.args.commands.now) c.loop-i.i so_many c.loop-i-test.true c.requires.once_round c.requires.ring.0 c.loop-i.disk
+    torn_leaves g.D.Disk.now g.D.Disk.past (ring_at c.args.base c.args.slots) c.args.«from» (length c.args.commands.now) c.args.disk.now (take c.loop-i.i c.args.commands.now) c.loop-i.i so_many c.loop-i-test.true c.requires.fits.once_round c.requires.fits.ring.0 c.loop-i.disk
     (c.requires.inside h0) (c.loop-i.invariant.writing h) _ (spelled_long _ _ _ _ c.spell_in-slot.ensures.bytes) c.write_at.new.self (c.write_at.ensures.moment h1)
 
 pub loop-i-preserved : goal.loop-i-preserved
@@ -33,7 +33,7 @@ loop-i-preserved g c = record {
       let h0 = c.loop-i.invariant.honest h in
       let tick = c.in_ok-write_at.ensures.tick h1 in
       let so_many : length (take c.loop-i.i c.args.commands.now) ≡ c.loop-i.i = omega (arith, length-take c.loop-i.i c.args.commands.now, c.loop-i-test.true) in
-      writing_next g.D.Disk.now g.D.Disk.past (ring_at c.args.base c.args.slots) c.args.«from» (length c.args.commands.now) c.args.disk.now (take c.loop-i.i c.args.commands.now) c.loop-i.i so_many c.loop-i-test.true c.requires.once_round c.requires.ring.0 c.loop-i.disk
+      writing_next g.D.Disk.now g.D.Disk.past (ring_at c.args.base c.args.slots) c.args.«from» (length c.args.commands.now) c.args.disk.now (take c.loop-i.i c.args.commands.now) c.loop-i.i so_many c.loop-i-test.true c.requires.fits.once_round c.requires.fits.ring.0 c.loop-i.disk
       (c.requires.inside h0) (c.loop-i.invariant.writing h) _ (spelled_long _ _ _ _ c.spell_in-slot.ensures.bytes) c.write_at.new.self
       _ c.spell_in-slot.ensures.fits (counted_body _ _ _ _ _ _ c.spell_in-slot.ensures.bytes c.count_at.ensures (omega arith)) tick.now (c.write_at.ensures.moment h1) tick.past
       (take (c.loop-i.i + 1) c.args.commands.now) (next_taken c.args.commands.now c.loop-i.i _ c.loop-i-test.true);

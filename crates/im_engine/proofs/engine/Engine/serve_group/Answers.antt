@@ -1,4 +1,4 @@
-use Rattle.std.proofs.Common.{◌≡◌, true, length, Result, Ok, Err, sym, ◌∙◌, subst}
+use Rattle.std.proofs.Common.{◌≡◌, true, length, Result, Ok, Err, rules, sym, ◌∙◌, subst}
 use Rattle.im_types.specs.Contents.{Contents}
 use Rattle.im_types.specs.Groups.{reached_by_all}
 use Rattle.im_disk.specs.Since.{Leaves, LeavesNow}
@@ -10,17 +10,17 @@ use Rattle.im_engine.proofs.Keeping.{all_mean, all_hold}
 use Rattle.im_engine.proofs.Together.{engine_of, room_for, last_for, accepts, means_group, reached_is, group_done, group_failed, calls_done, calls_failed, fits_group}
 use Rattle.im_engine.proofs.engine.Engine.serve_group.Goals as goal
 
-pub put_on-requires-clause-room : goal.put_on-requires-clause-room
-put_on-requires-clause-room g c =
+pub put_on-requires-clause-fits : goal.put_on-requires-clause-fits
+put_on-requires-clause-fits g c =
     let e = c.self.inside in
-    room_for e.disk e.checkpoint e.memory e.journal e.failed c.args.members.now.items c.as_slice-members.result.now c.as_slice-members.ensures.value c.requires.apart c.places_in-places.result c.places_in-places.ensures.places c.places_in-places.ensures.known
-    c.as_slice.result.now (c.as_slice.ensures.value ∙ c.commands_of.ensures)
-
-pub put_on-requires-clause-last : goal.put_on-requires-clause-last
-put_on-requires-clause-last g c =
-    let e = c.self.inside in
-    last_for e.disk e.checkpoint e.memory e.journal e.failed c.args.members.now.items c.as_slice-members.result.now c.as_slice-members.ensures.value c.requires.apart c.places_in-places.result c.places_in-places.ensures.places c.places_in-places.ensures.known
-    c.as_slice.result.now (c.as_slice.ensures.value ∙ c.commands_of.ensures)
+    record {
+      known = c.places_in-places.ensures.known;
+      few = search rules;
+      room = room_for e.disk e.checkpoint e.memory e.journal e.failed c.args.members.now.items c.as_slice-members.result.now c.as_slice-members.ensures.value c.requires.apart c.places_in-places.result c.places_in-places.ensures.places c.places_in-places.ensures.known
+          c.as_slice.result.now (c.as_slice.ensures.value ∙ c.commands_of.ensures);
+      last = last_for e.disk e.checkpoint e.memory e.journal e.failed c.args.members.now.items c.as_slice-members.result.now c.as_slice-members.ensures.value c.requires.apart c.places_in-places.result c.places_in-places.ensures.places c.places_in-places.ensures.known
+          c.as_slice.result.now (c.as_slice.ensures.value ∙ c.commands_of.ensures);
+    }
 
 pub put_on-requires-clause-holds : goal.put_on-requires-clause-holds
 put_on-requires-clause-holds g c = λ h.
@@ -36,7 +36,7 @@ returns-in-Err-clause-answered g c =
     let e = c.self.inside in
     subst (λ (s : EngineState g.row.D.Denot). GroupAnswered s c.args.members.now.items c.refuse_all-in-Err.new.served.items (engine_of c.put_on.new.disk e.checkpoint e.memory c.put_on.new.journal true)) c.self.view_is
     (group_failed e.disk e.checkpoint e.memory e.journal e.failed c.args.members.now.items c.as_slice-members.result.now c.as_slice-members.ensures.value c.requires.apart c.places_in-places.result c.places_in-places.ensures.places c.places_in-places.ensures.known
-    c.as_slice.result.now (c.as_slice.ensures.value ∙ c.commands_of.ensures) c.if-self.false c.put_on.new.disk c.put_on.new.journal c.in-Err.ensures.state (λ none. not_both c.put_on.result tt c.in-Err.field-0 c.in-Err.is (c.put_on.ensures.none none).0)
+    c.as_slice.result.now (c.as_slice.ensures.value ∙ c.commands_of.ensures) c.if-self.false c.put_on.new.disk c.put_on.new.journal c.in-Err.ensures.state (λ none. not_both c.put_on.result tt c.in-Err.field-0 c.in-Err.is (c.put_on.ensures.calls.none none).0)
     c.refuse_all-in-Err.new.served.items c.refuse_all-in-Err.ensures)
 
 pub returns-in-Err-clause-calls : goal.returns-in-Err-clause-calls
@@ -44,7 +44,7 @@ returns-in-Err-clause-calls g c = λ h.
     let e = c.self.inside in
     subst (λ (s : EngineState g.row.D.Denot). GroupCalls g.D.Disk.past s.disk c.put_on.new.disk true (calls_for_group (length (group_put s c.args.members.now.items)))) c.self.view_is
     (calls_failed e.disk e.checkpoint e.memory e.journal e.failed c.args.members.now.items c.as_slice-members.result.now c.as_slice-members.ensures.value c.requires.apart c.places_in-places.result c.places_in-places.ensures.places c.places_in-places.ensures.known
-    c.as_slice.result.now (c.as_slice.ensures.value ∙ c.commands_of.ensures) g.D.Disk.past c.put_on.new.disk c.put_on.result c.in-Err.field-0 c.in-Err.is (c.put_on.ensures.calls h))
+    c.as_slice.result.now (c.as_slice.ensures.value ∙ c.commands_of.ensures) g.D.Disk.past c.put_on.new.disk c.put_on.result c.in-Err.field-0 c.in-Err.is (c.put_on.ensures.calls.made h))
 
 pub returns-in-Err-clause-leaves : goal.returns-in-Err-clause-leaves
 returns-in-Err-clause-leaves g c = λ h f.
@@ -71,7 +71,7 @@ invariant_of-self-2 g c =
     let e = c.self.inside in (
       fits_group e.checkpoint.state c.act_all.new.checkpoint.state e.memory.contents c.act_all.new.memory.contents e.journal c.put_on.new.journal (length c.as_slice.result.now) c.self.invariant.0 c.act_all.ensures.state c.act_all.ensures.sizes c.in_default.ensures.state,
       λ h f. subst (λ (n : Contents). IsKept c.act_all.new.checkpoint.state (paged c.act_all.new.checkpoint c.act_all.new.memory) n c.put_on.new.journal (g.D.Disk.now c.put_on.new.disk)) (sym (reached_is e.disk e.checkpoint e.memory e.journal e.failed c.args.members.now.items c.as_slice-members.result.now c.as_slice-members.ensures.value c.requires.apart c.places_in-places.result c.places_in-places.ensures.places c.places_in-places.ensures.known
-          c.as_slice.result.now (c.as_slice.ensures.value ∙ c.commands_of.ensures) c.if-self.false c.put_on.new.disk c.act_all.new.checkpoint c.act_all.new.memory c.put_on.new.journal c.in_default.ensures.state (λ none. (c.put_on.ensures.none none).1) c.act_all.ensures.state c.act_all.ensures.contents
+          c.as_slice.result.now (c.as_slice.ensures.value ∙ c.commands_of.ensures) c.if-self.false c.put_on.new.disk c.act_all.new.checkpoint c.act_all.new.memory c.put_on.new.journal c.in_default.ensures.state (λ none. (c.put_on.ensures.calls.none none).1) c.act_all.ensures.state c.act_all.ensures.contents
           c.act_all.new.served.items c.act_all.ensures.answers))
           (c.act_all.ensures.kept (reached_by_all (reached_in (engine_of e.disk e.checkpoint e.memory e.journal e.failed)) c.args.members.now.items).contents c.put_on.new.journal (g.D.Disk.now c.put_on.new.disk)
           (c.in_default.ensures.kept h e.checkpoint.state (paged e.checkpoint e.memory) e.memory.contents (reached_by_all (reached_in (engine_of e.disk e.checkpoint e.memory e.journal e.failed)) c.args.members.now.items).contents (accepts e.disk e.checkpoint e.memory e.journal e.failed c.args.members.now.items c.as_slice-members.result.now c.as_slice-members.ensures.value c.requires.apart c.places_in-places.result c.places_in-places.ensures.places c.places_in-places.ensures.known
@@ -83,7 +83,7 @@ returns-clause-answered g c =
     let e = c.self.inside in
     subst (λ (s : EngineState g.row.D.Denot). GroupAnswered s c.args.members.now.items c.act_all.new.served.items (engine_of c.put_on.new.disk c.act_all.new.checkpoint c.act_all.new.memory c.put_on.new.journal e.failed)) c.self.view_is
     (group_done e.disk e.checkpoint e.memory e.journal e.failed c.args.members.now.items c.as_slice-members.result.now c.as_slice-members.ensures.value c.requires.apart c.places_in-places.result c.places_in-places.ensures.places c.places_in-places.ensures.known
-    c.as_slice.result.now (c.as_slice.ensures.value ∙ c.commands_of.ensures) c.if-self.false c.put_on.new.disk c.act_all.new.checkpoint c.act_all.new.memory c.put_on.new.journal c.in_default.ensures.state (λ none. (c.put_on.ensures.none none).1) c.act_all.ensures.state c.act_all.ensures.contents
+    c.as_slice.result.now (c.as_slice.ensures.value ∙ c.commands_of.ensures) c.if-self.false c.put_on.new.disk c.act_all.new.checkpoint c.act_all.new.memory c.put_on.new.journal c.in_default.ensures.state (λ none. (c.put_on.ensures.calls.none none).1) c.act_all.ensures.state c.act_all.ensures.contents
     c.act_all.new.served.items c.act_all.ensures.answers)
 
 pub returns-clause-calls : goal.returns-clause-calls
@@ -91,7 +91,7 @@ returns-clause-calls g c = λ h.
     let e = c.self.inside in
     subst (λ (s : EngineState g.row.D.Denot). GroupCalls g.D.Disk.past s.disk c.put_on.new.disk e.failed (calls_for_group (length (group_put s c.args.members.now.items)))) c.self.view_is
     (calls_done e.disk e.checkpoint e.memory e.journal e.failed c.args.members.now.items c.as_slice-members.result.now c.as_slice-members.ensures.value c.requires.apart c.places_in-places.result c.places_in-places.ensures.places c.places_in-places.ensures.known
-    c.as_slice.result.now (c.as_slice.ensures.value ∙ c.commands_of.ensures) g.D.Disk.past c.put_on.new.disk c.put_on.result _ c.in_default.is (c.put_on.ensures.calls h))
+    c.as_slice.result.now (c.as_slice.ensures.value ∙ c.commands_of.ensures) g.D.Disk.past c.put_on.new.disk c.put_on.result _ c.in_default.is (c.put_on.ensures.calls.made h))
 
 pub returns-clause-leaves : goal.returns-clause-leaves
 returns-clause-leaves g c = λ h f.
@@ -118,7 +118,7 @@ returns-clause-means g c = λ h f.
     let e = c.self.inside in
     all_mean c.act_all.new.checkpoint.state (paged c.act_all.new.checkpoint c.act_all.new.memory) c.act_all.new.memory.contents c.put_on.new.journal (g.D.Disk.now c.put_on.new.disk)
     (subst (λ (n : Contents). IsKept c.act_all.new.checkpoint.state (paged c.act_all.new.checkpoint c.act_all.new.memory) n c.put_on.new.journal (g.D.Disk.now c.put_on.new.disk)) (sym (reached_is e.disk e.checkpoint e.memory e.journal e.failed c.args.members.now.items c.as_slice-members.result.now c.as_slice-members.ensures.value c.requires.apart c.places_in-places.result c.places_in-places.ensures.places c.places_in-places.ensures.known
-    c.as_slice.result.now (c.as_slice.ensures.value ∙ c.commands_of.ensures) c.if-self.false c.put_on.new.disk c.act_all.new.checkpoint c.act_all.new.memory c.put_on.new.journal c.in_default.ensures.state (λ none. (c.put_on.ensures.none none).1) c.act_all.ensures.state c.act_all.ensures.contents
+    c.as_slice.result.now (c.as_slice.ensures.value ∙ c.commands_of.ensures) c.if-self.false c.put_on.new.disk c.act_all.new.checkpoint c.act_all.new.memory c.put_on.new.journal c.in_default.ensures.state (λ none. (c.put_on.ensures.calls.none none).1) c.act_all.ensures.state c.act_all.ensures.contents
     c.act_all.new.served.items c.act_all.ensures.answers))
     (c.act_all.ensures.kept (reached_by_all (reached_in (engine_of e.disk e.checkpoint e.memory e.journal e.failed)) c.args.members.now.items).contents c.put_on.new.journal (g.D.Disk.now c.put_on.new.disk)
     (c.in_default.ensures.kept h e.checkpoint.state (paged e.checkpoint e.memory) e.memory.contents (reached_by_all (reached_in (engine_of e.disk e.checkpoint e.memory e.journal e.failed)) c.args.members.now.items).contents (accepts e.disk e.checkpoint e.memory e.journal e.failed c.args.members.now.items c.as_slice-members.result.now c.as_slice-members.ensures.value c.requires.apart c.places_in-places.result c.places_in-places.ensures.places c.places_in-places.ensures.known

@@ -1,0 +1,14 @@
+-- What a handle owns: the same as a `Box`, or nothing.
+use base.Fml.{Fml, ftrue}
+use Rattle.std.specs.declared.option.Option.{Option}
+use Rattle.std.specs.Prelude.{None, Some}
+use denote.RawPtr.{Ptr}
+use Rattle.std.specs.Box.Ownership.{box_owns}
+use Rattle.std.specs.Global.{Global}
+use Rattle.std_heap.specs.contracts.GlobalAllocator.TheImpl.{ghosts}
+use Rattle.im_memory.specs.contracts.memory.Memory as Memory
+
+-- the block with its memory, or nothing
+abbrev pub holds_memory : Global → Ptr → Option Memory.the_row.Denot → Fml
+holds_memory alloc p None = ftrue
+holds_memory alloc p (Some x) = box_owns (ghosts.dealloc_token alloc) Memory.the_row p x

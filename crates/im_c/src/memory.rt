@@ -1,0 +1,152 @@
+//! A memory with no disk, as C holds it.
+ghost use Rattle.std.specs.Prelude.{◌≡◌, ◌↔◌, Some, Err, IsSome, IfSome, IfOk, IfErr, OnErr};
+ghost use Rattle.std.specs.declared.option.Option.{Option};
+ghost use Rattle.im_types.specs.declared.commands.Outcome.TheVariants.{Entry as Tells};
+ghost use Rattle.im_types.specs.Contents.{empty_contents};
+ghost use Rattle.im_types.specs.Window.{ask};
+ghost use Rattle.im_types.specs.Sizes.{AreLimits};
+ghost use Rattle.im_memory.specs.State.{MemoryState};
+ghost use Rattle.im_c.specs.Held.{holds_memory};
+ghost use Rattle.im_c.specs.Memory.{Steps, Collects};
+
+use crate::parts::Parts;
+use crate::plain::{LtCommand, LtOutcome, NO_CALL, meant, outcome_of, refused};
+use im_memory::Memory;
+use im_types::{Limits, Outcome, Refusal};
+use std::alloc::Global;
+use std::marker::Model;
+
+/// A memory as C holds it, or none, as which a struct of zero bytes counts. A call that takes it leaves nothing behind:
+/// it hands it out again at `next`, which may be the place that it came from. A handle that is written over is lost.
+#[repr(C)]
+#[derive(Drop)]
+pub struct LtMemory {
+    ptr: *mut u8,
+    alloc: Global,
+    /// The memory, as contracts see it, or none.
+    pub ghost value: { Option MemoryState },
+}
+
+impl Model for LtMemory {
+    ghost also_owns = { λ h. holds_memory h.alloc h.ptr h.value };
+}
+
+impl LtMemory {
+    fn of_parts(parts: Parts<Memory, Global>) -> LtMemory
+        ensures { result.value ≡ Some parts.value }
+    {
+        let Parts { ptr, alloc } = parts;
+        LtMemory {
+            ptr: ptr as *mut u8,
+            alloc,
+        }
+    }
+
+    fn into_parts(self) -> Parts<Memory, Global>
+        requires { IsSome self.value }
+        ensures { self.value ≡ Some result.value }
+    {
+        let LtMemory { ptr, alloc } = self;
+        Parts {
+            ptr: ptr as *mut Memory,
+            alloc,
+        }
+    }
+}
+
+// A memory of these sizes, in a block of its own.
+fn made(alloc: Global, limits: Limits) -> Result<Box<Memory>, Refusal>
+    ensures empty { IfOk result (λ b. b.value.contents ≡ empty_contents limits.cells limits.elements) }
+    ensures only { IfErr result (λ e. e ≡ Refusal.NoMemory) }
+{
+    let memory = Memory::new(alloc, limits)?;
+    match Box::new(alloc, memory) {
+        Ok(memory) => Ok(memory),
+        Err(_) => Err(Refusal::NoMemory),
+    }
+}
+
+// One command, as C spells it.
+fn step(memory: &mut Memory, command: &LtCommand) -> LtOutcome
+    ensures { Steps memory.old command.now result memory.new }
+{
+    match meant(command) {
+        Some(command) => outcome_of(memory.step(&command)),
+        None => refused(NO_CALL),
+    }
+}
+
+// What is kept under an element's number, as C spells it.
+fn collected(memory: &Memory, element: u16, number: u64) -> LtOutcome
+    ensures { Collects memory.now element number result }
+{
+    match memory.collect(element, number) {
+        Ok(entry) => outcome_of(Ok(Outcome::Entry(entry))),
+        Err(refusal) => outcome_of(Err(refusal)),
+    }
+}
+
+/// Makes a memory of so many cells, 1 to 65,536, and elements, 1 to 64, with no block and no entry: 0, and `next` holds
+/// it. Else the number of the refusal, and `next` is as it was: `BadLimits` where a number is out of its range,
+/// `NoMemory`. No later call on it takes memory.
+#[unsafe(no_mangle)]
+pub extern "C" fn lt_memory_new(alloc: Global, cells: u32, elements: u16, next: &mut LtMemory) -> u8
+    ensures made { result ≡ 0 → IsSome next.new.value }
+    ensures empty { result ≡ 0 → IfSome next.new.value (λ m. m.contents ≡ empty_contents cells elements) }
+{
+    let Some(limits) = Limits::new(cells, elements, 16) else {
+        return Refusal::BadLimits.number();
+    };
+    match made(alloc, limits) {
+        Ok(memory) => {
+            *next = LtMemory::of_parts(Parts::of(memory));
+            0
+        }
+        Err(refusal) => refusal.number(),
+    }
+}
+
+/// One command: what it comes to, at `outcome`. The refusals are those of a request and of a confirmation, and 255 for
+/// an unknown tag; then nothing changes. It takes no memory.
+#[unsafe(no_mangle)]
+pub extern "C" fn lt_memory_step(
+    memory: LtMemory,
+    command: &LtCommand,
+    next: &mut LtMemory,
+    outcome: &mut LtOutcome,
+)
+    requires some { IsSome memory.value }
+    ensures some { IsSome next.new.value }
+    ensures stepped { IfSome memory.value (λ m. IfSome next.new.value (λ n. Steps m command.now outcome.new n)) }
+{
+    let mut held = memory.into_parts().into_box();
+    *outcome = step(&mut held, command);
+    *next = LtMemory::of_parts(Parts::of(held));
+}
+
+/// What is kept under an element's number, at `outcome`. Refused with `NoElement`, with `Forgotten` below the window, and
+/// with `Gap` where the number isn't used yet. Nothing changes.
+#[unsafe(no_mangle)]
+pub extern "C" fn lt_memory_collect(
+    memory: LtMemory,
+    element: u16,
+    number: u64,
+    next: &mut LtMemory,
+    outcome: &mut LtOutcome,
+)
+    requires some { IsSome memory.value }
+    ensures same { next.new.value ≡ memory.value }
+    ensures answer { IfSome memory.value (λ m. Collects m element number outcome.new) }
+{
+    let held = memory.into_parts().into_box();
+    *outcome = collected(&held, element, number);
+    *next = LtMemory::of_parts(Parts::of(held));
+}
+
+/// Frees the memory.
+#[unsafe(no_mangle)]
+pub extern "C" fn lt_memory_free(memory: LtMemory)
+    requires some { IsSome memory.value }
+{
+    drop(memory.into_parts().into_box());
+}

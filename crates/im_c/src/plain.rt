@@ -1,0 +1,129 @@
+//! Commands and what they come to, as C spells them.
+ghost use Rattle.std.specs.Prelude.{◌≡◌};
+ghost use Rattle.im_types.specs.Bytes.{entry_code, entry_number};
+ghost use Rattle.im_c.specs.Plain.{meant, outcome_of, refused};
+
+use im_types::codes::op_of;
+use im_types::{Command, Entry, Outcome, Refusal, Reply, Request};
+
+/// The number that stands for a call that is none: an unknown tag.
+pub(crate) const NO_CALL: u8 = 255;
+
+// The tag of a confirmation that was accepted.
+const CONFIRMED: u8 = 128;
+
+/// A command. The tag is the code that the journal has for it: 1 and 2 an allocation of `address` cells of kind I and M,
+/// 3 a release of the block with the base `address`, 4 a fetch, 5 a store, 6 a take and 7 a put at `address`, 8 a
+/// confirmation of all below `number`. Any other tag is no command.
+#[repr(C)]
+#[derive(Clone, Copy)]
+pub struct LtCommand {
+    /// What is asked, 1 to 8.
+    pub tag: u8,
+    /// The element that asks, from 0.
+    pub element: u16,
+    /// The address, or the length of an allocation; else of no account.
+    pub address: u32,
+    /// The request's number, or the one up to which is confirmed.
+    pub number: u64,
+    /// The value of a store or a put; else of no account.
+    pub value: u64,
+}
+
+/// What a call came to. `refusal` is 0, or the number of the refusal, or 255 for what is no call; then the rest is 0.
+/// The tag is the code that the image has for an entry: 0 it waits, 1 a base in `value`, 2 no space, 3 bad length, 4 a
+/// value in `value`, 5 stored, 6 clash, 7 no cell, 8 wrong kind, 9 released, 10 no block, 11 still waiting; or 128, confirmed.
+#[repr(C)]
+#[derive(Clone, Copy)]
+pub struct LtOutcome {
+    /// 0, or the number of the refusal.
+    pub refusal: u8,
+    /// The code of the entry, or 128.
+    pub tag: u8,
+    /// The base or the value, else 0.
+    pub value: u64,
+}
+
+/// The command that is meant; `None` where the tag is none of a command.
+pub(crate) fn meant(command: &LtCommand) -> Option<Command>
+    ensures { result ≡ meant command.now }
+{
+    match op_of(command.tag, command.address, command.value) {
+        Some(op) => Some(Command::Request(Request {
+            element: command.element,
+            number: command.number,
+            op,
+        })),
+        None => {
+            if command.tag == 8 {
+                Some(Command::Confirm {
+                    element: command.element,
+                    upto: command.number,
+                })
+            } else {
+                None
+            }
+        }
+    }
+}
+
+// The code of an entry.
+fn entry_code(entry: Entry) -> u8
+    ensures { result ≡ entry_code entry }
+{
+    match entry {
+        Entry::Waiting => 0,
+        Entry::Answered(Reply::Base(_)) => 1,
+        Entry::Answered(Reply::NoSpace) => 2,
+        Entry::Answered(Reply::BadLength) => 3,
+        Entry::Answered(Reply::Value(_)) => 4,
+        Entry::Answered(Reply::Stored) => 5,
+        Entry::Answered(Reply::Clash) => 6,
+        Entry::Answered(Reply::NoCell) => 7,
+        Entry::Answered(Reply::WrongKind) => 8,
+        Entry::Answered(Reply::Released) => 9,
+        Entry::Answered(Reply::NoBlock) => 10,
+        Entry::Answered(Reply::StillWaiting) => 11,
+    }
+}
+
+// The number that an entry carries.
+fn entry_number(entry: Entry) -> u64
+    ensures { result ≡ entry_number entry }
+{
+    match entry {
+        Entry::Answered(Reply::Base(base)) => base as u64,
+        Entry::Answered(Reply::Value(value)) => value,
+        _ => 0,
+    }
+}
+
+/// What stands for the refusal with this number.
+pub(crate) fn refused(number: u8) -> LtOutcome
+    ensures { result ≡ refused number }
+{
+    LtOutcome {
+        refusal: number,
+        tag: 0,
+        value: 0,
+    }
+}
+
+/// What stands for an answer.
+pub(crate) fn outcome_of(answer: Result<Outcome, Refusal>) -> LtOutcome
+    ensures { result ≡ outcome_of answer }
+{
+    match answer {
+        Ok(Outcome::Confirmed) => LtOutcome {
+            refusal: 0,
+            tag: CONFIRMED,
+            value: 0,
+        },
+        Ok(Outcome::Entry(entry)) => LtOutcome {
+            refusal: 0,
+            tag: entry_code(entry),
+            value: entry_number(entry),
+        },
+        Err(refusal) => refused(refusal.number()),
+    }
+}

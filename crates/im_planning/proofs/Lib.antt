@@ -1,0 +1,2 @@
+pub mod FittingLemmas
+pub mod MakingLemmas

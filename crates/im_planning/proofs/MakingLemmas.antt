@@ -1,0 +1,154 @@
+-- The index of a plan decides what the plan has, and what makes one.
+use Rattle.std.proofs.Common.{◌≡◌, ⊎_elim, ℕ, zero, suc, List, [], ◌∷◌, Some, None, Bool, true, false, cond, refl, sym, ap, ◌∙◌, arith, IsTrue}
+use Rattle.std.specs.Prelude.{Option, ◌↔◌, ◌==◌, ◌&&◌, ◌||◌, slice_get, is_some, drop}
+use Rattle.std.proofs.lemmas.Option.{none-some, same_Some}
+use Rattle.im_types.specs.declared.operations.Op.{Op}
+use Rattle.im_types.specs.declared.operations.Op.TheVariants.{Alloc, Release, Fetch, Store, Take, Put}
+use Rattle.im_types.specs.declared.commands.Request.{Request}
+use Rattle.im_types.specs.Window.{same_op}
+use Rattle.im_types.specs.Step.{asker}
+use Rattle.im_types.specs.Plan.{stored_by, is_planned, IsPlan}
+use Rattle.im_laws.proofs.Tests.{true_or_false, true_false, and_both, or_left, or_right, test-self, eq_by_test}
+use Rattle.im_laws.proofs.OpLemmas.{same_op-self, same_op-equal}
+use Rattle.im_plans.specs.Runs.{IsInPlan}
+use Rattle.im_planning.specs.Making.{Key, has_key, op_under, is_stored, is_op}
+use Rattle.im_planning.specs.Begins.{Begins}
+
+abbrev pub key_of : Request → Key
+key_of r = (r.element, r.number)
+
+-- keys
+key-own : (r : Request) → has_key (key_of r) r ≡ true
+key-own r = ap (λ t. t && (r.number == r.number)) (test-self r.element) ∙ test-self r.number
+
+key-same : (r s : Request) → has_key (key_of r) s ≡ true → asker r ≡ asker s
+key-same r s e =
+    let both = and_both (r.element == s.element) (r.number == s.number) e in
+    let element = eq_by_test r.element s.element both.0 in
+    let number = eq_by_test r.number s.number both.1 in
+    λ i. record { element = element i; number = number i }
+
+same-key : (r s : Request) → asker r ≡ asker s → has_key (key_of r) s ≡ true
+same-key r s e =
+    ap (λ n. (r.element == n) && (r.number == s.number)) (sym (ap (λ w. w.element) e))
+    ∙ ap (λ t. t && (r.number == s.number)) (test-self r.element)
+    ∙ ap (λ n. r.number == n) (sym (ap (λ w. w.number) e)) ∙ test-self r.number
+
+-- what is found stands there
+pub found : (key : Key) (op : Op) (plan : List Request) → op_under key plan ≡ Some op
+    → (i : ℕ) × (s : Request) × (slice_get plan i ≡ Some s) × (has_key key s ≡ true) × (s.op ≡ op)
+found key op [] e = absurd (none-some op e)
+found key op (s ∷ plan) e = by_test (has_key key s) refl e (found key op plan)
+  where
+    by_test : (t : Bool) → has_key key s ≡ t → cond t (Some s.op) (op_under key plan) ≡ Some op
+        → (op_under key plan ≡ Some op → (i : ℕ) × (q : Request) × (slice_get plan i ≡ Some q) × (has_key key q ≡ true) × (q.op ≡ op))
+        → (i : ℕ) × (q : Request) × (slice_get (s ∷ plan) i ≡ Some q) × (has_key key q ≡ true) × (q.op ≡ op)
+    by_test true t e later = (0, s, refl, t, same_Some s.op op e)
+    by_test false t e later = let f = later e in (suc f.0, f.1, f.2, f.3, f.4)
+
+-- what stands there is found, or something before it
+pub some_found : (key : Key) (plan : List Request) (i : ℕ) (s : Request) → slice_get plan i ≡ Some s → has_key key s ≡ true → op_under key plan ≡ None → ⊥
+some_found key [] i s at own none = none-some s at
+some_found key (q ∷ plan) i s at own none = by_test (has_key key q) refl none i at (λ i at none. some_found key plan i s at own none)
+  where
+    by_test : (t : Bool) → has_key key q ≡ t → cond t (Some q.op) (op_under key plan) ≡ None → (i : ℕ) → slice_get (q ∷ plan) i ≡ Some s
+        → ((i : ℕ) → slice_get plan i ≡ Some s → op_under key plan ≡ None → ⊥) → ⊥
+    by_test true t none i at later = cc
+    by_test false t none zero at later = true_false (sym own ∙ ap (has_key key) (sym (same_Some q s at)) ∙ t)
+    by_test false t none (suc i) at later = later i at none
+
+pub stored_there : (a : ℕ) (plan : List Request) (i : ℕ) (s : Request) → slice_get plan i ≡ Some s → is_some (stored_by a s.op) ≡ true → is_stored a plan ≡ false → ⊥
+stored_there a [] i s at e none = none-some s at
+stored_there a (q ∷ plan) zero s at e none =
+    true_false (sym e ∙ ap (λ (r : Request). is_some (stored_by a r.op)) (sym (same_Some q s at)) ∙ or_left (is_some (stored_by a q.op)) (is_stored a plan) none)
+stored_there a (q ∷ plan) (suc i) s at e none = stored_there a plan i s at e (or_right (is_some (stored_by a q.op)) (is_stored a plan) none)
+
+pub stored_somewhere : (a : ℕ) (plan : List Request) → is_stored a plan ≡ true → (i : ℕ) × (s : Request) × (slice_get plan i ≡ Some s) × (is_some (stored_by a s.op) ≡ true)
+stored_somewhere a [] e = absurd (true_false (sym e))
+stored_somewhere a (q ∷ plan) e = by_test (is_some (stored_by a q.op)) refl e (stored_somewhere a plan)
+  where
+    by_test : (t : Bool) → is_some (stored_by a q.op) ≡ t → (t || is_stored a plan) ≡ true
+        → (is_stored a plan ≡ true → (i : ℕ) × (s : Request) × (slice_get plan i ≡ Some s) × (is_some (stored_by a s.op) ≡ true))
+        → (i : ℕ) × (s : Request) × (slice_get (q ∷ plan) i ≡ Some s) × (is_some (stored_by a s.op) ≡ true)
+    by_test true t e later = (0, q, refl, t)
+    by_test false t e later = let s = later e in (suc s.0, s.1, s.2, s.3)
+
+-- a plan with one request more before it
+pub cons-plan : (r : Request) (plan : List Request) → Begins r plan → IsPlan plan → IsPlan (r ∷ plan)
+cons-plan r plan b is = record { planned = planned; numbered = numbered; stored_once = stored_once }
+  where
+    planned : (i : ℕ) (q : Request) → slice_get (r ∷ plan) i ≡ Some q → is_planned q.op ≡ true
+    planned zero q at = ap (λ (r : Request). is_planned r.op) (sym (same_Some r q at)) ∙ b.planned
+    planned (suc i) q at = is.planned i q at
+
+    one_number : (s : Request) (j : ℕ) → slice_get plan j ≡ Some s → asker r ≡ asker s → ⊥
+    one_number s j at same = some_found (key_of r) plan j s at (same-key r s same) b.own
+
+    numbered : (i j : ℕ) (q s : Request) → slice_get (r ∷ plan) i ≡ Some q → slice_get (r ∷ plan) j ≡ Some s → asker q ≡ asker s → i ≡ j
+    numbered zero zero q s x y same = refl
+    numbered zero (suc j) q s x y same = absurd (one_number s j y (ap asker (same_Some r q x) ∙ same))
+    numbered (suc i) zero q s x y same = absurd (one_number q i x (ap asker (same_Some r s y) ∙ sym same))
+    numbered (suc i) (suc j) q s x y same = ap suc (is.numbered i j q s x y same)
+
+    one_store : (a : ℕ) (s : Request) (j : ℕ) → slice_get plan j ≡ Some s → is_some (stored_by a r.op) ≡ true → is_some (stored_by a s.op) ≡ true → ⊥
+    one_store a s j at e f = stored_there a plan j s at f (b.alone a e)
+
+    stored_once : (i j a : ℕ) (q s : Request) → slice_get (r ∷ plan) i ≡ Some q → slice_get (r ∷ plan) j ≡ Some s
+        → is_some (stored_by a q.op) ≡ true → is_some (stored_by a s.op) ≡ true → i ≡ j
+    stored_once zero zero a q s x y e f = refl
+    stored_once zero (suc j) a q s x y e f = absurd (one_store a s j y (ap (λ (r : Request). is_some (stored_by a r.op)) (same_Some r q x) ∙ e) f)
+    stored_once (suc i) zero a q s x y e f = absurd (one_store a q i x (ap (λ (r : Request). is_some (stored_by a r.op)) (same_Some r s y) ∙ f) e)
+    stored_once (suc i) (suc j) a q s x y e f = ap suc (is.stored_once i j a q s x y e f)
+
+-- what stands behind a plan's first request
+same_suc : (i j : ℕ) → suc i ≡ suc j → i ≡ j
+same_suc i j e = omega arith
+
+zero_suc : (i : ℕ) → 0 ≡ suc i → ⊥
+zero_suc i e = omega arith
+
+pub rest-plan : (r : Request) (plan : List Request) → IsPlan (r ∷ plan) → IsPlan plan
+rest-plan r plan is = record {
+  planned = λ i q at. is.planned (suc i) q at;
+  numbered = λ i j q s x y same. same_suc i j (is.numbered (suc i) (suc j) q s x y same);
+  stored_once = λ i j a q s x y e f. same_suc i j (is.stored_once (suc i) (suc j) a q s x y e f);
+}
+
+pub drop-plan : (i : ℕ) (plan : List Request) → IsPlan plan → IsPlan (drop i plan)
+drop-plan zero plan is = is
+drop-plan (suc i) [] is = is
+drop-plan (suc i) (r ∷ plan) is = drop-plan i plan (rest-plan r plan is)
+
+-- the first request of a plan begins it
+pub plan-begins : (r : Request) (plan : List Request) → IsPlan (r ∷ plan) → Begins r plan
+plan-begins r plan is = record { planned = is.planned 0 r refl; own = own (op_under (key_of r) plan) refl; alone = alone }
+  where
+    own : (o : Option Op) → op_under (key_of r) plan ≡ o → op_under (key_of r) plan ≡ None
+    own None e = e
+    own (Some op) e = let f = found (key_of r) op plan e in absurd (zero_suc f.0 (is.numbered 0 (suc f.0) r f.1 refl f.2 (key-same r f.1 f.3)))
+
+    alone : (a : ℕ) → is_some (stored_by a r.op) ≡ true → is_stored a plan ≡ false
+    alone a e = ⊎_elim
+        (λ stored. let s = stored_somewhere a plan stored in absurd (zero_suc s.0 (is.stored_once 0 (suc s.0) a r s.1 refl s.2 e s.3)))
+        (λ none. none)
+        (true_or_false (is_stored a plan))
+
+-- a plan has a request exactly where it is found under its key
+pub in_plan : (r : Request) (plan : List Request) → IsPlan plan → IsTrue (is_op r.op (op_under (key_of r) plan)) ↔ IsInPlan plan r
+in_plan r plan is = (λ e. in-plan (op_under (key_of r) plan) refl e, λ h. plan-in (op_under (key_of r) plan) refl h)
+  where
+    in-plan : (o : Option Op) → op_under (key_of r) plan ≡ o → IsTrue (is_op r.op o) → IsInPlan plan r
+    in-plan None at e = absurd (true_false (sym e))
+    in-plan (Some op) at e =
+        let f = found (key_of r) op plan at in
+        let same = key-same r f.1 f.3 in
+        let ops = f.4 ∙ same_op-equal op r.op e in
+        (f.0, f.2 ∙ ap Some (λ i. record { element = (sym same i).element; number = (sym same i).number; op = ops i }))
+
+    plan-in : (o : Option Op) → op_under (key_of r) plan ≡ o → IsInPlan plan r → IsTrue (is_op r.op o)
+    plan-in None at h = absurd (some_found (key_of r) plan h.0 r h.1 (key-own r) at)
+    plan-in (Some op) at h =
+        let f = found (key_of r) op plan at in
+        let there = is.numbered f.0 h.0 f.1 r f.2 h.1 (sym (key-same r f.1 f.3)) in
+        let one = same_Some f.1 r (sym f.2 ∙ ap (slice_get plan) there ∙ h.1) in
+        ap (λ (op : Op). same_op op r.op) (sym f.4 ∙ ap (λ (s : Request). s.op) one) ∙ same_op-self r.op

@@ -1,0 +1,90 @@
+//! Whether a plan fits a memory.
+ghost use Rattle.std.specs.Prelude.{◌≡◌, ◌↔◌, Option, IsTrue, option_map};
+ghost use Rattle.im_types.specs.Contents.{Held, held_at};
+ghost use Rattle.im_types.specs.Window.{bounds};
+ghost use Rattle.im_types.specs.Agreement.{address_of};
+ghost use Rattle.im_types.specs.Plan.{FitsPlan};
+ghost use Rattle.im_types.specs.Presences.{presence_in};
+ghost use Rattle.im_planning.specs.Fitting.{number_fits, cell_fits, request_fits, all_fit};
+
+use crate::plan::Plan;
+use im_memory::Memory;
+use im_types::{Block, Cell, Kind, LAST, Op, Request};
+
+/// Whether a plan fits a memory: its requests are still to come, each of an element that there is, and each I cell that
+/// they name is empty, and nobody waits for it.
+#[tactic(auto, using(crate::proofs::FittingLemmas::plan_fits))]
+pub fn fits(plan: &Plan, memory: &Memory) -> bool
+    ensures { IsTrue result ↔ FitsPlan memory.now.contents plan.now }
+{
+    do_fit(plan.requests(), memory)
+}
+
+// Whether each request fits.
+fn do_fit(requests: &[Request], memory: &Memory) -> bool
+    ensures { result ≡ all_fit memory.now.contents requests.now }
+{
+    let mut rest = requests;
+    while let Some((first, later)) = rest.split_first() {
+        if !does_fit(first, memory) {
+            return false;
+        }
+        rest = later;
+    }
+    true
+}
+
+// Whether a request fits.
+fn does_fit(request: &Request, memory: &Memory) -> bool
+    ensures { result ≡ request_fits memory.now.contents request.now }
+{
+    if is_to_come(request, memory) {
+        is_for_cell(
+            memory.block(address(&request.op)),
+            memory.cell(address(&request.op)),
+        )
+    } else {
+        false
+    }
+}
+
+// Whether its number is still to come.
+fn is_to_come(request: &Request, memory: &Memory) -> bool
+    ensures { result ≡ number_fits request.now.number (bounds memory.now.contents.windows request.now.element) }
+{
+    match memory.window(request.element) {
+        Ok((_, next)) => {
+            if request.number < next {
+                false
+            } else {
+                request.number <= LAST
+            }
+        }
+        Err(_) => false,
+    }
+}
+
+// An operation's address, or its length.
+fn address(op: &Op) -> u32
+    ensures { result ≡ address_of op.now }
+{
+    match op {
+        Op::Alloc(_, n) => *n,
+        Op::Release(a) | Op::Fetch(a) | Op::Take(a) => *a,
+        Op::Store(a, _) | Op::Put(a, _) => *a,
+    }
+}
+
+// Whether a cell is no I cell, or is empty.
+fn is_for_cell(block: Option<Block>, cell: Option<Cell>) -> bool
+    ensures { (held : Option Held) → block ≡ option_map (λ h. h.block) held → cell ≡ presence_in held
+        → result ≡ cell_fits held }
+{
+    match block {
+        None => true,
+        Some(block) => match block.kind {
+            Kind::I => matches!(cell, Some(Cell::Empty)),
+            Kind::M => true,
+        },
+    }
+}

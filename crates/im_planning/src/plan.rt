@@ -1,0 +1,127 @@
+//! A plan: fetches and stores that may be served in any order.
+ghost use Rattle.std.specs.Prelude.{◌≡◌, ◌↔◌, ◌⊎◌, ◌∷◌, [], List, ℕ, IsTrue, IfOk, OnOk, IfErr};
+ghost use Rattle.std.specs.Ordering.{nat_cmp};
+ghost use Rattle.std.specs.BTreeMap.{get};
+ghost use Rattle.std.specs.BTreeSet.{contains};
+ghost use Rattle.im_types.specs.declared.refusals.Refusal.TheVariants.{NoMemory, BadPlan};
+ghost use Rattle.im_types.specs.declared.commands.Request.{Request as Asked};
+ghost use Rattle.im_types.specs.Plan.{is_planned, IsPlan};
+ghost use Rattle.im_types.specs.Window.{same_op};
+ghost use Rattle.im_plans.specs.Runs.{IsInPlan};
+ghost use Rattle.im_planning.specs.Making.{key_cmp, op_under, is_stored, is_op};
+ghost use Rattle.im_planning.specs.Begins.{Begins, Follows};
+
+use im_types::{Op, Refusal, Request};
+use std::alloc::Global;
+use std::collections::{BTreeMap, BTreeSet};
+use std::marker::Model;
+
+/// Requests that make a plan: fetches and stores, each under its own element's number, with at most one store to an
+/// address. Contracts see their list.
+#[derive(Drop)]
+pub struct Plan {
+    requests: Vec<Request>,
+    under: BTreeMap<(u16, u64), Op>,
+}
+
+impl Model for Plan {
+    ghost use Rattle.std.specs.Prelude.{◌≡◌, ℕ, List};
+    ghost use Rattle.std.specs.BTreeMap.{get};
+    ghost use Rattle.im_types.specs.declared.commands.Request.{Request};
+    ghost use Rattle.im_types.specs.Plan.{IsPlan};
+    ghost use Rattle.im_planning.specs.Making.{Key, key_cmp, op_under};
+
+    ghost Value = { List Request };
+
+    ghost view = { λ p. p.requests.items };
+
+    ghost invariant = { λ p. IsPlan p.requests.items
+        × ((key : Key) → get key_cmp p.under key ≡ op_under key p.requests.items) };
+}
+
+impl Plan {
+    /// A plan of these requests, in time of their number times its logarithm. `BadPlan` where one is no fetch or store,
+    /// two have one element and number, or two store to one address; `NoMemory` where `alloc` refuses its index.
+    pub fn new(alloc: Global, requests: Vec<Request>) -> Result<Plan, Refusal>
+        ensures found { IfOk result (λ plan. plan ≡ requests.items) }
+        ensures plan { OnOk result (IsPlan requests.items) }
+        ensures bad { IfErr result (λ e. e ≡ BadPlan → IsPlan requests.items → ⊥) }
+        ensures only { IfErr result (λ e. (e ≡ NoMemory) ⊎ (e ≡ BadPlan)) }
+    {
+        let mut under = BTreeMap::new(alloc);
+        let mut stored = BTreeSet::new(alloc);
+        let mut at = requests.len();
+        while at > 0 {
+            at -= 1;
+            if let Err(refusal) = add(&mut under, &mut stored, &requests[at]) {
+                return Err(refusal);
+            }
+        }
+        Ok(Plan { requests, under })
+    }
+
+    /// Whether the plan has this request, with its operation, under its element's number. In logarithmic time.
+    #[tactic(auto, using(crate::proofs::MakingLemmas::in_plan))]
+    pub fn has(&self, request: &Request) -> bool
+        ensures { IsTrue result ↔ IsInPlan self.now request.now }
+    {
+        self.has_under(request)
+    }
+
+    /// The plan's requests, in the order that they were given in.
+    pub fn requests(&self) -> &[Request]
+        ensures all { result.now ≡ self.now }
+        ensures plan { IsPlan self.now }
+    {
+        self.requests.as_slice()
+    }
+
+    // The same by the index.
+    fn has_under(&self, request: &Request) -> bool
+        ensures found { result ≡ is_op request.now.op (op_under (request.now.element, request.now.number) self.now) }
+        ensures plan { IsPlan self.now }
+    {
+        match self.under.get(&(request.element, request.number)) {
+            Some(op) => op == &request.op,
+            None => false,
+        }
+    }
+}
+
+// Whether an operation may stand in a plan.
+fn is_for_plans(op: &Op) -> bool
+    ensures { result ≡ is_planned op.now }
+{
+    matches!(op, Op::Fetch(_) | Op::Store(_, _))
+}
+
+// Puts a request before others, in the index and among the addresses that are stored to.
+fn add(
+    under: &mut BTreeMap<(u16, u64), Op>,
+    stored: &mut BTreeSet<u32>,
+    request: &Request,
+) -> Result<(), Refusal>
+    ensures begins { (plan : List Asked) → Follows (get key_cmp under.old) (contains nat_cmp stored.old) plan
+        → IfOk result (λ u. Begins request.now plan
+        × Follows (get key_cmp under.new) (contains nat_cmp stored.new) (request.now ∷ plan)) }
+    ensures bad { (plan : List Asked) → Follows (get key_cmp under.old) (contains nat_cmp stored.old) plan
+        → IfErr result (λ e. e ≡ BadPlan → Begins request.now plan → ⊥) }
+    ensures only { IfErr result (λ e. (e ≡ NoMemory) ⊎ (e ≡ BadPlan)) }
+{
+    if !is_for_plans(&request.op) {
+        return Err(Refusal::BadPlan);
+    }
+    match under.insert((request.element, request.number), request.op) {
+        Ok(None) => {}
+        Ok(Some(_)) => return Err(Refusal::BadPlan),
+        Err(_) => return Err(Refusal::NoMemory),
+    }
+    if let Op::Store(address, _) = request.op {
+        match stored.insert(address) {
+            Ok(true) => {}
+            Ok(false) => return Err(Refusal::BadPlan),
+            Err(_) => return Err(Refusal::NoMemory),
+        }
+    }
+    Ok(())
+}

@@ -1,0 +1,9 @@
+use Rattle.std.proofs.Common.{rules}
+use Rattle.im_serving.proofs.sender.send_each.Goals as goal
+use Rattle.im_serving.proofs.SendLemmas.{is_beginning}
+
+pub returns-in-Err-clause-contents : goal.returns-in-Err-clause-contents
+returns-in-Err-clause-contents g c = is_beginning c.loop-op.op-index c.args.ops.now c.send.new.self.items (search rules)
+
+pub returns-clause-contents : goal.returns-clause-contents
+returns-clause-contents g c = is_beginning c.loop-op.op-index c.args.ops.now _ c.loop-op.invariant.1

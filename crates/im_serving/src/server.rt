@@ -1,0 +1,297 @@
+//! The thread that serves an element's operations.
+ghost use Rattle.std.specs.Prelude.{◌≡◌, ◌≤◌, ◌+◌, ℕ, false, length, OnOk, OnErr, IfOk};
+ghost use Rattle.im_serving.specs.Serving.{IsAskedIn};
+
+use crate::gate::Gate;
+use im_controller::{Controller, Name, Port};
+use im_disk::Disk;
+use im_pipes::{Outlet, Received};
+use im_types::{Entry, Op, Outcome, Refusal, WINDOW};
+use std::sync::Wait;
+
+/// What a server knows of its element's numbers.
+#[derive(Drop)]
+pub struct Served {
+    /// The element.
+    pub element: u16,
+    /// The number of the first request that it serves.
+    pub first: u64,
+    /// The least number that is kept.
+    pub base: u64,
+    /// What its requests came to as it was last told, from the first on.
+    pub entries: Vec<Entry>,
+}
+
+impl Served {
+    // The number of the next request.
+    fn next(&self) -> u64 {
+        self.first.saturating_add(self.entries.len() as u64)
+    }
+
+    // Notes what is kept for a request, where it is one of its own.
+    fn note(&mut self, number: u64, entry: Entry)
+        ensures count { length self.new.entries.items ≡ length self.old.entries.items }
+    {
+        if number < self.first {
+            return;
+        }
+        let at = (number - self.first) as usize;
+        if at < self.entries.len() {
+            self.entries[at] = entry;
+        }
+    }
+}
+
+// Whether it is worth to ask again after this refusal: the journal was full, and a turn of a checkpoint was made.
+fn help<D: Disk, K: Name, R: Wait>(
+    rt: &R,
+    controller: &Controller<D, K>,
+    port: &mut Port<K>,
+    refusal: Refusal,
+) -> Result<(), Refusal>
+    ensures same { port.new ≡ port.old }
+{
+    if refusal.number() != Refusal::JournalFull.number() {
+        return Err(refusal);
+    }
+    match port.help(rt, controller) {
+        Ok(_) => Ok(()),
+        Err(refusal) => Err(refusal),
+    }
+}
+
+// What a request was answered.
+fn entry_of(outcome: Outcome) -> Result<Entry, Refusal>
+    ensures { IfOk result (λ entry. outcome ≡ Outcome.Entry entry) }
+{
+    match outcome {
+        Outcome::Entry(entry) => Ok(entry),
+        Outcome::Confirmed => Err(Refusal::Failed), // No request is answered so.
+    }
+}
+
+// Asks for an operation, again after each turn that the full journal needed.
+fn submit<D: Disk, K: Name, R: Wait>(
+    rt: &R,
+    controller: &Controller<D, K>,
+    port: &mut Port<K>,
+    number: u64,
+    op: Op,
+) -> Result<Entry, Refusal>
+    ensures element { port.new.element ≡ port.old.element }
+    ensures told { IfOk result (IsAskedIn K.memory port.old.element number op) }
+{
+    for _ in rt.forever() {
+        match port.submit(rt, controller, number, op) {
+            Ok(receipt) => return entry_of(receipt.outcome()),
+            Err(refusal) => match help(rt, controller, port, refusal) {
+                Ok(()) => {}
+                Err(refusal) => return Err(refusal),
+            },
+        }
+    }
+    unreachable!()
+}
+
+// Confirms all below a number, again after each turn that the full journal needed.
+fn confirm<D: Disk, K: Name, R: Wait>(
+    rt: &R,
+    controller: &Controller<D, K>,
+    port: &mut Port<K>,
+    upto: u64,
+) -> Result<(), Refusal>
+    ensures element { port.new.element ≡ port.old.element }
+{
+    for _ in rt.forever() {
+        match port.confirm(rt, controller, upto) {
+            Ok(_) => return Ok(()),
+            Err(refusal) => match help(rt, controller, port, refusal) {
+                Ok(()) => {}
+                Err(refusal) => return Err(refusal),
+            },
+        }
+    }
+    unreachable!()
+}
+
+// Waits for the answer under a number, and notes it.
+fn await_one<D: Disk, K: Name, R: Wait>(
+    rt: &R,
+    controller: &Controller<D, K>,
+    port: &mut Port<K>,
+    served: &mut Served,
+    number: u64,
+) -> Result<(), Refusal>
+    ensures element { port.new.element ≡ port.old.element }
+    ensures count { length served.new.entries.items ≡ length served.old.entries.items }
+{
+    match port.await_answer(rt, controller, number) {
+        Ok(found) => {
+            served.note(number, found.entry());
+            Ok(())
+        }
+        Err(refusal) => Err(refusal),
+    }
+}
+
+// Has a place in the window for the next request: where it is full, the oldest entry is awaited and confirmed.
+fn make_place<D: Disk, K: Name, R: Wait>(
+    rt: &R,
+    controller: &Controller<D, K>,
+    port: &mut Port<K>,
+    served: &mut Served,
+) -> Result<(), Refusal>
+    ensures element { port.new.element ≡ port.old.element }
+    ensures count { length served.new.entries.items ≡ length served.old.entries.items }
+{
+    let base = served.base;
+    if served.next().saturating_sub(base) < WINDOW {
+        return Ok(());
+    }
+    match await_one(rt, controller, port, served, base) {
+        Ok(()) => {}
+        Err(refusal) => return Err(refusal),
+    }
+    let upto = base.saturating_add(1);
+    match confirm(rt, controller, port, upto) {
+        Ok(()) => {
+            served.base = upto;
+            Ok(())
+        }
+        Err(refusal) => Err(refusal),
+    }
+}
+
+// Serves an operation under the next number. There is room for its entry before it is asked for.
+fn serve_one<D: Disk, K: Name, G: Gate, R: Wait>(
+    rt: &R,
+    controller: &Controller<D, K>,
+    port: &mut Port<K>,
+    served: &mut Served,
+    op: Op,
+    gate: &G,
+) -> Result<(), Refusal>
+    ensures element { port.new.element ≡ port.old.element }
+    ensures count { OnOk result (length served.new.entries.items ≡ length served.old.entries.items + 1) }
+    ensures few { length served.new.entries.items ≤ length served.old.entries.items + 1 }
+{
+    match make_place(rt, controller, port, served) {
+        Ok(()) => {}
+        Err(refusal) => return Err(refusal),
+    }
+    if served.entries.reserve(1).is_err() {
+        return Err(Refusal::NoMemory);
+    }
+    let number = served.next();
+    let element = served.element;
+    gate.before(rt, element, number);
+    let answer = submit(rt, controller, port, number, op);
+    gate.after(rt, element, number);
+    match answer {
+        Ok(entry) => {
+            served.entries.push_reserved(entry);
+            Ok(())
+        }
+        Err(refusal) => Err(refusal),
+    }
+}
+
+// Serves what comes out of the pipe, to its end.
+fn serve_all<D: Disk, K: Name, G: Gate, R: Wait>(
+    rt: &R,
+    controller: &Controller<D, K>,
+    port: &mut Port<K>,
+    served: &mut Served,
+    outlet: &mut Outlet<Op>,
+    gate: &G,
+) -> Result<(), Refusal>
+    requires { outlet.old.ended ≡ false }
+    ensures element { port.new.element ≡ port.old.element }
+    ensures same { outlet.new.pipe ≡ outlet.old.pipe }
+    ensures open { OnErr result (outlet.new.ended ≡ false) }
+    ensures count { OnOk result (length served.new.entries.items + length outlet.old.items
+        ≡ length served.old.entries.items + length outlet.new.items) }
+    ensures few { length served.new.entries.items + length outlet.old.items
+        ≤ length served.old.entries.items + length outlet.new.items }
+{
+    for _ in rt.forever() {
+        match outlet.receive(rt) {
+            Received::Item(op) => match serve_one(rt, controller, port, served, op, gate) {
+                Ok(()) => {}
+                Err(refusal) => return Err(refusal),
+            },
+            Received::End => return Ok(()),
+            Received::Gone => return Ok(()),
+        }
+    }
+    unreachable!()
+}
+
+// Receives, without serving, to the pipe's end: so its sender returns.
+fn drain<R: Wait>(rt: &R, outlet: &mut Outlet<Op>)
+    requires { outlet.old.ended ≡ false }
+    ensures same { outlet.new.pipe ≡ outlet.old.pipe }
+    ensures more { length outlet.old.items ≤ length outlet.new.items }
+{
+    for _ in rt.forever() {
+        match outlet.receive(rt) {
+            Received::Item(_) => {}
+            Received::End => return,
+            Received::Gone => return,
+        }
+    }
+    unreachable!()
+}
+
+// Waits, in order, for the answer to each request of its own that is still kept.
+fn await_rest<D: Disk, K: Name, R: Wait>(
+    rt: &R,
+    controller: &Controller<D, K>,
+    port: &mut Port<K>,
+    served: &mut Served,
+) -> Result<(), Refusal>
+    ensures element { port.new.element ≡ port.old.element }
+    ensures count { length served.new.entries.items ≡ length served.old.entries.items }
+{
+    for number in served.base.max(served.first)..served.next() {
+        match await_one(rt, controller, port, served, number) {
+            Ok(()) => {}
+            Err(refusal) => return Err(refusal),
+        }
+    }
+    Ok(())
+}
+
+/// Serves an element's operations as they come out of a pipe, through its port, each under the next number; the gate is
+/// called round each. Before a request that finds its window full it waits for the oldest entry that is kept, and
+/// confirms it; where the journal is full it makes a turn of a checkpoint and asks again. After the last one it waits,
+/// in order, for each of its requests that is still kept. At the end its port is retired.
+///
+/// Refused with what the port refuses, `JournalFull` where no turn makes room, and `NoMemory` where there is no room
+/// for one answer more: then it serves nothing more, but receives until the pipe ends, so that its sender returns.
+pub fn serve_element<D: Disk, K: Name, G: Gate, R: Wait>(
+    rt: &R,
+    controller: &Controller<D, K>,
+    port: &mut Port<K>,
+    served: &mut Served,
+    outlet: &mut Outlet<Op>,
+    gate: &G,
+) -> Result<(), Refusal>
+    requires { outlet.old.ended ≡ false }
+    ensures element { port.new.element ≡ port.old.element }
+    ensures same { outlet.new.pipe ≡ outlet.old.pipe }
+    ensures count { OnOk result (length served.new.entries.items + length outlet.old.items
+        ≡ length served.old.entries.items + length outlet.new.items) }
+    ensures few { length served.new.entries.items + length outlet.old.items
+        ≤ length served.old.entries.items + length outlet.new.items }
+{
+    let done = match serve_all(rt, controller, port, served, outlet, gate) {
+        Ok(()) => await_rest(rt, controller, port, served),
+        Err(refusal) => {
+            drain(rt, outlet);
+            Err(refusal)
+        }
+    };
+    port.retire(rt, controller);
+    done
+}

@@ -1,0 +1,211 @@
+//! An engine beside the plain memory, which has what was answered: random commands, groups and turns, a stop at any
+//! call of the disk, and what an opening finds then.
+
+use crate::alike::are_alike;
+use crate::walks::Walk;
+use anyhow::{Result, anyhow};
+use arrayvec::ArrayVec;
+use im_disk::{Crash, FuseDisk};
+use im_engine::{Engine, are_apart};
+use im_plain::PlainMemory;
+use im_types::{Command, Limits, Outcome, Refusal, Request, Served};
+use std::alloc::Global;
+
+/// The cells of the memory, which has sixteen elements.
+pub const CELLS: u32 = 24;
+
+/// What was answered: the memory after it, how many commands that is, and the commands of the last call, of which
+/// nobody knows whether all are on the disk or none.
+#[derive(Drop)]
+pub struct Answered {
+    plain: PlainMemory,
+    count: u64,
+    doubt: ArrayVec<Command, 16>,
+}
+
+/// Nothing was answered yet.
+pub fn nothing(alloc: Global, limits: Limits) -> Result<Answered> {
+    Ok(Answered {
+        plain: PlainMemory::new(alloc, limits)?,
+        count: 0,
+        doubt: ArrayVec::new(),
+    })
+}
+
+/// What a crash leaves, as chance has it.
+pub fn a_crash(walk: &mut Walk) -> Crash {
+    match walk.below(4) {
+        0 => Crash::Kept,
+        1 => Crash::Lost,
+        2 => Crash::Byte(0xA5),
+        _ => Crash::Byte(0),
+    }
+}
+
+// Takes a turn. Whether the disk still works.
+fn turns(engine: &mut Engine<FuseDisk>) -> Result<bool> {
+    match engine.turn() {
+        Ok(_) => Ok(true),
+        Err(Refusal::Device) => Ok(false),
+        Err(refusal) => Err(anyhow!("a turn is refused: {refusal}")),
+    }
+}
+
+// Serves a command, which is answered as the plain memory answers it. Whether the disk still works.
+fn serves(engine: &mut Engine<FuseDisk>, known: &mut Answered, command: Command) -> Result<bool> {
+    let is_accepted = known.plain.judge(&command) == Ok(true);
+    match engine.serve(&command) {
+        Err(Refusal::Device) if is_accepted => {
+            let mut doubt = ArrayVec::new();
+            doubt.push(command);
+            known.doubt = doubt;
+            Ok(false)
+        }
+        Err(Refusal::JournalFull) if is_accepted && engine.room() == 0 => Ok(true),
+        answer => {
+            if answer != known.plain.step(&command) {
+                return Err(anyhow!("a command is answered otherwise"));
+            }
+            known.count = known.count.saturating_add(is_accepted as u64);
+            Ok(true)
+        }
+    }
+}
+
+// The commands of those members that are accepted and find room, none of which acts.
+fn accepted(
+    plain: &PlainMemory,
+    members: &ArrayVec<Request, 16>,
+    room: usize,
+) -> ArrayVec<Command, 16> {
+    let mut commands = ArrayVec::new();
+    for member in members.as_slice() {
+        let command = Command::Request(*member);
+        if commands.len() < room && plain.judge(&command) == Ok(true) {
+            let _is_full = commands.try_push(command);
+        }
+    }
+    commands
+}
+
+// What a member of a group has to be answered, which the plain memory then has too, where so many were accepted.
+fn expected(known: &mut Answered, command: Command, left: &mut usize) -> Result<Outcome, Refusal> {
+    if known.plain.judge(&command) == Ok(true) {
+        if *left == 0 {
+            return Err(Refusal::JournalFull);
+        }
+        *left -= 1;
+        known.count = known.count.saturating_add(1);
+    }
+    known.plain.step(&command)
+}
+
+// Whether this is what a member was answered.
+fn is_answer(served: Served, answer: Result<Outcome, Refusal>) -> bool {
+    match served {
+        Served::Done(outcome) => answer == Ok(outcome),
+        Served::Refused(refusal) => answer == Err(refusal),
+        Served::Unserved => false,
+    }
+}
+
+// Whether all members were answered `Device`.
+fn are_in_doubt(served: &ArrayVec<Served, 16>) -> bool {
+    let mut all = true;
+    for answer in served.as_slice() {
+        all = all && is_answer(*answer, Err(Refusal::Device));
+    }
+    all
+}
+
+// Serves a group, whose members are answered as the plain memory answers them one after another. Whether the disk still
+// works.
+fn serves_group(
+    engine: &mut Engine<FuseDisk>,
+    known: &mut Answered,
+    members: &ArrayVec<Request, 16>,
+) -> Result<bool> {
+    if !are_apart(members.as_slice()) {
+        return Err(anyhow!("two requests of one element"));
+    }
+    let room = engine.room() as usize;
+    let commands = accepted(&known.plain, members, room);
+    let mut served = ArrayVec::new();
+    engine.serve_group(members, &mut served);
+    if !commands.is_empty() && are_in_doubt(&served) {
+        known.doubt = commands;
+        return Ok(false);
+    }
+    let mut left = room;
+    for (member, answer) in members.as_slice().iter().zip(served.as_slice()) {
+        if !is_answer(
+            *answer,
+            expected(known, Command::Request(*member), &mut left),
+        ) {
+            return Err(anyhow!("a member is answered otherwise"));
+        }
+    }
+    Ok(true)
+}
+
+// A turn, a group or a command, as chance has it, and mostly a turn where there is no room. Whether the disk still
+// works.
+fn goes(engine: &mut Engine<FuseDisk>, known: &mut Answered, walk: &mut Walk) -> Result<bool> {
+    if engine.room() == 0 && walk.below(8) > 0 {
+        return turns(engine);
+    }
+    match walk.below(6) {
+        0 | 1 => turns(engine),
+        2 | 3 => {
+            let members = walk.group(&known.plain, CELLS);
+            serves_group(engine, known, &members)
+        }
+        _ => {
+            let command = walk.command(&known.plain, CELLS);
+            serves(engine, known, command)
+        }
+    }
+}
+
+/// So many commands, groups and turns, as chance has it. Whether the disk still works; after its stop nothing is done.
+pub fn goes_on(
+    engine: &mut Engine<FuseDisk>,
+    known: &mut Answered,
+    walk: &mut Walk,
+    events: u64,
+) -> Result<bool> {
+    for _ in 0..events {
+        if !goes(engine, known, walk)? {
+            return Ok(false);
+        }
+    }
+    Ok(true)
+}
+
+/// Sees that what an opening found is all that was answered, or that and all commands in doubt. These are known from
+/// then on.
+pub fn has_all(engine: &Engine<FuseDisk>, known: &mut Answered, limits: Limits) -> Result<()> {
+    if engine.count() != known.count {
+        for command in known.doubt.as_slice() {
+            let _answer = known.plain.step(command);
+            known.count = known.count.saturating_add(1);
+        }
+    }
+    known.doubt = ArrayVec::new();
+    are_known(engine, known, limits)
+}
+
+/// Sees that an engine has what was answered, and no more.
+pub fn are_known(engine: &Engine<FuseDisk>, known: &Answered, limits: Limits) -> Result<()> {
+    if engine.count() != known.count {
+        return Err(anyhow!("what was answered is lost, or more was found"));
+    }
+    are_alike(engine.memory(), &known.plain, limits)
+}
+
+impl Answered {
+    /// How many commands were answered.
+    pub fn count(&self) -> u64 {
+        self.count
+    }
+}
