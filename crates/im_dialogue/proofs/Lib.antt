@@ -1,1 +1,2 @@
 pub mod TalkLemmas
+pub mod DialogueLemmas

@@ -90,7 +90,7 @@ module _ {D : Type 0} (now : D → Moment) (past : D → List Moment) (honest : 
         subst (λ (l : List Command). MeansAfter start l (length put) file) (sym same) all,
       )
 
-  ended_at : (start old : EngineState D) (said : List Exchange) → IsAt now past start old said → HasEnded now past start old.disk said []
+  pub ended_at : (start old : EngineState D) (said : List Exchange) → IsAt now past start old said → HasEnded now past start old.disk said []
   ended_at start old said at = record {
     answered = at.answered;
     leaves = subst (λ (l : List Command). Leaves (now start.disk) (now old.disk) (past start.disk) (past old.disk) (MeansBeginning start l)) (sym (append-nil (put_of start.memory said))) at.leaves;

@@ -1,3 +1,4 @@
 pub mod Asking
 pub mod Answers
 pub mod Talk
+pub mod Dialogue

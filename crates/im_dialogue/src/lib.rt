@@ -3,10 +3,12 @@
 
 mod answers;
 mod asking;
+mod dialogue;
 mod serving;
 mod talk;
 
 pub use answers::{Answer, Expected, add_answer};
 pub use asking::{Asked, read_asked};
+pub use dialogue::dialogue_on;
 pub use serving::serve_lines;
 pub use talk::{answer, make_room};

@@ -4,7 +4,7 @@ use Rattle.std.specs.Option.{option_map, option_and_then, option_map_or}
 use Rattle.std.specs.Str.{bytes_eq}
 use Rattle.clap.specs.Words.{App, Row, Rule, Text, first_of, new_app, new_rule, subcommand_of, with_rule, with_subcommand}
 use Rattle.im_program.specs.declared.words.Work.{Work}
-use Rattle.im_program.specs.declared.words.Work.TheVariants.{Demonstration, Format, Serial, Inspect}
+use Rattle.im_program.specs.declared.words.Work.TheVariants.{Demonstration, Format, Serial, Serve, Inspect}
 use Rattle.im_script.specs.Grammar.{number_up_to}
 
 -- ---- what a parse reads of the command line
@@ -25,6 +25,10 @@ format_app = with_rule (with_rule (with_rule (with_rule (new_app (codes "format"
 abbrev pub serial_app : App
 serial_app = with_rule (with_rule (new_app (codes "serial")) (path_rule (codes "IMAGE"))) (path_rule (codes "SCRIPT"))
 
+-- serve IMAGE
+abbrev pub serve_app : App
+serve_app = with_rule (new_app (codes "serve")) (path_rule (codes "IMAGE"))
+
 -- inspect IMAGE
 abbrev pub inspect_app : App
 inspect_app = with_rule (new_app (codes "inspect")) (path_rule (codes "IMAGE"))
@@ -35,7 +39,7 @@ with_version app = record app { top = record app.top { has_version = true } }
 
 -- imem, alone or with one of its subcommands
 abbrev pub imem_app : App
-imem_app = with_subcommand (with_subcommand (with_subcommand (with_version (new_app (codes "imem"))) format_app.top) serial_app.top) inspect_app.top
+imem_app = with_subcommand (with_subcommand (with_subcommand (with_subcommand (with_version (new_app (codes "imem"))) format_app.top) serial_app.top) serve_app.top) inspect_app.top
 
 -- ---- what is asked for
 
@@ -44,6 +48,7 @@ pub data Task : Type 0 where
   demonstration : Task
   format : (image : List ℕ) (cells elements slots : ℕ) → Task
   serial : (image script : List ℕ) → Task
+  serve : (image : List ℕ) → Task
   inspect : (image : List ℕ) → Task
 
 -- the task that a Work is
@@ -51,6 +56,7 @@ abbrev pub task_of : Work → Task
 task_of Demonstration = demonstration
 task_of (Format image cells elements slots) = format image.now cells elements slots
 task_of (Serial image script) = serial image.now script.now
+task_of (Serve image) = serve image.now
 task_of (Inspect image) = inspect image.now
 
 -- an option's number, in decimal digits below 2^32, or `fallback` where the option is not given
@@ -71,6 +77,10 @@ format_task rows =
 abbrev pub serial_task : List Row → Task
 serial_task rows = serial (path_in rows (codes "IMAGE")) (path_in rows (codes "SCRIPT"))
 
+-- the task of serve, by its path
+abbrev pub serve_task : List Row → Task
+serve_task rows = serve (path_in rows (codes "IMAGE"))
+
 -- the task of inspect, by its path
 abbrev pub inspect_task : List Row → Task
 inspect_task rows = inspect (path_in rows (codes "IMAGE"))
@@ -78,7 +88,7 @@ inspect_task rows = inspect (path_in rows (codes "IMAGE"))
 -- the subcommand that was met, with what was found of its arguments
 abbrev pub task_in : Option (Text × List Row) → Option Task
 task_in None = Some demonstration
-task_in (Some met) = if bytes_eq met.0 (codes "format") then format_task met.1 else if bytes_eq met.0 (codes "serial") then Some (serial_task met.1) else Some (inspect_task met.1)
+task_in (Some met) = if bytes_eq met.0 (codes "format") then format_task met.1 else if bytes_eq met.0 (codes "serial") then Some (serial_task met.1) else if bytes_eq met.0 (codes "serve") then Some (serve_task met.1) else Some (inspect_task met.1)
 
 -- what the words ask for, as clap walks them
 abbrev pub asked : List Text → Option Task

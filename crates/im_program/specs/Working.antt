@@ -6,7 +6,8 @@ use Rattle.im_disk.specs.Since.{LeavesNow, ReadsOnly}
 use Rattle.im_image.specs.Fresh.{new_image}
 use Rattle.im_report.specs.Inspecting.{Tells}
 use Rattle.im_serial.specs.Serving.{ServedFrom}
-use Rattle.im_program.specs.Words.{Task, demonstration, format, serial, inspect}
+use Rattle.im_dialogue.specs.Dialogue.{TalkedFrom}
+use Rattle.im_program.specs.Words.{Task, demonstration, format, serial, serve, inspect}
 
 -- A task was done on this disk, with this status: its file held the first moment when it was opened, and the writer held
 -- these bytes before, and holds those now. No file is opened for the demonstration.
@@ -15,4 +16,5 @@ DoneOn now past failures first demonstration was is status disk = ⊥
 DoneOn now past failures first (format image cells elements slots) was is status disk =
     (status ≡ 0) × AreLimits cells elements slots × LeavesNow (now disk) (λ file. file ≡ new_image 0xA5 (record { cells = cells; elements = elements; slots = slots }))
 DoneOn now past failures first (serial image script) was is status disk = ServedFrom now past failures first disk was is status
+DoneOn now past failures first (serve image) was is status disk = TalkedFrom now past first disk was is status
 DoneOn now past failures first (inspect image) was is status disk = (status ≡ 0 → Tells first.bytes was is) × ReadsOnly first (now disk) [] (past disk)

@@ -27,6 +27,7 @@ impl<'a, R: Eprint + AllocGlobal> Console<'a, R> {
             Work::Demonstration => ("", ""),
             Work::Format { image, .. } | Work::Inspect { image } => (image, ""),
             Work::Serial { image, script } => (image, script),
+            Work::Serve { image } => (image, "-"),
         };
         Console {
             rt,

@@ -7,4 +7,4 @@ mod words;
 mod work;
 
 pub use words::{DEFAULT_CELLS, DEFAULT_ELEMENTS, DEFAULT_SLOTS, WordFault, Work, read_words};
-pub use work::{act, format_file, inspect_file, refuse, serve_file};
+pub use work::{act, format_file, inspect_file, refuse, serve_file, talk_file};

@@ -5,8 +5,8 @@ ghost use Rattle.clap.specs.Words.{app_of, fault_of, found_of, kind_of, rows_of,
 ghost use Rattle.clap.specs.declared.builder.command.Command.TheViews.{out-Command};
 ghost use Rattle.im_script.specs.Grammar.{texts};
 ghost use Rattle.im_program.specs.Words.{asked, format_app, format_task, imem_app, inspect_app, inspect_task};
-ghost use Rattle.im_program.specs.Words.{number_in, option_rule, path_in, path_rule, serial_app, serial_task};
-ghost use Rattle.im_program.specs.Words.{task_in, task_of};
+ghost use Rattle.im_program.specs.Words.{number_in, option_rule, path_in, path_rule, serial_app, serial_task, serve_app};
+ghost use Rattle.im_program.specs.Words.{serve_task, task_in, task_of};
 
 use clap::error::ErrorKind;
 use clap::{Arg, ArgMatches, Command, Error};
@@ -44,6 +44,11 @@ pub enum Work<'a> {
         image: &'a str,
         /// The script's path.
         script: &'a str,
+    },
+    /// Serve a dialogue of standard input.
+    Serve {
+        /// The image's path.
+        image: &'a str,
     },
     /// Tell what an image means.
     Inspect {
@@ -117,6 +122,26 @@ file fetch.script, served on the image a.img
 
 Exit status: 0 all was served; 1 something was refused, with 'refused N NAME' as the last line, or the
 output can't be written; 2 a bad command line. Standard error has one line more about a refusal.";
+
+const SERVE: &str = "Serve a dialogue: read a line, answer it by a line, until the input ends";
+
+const SERVE_EXAMPLES: &str =
+    "Reads standard input line by line, and prints the answer to each once what it tells is on the disk,
+before it reads the next. Requests have their numbers, and one that is sent again acts once:
+  E.N alloc i|m LENGTH, E.N release A, E.N fetch A, E.N store A VALUE, E.N take A, E.N put A VALUE
+                        element E's request N: 'E.N REPLY' or 'E.N refused NUMBER NAME'
+  collect E.N           what is kept for it now
+  confirm E UPTO        drop E's entries below UPTO: 'E confirmed UPTO'
+  window E              'E window BASE NEXT': the first number that is kept, and the next new one
+  room, turn, count     room for so many commands; a turn of a checkpoint; so many commands so far
+  quit                  the end
+Any other line is answered 'error LINE: ' and what was expected, and changes nothing.
+
+Example: the lines '1.1 alloc i 1', '1.2 fetch 0' and '2.1 store 0 5' in the file ask.txt
+  imem serve a.img < ask.txt
+
+Exit status: 0 the input ended; 1 the image was refused, a call of the disk failed, or the output
+can't be written, with 'refused N NAME' as the last line; 2 a bad command line.";
 
 const INSPECT: &str = "Print what an image means, and change nothing";
 
@@ -205,6 +230,19 @@ fn serial_command<'a>(alloc: Global) -> Result<Command<'a>, AllocError>
     Ok(two)
 }
 
+/// The subcommand `serve`.
+fn serve_command<'a>(alloc: Global) -> Result<Command<'a>, AllocError>
+    ensures app { IfOk result (λ c. app_of c ≡ serve_app) }
+    ensures local { IfOk result (λ c. (out-Command c).has_globals ≡ false) }
+{
+    let empty = Command::new(alloc, "serve")
+        .about(SERVE)
+        .after_help(SERVE_EXAMPLES);
+    let image = path_argument(alloc, "IMAGE", "The image, made by 'imem format'");
+    let one = empty.arg(image)?;
+    Ok(one)
+}
+
 /// The subcommand `inspect`.
 fn inspect_command<'a>(alloc: Global) -> Result<Command<'a>, AllocError>
     ensures app { IfOk result (λ c. app_of c ≡ inspect_app) }
@@ -228,11 +266,13 @@ fn imem_command<'a>(alloc: Global) -> Result<Command<'a>, AllocError>
         .after_help(EXAMPLES);
     let format = format_command(alloc)?;
     let serial = serial_command(alloc)?;
+    let serve = serve_command(alloc)?;
     let inspect = inspect_command(alloc)?;
     let one = empty.subcommand(format)?;
     let two = one.subcommand(serial)?;
-    let three = two.subcommand(inspect)?;
-    Ok(three)
+    let three = two.subcommand(serve)?;
+    let four = three.subcommand(inspect)?;
+    Ok(four)
 }
 
 /// The number of an option, or `fallback` where it is not given. `None` where it is no decimal number of a u32.
@@ -280,6 +320,14 @@ fn serial_work<'a>(found: &ArgMatches<'a>) -> Work<'a>
     Work::Serial { image, script }
 }
 
+/// What `serve` is asked for.
+fn serve_work<'a>(found: &ArgMatches<'a>) -> Work<'a>
+    ensures { task_of result ≡ serve_task (rows_of (found_of found.now)) }
+{
+    let image = path_of(found, "IMAGE");
+    Work::Serve { image }
+}
+
 /// What `inspect` is asked for.
 fn inspect_work<'a>(found: &ArgMatches<'a>) -> Work<'a>
     ensures { task_of result ≡ inspect_task (rows_of (found_of found.now)) }
@@ -299,6 +347,8 @@ fn work_of<'a>(matches: &ArgMatches<'a>) -> Option<Work<'a>>
                 format_work(found)
             } else if name == "serial" {
                 Some(serial_work(found))
+            } else if name == "serve" {
+                Some(serve_work(found))
             } else {
                 Some(inspect_work(found))
             }

@@ -9,12 +9,14 @@ ghost use Rattle.im_image.specs.Fresh.{new_image};
 ghost use Rattle.im_report.specs.Inspecting.{Tells};
 ghost use Rattle.im_text.specs.Printing.{Begins, IsLast};
 ghost use Rattle.im_serial.specs.Serving.{ServedFrom};
+ghost use Rattle.im_dialogue.specs.Dialogue.{TalkedFrom};
 ghost use Rattle.im_program.specs.Words.{demonstration, task_of};
 ghost use Rattle.im_program.specs.Working.{DoneOn};
 
 use crate::console::Console;
 use crate::words::{DEFAULT_CELLS, DEFAULT_ELEMENTS, DEFAULT_SLOTS, Work};
 use im_damage::Damage;
+use im_dialogue::dialogue_on;
 use im_disk::{Disk, FileDisk, MemDisk, OpenFault, Start};
 use im_engine::Engine;
 use im_image::image_length;
@@ -227,6 +229,38 @@ pub fn serve_file<R: Files<File = File> + AllocGlobal + Input, S: Start, W: Writ
     }
 }
 
+/// Serves a dialogue of standard input on the image of a file, and gives its disk back, with the status and the lines
+/// of [`dialogue_on`].
+///
+/// Whatever the image held when it was opened (`S`): as long as the file was honest, a crash at any moment since then
+/// leaves what [`dialogue_on`] says.
+///
+/// Refused is, with nothing printed, no line read, and the image as it was, `Device` for an image that can't be opened:
+/// it is no regular file, another opening has its lock, or a call of the system fails. The observer is told why. What
+/// [`dialogue_on`] refuses is its status and its last line.
+///
+/// That an image is ever opened is no clause: none knows what a folder holds.
+pub fn talk_file<R: Files<File = File> + AllocGlobal + Input, S: Start, W: Write, N: Observer>(
+    rt: &R,
+    image: &str,
+    out: &mut W,
+    observer: &mut N,
+    start: S,
+) -> Result<(u8, FileDisk<S>), Refusal>
+    ensures status { IfOk result (λ r. r.0 ≤ 1) }
+    ensures talked { IfOk result (λ r. ⟦<FileDisk<S> as Disk>⟧.honest r.1 →
+        TalkedFrom ⟦<FileDisk<S> as Disk>⟧.now ⟦<FileDisk<S> as Disk>⟧.past
+        S.first r.1 (W.contents out.old) (W.contents out.new) r.0) }
+    ensures refused { IfErr result (λ refusal. refusal ≡ Device) }
+    ensures same { OnErr result (Keeps (W.contents out.old) (W.contents out.new)) }
+{
+    let mut input = rt.reader();
+    match FileDisk::open(rt, image, start) {
+        Ok(disk) => Ok(dialogue_on(rt.alloc(), disk, &mut input, out, observer)),
+        Err(fault) => Err(refusal_of(rt, image, fault, observer)),
+    }
+}
+
 /// Tells what the image of a file means, and gives its disk back, with the status and the lines of [`inspect_on`].
 ///
 /// Whatever the image held when it was opened (`S`): where the file was honest and the status is 0, the report of those
@@ -349,6 +383,10 @@ fn do_work<R: Files<File = File> + AllocGlobal + Input, S: Start, W: Write, N: O
             Ok((status, disk)) => Ok((status, Some(disk))),
             Err(refusal) => Err(refusal),
         },
+        Work::Serve { image } => match talk_file(rt, image, out, observer, start) {
+            Ok((status, disk)) => Ok((status, Some(disk))),
+            Err(refusal) => Err(refusal),
+        },
         Work::Inspect { image } => match inspect_file(rt, image, out, observer, start) {
             Ok((status, disk)) => Ok((status, Some(disk))),
             Err(refusal) => Err(refusal),
@@ -363,7 +401,7 @@ fn do_work<R: Files<File = File> + AllocGlobal + Input, S: Start, W: Write, N: O
 /// `is_watched`, how far a long script has come.
 ///
 /// Refused are: `BadLimits` for an image with a number out of its range, and then no file is made; and what
-/// [`format_file`], [`serve_file`] and [`inspect_file`] refuse. Where there is a disk, its status and what was printed
+/// [`format_file`], [`serve_file`], [`talk_file`] and [`inspect_file`] refuse. Where there is a disk, its status and what was printed
 /// are those of the one that was called; where there is none, the status is 1, but for the demonstration.
 ///
 /// `start` stands for what the image holds when it is opened. It is used up, and no code reads it.

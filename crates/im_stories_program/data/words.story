@@ -8,6 +8,7 @@ imem format a.img --cells 0 = make a.img of 0 cells, 16 elements, 256 slots
 imem format a.img --cells 0004294967295 = make a.img of 4294967295 cells, 16 elements, 256 slots
 imem serial a.img s = serve s on a.img
 imem serial a.img - = serve - on a.img
+imem serve a.img = talk on a.img
 imem inspect a.img = tell of a.img
 
 # Bad words are refused with status 2, and what is said names them
@@ -23,6 +24,12 @@ imem serial a.img = status 2
 says SCRIPT = yes
 imem inspect = status 2
 says IMAGE = yes
+imem serve = status 2
+says IMAGE = yes
+imem serve a.img s = status 2
+says 's' = yes
+says Usage: imem serve <IMAGE> = yes
+imem inspect = status 2
 -- The usage is that of the subcommand.
 says Usage: imem inspect <IMAGE> = yes
 imem serial a.img s t = status 2
@@ -58,6 +65,9 @@ imem format --help = status 0
 says imem format small.img --cells 64 = yes
 imem serial --help = status 0
 says Serve the requests of a script = yes
+imem serve --help = status 0
+says imem serve a.img < ask.txt = yes
+says Exit status: 0 the input ended = yes
 imem inspect --help = status 0
 says imem inspect a.img = yes
 says Exit status: 0 all was told = yes

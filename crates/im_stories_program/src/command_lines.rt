@@ -24,6 +24,7 @@ fn add_work(said: &mut String, work: &Work) -> Result<(), AllocError> {
             "make {image} of {cells} cells, {elements} elements, {slots} slots"
         ),
         Work::Serial { image, script } => write!(said, "serve {script} on {image}"),
+        Work::Serve { image } => write!(said, "talk on {image}"),
         Work::Inspect { image } => write!(said, "tell of {image}"),
     }
 }

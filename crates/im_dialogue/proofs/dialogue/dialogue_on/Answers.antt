@@ -1,0 +1,10 @@
+use Rattle.std.proofs.Common.{inr}
+use Rattle.im_dialogue.proofs.DialogueLemmas.{talked}
+use Rattle.im_dialogue.proofs.dialogue.dialogue_on.Goals as goal
+
+pub returns-in-Ok-clause-talked : goal.returns-in-Ok-clause-talked
+returns-in-Ok-clause-talked g c = λ honest.
+    let was = c.talk_on.ensures.honest honest in
+    let engine = c.in-Ok.engine in
+    let e = c.in-Ok.ensures in
+    inr (talked g.D.Disk.now g.D.Disk.past c.args.disk engine c.talk_on.result.1 (g.W.Write.contents c.args.out.now) (g.W.Write.contents c.talk_on.new.out) c.talk_on.result.0 (e.leaves was) (e.means was) (c.talk_on.ensures.closed honest))

@@ -1,0 +1,53 @@
+-- What a dialogue leaves on a disk. (Own.)
+use Rattle.std.specs.Prelude.{◌≡◌, ◌⊎◌, ℕ, ◌≤◌, List, [], ◌++◌, length, Option}
+use Rattle.std.specs.Io.KnownBytes.{Appends}
+use Rattle.im_types.specs.declared.commands.Command.{Command}
+use Rattle.im_disk.specs.Moment.{Moment, Left}
+use Rattle.im_disk.specs.Since.{Leaves, LeavesNow}
+use Rattle.im_engine.specs.State.{EngineState, MeansState}
+use Rattle.im_engine.specs.Run.{MeansBeginning}
+use Rattle.im_text.specs.Printing.{Begins, IsLast}
+use Rattle.im_dialogue.specs.Talk.{AreAnswered, Exchange, HasEnded, MeansSaid, put_of, texts_of}
+
+-- a beginning of the text was written, and then no more than a refusal
+abbrev pub PrintsThenLast : Option (List ℕ) → Option (List ℕ) → List ℕ → Type 0
+PrintsThenLast was is text = (mid : Option (List ℕ)) × Begins was mid text × ((last : List ℕ) × (IsLast last × Begins mid is last))
+
+-- An engine was closed, and the status given, after this was said on it. Where the status is 0 nothing is in doubt, and all
+-- answers were printed, and nothing else.
+pub record Closed {D : Type 0} (now : D → Moment) (past : D → List Moment) (start : EngineState D) (disk : D) (was is : Option (List ℕ)) (status : ℕ) : Type 0 where
+  pub said : List Exchange
+  pub doubt : List Command
+  pub one : length doubt ≤ 1
+  pub ended : HasEnded now past start disk said doubt
+  pub printed : PrintsThenLast was is (texts_of said)
+  pub whole : status ≡ 0 → (doubt ≡ []) × Appends was is (texts_of said)
+
+-- The image was opened, with the meaning of a file that a crash could leave then, and this was said on it, the last first:
+-- each line was answered on the memory after those before it. From then on a crash leaves the memory after a beginning of
+-- the commands that were put; and at the end after all of them, or with one in doubt. Where the status is 0 none is in doubt,
+-- and all answers were printed, and nothing else.
+pub record Talked {D : Type 0} (now : D → Moment) (past : D → List Moment) (old new : D) (was is : Option (List ℕ)) (status : ℕ) : Type 0 where
+  pub start : EngineState D
+  pub said : List Exchange
+  pub doubt : List Command
+  pub one : length doubt ≤ 1
+  pub found : (file : List ℕ) × Left (now old) file × MeansState start file
+  pub answered : AreAnswered start.memory start.count said
+  pub leaves : Leaves (now old) (now new) (past old) (past new) (MeansBeginning start (put_of start.memory said ++ doubt))
+  pub kept : LeavesNow (now new) (MeansSaid start said doubt)
+  pub printed : PrintsThenLast was is (texts_of said)
+  pub whole : status ≡ 0 → (doubt ≡ []) × Appends was is (texts_of said)
+
+-- The image was not opened: a crash leaves nothing that it couldn't leave before, and no more than a refusal was printed.
+pub record NotOpened {D : Type 0} (now : D → Moment) (past : D → List Moment) (old new : D) (was is : Option (List ℕ)) (status : ℕ) : Type 0 where
+  pub status_is : status ≡ 1
+  pub printed : (last : List ℕ) × (IsLast last × Begins was is last)
+  pub leaves : Leaves (now old) (now new) (past old) (past new) (Left (now old))
+
+-- The same of a disk that was opened at this moment, before which there was none.
+pub record TalkedFrom {D : Type 0} (now : D → Moment) (past : D → List Moment) (first : Moment) (new : D) (before after : Option (List ℕ)) (status : ℕ) : Type 0 where
+  pub old : D
+  pub was : now old ≡ first
+  pub none : past old ≡ []
+  pub talked : NotOpened now past old new before after status ⊎ Talked now past old new before after status

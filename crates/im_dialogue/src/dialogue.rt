@@ -1,0 +1,66 @@
+//! A dialogue on the image of a disk.
+ghost use Rattle.std.specs.Prelude.{◌≡◌, ◌⊎◌, ◌≤◌, false};
+ghost use Rattle.im_disk.specs.Since.{LeavesNow};
+ghost use Rattle.im_engine.specs.State.{MeansState};
+ghost use Rattle.im_dialogue.specs.Dialogue.{Closed, NotOpened, Talked};
+
+use crate::serving::serve_lines;
+use im_disk::Disk;
+use im_engine::Engine;
+use im_text::{Observer, diagnose, end};
+use std::alloc::Global;
+use std::io::{BufRead, Write};
+
+/// Opens the image of a disk, serves a dialogue on it as [`serve_lines`] does, and gives the disk back.
+///
+/// The status is 0, or 1 where something ended the dialogue: the image was refused at opening; a call of the disk
+/// failed; the input can't be read, or the output can't be written; or there was not enough memory. The observer is
+/// told why, and `refused N NAME` is printed as the last line, but for an output that can't be written.
+///
+/// Where the image isn't opened, a crash leaves nothing that it couldn't leave before. From the opening on, a crash
+/// leaves the memory after a beginning of the commands that were put on the image, and at the end after all that were
+/// answered, and perhaps one more where a call of the disk failed. What was printed is a beginning of the answers, then
+/// of the refusal; and where the status is 0, all answers and nothing else.
+pub fn dialogue_on<D: Disk, R: BufRead, W: Write, N: Observer>(
+    alloc: Global,
+    disk: D,
+    input: &mut R,
+    out: &mut W,
+    observer: &mut N,
+) -> (u8, D)
+    ensures status { result.0 ≤ 1 }
+    ensures talked { D.honest result.1
+        → NotOpened D.now D.past disk result.1 (W.contents out.old) (W.contents out.new) result.0
+        ⊎ Talked D.now D.past disk result.1 (W.contents out.old) (W.contents out.new) result.0 }
+    ensures honest { D.honest result.1 → D.honest disk }
+{
+    // A stop in it leaves what a stop before it leaves: an opening writes nothing.
+    match Engine::open(alloc, disk) {
+        Ok(engine) => talk_on(alloc, engine, input, out, observer),
+        Err((refusal, mut disk)) => {
+            let reason = diagnose(alloc, &mut disk, refusal);
+            (end(alloc, Err(reason), out, observer), disk)
+        }
+    }
+}
+
+// Serves a dialogue on an engine, and gives its disk back.
+fn talk_on<D: Disk, R: BufRead, W: Write, N: Observer>(
+    alloc: Global,
+    mut engine: Engine<D>,
+    input: &mut R,
+    out: &mut W,
+    observer: &mut N,
+) -> (u8, D)
+    requires works { engine.failed ≡ false }
+    requires means { D.honest engine.disk → LeavesNow (D.now engine.disk) (MeansState engine) }
+    ensures status { result.0 ≤ 1 }
+    ensures closed { D.honest result.1
+        → Closed D.now D.past engine result.1 (W.contents out.old) (W.contents out.new) result.0 }
+    ensures honest { D.honest result.1 → D.honest engine.disk }
+{
+    match serve_lines(alloc, &mut engine, input, out) {
+        Ok(()) => (0, engine.close()),
+        Err(reason) => (end(alloc, Err(reason), out, observer), engine.close()),
+    }
+}
