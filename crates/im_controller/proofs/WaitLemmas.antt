@@ -5,7 +5,6 @@ use Rattle.im_types.specs.declared.operations.Entry.TheVariants.{Waiting, Answer
 use Rattle.im_types.specs.declared.commands.Line.{Line}
 use Rattle.im_types.specs.declared.refusals.Refusal.{Refusal}
 use Rattle.im_types.specs.declared.refusals.Refusal.TheVariants.{Failed, TraceFull, Stalled}
-use Rattle.im_types.specs.Refusals.{number_of}
 use Rattle.im_laws.proofs.Tests.{true_false}
 use Rattle.im_controller.specs.declared.servers.Ask.{Ask}
 use Rattle.im_controller.specs.declared.servers.Ask.TheVariants.{Go, Wait}
@@ -76,6 +75,6 @@ go-stalled e = cc
 pub err-waits : (r : Refusal) → ◌≢◌ {A = Result Ask Refusal} (Err r) (Ok Wait)
 err-waits r e = cc
 
--- a refusal with another number isn't Stalled
-pub other-stalled : (r : Refusal) (n : ℕ) → n ≡ number_of r → n ≢ 19 → ◌≢◌ {A = Result Ask Refusal} (Err r) (Err Stalled)
-other-stalled r n is other e = let same : r ≡ Stalled = cc in other (is ∙ ap number_of same)
+-- a refusal that isn't Stalled
+pub other-stalled : (r : Refusal) → r ≢ Stalled → ◌≢◌ {A = Result Ask Refusal} (Err r) (Err Stalled)
+other-stalled r other e = let same : r ≡ Stalled = cc in other same

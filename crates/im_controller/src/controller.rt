@@ -92,16 +92,20 @@ impl<D: Disk, K: Name> Controller<D, K> {
     }
 
     /// The loop of the thread that keeps checkpoints: one turn for each holding of the lock, asleep while there is
-    /// nothing to do, until the controller ends. `Device` where a call of the disk failed in its turn, and `Failed`
-    /// where an earlier one did.
+    /// nothing to do, until the controller ends. While the journal has less room than there are elements it keeps its
+    /// place at the head of the queue, so that groups don't shrink to what one turn makes free. `Device` where a call
+    /// of the disk failed in its turn, and `Failed` where an earlier one did.
     pub fn keep_checkpoints<R: Wait>(&self, rt: &R) -> Result<(), Refusal> {
+        let mut turn = self.turns.wait(rt, self.keeper);
         for _ in rt.forever() {
-            let turn = self.turns.wait(rt, self.keeper);
             let mut guard = self.shared.lock(rt);
             let kept = keep_once(&mut *guard);
             // Read before the lock is let go: whoever changes something after this rings later.
             let seen = self.work.read(rt);
             let _lock = MutexGuard::unlock(guard);
+            if matches!(kept, Kept::Pressed) {
+                continue;
+            }
             self.turns.pass_on(rt, turn);
             match kept {
                 Kept::Ended => return Ok(()),
@@ -109,9 +113,10 @@ impl<D: Disk, K: Name> Controller<D, K> {
                     self.answers.ring(rt);
                     return Err(refusal);
                 }
-                Kept::Worked => {}
+                Kept::Worked | Kept::Pressed => {}
                 Kept::Idle => self.work.wait_past(rt, seen),
             }
+            turn = self.turns.wait(rt, self.keeper);
         }
         unreachable!()
     }

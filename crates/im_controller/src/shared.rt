@@ -231,8 +231,8 @@ pub(crate) fn ask_once<D: Disk, K: Name>(
         Ok(Ask::Wait) => None,
         Ok(Ask::Go) => Some(find(shared, tally, element, number)),
         Err(refusal) => {
-            if refusal.number() == 19 {
-                return Some(Err(refusal)); // Stalled. Any other is told again, with its line.
+            if refusal == Refusal::Stalled {
+                return Some(Err(refusal)); // Any other is told again, with its line.
             }
             Some(find(shared, tally, element, number))
         }
@@ -244,6 +244,7 @@ pub(crate) fn ask_once<D: Disk, K: Name>(
 pub(crate) enum Kept {
     Ended,
     Worked,
+    Pressed, // It worked, and more has to be made free before all elements are served.
     Idle,
     Refused(Refusal),
 }
@@ -258,7 +259,12 @@ pub(crate) fn keep_once<D: Disk, K: Name>(shared: &mut Shared<D, K>) -> Kept {
             shared.idle = true; // Whoever lends next wakes it.
             Kept::Idle
         }
-        Ok(_) => Kept::Worked,
+        Ok(_) => {
+            if shared.engine.room() < shared.log.elements() as u32 {
+                return Kept::Pressed;
+            }
+            Kept::Worked
+        }
         Err(refusal) => Kept::Refused(refusal),
     }
 }

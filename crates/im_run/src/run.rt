@@ -45,10 +45,7 @@ fn reason_of(refused: Option<(u16, Refusal)>) -> Result<(), Reason> {
 
 // Whether servers that wait for each other are all that ended it.
 fn is_stalled(done: &Result<(), Reason>) -> bool {
-    match done {
-        Err(Reason::Request(_, refusal)) => refusal.number() == Refusal::Stalled.number(),
-        _ => false,
-    }
+    matches!(done, Err(Reason::Request(_, Refusal::Stalled)))
 }
 
 // What was refused, which is the disk's fault where nothing else was but a wait.

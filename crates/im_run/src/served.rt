@@ -46,12 +46,11 @@ impl<K: Name> Notes<K> {
 
     // Notes an element's refusal. Elements come from the least.
     fn refuse(&mut self, element: u16, refusal: Refusal) {
-        self.refused = match self.refused {
-            None => Some((element, refusal)),
-            Some((_, Refusal::Stalled)) if refusal.number() != Refusal::Stalled.number() => {
-                Some((element, refusal))
-            }
-            Some(earlier) => Some(earlier),
+        self.refused = match (self.refused, refusal) {
+            (None, _) => Some((element, refusal)),
+            (Some(earlier), Refusal::Stalled) => Some(earlier),
+            (Some((_, Refusal::Stalled)), _) => Some((element, refusal)),
+            (Some(earlier), _) => Some(earlier),
         };
     }
 

@@ -51,12 +51,12 @@ fn help<D: Disk, K: Name, R: Wait>(
 ) -> Result<(), Refusal>
     ensures same { port.new ≡ port.old }
 {
-    if refusal.number() != Refusal::JournalFull.number() {
-        return Err(refusal);
-    }
-    match port.help(rt, controller) {
-        Ok(_) => Ok(()),
-        Err(refusal) => Err(refusal),
+    match refusal {
+        Refusal::JournalFull => match port.help(rt, controller) {
+            Ok(_) => Ok(()),
+            Err(refusal) => Err(refusal),
+        },
+        _ => Err(refusal),
     }
 }
 

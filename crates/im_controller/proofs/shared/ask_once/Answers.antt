@@ -1,4 +1,4 @@
-use Rattle.std.proofs.Common.{Ok, Err}
+use Rattle.std.proofs.Common.{rules, Ok, Err}
 use Rattle.im_controller.specs.declared.servers.Ask.TheVariants.{Go}
 use Rattle.im_controller.proofs.WaitLemmas.{finds-told, go-waits, err-waits, go-stalled, other-stalled}
 use Rattle.im_controller.proofs.shared.ask_once.Goals as goal
@@ -9,7 +9,7 @@ returns-in-Ok-Go-clause-told g c =
     finds-told g.K.Name.marks c.args.shared.now c.begin_wait.new.shared c.find.new.shared c.args.element c.args.number c.args.tally.now c.find.new.tally c.find.result c.find.ensures.looks
     (Ok Go) begins go-waits go-stalled
 
-pub returns-else-number-eq19-clause-told : goal.returns-else-number-eq19-clause-told
-returns-else-number-eq19-clause-told g c =
+pub returns-else-eq-clause-told : goal.returns-else-eq-clause-told
+returns-else-eq-clause-told g c =
     finds-told g.K.Name.marks c.args.shared.now c.begin_wait.new.shared c.find-in-Err.new.shared c.args.element c.args.number c.args.tally.now c.find-in-Err.new.tally c.find-in-Err.result c.find-in-Err.ensures.looks
-    (Err c.in-Err.refusal) c.in-Err.ensures.begins (err-waits c.in-Err.refusal) (other-stalled c.in-Err.refusal c.number.result c.number.ensures c.if-number-eq19.false)
+    (Err c.in-Err.refusal) c.in-Err.ensures.begins (err-waits c.in-Err.refusal) (other-stalled c.in-Err.refusal (λ same. let e = c.eq.ensures in let f = c.if-eq.false in search rules))
