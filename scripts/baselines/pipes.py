@@ -1,6 +1,7 @@
 """How long requests take that are asked one at a time over pipes, beside the same requests by `imem serial`.
 
-usage: pipes.py IMEM      prints the ratio, the microseconds of a request over pipes and by a script, and status 0
+usage: pipes.py IMEM      prints four numbers: the time over pipes, of that by the script (medians); the script's times, of the
+same made again: far from 1, the disk was too uneven to tell; and the microseconds of a request over pipes and by the script
 """
 import statistics
 import subprocess
@@ -9,7 +10,8 @@ import tempfile
 import time
 from pathlib import Path
 
-STORES, ROUNDS, EACH = 300, 9, 15  # EACH: so many requests of an element, fewer than its window keeps
+STORES, ROUNDS, EACH = 150, 9, 15  # EACH: so many requests of an element, fewer than its window keeps
+SIZES = ["--cells", "1024", "--elements", "32", "--slots", "512"]
 
 
 def requests(stores):
@@ -54,15 +56,17 @@ def over_pipes(imem, image, stores):
 
 
 def measure(imem, folder):
-    """For each round the seconds of the stores alone: those of all of them less those of one, over pipes and by a script."""
+    """For each round the seconds of the stores alone, those of all of them less those of one: over pipes, by a script, and so
+    again."""
     image = folder / "image"
     for _ in range(ROUNDS):
         times = []
-        for way in (lambda n: over_pipes(imem, image, n), lambda n: by_script(imem, image, folder, n)):
+        script = lambda n: by_script(imem, image, folder, n)
+        for way in (lambda n: over_pipes(imem, image, n), script, script):
             each = []
             for stores in (1, STORES):
                 image.unlink(missing_ok=True)
-                subprocess.run([imem, "format", image, "--elements", "32"], check=True)
+                subprocess.run([imem, "format", image, *SIZES], check=True)
                 each.append(way(stores))
             times.append(each[1] - each[0])
         yield times
@@ -70,10 +74,11 @@ def measure(imem, folder):
 
 def main(imem):
     with tempfile.TemporaryDirectory() as folder:
-        asked, served = zip(*measure(imem, Path(folder)))
-    ratio = statistics.median(a / s for a, s in zip(asked, served))
-    each = [statistics.median(part) / (STORES - 1) * 1e6 for part in (asked, served)]
-    print(f"{ratio:.3f} {each[0]:.1f} {each[1]:.1f}")
+        asked, first, second = zip(*measure(imem, Path(folder)))
+    asked, alone = statistics.median(asked), statistics.median(first + second)
+    uneven = statistics.median(first) / statistics.median(second)
+    each = [seconds / (STORES - 1) * 1e6 for seconds in (asked, alone)]
+    print(f"{asked / alone:.3f} {uneven:.3f} {each[0]:.1f} {each[1]:.1f}")
 
 
 if __name__ == "__main__":
