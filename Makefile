@@ -1,4 +1,4 @@
-.PHONY: check test imem examples demo library install c-examples try try-tests
+.PHONY: check test imem examples demo clients library install c-examples try try-tests
 
 # What the gate can't see, in seconds: documents against the sources, links, layout, what stands twice.
 check:
@@ -19,6 +19,10 @@ examples demo: imem
 # The same at first sight, with no proof.
 try:
 	scripts/examples --unproved
+
+# Clients in Python and C over the program, which is killed at random moments: their counts come out exact.
+clients: imem
+	scripts/clients
 
 # The proved library for C, as out/libluntrebis.a; and in place, with its header: make install PREFIX=FOLDER
 library:

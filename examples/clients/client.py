@@ -1,0 +1,90 @@
+"""A memory behind two pipes, asked from Python: each request is done exactly once, also where the program is killed.
+
+    memory = Memory(["imem", "serve", "a.img"])
+    element = Element(memory, 1)
+    reply = finish(element.request("take 0"))       # ["value", "42"], waited for where the cell is empty
+
+The numbers live as long as the client. One that may be stopped itself writes a request's line to a file before it is
+sent, and sends it again when it starts: docs/SERVE.md, Exactly once.
+"""
+import subprocess
+
+
+class Refused(Exception):
+    """The memory refused what was asked: the number and the name of the refusal. Nothing has changed."""
+
+
+class Memory:
+    """The program, which is started again where it ended without an answer, and the line that isn't answered yet."""
+
+    def __init__(self, words):
+        self.words, self.program = words, None
+        self.asked = self.again = 0
+
+    def start(self):
+        self.program = subprocess.Popen(self.words, stdin=subprocess.PIPE, stdout=subprocess.PIPE)
+
+    def kill(self):
+        """Kills the program, if it runs, wherever it stands."""
+        if self.program:
+            self.program.kill()
+
+    def close(self):
+        """Lets the program end, which has nothing more to read. Its status, below 0 where it was killed."""
+        program, self.program = self.program, None
+        program.communicate()
+        return program.returncode
+
+    def answer(self, line):
+        """Sends a line once. Its answer, or none, where the program ended before it was through."""
+        try:
+            self.program.stdin.write(line.encode() + b"\n")
+            self.program.stdin.flush()
+            answer = self.program.stdout.readline()
+        except BrokenPipeError:
+            return None
+        return answer.decode().split() if answer.endswith(b"\n") else None
+
+    def ask(self, line):
+        """Sends a line until it is answered. The words of the answer behind the first, which says whose it is."""
+        self.asked += 1
+        while True:
+            if not self.program:
+                self.start()
+            answer = self.answer(line)
+            if answer and answer[0] != "refused":
+                break
+            if self.close() >= 0:
+                raise SystemExit(f"the program ended by itself at: {line}")
+            self.again += 1
+        if answer[1] == "refused":
+            raise Refused(*answer[2:])
+        return answer[1:]
+
+
+class Element:
+    """An element, which has one request under way at a time, and its next number."""
+
+    def __init__(self, memory, element):
+        self.memory, self.element = memory, element
+        self.number = int(memory.ask(f"window {element}")[2])
+
+    def request(self, what):
+        """Asks it, yields while it waits, and confirms it. The words of the reply."""
+        number = self.number
+        reply = self.memory.ask(f"{self.element}.{number} {what}")
+        self.number = number + 1
+        while reply == ["waiting"]:
+            yield
+            reply = self.memory.ask(f"collect {self.element}.{number}")
+        self.memory.ask(f"confirm {self.element} {self.number}")
+        return reply
+
+
+def finish(request):
+    """Waits until a request is answered. The words of its reply."""
+    while True:
+        try:
+            next(request)
+        except StopIteration as done:
+            return done.value
