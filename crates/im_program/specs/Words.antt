@@ -4,7 +4,9 @@ use Rattle.std.specs.Option.{option_map, option_and_then, option_map_or}
 use Rattle.std.specs.Str.{bytes_eq}
 use Rattle.clap.specs.Words.{App, Row, Rule, Text, first_of, new_app, new_rule, subcommand_of, with_rule, with_subcommand}
 use Rattle.im_program.specs.declared.words.Work.{Work}
-use Rattle.im_program.specs.declared.words.Work.TheVariants.{Demonstration, Format, Serial, Serve, Inspect}
+use Rattle.im_program.specs.declared.words.Work.TheVariants.{Alone, Run}
+use Rattle.im_program.specs.declared.words.Job.{Job}
+use Rattle.im_program.specs.declared.words.Job.TheVariants.{Demonstration, Format, Serial, Serve, Inspect}
 use Rattle.im_script.specs.Grammar.{number_up_to}
 
 -- ---- what a parse reads of the command line
@@ -21,9 +23,9 @@ path_rule id = record (new_rule id) { required = true }
 abbrev pub format_app : App
 format_app = with_rule (with_rule (with_rule (with_rule (new_app (codes "format")) (path_rule (codes "IMAGE"))) (option_rule (codes "cells"))) (option_rule (codes "elements"))) (option_rule (codes "slots"))
 
--- serial IMAGE SCRIPT
-abbrev pub serial_app : App
-serial_app = with_rule (with_rule (new_app (codes "serial")) (path_rule (codes "IMAGE"))) (path_rule (codes "SCRIPT"))
+-- NAME IMAGE SCRIPT
+abbrev pub script_app : Text → App
+script_app name = with_rule (with_rule (new_app name) (path_rule (codes "IMAGE"))) (path_rule (codes "SCRIPT"))
 
 -- serve IMAGE
 abbrev pub serve_app : App
@@ -37,9 +39,13 @@ inspect_app = with_rule (new_app (codes "inspect")) (path_rule (codes "IMAGE"))
 abbrev pub with_version : App → App
 with_version app = record app { top = record app.top { has_version = true } }
 
+-- imem with no subcommand
+abbrev pub top_app : App
+top_app = with_version (new_app (codes "imem"))
+
 -- imem, alone or with one of its subcommands
 abbrev pub imem_app : App
-imem_app = with_subcommand (with_subcommand (with_subcommand (with_subcommand (with_version (new_app (codes "imem"))) format_app.top) serial_app.top) serve_app.top) inspect_app.top
+imem_app = with_subcommand (with_subcommand (with_subcommand (with_subcommand (with_subcommand top_app format_app.top) (script_app (codes "serial")).top) (script_app (codes "run")).top) serve_app.top) inspect_app.top
 
 -- ---- what is asked for
 
@@ -48,16 +54,22 @@ pub data Task : Type 0 where
   demonstration : Task
   format : (image : List ℕ) (cells elements slots : ℕ) → Task
   serial : (image script : List ℕ) → Task
+  run : (image script : List ℕ) → Task
   serve : (image : List ℕ) → Task
   inspect : (image : List ℕ) → Task
 
+-- the task that a Job is
+abbrev pub task_of_job : Job → Task
+task_of_job Demonstration = demonstration
+task_of_job (Format image cells elements slots) = format image.now cells elements slots
+task_of_job (Serial image script) = serial image.now script.now
+task_of_job (Serve image) = serve image.now
+task_of_job (Inspect image) = inspect image.now
+
 -- the task that a Work is
 abbrev pub task_of : Work → Task
-task_of Demonstration = demonstration
-task_of (Format image cells elements slots) = format image.now cells elements slots
-task_of (Serial image script) = serial image.now script.now
-task_of (Serve image) = serve image.now
-task_of (Inspect image) = inspect image.now
+task_of (Alone job) = task_of_job job
+task_of (Run image script) = run image.now script.now
 
 -- an option's number, in decimal digits below 2^32, or `fallback` where the option is not given
 abbrev pub number_in : List Row → Text → ℕ → Option ℕ
@@ -77,6 +89,10 @@ format_task rows =
 abbrev pub serial_task : List Row → Task
 serial_task rows = serial (path_in rows (codes "IMAGE")) (path_in rows (codes "SCRIPT"))
 
+-- the task of run, by its two paths
+abbrev pub run_task : List Row → Task
+run_task rows = run (path_in rows (codes "IMAGE")) (path_in rows (codes "SCRIPT"))
+
 -- the task of serve, by its path
 abbrev pub serve_task : List Row → Task
 serve_task rows = serve (path_in rows (codes "IMAGE"))
@@ -88,7 +104,7 @@ inspect_task rows = inspect (path_in rows (codes "IMAGE"))
 -- the subcommand that was met, with what was found of its arguments
 abbrev pub task_in : Option (Text × List Row) → Option Task
 task_in None = Some demonstration
-task_in (Some met) = if bytes_eq met.0 (codes "format") then format_task met.1 else if bytes_eq met.0 (codes "serial") then Some (serial_task met.1) else if bytes_eq met.0 (codes "serve") then Some (serve_task met.1) else Some (inspect_task met.1)
+task_in (Some met) = if bytes_eq met.0 (codes "format") then format_task met.1 else if bytes_eq met.0 (codes "serial") then Some (serial_task met.1) else if bytes_eq met.0 (codes "run") then Some (run_task met.1) else if bytes_eq met.0 (codes "serve") then Some (serve_task met.1) else Some (inspect_task met.1)
 
 -- what the words ask for, as clap walks them
 abbrev pub asked : List Text → Option Task

@@ -1,6 +1,6 @@
 //! What a person is told on standard error.
 
-use crate::words::Work;
+use crate::words::Job;
 use im_disk::OpenFault;
 use im_text::{Observer, Progress, Reason, Waited, make_now};
 use im_types::Entry;
@@ -21,14 +21,8 @@ pub struct Console<'a, R> {
 }
 
 impl<'a, R: Eprint + AllocGlobal> Console<'a, R> {
-    /// For a work's files. Progress is told where somebody watches.
-    pub fn new(rt: &'a R, work: Work<'a>, is_watched: bool) -> Console<'a, R> {
-        let (image, script) = match work {
-            Work::Demonstration => ("", ""),
-            Work::Format { image, .. } | Work::Inspect { image } => (image, ""),
-            Work::Serial { image, script } => (image, script),
-            Work::Serve { image } => (image, "-"),
-        };
+    /// For an image and a script. Progress is told where somebody watches.
+    pub fn of(rt: &'a R, image: &'a str, script: &'a str, is_watched: bool) -> Console<'a, R> {
         Console {
             rt,
             alloc: rt.alloc(),
@@ -36,6 +30,17 @@ impl<'a, R: Eprint + AllocGlobal> Console<'a, R> {
             script,
             is_watched,
         }
+    }
+
+    /// For a job's files.
+    pub fn new(rt: &'a R, job: Job<'a>, is_watched: bool) -> Console<'a, R> {
+        let (image, script) = match job {
+            Job::Demonstration => ("", ""),
+            Job::Format { image, .. } | Job::Inspect { image } => (image, ""),
+            Job::Serial { image, script } => (image, script),
+            Job::Serve { image } => (image, "-"),
+        };
+        Console::of(rt, image, script, is_watched)
     }
 
     // Which file the reason speaks of.

@@ -1,12 +1,12 @@
 //! The words of the command line.
-ghost use Rattle.std.specs.Prelude.{◌≡◌, [], true, false, Some, IfOk, IfErr, IsOk, IsSome};
+ghost use Rattle.std.specs.Prelude.{◌≡◌, [], true, false, Some, IfOk, IfErr, IsOk, IsSome, codes};
 ghost use Rattle.std.specs.Option.{option_map};
 ghost use Rattle.clap.specs.Words.{app_of, fault_of, found_of, kind_of, rows_of, rule_of, subcommand_rows_of, takes};
 ghost use Rattle.clap.specs.declared.builder.command.Command.TheViews.{out-Command};
 ghost use Rattle.im_script.specs.Grammar.{texts};
 ghost use Rattle.im_program.specs.Words.{asked, format_app, format_task, imem_app, inspect_app, inspect_task};
-ghost use Rattle.im_program.specs.Words.{number_in, option_rule, path_in, path_rule, serial_app, serial_task, serve_app};
-ghost use Rattle.im_program.specs.Words.{serve_task, task_in, task_of};
+ghost use Rattle.im_program.specs.Words.{number_in, option_rule, path_in, path_rule, run_task, script_app};
+ghost use Rattle.im_program.specs.Words.{serial_task, serve_app, serve_task, task_in, task_of, top_app};
 
 use clap::error::ErrorKind;
 use clap::{Arg, ArgMatches, Command, Error};
@@ -25,6 +25,20 @@ pub const DEFAULT_SLOTS: u32 = 256;
 /// What the program is asked to do.
 #[derive(Clone, Copy, Debug, PartialEq, Eq)]
 pub enum Work<'a> {
+    /// The work of one thread.
+    Alone(Job<'a>),
+    /// Run a script, each element's requests by threads of its own.
+    Run {
+        /// The image's path.
+        image: &'a str,
+        /// The script's path.
+        script: &'a str,
+    },
+}
+
+/// What one thread does.
+#[derive(Clone, Copy, Debug, PartialEq, Eq)]
+pub enum Job<'a> {
     /// No subcommand: a short script on an image in memory.
     Demonstration,
     /// Make an image.
@@ -76,14 +90,15 @@ const EXAMPLES: &str =
 
 Example:
   imem format a.img
-  imem serial a.img fetch.script
+  imem run a.img fetch.script
   imem inspect a.img
 
 While imem works on an image it holds the file's lock: another imem is refused 8 Device, and a line on
 standard error says that the image is in use. Any number may inspect it at the same time. The lock is
 advisory: it keeps no other program from writing the file, nor one that makes another file of its name.
 
-Exit status: 0 done; 1 refused, with 'refused N NAME' as the last line; 2 a bad command line.";
+Exit status: 0 done; 1 refused, with 'refused N NAME' as the last line; 2 a bad command line; 3 the
+elements of a run wait for each other.";
 
 const FORMAT: &str =
     "Make an image: an empty memory of this size, in a new file or over an old one";
@@ -122,6 +137,22 @@ file fetch.script, served on the image a.img
 
 Exit status: 0 all was served; 1 something was refused, with 'refused N NAME' as the last line, or the
 output can't be written; 2 a bad command line. Standard error has one line more about a refusal.";
+
+const RUN: &str = "Serve the requests of a script, those of each element by threads of its own, all at once";
+
+const RUN_EXAMPLES: &str =
+    "SCRIPT is what 'imem serial' reads, or - for standard input. Its setup is served first, and prints its
+lines. Then a thread for each element sends its requests, another serves them and waits for each
+answer, and one more keeps checkpoints. At the end each request that was sent prints 'K.N REPLY', by
+elements and then by numbers, with what it was answered in the end.
+
+Example: the lines 'setup', 'alloc x i 1', 'element 1', 'fetch x', 'element 2', 'store x 5' in the
+file fetch.script, run on the image a.img
+  imem run a.img fetch.script
+
+Exit status: 0 all was answered; 1 something was refused, with 'refused N NAME' as the last line, or the
+output can't be written; 2 a bad command line; 3 the elements wait for each other, with
+'refused 19 Stalled' as the last line. Standard error has one line more about a refusal.";
 
 const SERVE: &str = "Serve a dialogue: read a line, answer it by a line, until the input ends";
 
@@ -211,14 +242,17 @@ fn format_command<'a>(alloc: Global) -> Result<Command<'a>, AllocError>
     Ok(four)
 }
 
-/// The subcommand `serial`.
-fn serial_command<'a>(alloc: Global) -> Result<Command<'a>, AllocError>
-    ensures app { IfOk result (λ c. app_of c ≡ serial_app) }
+/// A subcommand that takes an image and a script.
+fn script_command<'a>(
+    alloc: Global,
+    name: &'a str,
+    about: &'a str,
+    examples: &'a str,
+) -> Result<Command<'a>, AllocError>
+    ensures app { IfOk result (λ c. app_of c ≡ script_app name.entry.now) }
     ensures local { IfOk result (λ c. (out-Command c).has_globals ≡ false) }
 {
-    let empty = Command::new(alloc, "serial")
-        .about(SERIAL)
-        .after_help(SERIAL_EXAMPLES);
+    let empty = Command::new(alloc, name).about(about).after_help(examples);
     let image = path_argument(alloc, "IMAGE", "The image, made by 'imem format'");
     let script = path_argument(
         alloc,
@@ -256,23 +290,32 @@ fn inspect_command<'a>(alloc: Global) -> Result<Command<'a>, AllocError>
     Ok(one)
 }
 
+/// The program with no subcommand.
+fn top_command<'a>(alloc: Global) -> Command<'a>
+    ensures app { app_of result ≡ top_app }
+{
+    Command::new(alloc, "imem")
+        .version(VERSION)
+        .about(ABOUT)
+        .after_help(EXAMPLES)
+}
+
 /// The whole command line.
 fn imem_command<'a>(alloc: Global) -> Result<Command<'a>, AllocError>
     ensures app { IfOk result (λ c. app_of c ≡ imem_app) }
 {
-    let empty = Command::new(alloc, "imem")
-        .version(VERSION)
-        .about(ABOUT)
-        .after_help(EXAMPLES);
+    let empty = top_command(alloc);
     let format = format_command(alloc)?;
-    let serial = serial_command(alloc)?;
+    let serial = script_command(alloc, "serial", SERIAL, SERIAL_EXAMPLES)?;
+    let run = script_command(alloc, "run", RUN, RUN_EXAMPLES)?;
     let serve = serve_command(alloc)?;
     let inspect = inspect_command(alloc)?;
     let one = empty.subcommand(format)?;
     let two = one.subcommand(serial)?;
-    let three = two.subcommand(serve)?;
-    let four = three.subcommand(inspect)?;
-    Ok(four)
+    let three = two.subcommand(run)?;
+    let four = three.subcommand(serve)?;
+    let five = four.subcommand(inspect)?;
+    Ok(five)
 }
 
 /// The number of an option, or `fallback` where it is not given. `None` where it is no decimal number of a u32.
@@ -303,21 +346,36 @@ fn format_work<'a>(found: &ArgMatches<'a>) -> Option<Work<'a>>
     let cells = number_or(found, "cells", DEFAULT_CELLS)?;
     let elements = number_or(found, "elements", DEFAULT_ELEMENTS)?;
     let slots = number_or(found, "slots", DEFAULT_SLOTS)?;
-    Some(Work::Format {
+    Some(Work::Alone(Job::Format {
         image,
         cells,
         elements,
         slots,
-    })
+    }))
+}
+
+/// The paths of an image and of a script.
+fn two_paths<'a>(found: &ArgMatches<'a>) -> (&'a str, &'a str)
+    ensures image { result.0.now ≡ path_in (rows_of (found_of found.now)) (codes "IMAGE") }
+    ensures script { result.1.now ≡ path_in (rows_of (found_of found.now)) (codes "SCRIPT") }
+{
+    (path_of(found, "IMAGE"), path_of(found, "SCRIPT"))
 }
 
 /// What `serial` is asked for.
 fn serial_work<'a>(found: &ArgMatches<'a>) -> Work<'a>
     ensures { task_of result ≡ serial_task (rows_of (found_of found.now)) }
 {
-    let image = path_of(found, "IMAGE");
-    let script = path_of(found, "SCRIPT");
-    Work::Serial { image, script }
+    let (image, script) = two_paths(found);
+    Work::Alone(Job::Serial { image, script })
+}
+
+/// What `run` is asked for.
+fn run_work<'a>(found: &ArgMatches<'a>) -> Work<'a>
+    ensures { task_of result ≡ run_task (rows_of (found_of found.now)) }
+{
+    let (image, script) = two_paths(found);
+    Work::Run { image, script }
 }
 
 /// What `serve` is asked for.
@@ -325,7 +383,7 @@ fn serve_work<'a>(found: &ArgMatches<'a>) -> Work<'a>
     ensures { task_of result ≡ serve_task (rows_of (found_of found.now)) }
 {
     let image = path_of(found, "IMAGE");
-    Work::Serve { image }
+    Work::Alone(Job::Serve { image })
 }
 
 /// What `inspect` is asked for.
@@ -333,7 +391,7 @@ fn inspect_work<'a>(found: &ArgMatches<'a>) -> Work<'a>
     ensures { task_of result ≡ inspect_task (rows_of (found_of found.now)) }
 {
     let image = path_of(found, "IMAGE");
-    Work::Inspect { image }
+    Work::Alone(Job::Inspect { image })
 }
 
 /// What the words ask for. `None` where a number is no decimal number of a u32.
@@ -341,12 +399,14 @@ fn work_of<'a>(matches: &ArgMatches<'a>) -> Option<Work<'a>>
     ensures { option_map task_of result ≡ task_in (subcommand_rows_of matches.now) }
 {
     match matches.subcommand() {
-        None => Some(Work::Demonstration),
+        None => Some(Work::Alone(Job::Demonstration)),
         Some((name, found)) => {
             if name == "format" {
                 format_work(found)
             } else if name == "serial" {
                 Some(serial_work(found))
+            } else if name == "run" {
+                Some(run_work(found))
             } else if name == "serve" {
                 Some(serve_work(found))
             } else {

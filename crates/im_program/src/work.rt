@@ -10,25 +10,30 @@ ghost use Rattle.im_report.specs.Inspecting.{Tells};
 ghost use Rattle.im_text.specs.Printing.{Begins, IsLast};
 ghost use Rattle.im_serial.specs.Serving.{ServedFrom};
 ghost use Rattle.im_dialogue.specs.Dialogue.{TalkedFrom};
-ghost use Rattle.im_program.specs.Words.{demonstration, task_of};
+ghost use Rattle.im_run.specs.Running.{Ran};
+ghost use Rattle.im_program.specs.Words.{demonstration, task_of, task_of_job};
 ghost use Rattle.im_program.specs.Working.{DoneOn};
 
 use crate::console::Console;
-use crate::words::{DEFAULT_CELLS, DEFAULT_ELEMENTS, DEFAULT_SLOTS, Work};
+use crate::words::{DEFAULT_CELLS, DEFAULT_ELEMENTS, DEFAULT_SLOTS, Job, Work};
 use im_damage::Damage;
 use im_dialogue::dialogue_on;
 use im_disk::{Disk, FileDisk, MemDisk, OpenFault, Start};
 use im_engine::Engine;
 use im_image::image_length;
 use im_report::inspect_on;
+use im_run::{STALLED, run_on};
 use im_script::{Script, ScriptFault, read_script};
 use im_serial::serial_on;
+use im_serving::Open;
 use im_text::{Observer, Reason, put_refusal};
 use im_types::{Limits, MAX_CELLS, MAX_ELEMENTS, Refusal};
 use std::alloc::Global;
 use std::fs::{self, File, OpenOptions};
 use std::io::{self, Eprint, ErrorKind, Input, Read, Write};
 use std::rt::Files;
+use std::sync::Wait;
+use std::thread::Threads;
 
 /// The script that is served where no work is named.
 const DEMONSTRATION: &str = "setup
@@ -229,6 +234,50 @@ pub fn serve_file<R: Files<File = File> + AllocGlobal + Input, S: Start, W: Writ
     }
 }
 
+/// Runs the script of a file on the image of another, each element's requests by threads of its own, and gives the
+/// image's disk back, with the status and the lines of [`run_on`]. The script is read first; the path `-` is standard
+/// input.
+///
+/// Refused are, with nothing printed and the image as it was: `BadScript` for a script that can't be read or isn't in
+/// the grammar, and `NoMemory` for one that there is no room for; `Device` for an image that can't be opened: it is no
+/// regular file, another opening has its lock, or a call of the system fails. The observer is told why. What
+/// [`run_on`] refuses is its status and its last line.
+///
+/// That an image is ever opened is no clause: none knows what a folder holds.
+pub fn run_file<
+    R: Files<File = File> + AllocGlobal + Input + Threads + Wait + Sync,
+    S: Start + Send,
+    W: Write,
+    N: Observer,
+>(
+    rt: &R,
+    image: &str,
+    script: &str,
+    out: &mut W,
+    observer: &mut N,
+    start: S,
+) -> Result<(u8, FileDisk<S>), Refusal>
+    ensures status { IfOk result (λ r. (r.0 ≤ 1) ⊎ (r.0 ≡ STALLED)) }
+    ensures ran { IfOk result (λ r. ⟦<FileDisk<S> as Disk>⟧.honest r.1 →
+        (r.0 ≡ 0) ⊎ (r.0 ≡ STALLED)
+        → Ran ⟦<FileDisk<S> as Disk>⟧.now r.1 (W.contents out.old) (W.contents out.new) r.0) }
+    ensures refused { IfErr result (λ refusal. (refusal ≡ BadScript) ⊎ (refusal ≡ NoMemory) ⊎ (refusal ≡ Device)) }
+    ensures same { OnErr result (Keeps (W.contents out.old) (W.contents out.new)) }
+{
+    let text = match read_file(rt, script, observer) {
+        Ok(text) => text,
+        Err(refusal) => return Err(refusal),
+    };
+    let script = match script_in(rt.alloc(), text.as_slice(), observer) {
+        Ok(script) => script,
+        Err(refusal) => return Err(refusal),
+    };
+    match FileDisk::open(rt, image, start) {
+        Ok(disk) => Ok(run_on(rt, rt.alloc(), disk, &script, &Open, out, observer)),
+        Err(fault) => Err(refusal_of(rt, image, fault, observer)),
+    }
+}
+
 /// Serves a dialogue of standard input on the image of a file, and gives its disk back, with the status and the lines
 /// of [`dialogue_on`].
 ///
@@ -349,10 +398,10 @@ fn format_image<R: Files<File = File> + AllocGlobal, S: Start, N: Observer>(
     format_file(rt, image, limits, observer, start)
 }
 
-/// Does the work. The status, and the disk of the file that was opened for it, if one was.
-fn do_work<R: Files<File = File> + AllocGlobal + Input, S: Start, W: Write, N: Observer>(
+/// Does the job. The status, and the disk of the file that was opened for it, if one was.
+fn do_job<R: Files<File = File> + AllocGlobal + Input, S: Start, W: Write, N: Observer>(
     rt: &R,
-    work: &Work,
+    job: &Job,
     out: &mut W,
     observer: &mut N,
     start: S,
@@ -360,15 +409,15 @@ fn do_work<R: Files<File = File> + AllocGlobal + Input, S: Start, W: Write, N: O
     ensures status { IfOk result (λ r. r.0 ≤ 1) }
     ensures done { IfOk result (λ r. IfSome r.1 (λ disk. ⟦<FileDisk<S> as Disk>⟧.honest disk →
         DoneOn ⟦<FileDisk<S> as Disk>⟧.now ⟦<FileDisk<S> as Disk>⟧.past ⟦<FileDisk<S> as Disk>⟧.failures S.first
-        (task_of work.now) (W.contents out.old) (W.contents out.new) r.0 disk)) }
-    ensures none { IfOk result (λ r. IfNone r.1 (task_of work.now ≡ demonstration)) }
+        (task_of_job job.now) (W.contents out.old) (W.contents out.new) r.0 disk)) }
+    ensures none { IfOk result (λ r. IfNone r.1 (task_of_job job.now ≡ demonstration)) }
 {
-    match *work {
-        Work::Demonstration => match demonstrate(rt.alloc(), out, observer) {
+    match *job {
+        Job::Demonstration => match demonstrate(rt.alloc(), out, observer) {
             Ok(status) => Ok((status, None)),
             Err(refusal) => Err(refusal),
         },
-        Work::Format {
+        Job::Format {
             image,
             cells,
             elements,
@@ -377,37 +426,35 @@ fn do_work<R: Files<File = File> + AllocGlobal + Input, S: Start, W: Write, N: O
             Ok(disk) => Ok((0, Some(disk))),
             Err(refusal) => Err(refusal),
         },
-        Work::Serial { image, script } => match serve_file(
-            rt, image, script, out, observer, start,
-        ) {
+        Job::Serial { image, script } => match serve_file(rt, image, script, out, observer, start) {
             Ok((status, disk)) => Ok((status, Some(disk))),
             Err(refusal) => Err(refusal),
         },
-        Work::Serve { image } => match talk_file(rt, image, out, observer, start) {
+        Job::Serve { image } => match talk_file(rt, image, out, observer, start) {
             Ok((status, disk)) => Ok((status, Some(disk))),
             Err(refusal) => Err(refusal),
         },
-        Work::Inspect { image } => match inspect_file(rt, image, out, observer, start) {
+        Job::Inspect { image } => match inspect_file(rt, image, out, observer, start) {
             Ok((status, disk)) => Ok((status, Some(disk))),
             Err(refusal) => Err(refusal),
         },
     }
 }
 
-/// Does the work, and answers the status that the program ends with: 0, or 1 where something was refused or a write of
-/// the output failed; and the disk of the image, where its file was made or opened. What it prints goes to `out`, a
-/// refusal as its last line `refused N NAME`. Standard error has one line of reason for a refusal, and a line
+/// Does the job of one thread, and answers the status that the program ends with: 0, or 1 where something was refused or
+/// a write of the output failed; and the disk of the image, where its file was made or opened. What it prints goes to
+/// `out`, a refusal as its last line `refused N NAME`. Standard error has one line of reason for a refusal, and a line
 /// `K.N now REPLY` for a request that waited when the image was opened and whose entry is confirmed; and, where
 /// `is_watched`, how far a long script has come.
 ///
 /// Refused are: `BadLimits` for an image with a number out of its range, and then no file is made; and what
-/// [`format_file`], [`serve_file`], [`talk_file`] and [`inspect_file`] refuse. Where there is a disk, its status and what was printed
-/// are those of the one that was called; where there is none, the status is 1, but for the demonstration.
+/// [`format_file`], [`serve_file`], [`talk_file`] and [`inspect_file`] refuse. Where there is a disk, its status and what
+/// was printed are those of the one that was called; where there is none, the status is 1, but for the demonstration.
 ///
 /// `start` stands for what the image holds when it is opened. It is used up, and no code reads it.
-pub fn act<R: Files<File = File> + AllocGlobal + Input + Eprint, S: Start, W: Write>(
+pub fn act_alone<R: Files<File = File> + AllocGlobal + Input + Eprint, S: Start, W: Write>(
     rt: &R,
-    work: &Work,
+    job: &Job,
     out: &mut W,
     is_watched: bool,
     start: S,
@@ -415,13 +462,61 @@ pub fn act<R: Files<File = File> + AllocGlobal + Input + Eprint, S: Start, W: Wr
     ensures status { result.0 ≤ 1 }
     ensures done { IfSome result.1 (λ disk. ⟦<FileDisk<S> as Disk>⟧.honest disk →
         DoneOn ⟦<FileDisk<S> as Disk>⟧.now ⟦<FileDisk<S> as Disk>⟧.past ⟦<FileDisk<S> as Disk>⟧.failures S.first
+        (task_of_job job.now) (W.contents out.old) (W.contents out.new) result.0 disk) }
+    ensures none { IfNone result.1 ((task_of_job job.now ≡ demonstration) ⊎ (result.0 ≡ 1)) }
+{
+    let mut console = Console::new(rt, *job, is_watched);
+    match do_job(rt, job, out, &mut console, start) {
+        Ok(done) => done,
+        Err(refusal) => (refuse(rt.alloc(), refusal, out), None),
+    }
+}
+
+/// Runs a script by the threads of its elements. The status, and the disk of the image, where it was opened.
+fn act_at_once<
+    R: Files<File = File> + AllocGlobal + Input + Eprint + Threads + Wait + Sync,
+    S: Start + Send,
+    W: Write,
+>(
+    rt: &R,
+    image: &str,
+    script: &str,
+    out: &mut W,
+    is_watched: bool,
+    start: S,
+) -> (u8, Option<FileDisk<S>>)
+    ensures status { (result.0 ≤ 1) ⊎ (result.0 ≡ STALLED) }
+    ensures ran { IfSome result.1 (λ disk. ⟦<FileDisk<S> as Disk>⟧.honest disk →
+        (result.0 ≡ 0) ⊎ (result.0 ≡ STALLED)
+        → Ran ⟦<FileDisk<S> as Disk>⟧.now disk (W.contents out.old) (W.contents out.new) result.0) }
+    ensures none { IfNone result.1 (result.0 ≡ 1) }
+{
+    let mut console = Console::of(rt, image, script, is_watched);
+    match run_file(rt, image, script, out, &mut console, start) {
+        Ok((status, disk)) => (status, Some(disk)),
+        Err(refusal) => (refuse(rt.alloc(), refusal, out), None),
+    }
+}
+
+/// Does the work, and answers the status that the program ends with: that of [`act_alone`], or for a run that of
+/// [`run_file`], 3 where its elements wait for each other; and the disk of the image, where its file was made or opened.
+/// What is printed and refused is what these two say.
+///
+/// `start` stands for what the image holds when it is opened. It is used up, and no code reads it.
+pub fn act<
+    R: Files<File = File> + AllocGlobal + Input + Eprint + Threads + Wait + Sync,
+    S: Start + Send,
+    W: Write,
+>(rt: &R, work: &Work, out: &mut W, is_watched: bool, start: S) -> (u8, Option<FileDisk<S>>)
+    ensures status { (result.0 ≤ 1) ⊎ (result.0 ≡ STALLED) }
+    ensures done { IfSome result.1 (λ disk. ⟦<FileDisk<S> as Disk>⟧.honest disk →
+        DoneOn ⟦<FileDisk<S> as Disk>⟧.now ⟦<FileDisk<S> as Disk>⟧.past ⟦<FileDisk<S> as Disk>⟧.failures S.first
         (task_of work.now) (W.contents out.old) (W.contents out.new) result.0 disk) }
     ensures none { IfNone result.1 ((task_of work.now ≡ demonstration) ⊎ (result.0 ≡ 1)) }
 {
-    let mut console = Console::new(rt, *work, is_watched);
-    match do_work(rt, work, out, &mut console, start) {
-        Ok(done) => done,
-        Err(refusal) => (refuse(rt.alloc(), refusal, out), None),
+    match work {
+        Work::Alone(job) => act_alone(rt, job, out, is_watched, start),
+        Work::Run { image, script } => act_at_once(rt, image, script, out, is_watched, start),
     }
 }
 

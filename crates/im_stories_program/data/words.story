@@ -8,6 +8,7 @@ imem format a.img --cells 0 = make a.img of 0 cells, 16 elements, 256 slots
 imem format a.img --cells 0004294967295 = make a.img of 4294967295 cells, 16 elements, 256 slots
 imem serial a.img s = serve s on a.img
 imem serial a.img - = serve - on a.img
+imem run a.img s = run s on a.img
 imem serve a.img = talk on a.img
 imem inspect a.img = tell of a.img
 
@@ -35,6 +36,8 @@ says Usage: imem inspect <IMAGE> = yes
 imem serial a.img s t = status 2
 says 't' = yes
 says Usage: imem serial <IMAGE> <SCRIPT> = yes
+imem run a.img = status 2
+says Usage: imem run <IMAGE> <SCRIPT> = yes
 imem mend = status 2
 says Usage: imem [COMMAND] = yes
 
@@ -65,6 +68,9 @@ imem format --help = status 0
 says imem format small.img --cells 64 = yes
 imem serial --help = status 0
 says Serve the requests of a script = yes
+imem run --help = status 0
+says imem run a.img fetch.script = yes
+says refused 19 Stalled = yes
 imem serve --help = status 0
 says imem serve a.img < ask.txt = yes
 says Exit status: 0 the input ended = yes

@@ -2,7 +2,7 @@
 
 use crate::spelling::{add_text, add_word};
 use anyhow::{Result, anyhow};
-use im_program::{WordFault, Work, read_words};
+use im_program::{Job, WordFault, Work, read_words};
 use std::alloc::{AllocError, Global};
 
 /// What was said of the last bad command line.
@@ -11,10 +11,10 @@ pub struct CommandLine {
     fault: String,
 }
 
-fn add_work(said: &mut String, work: &Work) -> Result<(), AllocError> {
-    match *work {
-        Work::Demonstration => said.push_str("demonstration"),
-        Work::Format {
+fn add_job(said: &mut String, job: &Job) -> Result<(), AllocError> {
+    match *job {
+        Job::Demonstration => said.push_str("demonstration"),
+        Job::Format {
             image,
             cells,
             elements,
@@ -23,9 +23,16 @@ fn add_work(said: &mut String, work: &Work) -> Result<(), AllocError> {
             said,
             "make {image} of {cells} cells, {elements} elements, {slots} slots"
         ),
-        Work::Serial { image, script } => write!(said, "serve {script} on {image}"),
-        Work::Serve { image } => write!(said, "talk on {image}"),
-        Work::Inspect { image } => write!(said, "tell of {image}"),
+        Job::Serial { image, script } => write!(said, "serve {script} on {image}"),
+        Job::Serve { image } => write!(said, "talk on {image}"),
+        Job::Inspect { image } => write!(said, "tell of {image}"),
+    }
+}
+
+fn add_work(said: &mut String, work: &Work) -> Result<(), AllocError> {
+    match work {
+        Work::Alone(job) => add_job(said, job),
+        Work::Run { image, script } => write!(said, "run {script} on {image}"),
     }
 }
 

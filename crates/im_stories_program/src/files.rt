@@ -5,20 +5,20 @@ use crate::command_lines::{spelled, texts};
 use crate::writers::{Notes, Paper};
 use anyhow::{Result, anyhow};
 use im_disk::Unknown;
-use im_program::{act, format_file, inspect_file, read_words, serve_file};
+use im_program::{Work, act_alone, format_file, inspect_file, read_words, serve_file};
 use im_types::Limits;
 use std::{fs, io};
 
-// Does what a command line asks for, and tells the status.
+// Does what a command line asks one thread for, and tells the status.
 fn run(desk: &mut Desk, words: &[&str], said: &mut String) -> Result<()> {
     let alloc = desk.rt.alloc();
     let spelled = spelled(alloc, words)?;
     let texts = texts(alloc, spelled.as_slice())?;
-    let Ok(work) = read_words(alloc, texts.as_slice()) else {
-        return Err(anyhow!("the words ask for no work"));
+    let Ok(Work::Alone(job)) = read_words(alloc, texts.as_slice()) else {
+        return Err(anyhow!("the words ask for no work of one thread"));
     };
     let mut out = Paper::new(alloc, usize::MAX);
-    let (status, _disk) = act(desk.rt, &work, &mut out, false, Unknown);
+    let (status, _disk) = act_alone(desk.rt, &job, &mut out, false, Unknown);
     desk.printed.set(out.into_text()?, Notes::new(alloc));
     Ok(write!(said, "{status}")?)
 }

@@ -7,14 +7,18 @@ use im_disk::Unknown;
 use im_program::{WordFault, act, read_words, refuse};
 use im_types::Refusal;
 use std::alloc::{AllocError, Global};
-use std::io::{IsTerminal, Write};
+use std::env::{self, Env};
+use std::fs::File;
+use std::io::{self, Eprint, Input, IsTerminal, Print, Write};
 use std::process::ExitCode;
-use std::{env, io};
+use std::rt::Files;
+use std::sync::Wait;
+use std::thread::Threads;
 
 /// The status that the program ends with, once its text is printed.
 fn status_after(printed: io::Result<()>, status: u8) -> u8
-    requires { status ≤ 2 }
-    ensures { result ≤ 2 }
+    requires { status ≤ 3 }
+    ensures { result ≤ 3 }
 {
     match printed {
         Ok(()) => status,
@@ -23,12 +27,15 @@ fn status_after(printed: io::Result<()>, status: u8) -> u8
 }
 
 /// Does what the words ask for.
-fn run<W: Write>(rt: &HostRuntime, words: &[&str], out: &mut W) -> u8
-    ensures { result ≤ 2 }
+fn run<
+    R: Files<File = File> + AllocGlobal + Input + Print + Eprint + Threads + Wait + Sync,
+    W: Write,
+>(rt: &R, words: &[&str], out: &mut W, is_watched: bool) -> u8
+    ensures { result ≤ 3 }
 {
     match read_words(rt.alloc(), words) {
         Ok(work) => {
-            let (status, _disk) = act(rt, &work, out, rt.stderr().is_terminal(), Unknown);
+            let (status, _disk) = act(rt, &work, out, is_watched, Unknown);
             status
         }
         Err(WordFault::NoMemory) => refuse(rt.alloc(), Refusal::NoMemory, out),
@@ -49,8 +56,8 @@ fn texts<'a>(alloc: Global, words: &'a [String]) -> Result<Vec<&'a str>, AllocEr
 }
 
 /// Says why the command line can't be read.
-fn no_words<W: Write>(rt: &HostRuntime, error: &io::Error, out: &mut W) -> u8
-    ensures { result ≤ 2 }
+fn no_words<R: AllocGlobal + Eprint, W: Write>(rt: &R, error: &io::Error, out: &mut W) -> u8
+    ensures { result ≤ 3 }
 {
     if error.kind() == io::ErrorKind::OutOfMemory {
         return refuse(rt.alloc(), Refusal::NoMemory, out);
@@ -60,8 +67,11 @@ fn no_words<W: Write>(rt: &HostRuntime, error: &io::Error, out: &mut W) -> u8
 }
 
 /// Reads the command line, and does what it asks for.
-fn start<W: Write>(rt: &HostRuntime, out: &mut W) -> u8
-    ensures { result ≤ 2 }
+fn start<
+    R: Env + Files<File = File> + AllocGlobal + Input + Print + Eprint + Threads + Wait + Sync,
+    W: Write,
+>(rt: &R, out: &mut W, is_watched: bool) -> u8
+    ensures { result ≤ 3 }
 {
     let words = match env::args(rt) {
         Ok(words) => words,
@@ -71,12 +81,13 @@ fn start<W: Write>(rt: &HostRuntime, out: &mut W) -> u8
         return refuse(rt.alloc(), Refusal::NoMemory, out);
     };
     match texts(rt.alloc(), words.as_slice()) {
-        Ok(texts) => run(rt, texts.as_slice(), out),
+        Ok(texts) => run(rt, texts.as_slice(), out, is_watched),
         Err(_) => refuse(rt.alloc(), Refusal::NoMemory, out),
     }
 }
 
 fn main(rt: HostRuntime) -> ExitCode {
     let mut out = io::writer(&rt);
-    ExitCode::from(start(&rt, &mut out))
+    let is_watched = rt.stderr().is_terminal();
+    ExitCode::from(start(&rt, &mut out, is_watched))
 }
