@@ -1,0 +1,10 @@
+use denote.Param.{param}
+use denote.Param.Send.{sendable}
+use Rattle.std.proofs.Crossing.{crosses}
+use Rattle.im_program.proofs.Crosses.{FileDisk-row-send}
+use Rattle.im_program.proofs.work.run_file.Goals as goal
+
+pub run_on-requires-send-D : goal.run_on-requires-send-D
+run_on-requires-send-D g c κs within =
+    let disk = FileDisk-row-send (param 1 g.row.S) g.S.Start c.type_bounds.send-S in
+    search (sendable, crosses) depth 40 fits 30000
