@@ -1,4 +1,5 @@
-//! What C may call: a memory with no disk. `include/luntrebis.h` declares it, and docs/EMBEDDING.md tells how it is used.
+//! What C may call: a memory with no disk. `include/luntrebis.h` declares it, and docs/EMBEDDING.md tells how it is
+//! used.
 #![tactic(auto)]
 
 mod memory;

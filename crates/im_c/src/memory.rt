@@ -124,8 +124,8 @@ pub extern "C" fn lt_memory_step(
     *next = LtMemory::of_parts(Parts::of(held));
 }
 
-/// What is kept under an element's number, at `outcome`. Refused with `NoElement`, with `Forgotten` below the window, and
-/// with `Gap` where the number isn't used yet. Nothing changes.
+/// What is kept under an element's number, at `outcome`. Refused with `NoElement`, with `Forgotten` below the window,
+/// and with `Gap` where the number isn't used yet. Nothing changes.
 #[unsafe(no_mangle)]
 pub extern "C" fn lt_memory_collect(
     memory: LtMemory,

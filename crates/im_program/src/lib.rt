@@ -7,4 +7,6 @@ mod words;
 mod work;
 
 pub use words::{DEFAULT_CELLS, DEFAULT_ELEMENTS, DEFAULT_SLOTS, Job, WordFault, Work, read_words};
-pub use work::{act, act_alone, format_file, inspect_file, refuse, run_file, serve_file, talk_file};
+pub use work::{
+    act, act_alone, format_file, inspect_file, refuse, run_file, serve_file, talk_file,
+};

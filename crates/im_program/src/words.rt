@@ -138,7 +138,8 @@ file fetch.script, served on the image a.img
 Exit status: 0 all was served; 1 something was refused, with 'refused N NAME' as the last line, or the
 output can't be written; 2 a bad command line. Standard error has one line more about a refusal.";
 
-const RUN: &str = "Serve the requests of a script, those of each element by threads of its own, all at once";
+const RUN: &str =
+    "Serve the requests of a script, those of each element by threads of its own, all at once";
 
 const RUN_EXAMPLES: &str =
     "SCRIPT is what 'imem serial' reads, or - for standard input. Its setup is served first, and prints its

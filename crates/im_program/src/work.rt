@@ -441,15 +441,16 @@ fn do_job<R: Files<File = File> + AllocGlobal + Input, S: Start, W: Write, N: Ob
     }
 }
 
-/// Does the job of one thread, and answers the status that the program ends with: 0, or 1 where something was refused or
-/// a write of the output failed; and the disk of the image, where its file was made or opened. What it prints goes to
-/// `out`, a refusal as its last line `refused N NAME`. Standard error has one line of reason for a refusal, and a line
-/// `K.N now REPLY` for a request that waited when the image was opened and whose entry is confirmed; and, where
+/// Does the job of one thread, and answers the status that the program ends with: 0, or 1 where something was refused
+/// or a write of the output failed; and the disk of the image, where its file was made or opened. What it prints goes
+/// to `out`, a refusal as its last line `refused N NAME`. Standard error has one line of reason for a refusal, and a
+/// line `K.N now REPLY` for a request that waited when the image was opened and whose entry is confirmed; and, where
 /// `is_watched`, how far a long script has come.
 ///
 /// Refused are: `BadLimits` for an image with a number out of its range, and then no file is made; and what
-/// [`format_file`], [`serve_file`], [`talk_file`] and [`inspect_file`] refuse. Where there is a disk, its status and what
-/// was printed are those of the one that was called; where there is none, the status is 1, but for the demonstration.
+/// [`format_file`], [`serve_file`], [`talk_file`] and [`inspect_file`] refuse. Where there is a disk, its status and
+/// what was printed are those of the one that was called; where there is none, the status is 1, but for the
+/// demonstration.
 ///
 /// `start` stands for what the image holds when it is opened. It is used up, and no code reads it.
 pub fn act_alone<R: Files<File = File> + AllocGlobal + Input + Eprint, S: Start, W: Write>(
@@ -499,8 +500,8 @@ fn act_at_once<
 }
 
 /// Does the work, and answers the status that the program ends with: that of [`act_alone`], or for a run that of
-/// [`run_file`], 3 where its elements wait for each other; and the disk of the image, where its file was made or opened.
-/// What is printed and refused is what these two say.
+/// [`run_file`], 3 where its elements wait for each other; and the disk of the image, where its file was made or
+/// opened. What is printed and refused is what these two say.
 ///
 /// `start` stands for what the image holds when it is opened. It is used up, and no code reads it.
 pub fn act<

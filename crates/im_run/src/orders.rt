@@ -127,7 +127,8 @@ fn number_orders<D: Disk>(
 /// Serves the setup of a script, whose lines are printed at once, and answers what each element asks for, from the
 /// least. Nothing behind the setup is served.
 ///
-/// Refused is what serving a block is refused, `Place` where a request's place lies past the last address, and `Memory`.
+/// Refused is what serving a block is refused, `Place` where a request's place lies past the last address, and
+/// `Memory`.
 pub fn read_orders<D: Disk, W: Write, N: Observer>(
     alloc: Global,
     engine: &mut Engine<D>,

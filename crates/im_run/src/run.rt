@@ -188,9 +188,9 @@ fn run_engine<
 /// failed; or a server was refused something else than `Stalled`: the least such element's refusal is printed, and the
 /// others went on. The observer is told why.
 ///
-/// Where the status is 0 or 3, each file that a crash may leave at the return means one memory; where it is 0, the lines
-/// of the elements are all written, and tell the entries that this memory keeps, or what a server was told of an entry
-/// that it confirmed.
+/// Where the status is 0 or 3, each file that a crash may leave at the return means one memory; where it is 0, the
+/// lines of the elements are all written, and tell the entries that this memory keeps, or what a server was told of an
+/// entry that it confirmed.
 pub fn run_on<
     D: Disk + Drop + Send,
     W: Write,
