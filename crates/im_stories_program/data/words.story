@@ -63,7 +63,7 @@ says 4294967296 = yes
 
 # Help says what each subcommand does, with an example
 imem --help = status 0
-says imem serial a.img fetch.script = yes
+says imem run a.img fetch.script = yes
 imem format --help = status 0
 says imem format small.img --cells 64 = yes
 imem serial --help = status 0
