@@ -3,28 +3,32 @@
 use im_serving::Gate;
 use std::sync::{Mutex, Wait};
 
-// How many turns the first server is held at most.
+// How many turns a server is held at most.
 const MOST_TURNS: usize = 200_000_000;
 
 // What came to pass.
 #[derive(Drop)]
 struct Seen {
-    // The second server's request is answered.
+    // A request of the first element is answered.
     answered: bool,
-    // The first server's was held until then.
+    // The last request of the other was let go by that, and not by the number of turns.
     held: bool,
 }
 
-/// Holds the request of server 1 until that of server 2 is answered.
+/// Holds the requests of one element until one of another is answered.
 #[derive(Drop)]
-pub struct TwoServers {
+pub struct After {
+    first: u16,
+    then: u16,
     seen: Mutex<Seen>,
 }
 
-impl TwoServers {
-    /// Nothing was answered yet.
-    pub fn new() -> TwoServers {
-        TwoServers {
+impl After {
+    /// Nothing is answered yet; the requests of the element `then` are held until one of `first` is.
+    pub fn new(first: u16, then: u16) -> After {
+        After {
+            first,
+            then,
             seen: Mutex::new(Seen {
                 answered: false,
                 held: false,
@@ -32,7 +36,7 @@ impl TwoServers {
         }
     }
 
-    // Whether the second server's request is answered. Where it is, the first was held until then.
+    // Whether a request of the first element is answered. Where it is, the other was held until then.
     fn is_answered<R: Wait>(&self, rt: &R) -> bool {
         let mut guard = self.seen.lock(rt);
         let answered = guard.answered;
@@ -40,15 +44,15 @@ impl TwoServers {
         answered
     }
 
-    /// Whether server 1 was let go by server 2's answer, and not by the number of turns.
+    /// Whether the last request that was held was let go by the first element's answer, and not by the number of turns.
     pub fn has_held<R: Wait>(&self, rt: &R) -> bool {
         self.seen.lock(rt).held
     }
 }
 
-impl Gate for TwoServers {
+impl Gate for After {
     fn before<R: Wait>(&self, rt: &R, element: u16, _number: u64) {
-        if element != 1 {
+        if element != self.then {
             return;
         }
         for _turn in 0..MOST_TURNS {
@@ -59,7 +63,7 @@ impl Gate for TwoServers {
     }
 
     fn after<R: Wait>(&self, rt: &R, element: u16, _number: u64) {
-        if element == 2 {
+        if element == self.first {
             self.seen.lock(rt).answered = true;
         }
     }

@@ -6,7 +6,7 @@ mod gates;
 mod writers;
 
 use anyhow::{Result, anyhow};
-use gates::TwoServers;
+use gates::After;
 use im_disk::MemDisk;
 use im_engine::Engine;
 use im_report::inspect_on;
@@ -72,59 +72,72 @@ fn run<G: Gate + Sync, R: Threads + Wait + Sync>(
     Ok(disk)
 }
 
-// Says the lines of entries that an image's report has.
-fn report(alloc: Global, disk: MemDisk, said: &mut String) -> Result<()> {
+// Says the lines of cells and of entries that an image's report has, and gives its disk back.
+fn report(alloc: Global, disk: MemDisk, said: &mut String) -> Result<MemDisk> {
     let mut out = Paper::new(alloc);
-    let (status, _) = inspect_on(alloc, disk, &mut out, &mut Nobody);
+    let (status, disk) = inspect_on(alloc, disk, &mut out, &mut Nobody);
     let text = out.into_text()?;
+    said.push_str("the report\n")?;
     for line in text.as_str().split('\n') {
-        if line.starts_with("entry") {
+        if line.starts_with("cell") || line.starts_with("entry") {
             writeln!(said, "{line}")?;
         }
     }
     writeln!(said, "status {status}")?;
-    Ok(())
+    Ok(disk)
 }
 
 // A server that waits for a store which nobody sends is stalled; the store of a later run answers it.
 fn tell_stalled<R: Threads + Wait + Sync>(rt: &R, alloc: Global, said: &mut String) -> Result<()> {
-    writeln!(said, "a fetch without its store")?;
+    said.push_str("# a fetch without its store\n")?;
     let disk = new_image(alloc)?;
     let disk = run(rt, alloc, disk, WAITS, &Open, said)?;
-    writeln!(said, "the store in a later run")?;
+    let disk = report(alloc, disk, said)?;
+    said.push_str("# the store in a later run\n")?;
     let disk = run(rt, alloc, disk, STORES, &Open, said)?;
-    writeln!(said, "the report")?;
-    report(alloc, disk, said)
+    let _disk = report(alloc, disk, said)?;
+    Ok(())
 }
 
-// Two servers print the same in each order.
-fn tell_two<R: Threads + Wait + Sync>(rt: &R, alloc: Global, said: &mut String) -> Result<()> {
-    writeln!(said, "a fetch and its store, by two servers")?;
-    let disk = new_image(alloc)?;
-    let disk = run(rt, alloc, disk, BOTH, &Open, said)?;
-    writeln!(said, "the report")?;
-    report(alloc, disk, said)
-}
-
-// two_servers: the first server's submit is held until the second server's is answered.
-fn tell_two_servers<R: Threads + Wait + Sync>(
+// A fetch and its store by two servers, which a gate may hold back.
+fn tell_both<G: Gate + Sync, R: Threads + Wait + Sync>(
     rt: &R,
     alloc: Global,
+    gate: &G,
     said: &mut String,
 ) -> Result<()> {
-    writeln!(said, "two_servers")?;
-    let gate = TwoServers::new();
     let disk = new_image(alloc)?;
-    let _disk = run(rt, alloc, disk, BOTH, &gate, said)?;
+    let disk = run(rt, alloc, disk, BOTH, gate, said)?;
+    let _disk = report(alloc, disk, said)?;
+    Ok(())
+}
+
+// The same, where the request of one element is held until that of the other is answered.
+fn tell_held<R: Threads + Wait + Sync>(
+    rt: &R,
+    alloc: Global,
+    first: u16,
+    then: u16,
+    said: &mut String,
+) -> Result<()> {
+    let gate = After::new(first, then);
+    tell_both(rt, alloc, &gate, said)?;
     let held = gate.has_held(rt);
-    writeln!(said, "held until the other was answered: {held}")?;
+    writeln!(
+        said,
+        "{then} was held until {first} was answered: {held}"
+    )?;
     Ok(())
 }
 
 fn tell_all<R: Threads + Wait + Sync>(rt: &R, alloc: Global, said: &mut String) -> Result<()> {
     tell_stalled(rt, alloc, said)?;
-    tell_two(rt, alloc, said)?;
-    tell_two_servers(rt, alloc, said)
+    said.push_str("# a fetch and its store, by two servers in any order\n")?;
+    tell_both(rt, alloc, &Open, said)?;
+    said.push_str("# two_servers: the fetch is held until the store is answered\n")?;
+    tell_held(rt, alloc, 2, 1, said)?;
+    said.push_str("# the store is held until the fetch is answered, which waits\n")?;
+    tell_held(rt, alloc, 1, 2, said)
 }
 
 fn main(rt: HostRuntime) -> ExitCode {
