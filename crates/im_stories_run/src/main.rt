@@ -16,7 +16,6 @@ use im_serving::{Gate, Open};
 use im_types::Limits;
 use im_types::layout::image_length;
 use std::alloc::Global;
-use std::process::ExitCode;
 use std::sync::Wait;
 use std::thread::Threads;
 use writers::{Nobody, Paper};
@@ -123,10 +122,7 @@ fn tell_held<R: Threads + Wait + Sync>(
     let gate = After::new(first, then);
     tell_both(rt, alloc, &gate, said)?;
     let held = gate.has_held(rt);
-    writeln!(
-        said,
-        "{then} was held until {first} was answered: {held}"
-    )?;
+    writeln!(said, "{then} was held until {first} was answered: {held}")?;
     Ok(())
 }
 
@@ -140,13 +136,9 @@ fn tell_all<R: Threads + Wait + Sync>(rt: &R, alloc: Global, said: &mut String) 
     tell_held(rt, alloc, 1, 2, said)
 }
 
-fn main(rt: HostRuntime) -> ExitCode {
-    let alloc = rt.alloc();
-    let mut said = String::new(alloc);
-    let told = tell_all(&rt, alloc, &mut said);
-    if rt.print(said.as_str()).is_ok() && told.is_ok() {
-        ExitCode::from(0)
-    } else {
-        ExitCode::from(1)
-    }
+fn main(rt: HostRuntime) -> Result<()> {
+    let mut said = String::new(rt.alloc());
+    let told = tell_all(&rt, rt.alloc(), &mut said);
+    rt.print(said.as_str())?;
+    told
 }

@@ -3,7 +3,6 @@
 use crate::parts::{Part, Told, play};
 use im_controller::{Controller, Name, Port};
 use im_disk::Disk;
-use im_types::Refusal;
 use std::alloc::{AllocError, Global};
 use std::sync::Wait;
 use std::thread;
@@ -25,6 +24,15 @@ pub struct Done<K: Name> {
     pub port: Port<K>,
     /// What came of its part.
     pub told: Told,
+}
+
+/// What came of all parts.
+#[derive(Drop)]
+pub struct Played<K: Name> {
+    /// The ports, in the tasks' order.
+    pub done: Vec<Done<K>>,
+    /// The thread that keeps checkpoints was there to the end, and was refused nothing.
+    pub kept: bool,
 }
 
 // Plays the part of one thread.
@@ -53,13 +61,18 @@ fn begin<'s, E, D: Disk + Drop + Send, K: Name + Send + Sync, R: Threads + Wait 
     }
 }
 
-// Begins the thread that keeps checkpoints, and says whether it could be made.
+// Keeps checkpoints until the controller ends, and says whether nothing was refused.
+fn keep_to_end<D: Disk, K: Name, R: Wait>(rt: &R, controller: &Controller<D, K>) -> bool {
+    controller.keep_checkpoints(rt).is_ok()
+}
+
+// Begins the thread that keeps checkpoints, if one can be made.
 fn keep<'s, E, D: Disk + Drop + Send, K: Name + Send + Sync, R: Threads + Wait + Sync>(
     rt: &'s R,
     scope: &Scope<'s, E>,
     controller: &'s Controller<D, K>,
-) -> Option<JoinHandle<Result<(), Refusal>>> {
-    match scope.spawn(move || controller.keep_checkpoints(rt)) {
+) -> Option<JoinHandle<bool>> {
+    match scope.spawn(move || keep_to_end(rt, controller)) {
         Ok(keeper) => Some(keeper),
         Err(_) => None,
     }
@@ -97,23 +110,24 @@ fn play_tasks<'s, E, D: Disk + Drop + Send, K: Name + Send + Sync, R: Threads + 
 }
 
 /// Plays all parts, each in a thread of its own, beside the thread that keeps checkpoints until they have returned: all
-/// at once, or in turn, each once the one before it has ended. The ports come back in the tasks' order.
+/// at once, or in turn, each once the one before it has ended. `AllocError` where there is no room for a list of them.
 pub fn play_all<D: Disk + Drop + Send, K: Name + Send + Sync, R: Threads + Wait + Sync>(
     rt: &R,
     alloc: Global,
     controller: &Controller<D, K>,
     in_turn: bool,
     tasks: Vec<Task<K>>,
-) -> Result<Vec<Done<K>>, AllocError> {
+) -> Result<Played<K>, AllocError> {
     let threads = Vec::with_capacity(alloc, tasks.len())?;
     let mut done = Vec::with_capacity(alloc, tasks.len())?;
     thread::scope(thread::scope_env(), rt, move |scope| {
         let keeper = keep(rt, scope, controller);
         play_tasks(rt, scope, controller, in_turn, tasks, threads, &mut done);
         controller.end(rt);
-        if let Some(keeper) = keeper {
-            let _kept = keeper.join(rt);
-        }
-        Ok(done)
+        let kept = match keeper {
+            Some(keeper) => keeper.join(rt),
+            None => false,
+        };
+        Ok(Played { done, kept })
     })
 }

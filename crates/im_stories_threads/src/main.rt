@@ -18,7 +18,6 @@ use im_types::layout::image_length;
 use im_types::{LAST, Limits};
 use std::alloc::Global;
 use std::marker::Brand;
-use std::process::ExitCode;
 use std::sync::Wait;
 use std::thread::Threads;
 
@@ -78,13 +77,9 @@ fn show_all<R: Threads + Wait + Sync>(rt: &R, alloc: Global, said: &mut String) 
     Ok(())
 }
 
-fn main(rt: HostRuntime) -> ExitCode {
-    let alloc = rt.alloc();
-    let mut said = String::new(alloc);
-    let shown = show_all(&rt, alloc, &mut said);
-    if rt.print(said.as_str()).is_ok() && shown.is_ok() {
-        ExitCode::from(0)
-    } else {
-        ExitCode::from(1)
-    }
+fn main(rt: HostRuntime) -> Result<()> {
+    let mut said = String::new(rt.alloc());
+    let told = show_all(&rt, rt.alloc(), &mut said);
+    rt.print(said.as_str())?;
+    told
 }

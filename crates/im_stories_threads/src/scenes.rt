@@ -4,11 +4,11 @@ use crate::crews::{Done, Task, play_all};
 use crate::parts::Part;
 use crate::traces::{alike, fetches_of};
 use anyhow::{Result, anyhow};
-use im_controller::{Controller, Finished, Name, Port, finish};
+use im_controller::{Controller, Finished, Name, Port, Receipt, finish};
 use im_disk::FuseDisk;
 use im_engine::Engine;
 use im_story::{add_entry, add_outcome, add_refusal};
-use im_types::{Kind, Limits, Op};
+use im_types::{Kind, Limits, Op, Outcome, Refusal};
 use std::alloc::Global;
 use std::sync::Wait;
 use std::thread::Threads;
@@ -130,6 +130,22 @@ fn port<K: Name, R: Wait>(
     }
 }
 
+// Adds a line for a call and its answer.
+fn add_call(said: &mut String, call: &str, answer: Result<Outcome, Refusal>) -> Result<()> {
+    write!(said, "  {call}: ")?;
+    add_outcome(said, answer)?;
+    said.push_str("\n")?;
+    Ok(())
+}
+
+// What a receipt's command came to.
+fn outcome_of<K: Name>(answer: Result<Receipt<K>, Refusal>) -> Result<Outcome, Refusal> {
+    match answer {
+        Ok(receipt) => Ok(receipt.outcome()),
+        Err(refusal) => Err(refusal),
+    }
+}
+
 // Submits a request, and tells its answer.
 fn submit<K: Name, R: Wait>(
     rt: &R,
@@ -139,47 +155,8 @@ fn submit<K: Name, R: Wait>(
     op: Op,
     said: &mut String,
 ) -> Result<()> {
-    said.push_str("  submit: ")?;
-    match port.submit(rt, controller, number, op) {
-        Ok(receipt) => add_outcome(said, Ok(receipt.outcome()))?,
-        Err(refusal) => add_refusal(said, refusal)?,
-    }
-    said.push_str("\n")?;
-    Ok(())
-}
-
-// Collects, and tells what is kept.
-fn collect<K: Name, R: Wait>(
-    rt: &R,
-    controller: &Controller<FuseDisk, K>,
-    port: &mut Port<K>,
-    number: u64,
-    said: &mut String,
-) -> Result<()> {
-    said.push_str("  collect: ")?;
-    match port.collect(rt, controller, number) {
-        Ok(found) => add_entry(said, found.entry())?,
-        Err(refusal) => add_refusal(said, refusal)?,
-    }
-    said.push_str("\n")?;
-    Ok(())
-}
-
-// Confirms, and tells the answer.
-fn confirm<K: Name, R: Wait>(
-    rt: &R,
-    controller: &Controller<FuseDisk, K>,
-    port: &mut Port<K>,
-    upto: u64,
-    said: &mut String,
-) -> Result<()> {
-    said.push_str("  confirm: ")?;
-    match port.confirm(rt, controller, upto) {
-        Ok(receipt) => add_outcome(said, Ok(receipt.outcome()))?,
-        Err(refusal) => add_refusal(said, refusal)?,
-    }
-    said.push_str("\n")?;
-    Ok(())
+    let answer = outcome_of(port.submit(rt, controller, number, op));
+    add_call(said, "submit", answer)
 }
 
 // Tells the trace of fetches.
@@ -274,12 +251,14 @@ fn play<K: Name + Send + Sync, R: Threads + Wait + Sync>(
     let mut ports = Vec::new(alloc);
     ports.push(set_up(rt, controller, scene, said)?)?;
     let tasks = tasks(rt, alloc, controller, scene, said)?;
-    let done = play_all(rt, alloc, controller, scene.is_in_turn(), tasks)?;
-    gather(done, &mut ports, said)?;
+    let played = play_all(rt, alloc, controller, scene.is_in_turn(), tasks)?;
+    let kept = played.kept;
+    gather(played.done, &mut ports, said)?;
+    writeln!(said, "  checkpoints were kept to the end: {kept}")?;
     Ok(ports)
 }
 
-// What a port that has played is answered then.
+// Tells what a port that has played is answered then.
 fn ask<K: Name, R: Wait>(
     rt: &R,
     controller: &Controller<FuseDisk, K>,
@@ -287,8 +266,13 @@ fn ask<K: Name, R: Wait>(
     number: u64,
     said: &mut String,
 ) -> Result<()> {
-    collect(rt, controller, port, number, said)?;
-    confirm(rt, controller, port, number.saturating_add(1), said)?;
+    let found = match port.collect(rt, controller, number) {
+        Ok(found) => Ok(Outcome::Entry(found.entry())),
+        Err(refusal) => Err(refusal),
+    };
+    add_call(said, "collect", found)?;
+    let answer = outcome_of(port.confirm(rt, controller, number.saturating_add(1)));
+    add_call(said, "confirm", answer)?;
     let helped = port.help(rt, controller).is_ok();
     writeln!(said, "  help: {helped}")?;
     Ok(())
