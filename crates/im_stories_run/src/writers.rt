@@ -1,0 +1,54 @@
+//! A writer in memory, and an observer who notes nothing.
+
+use anyhow::{Result, anyhow};
+use im_text::{Observer, Progress, Reason};
+use im_types::Entry;
+use std::alloc::Global;
+use std::io;
+use std::io::Write;
+
+/// What was written.
+#[derive(Drop)]
+pub struct Paper {
+    text: Vec<u8>,
+}
+
+impl Paper {
+    /// Nothing was written.
+    pub fn new(alloc: Global) -> Paper {
+        Paper {
+            text: Vec::new(alloc),
+        }
+    }
+
+    /// What was written.
+    pub fn into_text(self) -> Result<String> {
+        match String::from_utf8(self.text) {
+            Ok(text) => Ok(text),
+            Err(_) => Err(anyhow!("no text was written")),
+        }
+    }
+}
+
+impl Write for Paper {
+    fn write(&mut self, buf: &[u8]) -> io::Result<usize> {
+        self.text.extend_from_slice(buf)?;
+        Ok(buf.len())
+    }
+
+    fn flush(&mut self) -> io::Result<()> {
+        Ok(())
+    }
+}
+
+/// Nobody, who is told of the work and keeps nothing of it.
+#[derive(Drop)]
+pub struct Nobody;
+
+impl Observer for Nobody {
+    fn answered(&mut self, _element: u16, _number: u64, _entry: Entry) {}
+
+    fn progressed(&mut self, _progress: Progress) {}
+
+    fn refused(&mut self, _reason: Reason) {}
+}

@@ -1,0 +1,133 @@
+//! Threads beside each other: one for each port that plays a part, and one that keeps checkpoints.
+
+use crate::parts::{Part, Told, play};
+use im_controller::{Controller, Name, Port};
+use im_disk::Disk;
+use std::alloc::{AllocError, Global};
+use std::sync::Wait;
+use std::thread;
+use std::thread::{JoinHandle, Scope, Threads};
+
+/// A port, and what is done with it.
+#[derive(Drop)]
+pub struct Task<K: Name> {
+    /// The port.
+    pub port: Port<K>,
+    /// What is done with it.
+    pub part: Part,
+}
+
+/// A port, and what came of its part.
+#[derive(Drop)]
+pub struct Done<K: Name> {
+    /// The port.
+    pub port: Port<K>,
+    /// What came of its part.
+    pub told: Told,
+}
+
+/// What came of all parts.
+#[derive(Drop)]
+pub struct Played<K: Name> {
+    /// The ports, in the tasks' order.
+    pub done: Vec<Done<K>>,
+    /// The thread that keeps checkpoints was there to the end, and was refused nothing.
+    pub kept: bool,
+}
+
+// Plays the part of one thread.
+fn play_part<D: Disk, K: Name, R: Wait>(
+    rt: &R,
+    controller: &Controller<D, K>,
+    port: Port<K>,
+    part: Part,
+) -> Done<K> {
+    let mut port = port;
+    let told = play(rt, controller, &mut port, part);
+    Done { port, told }
+}
+
+// Begins a thread that plays a part. Where none can be made the port is gone, which is told at the end.
+fn begin<'s, E, D: Disk + Drop + Send, K: Name + Send + Sync, R: Threads + Wait + Sync>(
+    rt: &'s R,
+    scope: &Scope<'s, E>,
+    controller: &'s Controller<D, K>,
+    task: Task<K>,
+) -> Option<JoinHandle<Done<K>>> {
+    let Task { port, part } = task;
+    match scope.spawn(move || play_part(rt, controller, port, part)) {
+        Ok(thread) => Some(thread),
+        Err(_) => None,
+    }
+}
+
+// Keeps checkpoints until the controller ends, and says whether nothing was refused.
+fn keep_to_end<D: Disk, K: Name, R: Wait>(rt: &R, controller: &Controller<D, K>) -> bool {
+    controller.keep_checkpoints(rt).is_ok()
+}
+
+// Begins the thread that keeps checkpoints, if one can be made.
+fn keep<'s, E, D: Disk + Drop + Send, K: Name + Send + Sync, R: Threads + Wait + Sync>(
+    rt: &'s R,
+    scope: &Scope<'s, E>,
+    controller: &'s Controller<D, K>,
+) -> Option<JoinHandle<bool>> {
+    match scope.spawn(move || keep_to_end(rt, controller)) {
+        Ok(keeper) => Some(keeper),
+        Err(_) => None,
+    }
+}
+
+// Waits for the end of a thread, if it could be made.
+fn end<K: Name, R: Threads>(rt: &R, thread: Option<JoinHandle<Done<K>>>, done: &mut Vec<Done<K>>) {
+    if let Some(thread) = thread {
+        let _kept = done.push(thread.join(rt));
+    }
+}
+
+// Plays all parts to their ends: all at once, or each once the one before it has ended.
+fn play_tasks<'s, E, D: Disk + Drop + Send, K: Name + Send + Sync, R: Threads + Wait + Sync>(
+    rt: &'s R,
+    scope: &Scope<'s, E>,
+    controller: &'s Controller<D, K>,
+    in_turn: bool,
+    tasks: Vec<Task<K>>,
+    threads: Vec<Option<JoinHandle<Done<K>>>>,
+    done: &mut Vec<Done<K>>,
+) {
+    let mut threads = threads;
+    for task in tasks {
+        let thread = begin(rt, scope, controller, task);
+        if in_turn {
+            end(rt, thread, done);
+        } else {
+            let _kept = threads.push(thread);
+        }
+    }
+    for thread in threads {
+        end(rt, thread, done);
+    }
+}
+
+/// Plays all parts, each in a thread of its own, beside the thread that keeps checkpoints until they have returned: all
+/// at once, or in turn, each once the one before it has ended. `AllocError` where there is no room for a list of them.
+pub fn play_all<D: Disk + Drop + Send, K: Name + Send + Sync, R: Threads + Wait + Sync>(
+    rt: &R,
+    alloc: Global,
+    controller: &Controller<D, K>,
+    in_turn: bool,
+    tasks: Vec<Task<K>>,
+) -> Result<Played<K>, AllocError> {
+    let threads = Vec::with_capacity(alloc, tasks.len())?;
+    let mut done = Vec::with_capacity(alloc, tasks.len())?;
+    thread::scope(thread::scope_env(), rt, move |scope| {
+        let keeper = keep(rt, scope, controller);
+        play_tasks(rt, scope, controller, in_turn, tasks, threads, &mut done);
+        controller.end(rt);
+        let kept = match keeper {
+            Some(keeper) => keeper.join(rt),
+            None => false,
+        };
+        Ok(Played { done, kept })
+    })
+}

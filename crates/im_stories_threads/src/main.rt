@@ -1,0 +1,85 @@
+//! Threads under one lock: what ports are answered beside each other, that the thread that keeps checkpoints works,
+//! that servers wait and are woken, and that the plain memory serves a long trace again alike.
+#![tactic(auto)]
+
+ghost use Rattle.std.specs.Prelude.{◌≡◌};
+
+mod crews;
+mod parts;
+mod scenes;
+mod traces;
+
+use crate::scenes::{Scene, show};
+use anyhow::{Result, anyhow};
+use im_controller::{Name, Opening, start};
+use im_disk::{FuseDisk, MemDisk, Mode};
+use im_engine::Engine;
+use im_types::layout::image_length;
+use im_types::{LAST, Limits};
+use std::alloc::Global;
+use std::marker::Brand;
+use std::sync::Wait;
+use std::thread::Threads;
+
+// A new memory on a disk that never fails, and room for a trace.
+fn opening(alloc: Global, scene: Scene, limits: Limits) -> Result<Opening<FuseDisk>> {
+    let disk = FuseDisk::new(MemDisk::new(alloc, image_length(limits))?, LAST, Mode::Stop);
+    let Ok(engine) = Engine::format(alloc, disk, limits) else {
+        return Err(anyhow!("no image was formatted"));
+    };
+    match start(alloc, engine, scene.room()) {
+        Ok(opening) => Ok(opening),
+        Err(_) => Err(anyhow!("no room")),
+    }
+}
+
+// Shows a scene by a controller that has a name.
+fn show_named<K: Name + Send + Sync, R: Threads + Wait + Sync>(
+    rt: &R,
+    alloc: Global,
+    scene: Scene,
+    limits: Limits,
+    opening: Opening<FuseDisk>,
+    said: &mut String,
+) -> Result<()>
+    requires memory { opening.engine.memory ≡ K.memory }
+    requires lines { opening.lines_name ≡ K.lines_name }
+    requires marked { opening.marked_name ≡ K.marked_name }
+    requires ports { opening.ports ≡ K.ports }
+{
+    show(rt, alloc, scene, limits, opening.named::<K>(), said)
+}
+
+fn show_scene<R: Threads + Wait + Sync>(
+    rt: &R,
+    alloc: Global,
+    scene: Scene,
+    said: &mut String,
+) -> Result<()> {
+    let Some(limits) = scene.limits() else {
+        return Err(anyhow!("these are no sizes"));
+    };
+    let opening = opening(alloc, scene, limits)?;
+    writeln!(said, "{}", scene.head())?;
+    show_named::<Brand, R>(rt, alloc, scene, limits, opening, said)
+}
+
+fn show_all<R: Threads + Wait + Sync>(rt: &R, alloc: Global, said: &mut String) -> Result<()> {
+    for scene in [
+        Scene::Two,
+        Scene::KeeperWorks,
+        Scene::OneLine,
+        Scene::ServersWait,
+        Scene::Sixteen,
+    ] {
+        show_scene(rt, alloc, scene, said)?;
+    }
+    Ok(())
+}
+
+fn main(rt: HostRuntime) -> Result<()> {
+    let mut said = String::new(rt.alloc());
+    let told = show_all(&rt, rt.alloc(), &mut said);
+    rt.print(said.as_str())?;
+    told
+}

@@ -1,0 +1,175 @@
+//! What a thread does with its port.
+
+use im_controller::{Controller, Name, Port};
+use im_disk::Disk;
+use im_types::{Entry, Op, Outcome, Refusal, Reply};
+use std::sync::Wait;
+
+/// How often a request that finds the journal full is sent again, at most.
+const MOST_TRIES: u32 = 200_000_000;
+
+/// What a thread does with its port.
+#[derive(Clone, Copy)]
+pub enum Part {
+    /// So many fetches of address 0, from number 1 on.
+    Fetches(u64),
+    /// At this place, so many puts, takes, stores and fetches in turn, from number 1 on; each sixteen are confirmed.
+    Mixed(u32, u64),
+    /// Waits for the answer to number 1.
+    Waits,
+    /// Stores 7 at address 0, and then waits for a take of address 1, where nobody puts.
+    StoresAndStalls,
+}
+
+/// What came of it.
+#[derive(Clone, Copy)]
+pub struct Told {
+    /// How many requests were answered as they should be: any answer, or of fetches `nocell`.
+    pub accepted: u64,
+    /// What the last one came to, or what was waited for.
+    pub last: Result<Entry, Refusal>,
+}
+
+// Submits a request, again while the journal is full.
+fn submit<D: Disk, K: Name, R: Wait>(
+    rt: &R,
+    controller: &Controller<D, K>,
+    port: &mut Port<K>,
+    number: u64,
+    op: Op,
+) -> Result<Outcome, Refusal> {
+    for _ in 0..MOST_TRIES {
+        match port.submit(rt, controller, number, op) {
+            Ok(receipt) => return Ok(receipt.outcome()),
+            Err(Refusal::JournalFull) => {}
+            Err(refusal) => return Err(refusal),
+        }
+    }
+    Err(Refusal::JournalFull)
+}
+
+// Confirms all below a number, again while the journal is full.
+fn confirm<D: Disk, K: Name, R: Wait>(
+    rt: &R,
+    controller: &Controller<D, K>,
+    port: &mut Port<K>,
+    upto: u64,
+) -> bool {
+    for _ in 0..MOST_TRIES {
+        match port.confirm(rt, controller, upto) {
+            Ok(_) => return true,
+            Err(Refusal::JournalFull) => {}
+            Err(_) => return false,
+        }
+    }
+    false
+}
+
+// What an answer has kept.
+fn entry_of(answer: Result<Outcome, Refusal>) -> Result<Entry, Refusal> {
+    match answer {
+        Ok(Outcome::Entry(entry)) => Ok(entry),
+        Ok(Outcome::Confirmed) => Err(Refusal::Mismatch),
+        Err(refusal) => Err(refusal),
+    }
+}
+
+fn fetches<D: Disk, K: Name, R: Wait>(
+    rt: &R,
+    controller: &Controller<D, K>,
+    port: &mut Port<K>,
+    many: u64,
+) -> Told {
+    let mut accepted = 0u64;
+    let mut last = Err(Refusal::Gap);
+    for i in 0..many {
+        let number = i.saturating_add(1);
+        last = entry_of(submit(rt, controller, port, number, Op::Fetch(0)));
+        if last == Ok(Entry::Answered(Reply::NoCell)) {
+            accepted = accepted.saturating_add(1);
+        }
+    }
+    Told { accepted, last }
+}
+
+// The operation of a request: a put to the M cell of the port's place and a take of it, a store to an I cell and a
+// fetch of it. All places come to each I cell, at different times.
+fn op_of(place: u32, i: u64) -> Op {
+    let at = ((i / 4).saturating_add(u64::from(place).saturating_mul(16)) % 256) as u32;
+    match i % 4 {
+        0 => Op::Put(place.saturating_add(256), i),
+        1 => Op::Take(place.saturating_add(256)),
+        2 => Op::Store(at, i),
+        _ => Op::Fetch(at),
+    }
+}
+
+// Requests of all kinds, with a confirmation behind each sixteen.
+fn mixed<D: Disk, K: Name, R: Wait>(
+    rt: &R,
+    controller: &Controller<D, K>,
+    port: &mut Port<K>,
+    place: u32,
+    many: u64,
+) -> Told {
+    let mut accepted = 0u64;
+    let mut last = Err(Refusal::Gap);
+    for i in 0..many {
+        let number = i.saturating_add(1);
+        last = entry_of(submit(rt, controller, port, number, op_of(place, i)));
+        if last.is_ok() {
+            accepted = accepted.saturating_add(1);
+        }
+        if number % 16 == 0 && !confirm(rt, controller, port, number.saturating_add(1)) {
+            break;
+        }
+    }
+    Told { accepted, last }
+}
+
+// Waits for the answer to a number, and then its server has ended.
+fn await_answer<D: Disk, K: Name, R: Wait>(
+    rt: &R,
+    controller: &Controller<D, K>,
+    port: &mut Port<K>,
+    number: u64,
+) -> Result<Entry, Refusal> {
+    let found = port.await_answer(rt, controller, number);
+    port.retire(rt, controller);
+    match found {
+        Ok(found) => Ok(found.entry()),
+        Err(refusal) => Err(refusal),
+    }
+}
+
+// Stores, and takes from a cell that nobody fills.
+fn stores_and_stalls<D: Disk, K: Name, R: Wait>(
+    rt: &R,
+    controller: &Controller<D, K>,
+    port: &mut Port<K>,
+) -> Told {
+    let stored = submit(rt, controller, port, 1, Op::Store(0, 7));
+    let taken = submit(rt, controller, port, 2, Op::Take(1));
+    Told {
+        accepted: u64::from(stored.is_ok()) + u64::from(taken.is_ok()),
+        last: await_answer(rt, controller, port, 2),
+    }
+}
+
+/// Does a part, and says what came of it.
+pub fn play<D: Disk, K: Name, R: Wait>(
+    rt: &R,
+    controller: &Controller<D, K>,
+    port: &mut Port<K>,
+    part: Part,
+) -> Told {
+    match part {
+        Part::Fetches(many) => fetches(rt, controller, port, many),
+        Part::Mixed(place, many) => mixed(rt, controller, port, place, many),
+        Part::Waits => Told {
+            accepted: 0,
+            last: await_answer(rt, controller, port, 1),
+        },
+        Part::StoresAndStalls => stores_and_stalls(rt, controller, port),
+    }
+}

@@ -1,0 +1,50 @@
+//! What a trace shows.
+
+use im_plain::PlainMemory;
+use im_types::{Call, Command, Entry, Limits, Line, Outcome, Refusal, Reply};
+use std::alloc::Global;
+
+/// How many requests of an element a trace has, numbered in their order from 1 on and each answered `nocell`; `None`
+/// where one isn't.
+pub fn fetches_of(trace: &[Line], element: u16) -> Option<u64> {
+    let mut many = 0u64;
+    for line in trace {
+        let Call::Command(Command::Request(request)) = line.call else {
+            continue;
+        };
+        if request.element != element {
+            continue;
+        }
+        many = many.saturating_add(1);
+        if request.number != many
+            || line.answer != Ok(Outcome::Entry(Entry::Answered(Reply::NoCell)))
+        {
+            return None;
+        }
+    }
+    Some(many)
+}
+
+// What the plain memory answers to a call.
+fn answer_again(memory: &mut PlainMemory, call: Call) -> Result<Outcome, Refusal> {
+    match call {
+        Call::Command(command) => memory.step(&command),
+        Call::Collect { element, number } => match memory.collect(element, number) {
+            Ok(entry) => Ok(Outcome::Entry(entry)),
+            Err(refusal) => Err(refusal),
+        },
+    }
+}
+
+/// How many lines of a trace, from its first, the plain memory answers alike.
+pub fn alike(alloc: Global, limits: Limits, trace: &[Line]) -> Result<usize, Refusal> {
+    let mut memory = PlainMemory::new(alloc, limits)?;
+    let mut many = 0usize;
+    for line in trace {
+        if answer_again(&mut memory, line.call) != line.answer {
+            return Ok(many);
+        }
+        many = many.saturating_add(1);
+    }
+    Ok(many)
+}
