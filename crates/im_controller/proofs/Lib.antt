@@ -1,6 +1,8 @@
 pub mod LogLemmas
 pub mod StuckLemmas
 pub mod LendLemmas
+pub mod ShownLemmas
+pub mod PutLemmas
 pub mod WaitLemmas
 pub mod Gathering
 pub mod Keeping

@@ -1,4 +1,4 @@
-use Rattle.std.proofs.Common.{◌≡◌, true, length, ap, ◌∙◌}
+use Rattle.std.proofs.Common.{length, ap, ◌∙◌}
 use Rattle.im_types.specs.declared.commands.Command.TheVariants.{Request as Asks}
 use Rattle.im_types.specs.Changes.{is_below}
 use Rattle.im_fulls.proofs.BelowLemmas.{command-below}

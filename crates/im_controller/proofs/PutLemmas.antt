@@ -1,0 +1,1 @@
+-- What the members of a group are to change is what their lines show.
