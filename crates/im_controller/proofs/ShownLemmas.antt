@@ -1,5 +1,5 @@
 -- What a trace shows: of a longer one, and of the lines of a command.
-use Rattle.std.proofs.Common.{◌≡◌, ⊎_elim, ℕ, zero, suc, ◌<◌, Bool, true, false, List, [], ◌∷◌, ◌++◌, refl, sym, ap, ◌∙◌, subst, Result, Ok, Err, length, append_assoc, append-nil, arith, if◌then◌else◌}
+use Rattle.std.proofs.Common.{◌≡◌, inl, ⊎_elim, ℕ, zero, suc, ◌-◌, ◌<◌, Bool, true, false, List, [], ◌∷◌, ◌++◌, refl, sym, ap, ◌∙◌, subst, Result, Ok, Err, length, append_assoc, append-nil, arith, if◌then◌else◌}
 use Rattle.std.specs.Prelude.{IsOk, ◌&&◌, nat_lt}
 use Rattle.std.proofs.lemmas.Bool.Decides.{nat_tests}
 use mathlib.Core.List.{IsPrefix}
@@ -19,9 +19,11 @@ use Rattle.im_laws.proofs.AcceptLemmas.{unaccepted-leaves, accepted-ok}
 use Rattle.im_laws.proofs.MemoryLemmas.{step-cell_count}
 use Rattle.im_engine.specs.State.{EngineState}
 use Rattle.im_engine.specs.Run.{Answered}
-use Rattle.im_controller.specs.Lines.{leaves_line, line_of, lines_of}
-use Rattle.im_controller.specs.Log.{IsToldOf}
-use Rattle.im_controller.specs.Lends.{is_taken, changes_put, shows}
+use Rattle.im_glass.specs.Panes.{PaneView}
+use Rattle.im_controller.specs.Lines.{Counts, leaves_line, line_of, lines_of, counts_after}
+use Rattle.im_controller.specs.Log.{ReceiptState, IsToldOf, plain, receipt_for, with_line}
+use Rattle.im_controller.specs.State.{SharedState}
+use Rattle.im_controller.specs.Lends.{Lends, is_taken, changes_put, shows}
 use Rattle.im_controller.proofs.LendLemmas.{ok-leaves}
 
 pub changes-append : (m : Contents) (earlier later : List Line) → changes_of m (earlier ++ later) ≡ changes_of m earlier ++ changes_of (end_of m earlier) later
@@ -142,3 +144,80 @@ module _ {D : Type 0} (old new : EngineState D) (command : Command) (answer : Re
 
   pub answered-shown : IsShownOf old.memory old.room command answer new.failed
   answered-shown = shown-by (is_accepted old.memory command) refl
+
+-- what a pane shows after a show: all that was put ahead, or nothing where the engine has failed
+pub record PaneShows (old new : PaneView) (failed : Bool) (shown : List Change) : Type 0 where
+  pub is : new.shown ≡ old.shown ++ shown
+  pub ahead : failed ≡ false → new.ahead ≡ []
+  pub cells : new.cells ≡ old.cells
+
+module _ (old mid new : PaneView) (changes shown : List Change) (none : old.ahead ≡ []) (put : mid ≡ record old { ahead = old.ahead ++ changes }) where
+  shows_by : (failed f : Bool) → failed ≡ f → (failed ≡ false → new ≡ record mid { shown = mid.shown ++ mid.ahead; ahead = [] }) → (failed ≡ true → new ≡ mid)
+      → (failed ≡ false → changes ≡ shown) → (failed ≡ true → shown ≡ []) → PaneShows old new failed shown
+  shows_by failed false is all same alive dead =
+      let now = all is in
+      let before = ap (λ (p : PaneView). p.ahead) put ∙ ap (λ l. l ++ changes) none ∙ alive is in record {
+        is = ap (λ (p : PaneView). p.shown) now ∙ ap (λ l. mid.shown ++ l) before ∙ ap (λ (p : PaneView). p.shown ++ shown) put;
+        ahead = λ _. ap (λ (p : PaneView). p.ahead) now;
+        cells = ap (λ (p : PaneView). p.cells) now ∙ ap (λ (p : PaneView). p.cells) put;
+      }
+  shows_by failed true is all same alive dead =
+      let now = same is ∙ put in record {
+        is = ap (λ (p : PaneView). p.shown) now ∙ sym (ap (λ l. old.shown ++ l) (dead is) ∙ append-nil old.shown);
+        ahead = λ living. absurd (true_false (sym is ∙ living));
+        cells = ap (λ (p : PaneView). p.cells) now;
+      }
+
+  pub pane-shows : (failed : Bool) → (failed ≡ false → new ≡ record mid { shown = mid.shown ++ mid.ahead; ahead = [] }) → (failed ≡ true → new ≡ mid)
+      → (failed ≡ false → changes ≡ shown) → (failed ≡ true → shown ≡ []) → PaneShows old new failed shown
+  pane-shows failed all same alive dead = shows_by failed failed refl all same alive dead
+
+-- what is shown is told of its trace
+pub told-all : (m : Contents) (trace : List Line) (told : List Change) → told ≡ shown_by m trace → IsToldOf m trace told
+told-all m trace told is = ([], append-nil (shown_by m trace) ∙ sym is)
+
+plain-receipt : (history : List Line) (shown : List Change) (command : Command) (a : Result Outcome Refusal) → plain (receipt_for history shown command a) ≡ a
+plain-receipt history shown command (Ok outcome) = refl
+plain-receipt history shown command (Err refusal) = refl
+
+-- a command that the engine was lent to
+module _ {D : Type 0} (marks : Line → Bool) (s s' : SharedState D) (t t' : Counts) (command : Command) (a : Result Outcome Refusal) (answer : Result ReceiptState Refusal) where
+  pub lends-served : answer ≡ receipt_for s'.log.trace s'.shown command a → s.engine.failed ≡ false → length s.log.trace < s.log.limit
+      → Answered s.engine command a s'.engine → s'.log ≡ with_line s.log (Commands command) a → s'.servers ≡ s.servers
+      → t' ≡ counts_after marks t (lines_of (Commands command) a) → s'.shown ≡ s.shown ++ shows s.engine.memory command a → Lends marks s t command answer s' t'
+  lends-served is alive room answered log servers tally shown =
+      let same : a ≡ plain answer = sym (ap plain is ∙ plain-receipt s'.log.trace s'.shown command a) in record {
+        dead = λ dead. absurd (true_false (sym dead ∙ alive));
+        full = λ _ over. absurd (omega (arith, over, room));
+        served = λ _ _. inl (
+          subst (λ (x : Result Outcome Refusal). Answered s.engine command x s'.engine) same answered,
+          record { log = log ∙ ap (with_line s.log (Commands command)) same; servers = servers },
+        );
+        tally = tally ∙ ap (λ x. counts_after marks t (lines_of (Commands command) x)) same;
+        shown = shown ∙ ap (λ x. s.shown ++ shows s.engine.memory command x) same;
+        receipt = is ∙ ap (receipt_for s'.log.trace s'.shown command) same;
+      }
+
+pub some_room : (room limit lines : ℕ) → (room ≡ 0 → ⊥) → room ≡ limit - lines → lines < limit
+some_room zero limit lines some is = absurd (some refl)
+some_room (suc n) limit lines some is = omega (arith, is)
+
+-- a command that the engine was lent to, and what is shown then
+pub record ShowsLent (m : Contents) (trace : List Line) (old new : PaneView) (failed : Bool) (shown : List Change) : Type 0 where
+  pub pane : PaneShows old new failed shown
+  pub ends : new.shown ≡ shown_by m trace
+
+module _ {D : Type 0} (m : Contents) (old new : EngineState D) (command : Command) (a : Result Outcome Refusal) (answered : Answered old command a new) (living : old.failed ≡ false) where
+  pub lend-shown : (contents : Contents) (left : ℕ) → contents ≡ old.memory → left ≡ old.room
+      → (p q r : PaneView) → p.ahead ≡ [] → q ≡ record p { ahead = p.ahead ++ changes_put contents left command }
+      → (failed : Bool) → failed ≡ new.failed → (failed ≡ false → r ≡ record q { shown = q.shown ++ q.ahead; ahead = [] }) → (failed ≡ true → r ≡ q)
+      → (trace trace' : List Line) → end_of m trace ≡ old.memory → p.shown ≡ shown_by m trace → trace' ≡ trace ++ lines_of (Commands command) a
+      → ShowsLent m trace' p r failed (shows old.memory command a)
+  lend-shown contents left same room p q r none put failed is all hidden trace trace' ends shown grows =
+      let it = answered-shown old new command a answered living in
+      let changes = ap (λ (n : Contents). changes_put n left command) same ∙ ap (λ (n : ℕ). changes_put old.memory n command) room in
+      let pane = pane-shows p q r _ (shows old.memory command a) none put failed all hidden (λ alive. changes ∙ it.alive (sym is ∙ alive)) (λ dead. it.dead (sym is ∙ dead)) in
+      record {
+        pane = pane;
+        ends = pane.is ∙ shown-grows m old.memory trace _ p.shown _ ends shown it.lines ∙ ap (shown_by m) (sym grows);
+      }

@@ -17,13 +17,13 @@ keep_all-requires g c =
     (λ none. omega (arith, none, c.room.ensures.few))
     (λ some. omega (arith, some.1, room (omega (arith, some.0, c.room.ensures.room))))
     (members-room c.shared.inside.engine c.serve_members.new.engine rs ss c.room.result c.serve_members.ensures.answered) in
-    let are_so = subst (λ (m : Contents). AreAnswersTo m rs (map answer_in ss)) (sym c.shared.invariant) fits.are_so in
+    let are_so = subst (λ (m : Contents). AreAnswersTo m rs (map answer_in ss)) (sym c.shared.invariant.0) fits.are_so in
     rw (c.as_slice.ensures.value, c.as_slice-2.ensures.value) (record { whole = fits.whole; are_so = are_so; apart = c.requires.apart; free = free; room = few })
 
 pub invariant_of-shared : goal.invariant_of-shared
 invariant_of-shared g c =
     let fits = members-fit c.shared.inside.engine c.serve_members.new.engine c.args.members.now.items c.serve_members.new.served.items c.room.result c.serve_members.ensures.answered in
-    c.keep_all.ensures.end ∙ rw (c.as_slice.ensures.value, c.as_slice-2.ensures.value) (ap (λ m. memory_after_all m c.args.members.now.items (map answer_in c.serve_members.new.served.items)) c.shared.invariant ∙ fits.ends)
+    c.keep_all.ensures.end ∙ rw (c.as_slice.ensures.value, c.as_slice-2.ensures.value) (ap (λ m. memory_after_all m c.args.members.now.items (map answer_in c.serve_members.new.served.items)) c.shared.invariant.0 ∙ fits.ends)
 
 pub returns-clause-doubt : goal.returns-clause-doubt
 returns-clause-doubt g c =

@@ -10,7 +10,7 @@ receipt_of-requires g c =
     let m = g.K.Name.memory in let trace = c.self.inside.trace.items in
     let proof = subst (λ (w : UnclaimedState). IsProofIn m trace (Some w)) (sym c.found.view_is)
     (all-get (IsProofIn m trace) c.self.inside.places.items c.args.element (Some c.in_ok-found.found) c.self.invariant.0.proofs c.in_ok-found.ensures.0) in
-    let all = subst (λ (l : LogState). IsToldOf m l.trace c.args.told) (sym c.self.view_is) c.requires in
+    let all = subst (λ (l : LogState). IsToldOf m l.trace c.args.told) (sym c.self.view_is) c.requires.told in
     record { proof = proof.0; told = told-earlier m _ trace c.args.told proof.1 all }
 
 pub invariant_of-self-2 : goal.invariant_of-self-2
