@@ -1,5 +1,5 @@
 -- The members that are lent: those that were looked at, and what the others add.
-use Rattle.std.proofs.Common.{◌≡◌, ℕ, suc, ◌+◌, ◌<◌, ◌≤◌, Bool, true, false, List, [], ◌∷◌, ◌++◌, refl, sym, ap, ◌∙◌, subst, Result, length, length-append, map, drop, get_or, append_assoc, append-nil, arith, if◌then◌else◌}
+use Rattle.std.proofs.Common.{◌≡◌, ℕ, suc, ◌+◌, ◌<◌, ◌≤◌, Bool, true, false, List, [], ◌∷◌, ◌++◌, refl, sym, ap, ◌∙◌, subst, Result, length, length-append, length-drop, map, drop, get_or, append_assoc, append-nil, arith, if◌then◌else◌}
 use Rattle.std.proofs.Math.Seq.{drop-cons}
 use Rattle.std.proofs.lemmas.List.{drop_all}
 use Rattle.im_types.specs.declared.changes.Change.{Change}
@@ -17,8 +17,9 @@ use Rattle.im_laws.proofs.Tests.{true_false}
 use Rattle.im_engine.specs.Groups.{left_with}
 use Rattle.im_glass.specs.Panes.{PaneView}
 use Rattle.im_controller.specs.Groups.{those, AreRoomless, changes_put_all, next_answer, answers_left, spread, answer_in, MayFollow, IsCut, AreAnswersTo, memory_after_all, lines_left}
+use Rattle.im_controller.specs.Lines.{lines_of}
 use Rattle.im_controller.specs.Lends.{is_taken, changes_put}
-use Rattle.im_controller.proofs.GroupLemmas.{Fits}
+use Rattle.im_controller.proofs.GroupLemmas.{Fits, few_lines}
 use Rattle.im_controller.proofs.PutLemmas.{lines_all, taken-none, left-none}
 
 -- what was chosen so far, after which all is as from the start
@@ -36,7 +37,7 @@ chooses-start m left rs p roomy lent none empty = rw (none, empty) (record {
   chosen = λ bs. refl;
   puts = λ qs. refl;
   pane = refl;
-  many = refl;
+  many = omega arith;
   few = omega arith;
 })
 
@@ -116,27 +117,80 @@ those-cut (false ∷ bs) (r ∷ rs) cut = those-cut bs rs cut.1
 
 -- ---- the answers to all, by those to the ones that are lent
 
-pub spread-fits : (m n c : Contents) (left : ℕ) (bs : List Bool) (rs : List Request) (ss : List Served) → AreRoomless c left bs rs → Fits m (those bs rs) ss n → Fits m rs (spread bs ss) n
-spread-fits m n c left [] rs ss none fits = rw none (record {
+few-served : (ss : List Served) (n : ℕ) → length ss ≡ n → lines_left (map answer_in ss) ≤ n
+few-served ss n is = omega (arith, few_lines (map answer_in ss), many ss, is)
+  where
+    many : (ss : List Served) → length (map answer_in ss) ≡ length ss
+    many [] = refl
+    many (s ∷ ss) = omega (arith, many ss)
+
+pub spread-fits : (bs : List Bool) (rs : List Request) (ss : List Served) (m n c : Contents) (left : ℕ) → AreRoomless c left bs rs → Fits m (those bs rs) ss n → Fits m rs (spread bs ss) n
+spread-fits [] rs ss m n c left none fits = rw none (record {
   whole = refl;
   are_so = tt;
   ends = fits.ends;
   few = omega arith;
 })
-spread-fits m n c left (b ∷ bs) [] ss none fits = absurd none
-spread-fits m n c left (false ∷ bs) (r ∷ rs) ss none fits =
-    let rest = spread-fits m n c left bs rs ss none.1 fits in record {
+spread-fits (b ∷ bs) [] ss m n c left none fits = absurd none
+spread-fits (false ∷ bs) (r ∷ rs) ss m n c left none fits =
+    let rest = spread-fits bs rs ss m n c left none.1 fits in record {
       whole = omega (arith, rest.whole);
       are_so = ((λ told. absurd (true_false (sym told))), rest.are_so);
       ends = rest.ends;
-      few = omega (arith, rest.few);
+      few = few-served (spread (false ∷ bs) ss) (length (r ∷ rs)) (omega (arith, rest.whole));
     }
-spread-fits m n c left (true ∷ bs) (r ∷ rs) [] none fits = absurd fits.are_so
-spread-fits m n c left (true ∷ bs) (r ∷ rs) (s ∷ ss) none fits =
+spread-fits (true ∷ bs) (r ∷ rs) [] m n c left none fits = absurd fits.are_so
+spread-fits (true ∷ bs) (r ∷ rs) (s ∷ ss) m n c left none fits =
     let so = fits.are_so in
-    let rest = spread-fits _ n c (left_with c left r) bs rs ss none (record { whole = omega (arith, fits.whole); are_so = so.1; ends = fits.ends; few = fits-few ss (those bs rs) (omega (arith, fits.whole)) }) in record {
+    let rest = spread-fits bs rs ss _ n c (left_with c left r) none (record { whole = omega (arith, fits.whole); are_so = so.1; ends = fits.ends; few = few-served ss (length (those bs rs)) (omega (arith, fits.whole)) }) in record {
       whole = omega (arith, rest.whole);
       are_so = (so.0, rest.are_so);
       ends = rest.ends;
-      few = one-few s (spread bs ss) (length rs) rest.few;
+      few = few-served (spread (true ∷ bs) (s ∷ ss)) (length (r ∷ rs)) (omega (arith, rest.whole));
     }
+
+pub spread-lines : (bs : List Bool) (rs : List Request) (ss : List Served) (c : Contents) (left : ℕ) → AreRoomless c left bs rs → length ss ≡ length (those bs rs)
+    → lines_all rs (map answer_in (spread bs ss)) ≡ lines_all (those bs rs) (map answer_in ss)
+spread-lines [] rs ss c left none whole = rw none refl
+spread-lines (b ∷ bs) [] ss c left none whole = absurd none
+spread-lines (false ∷ bs) (r ∷ rs) ss c left none whole = spread-lines bs rs ss c left none.1 whole
+spread-lines (true ∷ bs) (r ∷ rs) [] c left none whole = absurd (omega (arith, whole))
+spread-lines (true ∷ bs) (r ∷ rs) (s ∷ ss) c left none whole =
+    ap (λ l. lines_of (Commands (Asks r)) (answer_in s) ++ l) (spread-lines bs rs ss c (left_with c left r) none (omega (arith, whole)))
+
+-- where there is no place, all are lent
+pub all-lent : (bs : List Bool) (rs : List Request) (ss : List Served) (c : Contents) (left : ℕ) → left ≡ 0 → AreRoomless c left bs rs → length ss ≡ length (those bs rs) → (those bs rs ≡ rs) × (spread bs ss ≡ ss)
+all-lent [] rs [] c left zero none whole = (sym none, refl)
+all-lent [] rs (s ∷ ss) c left zero none whole = absurd (omega (arith, whole))
+all-lent (b ∷ bs) [] ss c left zero none whole = absurd none
+all-lent (false ∷ bs) (r ∷ rs) ss c left zero none whole = absurd (true_false (sym none.0 ∙ ap (λ n. is_taken c n (Asks r)) zero ∙ taken-none c r))
+all-lent (true ∷ bs) (r ∷ rs) [] c left zero none whole = absurd (omega (arith, whole))
+all-lent (true ∷ bs) (r ∷ rs) (s ∷ ss) c left zero none whole =
+    let rest = all-lent bs rs ss c (left_with c left r) (ap (λ n. left_with c n r) zero ∙ left-none c r) none (omega (arith, whole)) in
+    (ap (λ l. r ∷ l) rest.0, ap (λ l. s ∷ l) rest.1)
+
+-- an answer more for the next member
+pub spread-next : (xs : List Served) (bs : List Bool) (ss : List Served) (i : ℕ) (d : Bool) → i < length bs
+    → (xs ++ next_answer (get_or bs i d) ss ∷ []) ++ spread (drop (i + 1) bs) (answers_left (get_or bs i d) ss) ≡ xs ++ spread (drop i bs) ss
+spread-next xs bs ss i d within =
+    let next : i + 1 ≡ suc i = omega arith in let b = get_or bs i d in
+    append_assoc xs (next_answer b ss ∷ []) (spread (drop (i + 1) bs) (answers_left b ss))
+    ∙ ap (λ n. xs ++ spread (b ∷ drop n bs) ss) next
+    ∙ ap (λ l. xs ++ spread l ss) (sym (drop-cons bs i d within))
+
+pub spread-length : (bs : List Bool) (ss : List Served) → length (spread bs ss) ≡ length bs
+spread-length [] ss = refl
+spread-length (b ∷ bs) ss = omega (arith, spread-length bs (answers_left b ss))
+
+pub spread-room : (xs : List Served) (bs : List Bool) (ss ss0 : List Served) (i : ℕ) → xs ++ spread (drop i bs) ss ≡ spread bs ss0 → i < length bs → length bs ≤ 16 → length xs < 16
+spread-room xs bs ss ss0 i all within few =
+    omega (arith, ap length all, length-append xs (spread (drop i bs) ss), spread-length (drop i bs) ss, spread-length bs ss0, length-drop i bs)
+
+pub spread-left : (bs : List Bool) (rs : List Request) (ss : List Served) (c : Contents) (left : ℕ) → AreRoomless c left bs rs → length ss ≡ length (those bs rs)
+    → lines_left (map answer_in (spread bs ss)) ≡ lines_left (map answer_in ss)
+spread-left [] rs [] c left none whole = refl
+spread-left [] rs (s ∷ ss) c left none whole = absurd (omega (arith, whole))
+spread-left (b ∷ bs) [] ss c left none whole = absurd none
+spread-left (false ∷ bs) (r ∷ rs) ss c left none whole = omega (arith, spread-left bs rs ss c left none.1 whole)
+spread-left (true ∷ bs) (r ∷ rs) [] c left none whole = absurd (omega (arith, whole))
+spread-left (true ∷ bs) (r ∷ rs) (s ∷ ss) c left none whole = omega (arith, spread-left bs rs ss c (left_with c left r) none (omega (arith, whole)))

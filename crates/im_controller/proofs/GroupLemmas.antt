@@ -117,7 +117,7 @@ whole_answers : (s : Reached) (rs : List Request) → length (answers_of s rs) �
 whole_answers s [] = refl
 whole_answers s (r ∷ rs) = omega (arith, whole_answers (reached_by_one s r) rs)
 
-few_lines : (xs : List (Result Outcome Refusal)) → lines_left xs ≤ length xs
+pub few_lines : (xs : List (Result Outcome Refusal)) → lines_left xs ≤ length xs
 few_lines [] = omega arith
 few_lines (x ∷ xs) = omega (arith, few_lines xs, at_most (leaves_line x))
   where

@@ -7,3 +7,5 @@ pub mod WaitLemmas
 pub mod Gathering
 pub mod Keeping
 pub mod GroupLemmas
+pub mod Choosing
+pub mod Lending

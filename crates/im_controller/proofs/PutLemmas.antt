@@ -23,7 +23,7 @@ use Rattle.im_types.specs.Changes.{change_by, changes_at, changes_of}
 use Rattle.im_types.specs.Groups.{AreOthers, AreApart, is_new, is_put, with_request, answer_of, reached_by_one, answers_of}
 use Rattle.im_laws.proofs.Tests.{true_false}
 use Rattle.im_laws.proofs.AcceptLemmas.{accepted-ok}
-use Rattle.im_laws.proofs.GroupLemmas.{one_leaves}
+use Rattle.im_laws.proofs.GroupLemmas.{same_test, above_zero, one_leaves}
 use Rattle.im_fulls.specs.Groups.{MayPrecede}
 use Rattle.im_fulls.proofs.GroupLemmas.{group-changes}
 use Rattle.im_engine.specs.State.{EngineState}
@@ -54,12 +54,18 @@ abbrev pub places_in : Reached → ℕ
 places_in s = if LAST - s.count == 0 then s.room else min s.room (LAST - s.count)
 
 left-test : (s : Reached) → nat_lt 0 s.room ≡ nat_lt 0 (places_in s)
-left-test s = by_gap (LAST - s.count) s.room
+left-test s = by_gap (LAST - s.count == 0) refl
   where
-    by_gap : (gap room : ℕ) → nat_lt 0 room ≡ nat_lt 0 (if gap == 0 then room else min room gap)
-    by_gap zero room = refl
-    by_gap (suc gap) zero = refl
-    by_gap (suc gap) (suc room) = grind (arith, nat_tests)
+    is_above : (n : ℕ) → 0 < n → nat_lt 0 n ≡ true
+    is_above n some = grind (arith, nat_tests)
+
+    by_gap : (b : Bool) → (LAST - s.count == 0) ≡ b → nat_lt 0 s.room ≡ nat_lt 0 (if b then s.room else min s.room (LAST - s.count))
+    by_gap true is = refl
+    by_gap false is =
+        let gap : 0 < LAST - s.count = grind (arith, nat_tests) in
+        same_test (nat_lt 0 s.room) (nat_lt 0 (min s.room (LAST - s.count)))
+        (λ e. let some = above_zero s.room e in is_above (min s.room (LAST - s.count)) (omega arith))
+        (λ e. let some = above_zero (min s.room (LAST - s.count)) e in is_above s.room (omega arith))
 
 left-next : (s : Reached) (r : Request) → places_in (with_request s r) ≡ places_in s - 1
 left-next s r = by_gap (LAST - s.count) refl
@@ -181,7 +187,7 @@ and_false : (b : Bool) → (b && false) ≡ false
 and_false true = refl
 and_false false = refl
 
-left-none : (m : Contents) (r : Request) → left_with m 0 r ≡ 0
+pub left-none : (m : Contents) (r : Request) → left_with m 0 r ≡ 0
 left-none m r = ap (λ (b : Bool). if b then 0 - 1 else 0) (and_false (is_accepted m (Asks r)))
 
 pub taken-none : (m : Contents) (r : Request) → is_taken m 0 (Asks r) ≡ false
@@ -218,8 +224,9 @@ module _ {D : Type 0} (e f : EngineState D) (rs : List Request) (ss : List Serve
 
   places-some : (room n : ℕ) → e.failed ≡ false → room ≡ suc n → places_with e room ≡ places_in (reached_in e)
   places-some room n alive some =
+      let not : (room == 0) ≡ false = grind (arith, nat_tests) in
       ap (λ (b : Bool). if b then 0 else if room == 0 then 0 else places_in (reached_in e)) alive
-      ∙ ap (λ (n : ℕ). if n == 0 then 0 else places_in (reached_in e)) some
+      ∙ ap (λ (b : Bool). if b then 0 else places_in (reached_in e)) not
 
   done-shown : (room n : ℕ) → e.failed ≡ false → room ≡ suc n → ss ≡ answers_in e rs → f.failed ≡ false → Shows room
   done-shown room n alive some is lives = record {

@@ -151,26 +151,26 @@ pub record PaneShows (old new : PaneView) (failed : Bool) (shown : List Change) 
   pub ahead : failed ≡ false → new.ahead ≡ []
   pub cells : new.cells ≡ old.cells
 
-module _ (old mid new : PaneView) (changes shown : List Change) (none : old.ahead ≡ []) (put : mid ≡ record old { ahead = old.ahead ++ changes }) where
-  shows_by : (failed f : Bool) → failed ≡ f → (failed ≡ false → new ≡ record mid { shown = mid.shown ++ mid.ahead; ahead = [] }) → (failed ≡ true → new ≡ mid)
+module _ (old mid new : PaneView) (changes shown : List Change) (put : mid ≡ record old { ahead = old.ahead ++ changes }) where
+  shows_by : (failed f : Bool) → failed ≡ f → (failed ≡ false → old.ahead ≡ []) → (failed ≡ false → new ≡ record mid { shown = mid.shown ++ mid.ahead; ahead = [] }) → (failed ≡ true → new ≡ mid)
       → (failed ≡ false → changes ≡ shown) → (failed ≡ true → shown ≡ []) → PaneShows old new failed shown
-  shows_by failed false is all same alive dead =
+  shows_by failed false is none all same alive dead =
       let now = all is in
-      let before = ap (λ (p : PaneView). p.ahead) put ∙ ap (λ l. l ++ changes) none ∙ alive is in record {
+      let before = ap (λ (p : PaneView). p.ahead) put ∙ ap (λ l. l ++ changes) (none is) ∙ alive is in record {
         is = ap (λ (p : PaneView). p.shown) now ∙ ap (λ l. mid.shown ++ l) before ∙ ap (λ (p : PaneView). p.shown ++ shown) put;
         ahead = λ _. ap (λ (p : PaneView). p.ahead) now;
         cells = ap (λ (p : PaneView). p.cells) now ∙ ap (λ (p : PaneView). p.cells) put;
       }
-  shows_by failed true is all same alive dead =
+  shows_by failed true is none all same alive dead =
       let now = same is ∙ put in record {
         is = ap (λ (p : PaneView). p.shown) now ∙ sym (ap (λ l. old.shown ++ l) (dead is) ∙ append-nil old.shown);
         ahead = λ living. absurd (true_false (sym is ∙ living));
         cells = ap (λ (p : PaneView). p.cells) now;
       }
 
-  pub pane-shows : (failed : Bool) → (failed ≡ false → new ≡ record mid { shown = mid.shown ++ mid.ahead; ahead = [] }) → (failed ≡ true → new ≡ mid)
+  pub pane-shows : (failed : Bool) → (failed ≡ false → old.ahead ≡ []) → (failed ≡ false → new ≡ record mid { shown = mid.shown ++ mid.ahead; ahead = [] }) → (failed ≡ true → new ≡ mid)
       → (failed ≡ false → changes ≡ shown) → (failed ≡ true → shown ≡ []) → PaneShows old new failed shown
-  pane-shows failed all same alive dead = shows_by failed failed refl all same alive dead
+  pane-shows failed none all same alive dead = shows_by failed failed refl none all same alive dead
 
 -- what is shown is told of its trace
 pub told-all : (m : Contents) (trace : List Line) (told : List Change) → told ≡ shown_by m trace → IsToldOf m trace told
@@ -216,7 +216,7 @@ module _ {D : Type 0} (m : Contents) (old new : EngineState D) (command : Comman
   lend-shown contents left same room p q r none put failed is all hidden trace trace' ends shown grows =
       let it = answered-shown old new command a answered living in
       let changes = ap (λ (n : Contents). changes_put n left command) same ∙ ap (λ (n : ℕ). changes_put old.memory n command) room in
-      let pane = pane-shows p q r _ (shows old.memory command a) none put failed all hidden (λ alive. changes ∙ it.alive (sym is ∙ alive)) (λ dead. it.dead (sym is ∙ dead)) in
+      let pane = pane-shows p q r _ (shows old.memory command a) put failed (λ _. none) all hidden (λ alive. changes ∙ it.alive (sym is ∙ alive)) (λ dead. it.dead (sym is ∙ dead)) in
       record {
         pane = pane;
         ends = pane.is ∙ shown-grows m old.memory trace _ p.shown _ ends shown it.lines ∙ ap (shown_by m) (sym grows);
