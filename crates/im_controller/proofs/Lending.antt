@@ -116,11 +116,11 @@ lends-group {D = D} s s' members roomy lent ss answers room it is log servers sh
 pub group-is : {D : Type 0} (e f : EngineState D) (room : ℕ) (members slice : List Request) (roomy bools : List Bool) (lent : List Request) (ss served answers : List Served) (contents : Contents) (places : ℕ)
     → contents ≡ e.memory → places ≡ places_with e room → slice ≡ members → AreRoomless contents places roomy slice → lent ≡ those roomy slice
     → MembersAnswered e room lent ss f → bools ≡ roomy → served ≡ ss → answers ≡ spread bools served → Group e f room members roomy lent ss answers
-group-is e f room members slice roomy bools lent ss served answers contents places same left all roomless lent answered bs xs is = record {
+group-is e f room members slice roomy bools lent ss served answers contents places same left all roomless chosen answered bs xs is = record {
   roomless =
       subst (λ (n : Contents). AreRoomless n (places_with e room) roomy members) same
       (subst (λ (n : ℕ). AreRoomless contents n roomy members) left (subst (λ (rs : List Request). AreRoomless contents places roomy rs) all roomless));
-  lent_is = lent ∙ ap (those roomy) all;
+  lent_is = chosen ∙ ap (those roomy) all;
   answered = answered;
   answers_is = is ∙ ap (λ l. spread l served) bs ∙ ap (spread roomy) xs;
 }

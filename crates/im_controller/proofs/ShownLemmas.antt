@@ -1,6 +1,6 @@
 -- What a trace shows: of a longer one, and of the lines of a command.
 use Rattle.std.proofs.Common.{◌≡◌, inl, ⊎_elim, ℕ, zero, suc, ◌-◌, ◌<◌, Bool, true, false, List, [], ◌∷◌, ◌++◌, refl, sym, ap, ◌∙◌, subst, Result, Ok, Err, length, append_assoc, append-nil, arith, if◌then◌else◌}
-use Rattle.std.specs.Prelude.{IsOk, ◌&&◌, nat_lt}
+use Rattle.std.specs.Prelude.{IsOk, IfSome, Option, Some, None, ◌&&◌, nat_lt}
 use Rattle.std.proofs.lemmas.Bool.Decides.{nat_tests}
 use mathlib.Core.List.{IsPrefix}
 use Rattle.im_types.specs.declared.changes.Change.{Change}
@@ -221,3 +221,9 @@ module _ {D : Type 0} (m : Contents) (old new : EngineState D) (command : Comman
         pane = pane;
         ends = pane.is ∙ shown-grows m old.memory trace _ p.shown _ ends shown it.lines ∙ ap (shown_by m) (sym grows);
       }
+
+-- a glance that has seen what is shown has seen the full cells that were opened
+pub opened-glance : (m : Contents) (trace : List Line) (shown : List Change) (glance : Option (List Change)) → shown ≡ shown_by m trace → IfSome glance (λ g. IsPrefix shown g) → IfSome glance (λ g. IsPrefix (opening m) g)
+opened-glance m trace shown None is seen = tt
+opened-glance m trace shown (Some g) is seen =
+    (changes_of m trace ++ seen.0, sym (append_assoc (opening m) (changes_of m trace) seen.0) ∙ ap (λ l. l ++ seen.0) (sym is) ∙ seen.1)
