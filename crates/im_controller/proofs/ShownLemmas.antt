@@ -20,7 +20,7 @@ use Rattle.im_laws.proofs.MemoryLemmas.{step-cell_count}
 use Rattle.im_engine.specs.State.{EngineState}
 use Rattle.im_engine.specs.Run.{Answered}
 use Rattle.im_glass.specs.Panes.{PaneView}
-use Rattle.im_controller.specs.Lines.{Counts, leaves_line, line_of, lines_of, counts_after}
+use Rattle.im_controller.specs.Lines.{Counts, leaves_line, line_of, lines_of, memory_after, counts_after}
 use Rattle.im_controller.specs.Log.{ReceiptState, IsToldOf, plain, receipt_for, with_line}
 use Rattle.im_controller.specs.State.{SharedState}
 use Rattle.im_controller.specs.Lends.{Lends, is_taken, changes_put, shows}
@@ -227,3 +227,19 @@ pub opened-glance : (m : Contents) (trace : List Line) (shown : List Change) (gl
 opened-glance m trace shown None is seen = tt
 opened-glance m trace shown (Some g) is seen =
     (changes_of m trace ++ seen.0, sym (append_assoc (opening m) (changes_of m trace) seen.0) ∙ ap (λ l. l ++ seen.0) (sym is) ∙ seen.1)
+
+-- a question shows nothing
+pub looked-shown : (m : Contents) (trace : List Line) (element number : ℕ) (answer : Result Outcome Refusal) → shown_by m trace ≡ shown_by m (trace ++ lines_of (Collect element number) answer)
+looked-shown m trace element number answer =
+    sym (append-nil (shown_by m trace)) ∙ ap (λ l. shown_by m trace ++ l) (none (leaves_line answer)) ∙ sym (shown-append m trace (lines_of (Collect element number) answer))
+  where
+    none : (b : Bool) → ◌≡◌ {A = List Change} [] (changes_of (end_of m trace) (if b then line_of (Collect element number) answer ∷ [] else []))
+    none true = refl
+    none false = refl
+
+pub memory-same : (m : Contents) (element number : ℕ) (answer : Result Outcome Refusal) → memory_after m (Collect element number) answer ≡ m
+memory-same m element number answer = by_line (leaves_line answer)
+  where
+    by_line : (b : Bool) → (if b then m else m) ≡ m
+    by_line true = refl
+    by_line false = refl
