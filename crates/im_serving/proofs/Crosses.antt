@@ -15,6 +15,10 @@ use Rattle.im_controller.specs.contracts.servers.Servers as Servers
 use Rattle.im_controller.specs.contracts.books.Reserve as Reserve
 use Rattle.im_controller.specs.contracts.books.Tally as Tally
 use Rattle.im_controller.specs.contracts.ports.Port as Port
+use Rattle.im_glass.specs.contracts.pane.Pane as Pane
+use Rattle.im_glass.proofs.pane.Pane.TheSendSync as pane
+use Rattle.im_controller.specs.contracts.name.Shown as Shown
+use Rattle.im_controller.proofs.name.Shown.TheSendSync as shown
 use Rattle.im_controller.specs.contracts.shared.Shared as Shared
 use Rattle.im_controller.specs.contracts.inbox.Inbox as Inbox
 use Rattle.im_serving.specs.contracts.server.Served as Served
