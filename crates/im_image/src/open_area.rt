@@ -37,6 +37,16 @@ fn zero_area(alloc: Global, limits: Limits) -> Result<Vec<u8>, AllocError>
     vec![in alloc; 0; PAGE * area_pages(limits)]
 }
 
+// Takes room for an area, and gives it back at once, unused.
+//
+// A large block that the system's allocator was given back it keeps from then on, for the next ones of this size and
+// below. So all that an opening takes after this lies in memory that was used before, where it would be fresh pages of
+// the system's for each large block, and most of an opening's time would go into these.
+fn give_back_an_area(alloc: Global, limits: Limits) -> Result<(), AllocError> {
+    let _room: Vec<u8> = Vec::with_capacity(alloc, PAGE * area_pages(limits))?;
+    Ok(())
+}
+
 // Reads an area.
 fn read_area<D: Disk>(
     alloc: Global,
@@ -55,6 +65,9 @@ fn read_area<D: Disk>(
     ensures reads { D.honest disk.new → OnlyReads D.now D.past disk.old disk.new }
     ensures honest { D.honest disk.new → D.honest disk.old }
 {
+    let Ok(()) = give_back_an_area(alloc, limits) else {
+        return Err(Refusal::NoMemory);
+    };
     let Ok(mut area) = zero_area(alloc, limits) else {
         return Err(Refusal::NoMemory);
     };
