@@ -37,11 +37,9 @@ fn zero_area(alloc: Global, limits: Limits) -> Result<Vec<u8>, AllocError>
     vec![in alloc; 0; PAGE * area_pages(limits)]
 }
 
-// Takes room for an area, and gives it back at once, unused.
-//
-// A large block that the system's allocator was given back it keeps from then on, for the next ones of this size and
-// below. So all that an opening takes after this lies in memory that was used before, where it would be fresh pages of
-// the system's for each large block, and most of an opening's time would go into these.
+// Takes room for an area, and gives it back unused. An allocator keeps a large block for the next ones only after it was
+// given one of that size (the C library's does so); before that each comes from the system, in pages that are made anew,
+// which is half of what an opening takes.
 fn give_back_an_area(alloc: Global, limits: Limits) -> Result<(), AllocError> {
     let _room: Vec<u8> = Vec::with_capacity(alloc, PAGE * area_pages(limits))?;
     Ok(())
