@@ -1,6 +1,7 @@
 -- The places of entries' marks: those of entries that wait are apart. And who waits agrees with what waits exactly where
 -- all can be marked, and all that wait are.
 use Rattle.std.proofs.Common.{◌≡◌, ℕ, zero, suc, ◌+◌, ◌*◌, ◌-◌, ◌<◌, ◌≤◌, Bool, true, false, List, [], ◌∷◌, Option, None, Some, length, get_or, drop, replicate, refl, sym, ap, ◌∙◌, subst, arith, if◌then◌else◌}
+use Rattle.std.specs.List.{sum_by}
 use Rattle.std.specs.Prelude.{slice_get, nat_lt, option_and_then, ◌↔◌}
 use Rattle.std.proofs.lemmas.Bool.{ltb-false, le-ltb}
 use Rattle.std.proofs.lemmas.List.{at_drop_more}
@@ -8,7 +9,9 @@ use Rattle.std.proofs.lemmas.Option.{get_or_from_slice_get, slice_get_within}
 use Rattle.im_types.specs.declared.TheConstants.{WINDOW}
 use Rattle.im_types.specs.declared.operations.Waiter.{Waiter}
 use Rattle.im_types.specs.declared.operations.Kept.{Kept}
+use Rattle.im_types.specs.declared.records.PresenceTag.TheVariants.{Empty as TagEmpty, Waiting as TagWaiting, Full as TagFull, Clashed as TagClashed}
 use Rattle.im_types.specs.declared.records.CellRecord.{CellRecord}
+use Rattle.im_types.specs.declared.records.CellRecord.TheVariants.{Free as FreeCell, Held as BlockCell}
 use Rattle.im_types.specs.Contents.{Held, Window, new_window, kept_under, kept_for}
 use Rattle.im_types.specs.Window.{is_waiting}
 use Rattle.im_types.specs.Agreement.{WaitersAgree}
@@ -16,6 +19,7 @@ use Rattle.im_types.specs.Pages.{cell_shown, cells_shown}
 use Rattle.im_types.specs.Chains.{bit}
 use Rattle.im_contents.specs.Counting.{waiting}
 use Rattle.im_contents.specs.Marking.{AreFew, place_in, mark_held, mark_all, HavePlaces, AreMarked}
+use Rattle.im_contents.proofs.RowLemmas.{none-behind}
 use Rattle.im_contents.proofs.MarkLemmas.{none_some, some_same, unless, bit_one}
 use Rattle.im_contents.proofs.MarkingLemmas.{agree_of_marks, marks_of_agree}
 
@@ -26,6 +30,27 @@ held_at-shown [] lists a d count lt = absurd (omega arith)
 held_at-shown (cell ∷ cells) [] a d count lt = absurd (omega arith)
 held_at-shown (cell ∷ cells) (waiters ∷ lists) zero d count lt = refl
 held_at-shown (cell ∷ cells) (waiters ∷ lists) (suc a) d count lt = held_at-shown cells lists a d (omega arith) (omega arith)
+
+-- nothing is marked of a cell where nobody waits
+mark-nobody : (kept : Waiter → Option Kept) (place : Waiter → ℕ) (a : ℕ) (marks : List Bool) (cell : CellRecord) → mark_held kept place a marks (cell_shown cell []) ≡ Some marks
+mark-nobody kept place a marks (FreeCell hole next) = refl
+mark-nobody kept place a marks (BlockCell block TagEmpty) = refl
+mark-nobody kept place a marks (BlockCell block (TagWaiting first last)) = refl
+mark-nobody kept place a marks (BlockCell block (TagFull v)) = refl
+mark-nobody kept place a marks (BlockCell block (TagClashed v)) = refl
+
+pub mark_all-nobody : (kept : Waiter → Option Kept) (place : Waiter → ℕ) (a : ℕ) (marks : List Bool) (cells : List CellRecord) (lists : List (List Waiter)) → sum_by length lists ≡ 0
+    → mark_all kept place a marks (cells_shown cells lists) ≡ Some marks
+mark_all-nobody kept place a marks [] lists none = refl
+mark_all-nobody kept place a marks (cell ∷ cells) [] none =
+    ap (option_and_then (λ (m : List Bool). mark_all kept place (a + 1) m (cells_shown cells []))) (mark-nobody kept place a marks cell)
+    ∙ mark_all-nobody kept place (a + 1) marks cells [] none
+mark_all-nobody kept place a marks (cell ∷ cells) ([] ∷ lists) none =
+    ap (option_and_then (λ (m : List Bool). mark_all kept place (a + 1) m (cells_shown cells lists))) (mark-nobody kept place a marks cell)
+    ∙ mark_all-nobody kept place (a + 1) marks cells lists (none-behind [] lists none).1
+mark_all-nobody kept place a marks (cell ∷ cells) ((w ∷ waiters) ∷ lists) none =
+    let some : suc (length waiters) ≡ 0 = (none-behind (w ∷ waiters) lists none).0 in
+    absurd (omega (arith, some))
 
 -- the marking has come to a cell
 pub mark_all-step : (kept : Waiter → Option Kept) (place : Waiter → ℕ) (cells : List (Option Held)) (a : ℕ) (marks : List Bool) (whole : Option (List Bool)) → a < length cells

@@ -1,8 +1,10 @@
 -- Lists of waiters in one row.
-use Rattle.std.proofs.Common.{◌≡◌, ℕ, zero, suc, ◌-◌, ◌<◌, ◌≤◌, List, [], ◌∷◌, ◌++◌, length, get_or, take, drop, refl, sym, ap, ◌∙◌, subst, arith}
+use Rattle.std.proofs.Common.{◌≡◌, ℕ, zero, suc, ◌-◌, ◌<◌, ◌≤◌, List, [], ◌∷◌, ◌++◌, length, replicate, ◌+◌, get_or, take, drop, refl, sym, ap, ◌∙◌, subst, arith}
 use Rattle.std.specs.Prelude.{slice_range}
+use Rattle.std.specs.List.{sum_by}
 use Rattle.std.proofs.Math.Seq.{drop-append_seam, take-length}
-use Rattle.std.proofs.lemmas.List.{take-append-le, drop-append-le, length-append, length-drop}
+use Rattle.std.proofs.lemmas.List.{take-append-le, drop-append-le, length-append, length-drop, length-take-le}
+use Rattle.std.proofs.lemmas.List.Sums.{sum_by-cons}
 use Rattle.im_types.specs.declared.operations.Waiter.{Waiter}
 use Rattle.im_contents.specs.Row.{cut, Rise}
 
@@ -67,3 +69,29 @@ stands_at waiters ends lists i start end view rise lt read same starts d is =
 
     below : i < length ends
     below = omega (arith, lt, count)
+
+-- there are as many waiters behind the start of the first list as in all lists
+pub sum-cut : (waiters : List Waiter) (start : ℕ) (ends : List ℕ) → Rise start ends (length waiters) → sum_by length (cut waiters start ends) + start ≡ length waiters
+sum-cut waiters start [] rise =
+    let all : start ≡ length waiters = rise in
+    omega (arith, all)
+sum-cut waiters start (end ∷ ends) rise =
+    let more = sum-cut waiters end ends rise.1 in
+    let to = Rise-from end ends (length waiters) rise.1 in
+    let from = rise.0 in
+    let behind : length (drop start waiters) ≡ length waiters - start = length-drop start waiters in
+    let here : length (slice_range waiters start end) ≡ end - start = length-take-le (end - start) (drop start waiters) (omega (arith, behind, to, from)) in
+    omega (arith, sum_by-cons length (slice_range waiters start end) (cut waiters end ends), more, here, from)
+
+-- lists with nobody on them are empty
+pub none-behind : (waiters : List Waiter) (lists : List (List Waiter)) → sum_by length (waiters ∷ lists) ≡ 0 → (length waiters ≡ 0) × (sum_by length lists ≡ 0)
+none-behind waiters lists none =
+    let all = sum_by-cons length waiters lists in
+    (omega (arith, all, none), omega (arith, all, none))
+
+pub nobody-listed : (lists : List (List Waiter)) → sum_by length lists ≡ 0 → lists ≡ replicate (length lists) []
+nobody-listed [] none = refl
+nobody-listed ([] ∷ lists) none = ap (λ (ls : List (List Waiter)). [] ∷ ls) (nobody-listed lists (none-behind [] lists none).1)
+nobody-listed ((w ∷ waiters) ∷ lists) none =
+    let some : suc (length waiters) ≡ 0 = (none-behind (w ∷ waiters) lists none).0 in
+    absurd (omega (arith, some))

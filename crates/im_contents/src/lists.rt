@@ -1,5 +1,6 @@
 //! The lists of waiters that were read, in one row.
-ghost use Rattle.std.specs.Prelude.{◌≡◌, ◌<◌, ◌∷◌, length, [], slice_index_or};
+ghost use Rattle.std.specs.Prelude.{◌≡◌, ◌==◌, ◌<◌, ◌∷◌, length, [], slice_index_or};
+ghost use Rattle.std.specs.List.{sum_by};
 
 use im_types::Waiter;
 use std::marker::Model;
@@ -31,6 +32,13 @@ impl Lists {
         ensures { result ≡ length self.now }
     {
         self.ends.len()
+    }
+
+    /// Whether nobody waits at any cell. It takes one step.
+    pub fn has_nobody(&self) -> bool
+        ensures { result ≡ (sum_by length self.now == 0) }
+    {
+        self.waiters.is_empty()
     }
 
     /// Who waits at a cell, in their order. It takes one step.

@@ -142,7 +142,7 @@ fn mark_cell(
     }
 }
 
-// The same for all cells.
+// The same for all cells; where nobody waits at any, it takes one step.
 fn mark_all(
     cells: &[CellRecord],
     lists: &Lists,
@@ -155,6 +155,9 @@ fn mark_all(
     ensures { mark_all (kept_for windows.now) (place_in windows.now) 0 marks.old (cells_shown cells.now lists.now)
         ≡ (if result then Some marks.new else None) }
 {
+    if lists.has_nobody() {
+        return true;
+    }
     for address in 0..cells.len() {
         if !mark_cell(address, &cells[address], lists, windows, marks) {
             return false;

@@ -17,13 +17,16 @@ use im_records::{AreaRecords, WindowRecord, read_area};
 use im_types::{Limits, Refusal};
 use std::alloc::Global;
 
-// Puts the lists of those who wait, one for each of so many cells.
+// Puts the lists of those who wait, one for each of so many cells. Where nobody waits at any, it takes one step.
 fn put_lists(restoring: &mut Restoring<'_>, cells: u32, lists: &Lists)
     requires count { length lists.now ≡ cells }
     requires nobody { restoring.old.lists ≡ replicate cells [] }
     requires room { sum_by length lists.now ≤ WINDOW * length restoring.old.windows }
     ensures { restoring.new ≡ record restoring.old { lists = lists.now } }
 {
+    if lists.has_nobody() {
+        return;
+    }
     for cell in 0..cells {
         restoring.put_list(cell, lists.at(cell as usize));
     }

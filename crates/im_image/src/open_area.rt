@@ -37,6 +37,14 @@ fn zero_area(alloc: Global, limits: Limits) -> Result<Vec<u8>, AllocError>
     vec![in alloc; 0; PAGE * area_pages(limits)]
 }
 
+// Takes room for an area, and gives it back unused. An allocator keeps a large block for the next ones only after it
+// was given one of that size (the C library's does so); before that each comes from the system, in pages that are made
+// anew, which is half of what an opening takes.
+fn give_back_an_area(alloc: Global, limits: Limits) -> Result<(), AllocError> {
+    let _room: Vec<u8> = Vec::with_capacity(alloc, PAGE * area_pages(limits))?;
+    Ok(())
+}
+
 // Reads an area.
 fn read_area<D: Disk>(
     alloc: Global,
@@ -55,6 +63,9 @@ fn read_area<D: Disk>(
     ensures reads { D.honest disk.new → OnlyReads D.now D.past disk.old disk.new }
     ensures honest { D.honest disk.new → D.honest disk.old }
 {
+    let Ok(()) = give_back_an_area(alloc, limits) else {
+        return Err(Refusal::NoMemory);
+    };
     let Ok(mut area) = zero_area(alloc, limits) else {
         return Err(Refusal::NoMemory);
     };

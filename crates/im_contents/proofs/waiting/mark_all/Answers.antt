@@ -1,11 +1,18 @@
-use Rattle.std.proofs.Common.{List, Option, Some, None, ap, ◌∙◌, arith}
+use Rattle.std.proofs.Common.{length, sym, List, Option, Some, None, ap, ◌∙◌, arith}
+use Rattle.std.specs.List.{sum_by}
+use Rattle.std.proofs.lemmas.Bool.{eqb-true}
 use Rattle.std.proofs.lemmas.List.{drop_all}
 use Rattle.im_types.specs.Contents.{Held, kept_for}
 use Rattle.im_types.specs.Pages.{cells_shown}
 use Rattle.im_contents.specs.Marking.{place_in, mark_all}
 use Rattle.im_contents.proofs.BlockLemmas.{length-cells_shown}
-use Rattle.im_contents.proofs.PlaceLemmas.{held_at-shown, mark_all-step}
+use Rattle.im_contents.proofs.PlaceLemmas.{held_at-shown, mark_all-step, mark_all-nobody}
 use Rattle.im_contents.proofs.waiting.mark_all.Goals as goal
+
+pub returns-then-has_nobody : goal.returns-then-has_nobody
+returns-then-has_nobody c =
+    mark_all-nobody (kept_for c.args.windows.now) (place_in c.args.windows.now) 0 c.args.marks.now c.args.cells.now c.args.lists.now
+    (eqb-true (sum_by length c.args.lists.now) 0 (sym c.has_nobody.ensures ∙ c.if-has_nobody.true))
 
 pub returns-then-not-mark_cell : goal.returns-then-not-mark_cell
 returns-then-not-mark_cell c =

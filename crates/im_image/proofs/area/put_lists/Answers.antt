@@ -1,8 +1,21 @@
-use Rattle.std.proofs.Common.{◌≡◌, ◌+◌, List, length, set, get_or, sym, ap, ◌∙◌, subst, arith}
+use Rattle.std.proofs.Common.{◌≡◌, ◌+◌, ℕ, List, [], length, replicate, set, get_or, sym, ap, ◌∙◌, subst, arith}
+use Rattle.std.specs.List.{sum_by}
+use Rattle.std.proofs.lemmas.Bool.{eqb-true}
 use Rattle.im_types.specs.declared.operations.Waiter.{Waiter}
+use Rattle.im_contents.proofs.RowLemmas.{nobody-listed}
 use Rattle.im_memory.specs.Restoring.{Parts}
 use Rattle.im_image.proofs.Restored.{ListsPut, nobody, lists-more, begun-all, parts-same}
 use Rattle.im_image.proofs.area.put_lists.Goals as goal
+
+pub returns-then-has_nobody : goal.returns-then-has_nobody
+returns-then-has_nobody c =
+    let lists = c.args.lists.now in
+    let none : lists ≡ replicate (length lists) [] = nobody-listed lists (eqb-true (sum_by length lists) 0 (sym c.has_nobody.ensures ∙ c.if-has_nobody.true)) in
+    let same : lists ≡ c.args.restoring.now.lists = none ∙ ap (λ (n : ℕ). replicate n nobody) c.requires.count ∙ sym c.requires.nobody in
+    ap (λ (ls : List (List Waiter)). with_lists c.args.restoring.now ls) (sym same)
+  where
+    with_lists : Parts → List (List Waiter) → Parts
+    with_lists p ls = record { cells = p.cells; lists = ls; windows = p.windows }
 
 pub loop-cell-preserved : goal.loop-cell-preserved
 loop-cell-preserved c =
