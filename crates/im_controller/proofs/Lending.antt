@@ -76,9 +76,9 @@ module _ {D : Type 0} (e f : EngineState D) (room : ℕ) (members : List Request
         let changes = ap (λ (n : Contents). changes_put_all n places lent) same ∙ ap (λ (n : ℕ). changes_put_all e.memory n lent) left in
         let lines = lines_all members (map answer_in answers) in
         let pane = pane-shows p q r (changes_put_all contents places lent) (changes_of e.memory lines) put failed
-            (λ living. none (was-alive e.failed refl (sym is ∙ living))) all hidden
-            (λ living. changes ∙ shows-lent.alive (sym is ∙ living) ∙ ap (changes_of e.memory) (sym lines-same))
-            (λ dead. ap (changes_of e.memory) lines-same ∙ shows-lent.dead (sym is ∙ dead)) in
+        (λ living. none (was-alive e.failed refl (sym is ∙ living))) all hidden
+        (λ living. changes ∙ shows-lent.alive (sym is ∙ living) ∙ ap (changes_of e.memory) (sym lines-same))
+        (λ dead. ap (changes_of e.memory) lines-same ∙ shows-lent.dead (sym is ∙ dead)) in
         record {
           shown_is = pane.is ∙ shown-grows m e.memory l.trace lines p.shown _ ends shown refl ∙ ap (shown_by m) (sym (all-trace l members (map answer_in answers)));
           ahead = λ living. pane.ahead (is ∙ living);

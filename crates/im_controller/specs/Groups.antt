@@ -155,12 +155,13 @@ abbrev pub changes_put_all : Contents → ℕ → List Request → List Change
 changes_put_all m left [] = []
 changes_put_all m left (r ∷ rs) = changes_put m left (Asks r) ++ changes_put_all m (left_with m left r) rs
 
--- the next answer, and those behind it: one that isn't lent is refused for want of memory
+-- the next answer: a member that isn't lent is refused for want of memory
 abbrev pub next_answer : Bool → List Served → Served
 next_answer true [] = Unserved
 next_answer true (s ∷ ss) = s
 next_answer false ss = Refused NoMemory
 
+-- the answers behind it
 abbrev pub answers_left : Bool → List Served → List Served
 answers_left true [] = []
 answers_left true (s ∷ ss) = ss

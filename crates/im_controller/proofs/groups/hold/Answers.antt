@@ -6,4 +6,3 @@ pub claim-requires : goal.claim-requires
 claim-requires g c = record {
   told = told-all g.K.Name.memory c.shared.inside.log.trace c.told.result (c.told.ensures ∙ c.shared.invariant.1);
 }
-

@@ -36,8 +36,8 @@ pub keep_all-requires : goal.keep_all-requires
 keep_all-requires g c =
     let log = c.shared.inside.log in let rs = c.args.members.now.items in let xs = c.spread.new.answers.items in
     let it = group-is c.shared.inside.engine c.serve_members.new.engine c.room-room.result c.args.members.now.items c.as_slice.result.now c.choose.new.roomy.items c.as_slice-2.result.now c.choose.new.lent.items
-        c.serve_members.new.served.items c.as_slice-3.result.now c.spread.new.answers.items c.memory.result.now.contents c.places_with-places.result c.memory.ensures c.places_with-places.ensures
-        c.as_slice.ensures.value c.choose.ensures.roomless c.choose.ensures.lent c.serve_members.ensures.answered c.as_slice-2.ensures.value c.as_slice-3.ensures.value c.spread.ensures in
+    c.serve_members.new.served.items c.as_slice-3.result.now c.spread.new.answers.items c.memory.result.now.contents c.places_with-places.result c.memory.ensures c.places_with-places.ensures
+    c.as_slice.ensures.value c.choose.ensures.roomless c.choose.ensures.lent c.serve_members.ensures.answered c.as_slice-2.ensures.value c.as_slice-3.ensures.value c.spread.ensures in
     let fits = group-fits c.shared.inside.engine c.serve_members.new.engine c.room-room.result c.args.members.now.items c.choose.new.roomy.items c.choose.new.lent.items c.serve_members.new.served.items c.spread.new.answers.items it in
     let enough = subst (λ (s : SharedState g.row.D.Denot). length s.log.trace < s.log.limit → length s.log.trace + length rs ≤ s.log.limit) (sym c.shared.view_is) c.requires.room in
     let free = subst (λ (s : SharedState g.row.D.Denot). AreFreeFor s.log.places rs) (sym c.shared.view_is) c.requires.free in
@@ -54,27 +54,27 @@ pub invariant_of-shared : goal.invariant_of-shared
 invariant_of-shared g c =
     let rs = c.args.members.now.items in let xs = c.spread.new.answers.items in
     let it = group-is c.shared.inside.engine c.serve_members.new.engine c.room-room.result c.args.members.now.items c.as_slice.result.now c.choose.new.roomy.items c.as_slice-2.result.now c.choose.new.lent.items
-        c.serve_members.new.served.items c.as_slice-3.result.now c.spread.new.answers.items c.memory.result.now.contents c.places_with-places.result c.memory.ensures c.places_with-places.ensures
-        c.as_slice.ensures.value c.choose.ensures.roomless c.choose.ensures.lent c.serve_members.ensures.answered c.as_slice-2.ensures.value c.as_slice-3.ensures.value c.spread.ensures in
+    c.serve_members.new.served.items c.as_slice-3.result.now c.spread.new.answers.items c.memory.result.now.contents c.places_with-places.result c.memory.ensures c.places_with-places.ensures
+    c.as_slice.ensures.value c.choose.ensures.roomless c.choose.ensures.lent c.serve_members.ensures.answered c.as_slice-2.ensures.value c.as_slice-3.ensures.value c.spread.ensures in
     let fits = group-fits c.shared.inside.engine c.serve_members.new.engine c.room-room.result c.args.members.now.items c.choose.new.roomy.items c.choose.new.lent.items c.serve_members.new.served.items c.spread.new.answers.items it in
     let pane = group-pane c.shared.inside.engine c.serve_members.new.engine c.room-room.result c.args.members.now.items c.choose.new.roomy.items c.choose.new.lent.items c.serve_members.new.served.items c.spread.new.answers.items it c.requires.cut c.requires.apart
-        g.K.Name.memory c.memory.result.now.contents c.shared.inside.log c.shared.inside.pane c.choose.new.pane c.show_put-told.new.pane c.places_with-places.result c.failed.result
-        c.memory.ensures c.places_with-places.ensures c.shared.invariant.0 c.shared.invariant.1 c.shared.invariant.3 c.choose.ensures.ahead c.failed.ensures.failed c.show_put-told.ensures.shown c.show_put-told.ensures.hidden in
+    g.K.Name.memory c.memory.result.now.contents c.shared.inside.log c.shared.inside.pane c.choose.new.pane c.show_put-told.new.pane c.places_with-places.result c.failed.result
+    c.memory.ensures c.places_with-places.ensures c.shared.invariant.0 c.shared.invariant.1 c.shared.invariant.3 c.choose.ensures.ahead c.failed.ensures.failed c.show_put-told.ensures.shown c.show_put-told.ensures.hidden in
     let log = c.keep_all.ensures.log ∙ ap (λ rs. with_all_unclaimed c.shared.inside.log rs (map answer_in c.as_slice-5.result.now)) c.as_slice-4.ensures.value
-        ∙ ap (λ xs. with_all_unclaimed c.shared.inside.log c.args.members.now.items (map answer_in xs)) c.as_slice-5.ensures.value in
+    ∙ ap (λ xs. with_all_unclaimed c.shared.inside.log c.args.members.now.items (map answer_in xs)) c.as_slice-5.ensures.value in
     let ends = c.keep_all.ensures.end ∙ rw (c.as_slice-4.ensures.value, c.as_slice-5.ensures.value) (ap (λ m. memory_after_all m rs (map answer_in xs)) c.shared.invariant.0 ∙ fits.ends) in
     (ends, pane.shown_is ∙ ap (λ (l : LogState). shown_by g.K.Name.memory l.trace) (sym log), pane.cells ∙ c.shared.invariant.2, pane.ahead)
 
 pub returns-clause-lends : goal.returns-clause-lends
 returns-clause-lends g c =
     let it = group-is c.shared.inside.engine c.serve_members.new.engine c.room-room.result c.args.members.now.items c.as_slice.result.now c.choose.new.roomy.items c.as_slice-2.result.now c.choose.new.lent.items
-        c.serve_members.new.served.items c.as_slice-3.result.now c.spread.new.answers.items c.memory.result.now.contents c.places_with-places.result c.memory.ensures c.places_with-places.ensures
-        c.as_slice.ensures.value c.choose.ensures.roomless c.choose.ensures.lent c.serve_members.ensures.answered c.as_slice-2.ensures.value c.as_slice-3.ensures.value c.spread.ensures in
+    c.serve_members.new.served.items c.as_slice-3.result.now c.spread.new.answers.items c.memory.result.now.contents c.places_with-places.result c.memory.ensures c.places_with-places.ensures
+    c.as_slice.ensures.value c.choose.ensures.roomless c.choose.ensures.lent c.serve_members.ensures.answered c.as_slice-2.ensures.value c.as_slice-3.ensures.value c.spread.ensures in
     let pane = group-pane c.shared.inside.engine c.serve_members.new.engine c.room-room.result c.args.members.now.items c.choose.new.roomy.items c.choose.new.lent.items c.serve_members.new.served.items c.spread.new.answers.items it c.requires.cut c.requires.apart
-        g.K.Name.memory c.memory.result.now.contents c.shared.inside.log c.shared.inside.pane c.choose.new.pane c.show_put-told.new.pane c.places_with-places.result c.failed.result
-        c.memory.ensures c.places_with-places.ensures c.shared.invariant.0 c.shared.invariant.1 c.shared.invariant.3 c.choose.ensures.ahead c.failed.ensures.failed c.show_put-told.ensures.shown c.show_put-told.ensures.hidden in
+    g.K.Name.memory c.memory.result.now.contents c.shared.inside.log c.shared.inside.pane c.choose.new.pane c.show_put-told.new.pane c.places_with-places.result c.failed.result
+    c.memory.ensures c.places_with-places.ensures c.shared.invariant.0 c.shared.invariant.1 c.shared.invariant.3 c.choose.ensures.ahead c.failed.ensures.failed c.show_put-told.ensures.shown c.show_put-told.ensures.hidden in
     let log = c.keep_all.ensures.log ∙ ap (λ rs. with_all_unclaimed c.shared.inside.log rs (map answer_in c.as_slice-5.result.now)) c.as_slice-4.ensures.value
-        ∙ ap (λ xs. with_all_unclaimed c.shared.inside.log c.args.members.now.items (map answer_in xs)) c.as_slice-5.ensures.value in
+    ∙ ap (λ xs. with_all_unclaimed c.shared.inside.log c.args.members.now.items (map answer_in xs)) c.as_slice-5.ensures.value in
     let s : SharedState g.row.D.Denot = record { engine = c.shared.inside.engine; log = c.shared.inside.log; servers = c.shared.inside.servers; shown = c.shared.inside.pane.shown } in
     let s' : SharedState g.row.D.Denot = record { engine = c.serve_members.new.engine; log = c.keep_all.new.log; servers = c.shared.inside.servers; shown = c.show_put-told.new.pane.shown } in
     subst (λ (u : SharedState g.row.D.Denot). LendsGroup u c.args.members.now.items c.choose.new.roomy.items s') c.shared.view_is

@@ -18,6 +18,6 @@ pub invariant_of-shared : goal.invariant_of-shared
 invariant_of-shared g c =
     let call = Collect c.args.element c.args.number in
     let is : c.leave.new.self.trace ≡ c.shared.inside.log.trace ++ lines_of call (told c.collect-answer.result) =
-        ap (λ (l : LogState). l.trace) c.leave.ensures.log ∙ ap (λ a. c.shared.inside.log.trace ++ lines_of call a) c.as_outcome.ensures in
+    ap (λ (l : LogState). l.trace) c.leave.ensures.log ∙ ap (λ a. c.shared.inside.log.trace ++ lines_of call a) c.as_outcome.ensures in
     let shown = c.shared.invariant.1 ∙ looked-shown g.K.Name.memory c.shared.inside.log.trace c.args.element c.args.number (told c.collect-answer.result) ∙ ap (shown_by g.K.Name.memory) (sym is) in
     (c.leave.ensures.end ∙ memory-same (end_of g.K.Name.memory c.shared.inside.log.trace) c.args.element c.args.number c.as_outcome.result ∙ c.shared.invariant.0, shown, c.shared.invariant.2, c.shared.invariant.3)
