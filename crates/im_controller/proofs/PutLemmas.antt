@@ -21,7 +21,7 @@ use Rattle.im_types.specs.Step.{step, is_accepted}
 use Rattle.im_types.specs.Trace.{end_of}
 use Rattle.im_types.specs.Changes.{change_by, changes_at, changes_of}
 use Rattle.im_types.specs.Groups.{AreOthers, AreApart, is_new, is_put, with_request, answer_of, reached_by_one, answers_of}
-use Rattle.im_laws.proofs.Tests.{true_false}
+use Rattle.im_laws.proofs.Tests.{true_false, and_false}
 use Rattle.im_laws.proofs.AcceptLemmas.{accepted-ok}
 use Rattle.im_laws.proofs.GroupLemmas.{same_test, above_zero, one_leaves}
 use Rattle.im_fulls.specs.Groups.{MayPrecede}
@@ -183,10 +183,6 @@ refused-lines : (e : Refusal) → leaves_line (Err e) ≡ false → (rs : List R
 refused-lines e lineless [] = refl
 refused-lines e lineless (r ∷ rs) = ap (λ b. (if b then line_of (Commands (Asks r)) (Err e) ∷ [] else []) ++ lines_all rs (map answer_in (all_refused e rs))) lineless ∙ refused-lines e lineless rs
 
-and_false : (b : Bool) → (b && false) ≡ false
-and_false true = refl
-and_false false = refl
-
 pub left-none : (m : Contents) (r : Request) → left_with m 0 r ≡ 0
 left-none m r = ap (λ (b : Bool). if b then 0 - 1 else 0) (and_false (is_accepted m (Asks r)))
 
@@ -213,9 +209,6 @@ module _ {D : Type 0} (e f : EngineState D) (rs : List Request) (ss : List Serve
 
   failed-of : {a b : EngineState D} → a ≡ b → a.failed ≡ b.failed
   failed-of same = ap (λ (x : EngineState D). x.failed) same
-
-  places-dead : (room : ℕ) → e.failed ≡ true → places_with e room ≡ 0
-  places-dead room dead = ap (λ (b : Bool). if b then 0 else if room == 0 then 0 else places_in (reached_in e)) dead
 
   places-full : (room : ℕ) → e.failed ≡ false → room ≡ 0 → places_with e room ≡ 0
   places-full room alive none =

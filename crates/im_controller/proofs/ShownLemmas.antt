@@ -102,9 +102,6 @@ module _ {D : Type 0} (old new : EngineState D) (command : Command) (answer : Re
   none-put : is_accepted old.memory command ≡ true → old.room ≡ 0 → changes_put old.memory old.room command ≡ []
   none-put accepted none = put-is true false accepted (ap (λ n. nat_lt 0 n) none)
 
-  failed-now : (b : Bool) → new.failed ≡ b → new.failed ≡ true → b ≡ true
-  failed-now b is dead = sym is ∙ dead
-
   shown-put : is_accepted old.memory command ≡ true → (n : ℕ) → old.room ≡ n → IsShownOf old.memory old.room command answer new.failed
   shown-put accepted zero room =
       let is = a.full living accepted room in
