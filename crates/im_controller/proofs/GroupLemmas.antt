@@ -67,7 +67,7 @@ module _ (s : Reached) (r : Request) where
   so_by true told = absurd (true_false (sym told))
   so_by false told = refl
 
-  member-so : IsAnswerTo s.contents r (answer_of s r)
+  pub member-so : IsAnswerTo s.contents r (answer_of s r)
   member-so = so_by (is_new s r && (s.room == 0))
 
   after_by : (b some none : Bool) → is_new s r ≡ b → (some ≡ true → none ≡ false) → (some ≡ false → none ≡ true)
@@ -86,7 +86,7 @@ module _ (s : Reached) (r : Request) where
   room_none : (n : ℕ) → nat_lt 0 n ≡ false → (n == 0) ≡ true
   room_none n none = grind (arith, nat_tests)
 
-  member-after : (reached_by_one s r).contents ≡ memory_after s.contents (Commands (Asks r)) (answer_of s r)
+  pub member-after : (reached_by_one s r).contents ≡ memory_after s.contents (Commands (Asks r)) (answer_of s r)
   member-after = after_by (is_new s r) (nat_lt 0 s.room) (s.room == 0) refl (room_some s.room) (room_none s.room)
 
 members-so : (s : Reached) (rs : List Request) → AreAnswersTo s.contents rs (answers_of s rs)
@@ -105,7 +105,7 @@ answer_served : (a : Result Outcome Refusal) → answer_in (as_served a) ≡ a
 answer_served (Ok outcome) = refl
 answer_served (Err refusal) = refl
 
-answers_served : (xs : List (Result Outcome Refusal)) → map answer_in (map as_served xs) ≡ xs
+pub answers_served : (xs : List (Result Outcome Refusal)) → map answer_in (map as_served xs) ≡ xs
 answers_served [] = refl
 answers_served (x ∷ xs) = ap (λ y. y ∷ map answer_in (map as_served xs)) (answer_served x) ∙ ap (λ ys. x ∷ ys) (answers_served xs)
 
@@ -117,7 +117,7 @@ whole_answers : (s : Reached) (rs : List Request) → length (answers_of s rs) �
 whole_answers s [] = refl
 whole_answers s (r ∷ rs) = omega (arith, whole_answers (reached_by_one s r) rs)
 
-few_lines : (xs : List (Result Outcome Refusal)) → lines_left xs ≤ length xs
+pub few_lines : (xs : List (Result Outcome Refusal)) → lines_left xs ≤ length xs
 few_lines [] = omega arith
 few_lines (x ∷ xs) = omega (arith, few_lines xs, at_most (leaves_line x))
   where

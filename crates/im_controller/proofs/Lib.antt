@@ -1,7 +1,11 @@
 pub mod LogLemmas
 pub mod StuckLemmas
 pub mod LendLemmas
+pub mod ShownLemmas
+pub mod PutLemmas
 pub mod WaitLemmas
 pub mod Gathering
 pub mod Keeping
 pub mod GroupLemmas
+pub mod Choosing
+pub mod Lending

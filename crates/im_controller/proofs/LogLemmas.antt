@@ -1,7 +1,8 @@
 -- A log that grows by a line, keeps an answer for its port, and hands it out.
-use Rattle.std.proofs.Common.{◌≡◌, ℕ, zero, suc, ◌+◌, ◌<◌, ◌≤◌, Bool, true, false, List, [], ◌∷◌, ◌++◌, refl, sym, ap, ◌∙◌, subst, cond, Option, None, Some, Result, Ok, Err, length, length-append, append-nil, slice_get, slice_set, sum_by, arith, if◌then◌else◌}
+use Rattle.std.proofs.Common.{◌≡◌, ℕ, zero, suc, ◌+◌, ◌<◌, ◌≤◌, Bool, true, false, List, [], ◌∷◌, ◌++◌, refl, sym, ap, ◌∙◌, subst, cond, Option, None, Some, Result, Ok, Err, length, length-append, append-nil, append_assoc, slice_get, slice_set, sum_by, arith, if◌then◌else◌}
 use Rattle.std.specs.Prelude.{count_by, IfOk}
 use Rattle.std.specs.List.{AllByRecursion}
+use mathlib.Core.List.{IsPrefix}
 use Rattle.std.proofs.lemmas.List.Sums.{sum_by-append, sum_by-set}
 use Rattle.std.proofs.lemmas.Option.{slice_get_within, get_or_from_slice_get}
 use Rattle.im_types.specs.declared.commands.Command.TheVariants.{Request as Asks}
@@ -53,6 +54,15 @@ pub proof-at_end : (m : Contents) (trace : List Line) (call : Call) (answer : Re
 proof-at_end m trace call (Ok outcome) legal ends = (legal, ends)
 proof-at_end m trace call (Err refusal) legal ends = tt
 
+-- what begins a list begins each that goes on behind it
+pub prefix-more : {X : Type 0} (xs ys zs : List X) → IsPrefix xs ys → IsPrefix xs (ys ++ zs)
+prefix-more xs ys zs p = (p.0 ++ zs, sym (append_assoc xs p.0 zs) ∙ ap (λ l. l ++ zs) p.1)
+
+proofs-more : (m : Contents) (trace more : List Line) (places : List (Option UnclaimedState)) → AllByRecursion (IsProofIn m trace) places → AllByRecursion (IsProofIn m (trace ++ more)) places
+proofs-more m trace more [] all = tt
+proofs-more m trace more (None ∷ places) all = (tt, proofs-more m trace more places all.1)
+proofs-more m trace more (Some w ∷ places) all = ((all.0.0, prefix-more w.history trace more all.0.1), proofs-more m trace more places all.1)
+
 -- sums over places
 module _ (f : Option UnclaimedState → ℕ) (none : f None ≡ 0) (places : List (Option UnclaimedState)) (e : ℕ) (w : UnclaimedState) where
   sum_kept : slice_get places e ≡ Some None → sum_by f (slice_set places e (Some w)) ≡ sum_by f places + f (Some w)
@@ -90,7 +100,7 @@ module _ (m : Contents) (marks : Line → Bool) (l : LogState) (books : Counts) 
         few = omega (arith, few_by (leaves_line answer) call answer (length l.trace) l.limit room is.few, length-append l.trace more);
         lines = omega (arith, is.lines, length-append l.trace more);
         marked = omega (arith, is.marked, count-append marks l.trace more);
-        proofs = is.proofs;
+        proofs = proofs-more m l.trace more l.places is.proofs;
       }
 
   -- an answer that waits for its port
@@ -105,7 +115,7 @@ module _ (m : Contents) (marks : Line → Bool) (l : LogState) (books : Counts) 
         few = omega (arith, few_by (leaves_line answer) call answer (length l.trace) l.limit room is.few, length-append l.trace more);
         lines = omega (arith, is.lines, sum_kept (λ p. length (unclaimed_lines p)) refl l.places r.element w free, length-append l.trace more);
         marked = omega (arith, is.marked, sum_kept (λ p. count_by marks (unclaimed_lines p)) refl l.places r.element w free, count-append marks l.trace more);
-        proofs = all-set (IsProofIn m) l.places r.element (Some w) is.proofs (proof_at m l.trace call answer legal);
+        proofs = all-set (IsProofIn m (l.trace ++ more)) l.places r.element (Some w) (proofs-more m l.trace more l.places is.proofs) (proof_at m l.trace call answer legal, ([], append-nil (l.trace ++ more)));
       }
 
   -- an answer that its port takes
@@ -115,7 +125,7 @@ module _ (m : Contents) (marks : Line → Bool) (l : LogState) (books : Counts) 
     few = is.few;
     lines = omega (arith, is.lines, sum_claimed (λ p. length (unclaimed_lines p)) refl l.places e w there);
     marked = omega (arith, is.marked, sum_claimed (λ p. count_by marks (unclaimed_lines p)) refl l.places e w there);
-    proofs = all-set (IsProofIn m) l.places e None is.proofs tt;
+    proofs = all-set (IsProofIn m l.trace) l.places e None is.proofs tt;
   }
 
 -- places in which no answer waits
@@ -123,9 +133,9 @@ free-sum : (f : Option UnclaimedState → ℕ) (places : List (Option UnclaimedS
 free-sum f [] none free = refl
 free-sum f (p ∷ places) none free = omega (arith, free-sum f places none free.1, ap f free.0 ∙ none, sum_by-append f (p ∷ []) places)
 
-free-proofs : (m : Contents) (places : List (Option UnclaimedState)) → AreFree places → AllByRecursion (IsProofIn m) places
-free-proofs m [] free = tt
-free-proofs m (p ∷ places) free = (subst (λ (q : Option UnclaimedState). IsProofIn m q) (sym free.0) tt, free-proofs m places free.1)
+free-proofs : (m : Contents) (trace : List Line) (places : List (Option UnclaimedState)) → AreFree places → AllByRecursion (IsProofIn m trace) places
+free-proofs m trace [] free = tt
+free-proofs m trace (p ∷ places) free = (subst (λ (q : Option UnclaimedState). IsProofIn m trace q) (sym free.0) tt, free-proofs m trace places free.1)
 
 -- a log before its first line
 pub log-starts : (m : Contents) (marks : Line → Bool) (trace : List Line) (limit : ℕ) (places : List (Option UnclaimedState)) (books : Counts) → trace ≡ [] → AreFree places → books.lines ≡ 0 → books.marked ≡ 0
@@ -135,7 +145,7 @@ log-starts m marks trace limit places books none free no_lines no_marked = rw no
   few = omega arith;
   lines = omega (arith, no_lines, free-sum (λ p. length (unclaimed_lines p)) places refl free);
   marked = omega (arith, no_marked, free-sum (λ p. count_by marks (unclaimed_lines p)) places refl free);
-  proofs = free-proofs m places free;
+  proofs = free-proofs m [] places free;
 })
 
 -- where no answer waits, the books count all lines

@@ -1,5 +1,6 @@
 -- Groups of requests under the lock: how they are taken out of the inbox, and what lending one does. (Own.)
-use Rattle.std.specs.Prelude.{◌≡◌, ℕ, ◌+◌, ◌<◌, ◌≤◌, ◌==◌, List, [], ◌∷◌, Bool, true, false, Option, None, Some, Result, Ok, Err, length, map, slice_get, if◌then◌else◌}
+use Rattle.std.specs.Prelude.{◌≡◌, ℕ, ◌+◌, ◌-◌, ◌<◌, ◌≤◌, ◌==◌, min, List, [], ◌∷◌, ◌++◌, Bool, true, false, Option, None, Some, Result, Ok, Err, length, map, slice_get, if◌then◌else◌}
+use Rattle.im_types.specs.declared.TheConstants.{LAST}
 use Rattle.im_types.specs.declared.operations.Op.{Op}
 use Rattle.im_types.specs.declared.operations.Op.TheVariants.{Alloc, Release, Fetch, Store, Take, Put}
 use Rattle.im_types.specs.declared.commands.Command.TheVariants.{Request as Asks}
@@ -11,14 +12,16 @@ use Rattle.im_types.specs.declared.groups.Served.{Served}
 use Rattle.im_types.specs.declared.groups.Served.TheVariants.{Unserved, Done, Refused}
 use Rattle.im_types.specs.declared.refusals.Refusal.{Refusal}
 use Rattle.im_types.specs.declared.refusals.Refusal.TheVariants.{NoMemory, TraceFull}
+use Rattle.im_types.specs.declared.changes.Change.{Change}
 use Rattle.im_types.specs.Contents.{Contents}
 use Rattle.im_types.specs.Trace.{answer_to}
 use Rattle.im_types.specs.Groups.{AreApart}
 use Rattle.im_engine.specs.State.{EngineState}
-use Rattle.im_engine.specs.Groups.{GroupAnswered, all_refused}
+use Rattle.im_engine.specs.Groups.{GroupAnswered, all_refused, left_with}
 use Rattle.im_controller.specs.Lines.{Counts, leaves_line, lines_of, memory_after, counts_after}
 use Rattle.im_controller.specs.Log.{ReceiptState, UnclaimedState, LogState, plain, IsOf, with_unclaimed}
 use Rattle.im_controller.specs.State.{SharedState}
+use Rattle.im_controller.specs.Lends.{is_taken, changes_put}
 
 -- ---- which requests may be one group
 
@@ -123,14 +126,69 @@ pub record MembersAnswered {D : Type 0} (old : EngineState D) (room : ℕ) (memb
   pub dead : old.failed ≡ true → GroupAnswered old members answers new
   pub served : 0 < room → GroupAnswered old members answers new
 
+-- ---- the members for whose changes the pane has room
+
+-- how many commands an engine takes that has come so far: as many as the journal has room for, and none behind the last count that there is
+abbrev pub places_left : {D : Type 0} → EngineState D → ℕ
+places_left e = if LAST - e.count == 0 then e.room else min e.room (LAST - e.count)
+
+-- the same where it is alive and the trace has room for so many lines, and else none
+abbrev pub places_with : {D : Type 0} → EngineState D → ℕ → ℕ
+places_with e room = if e.failed then 0 else if room == 0 then 0 else places_left e
+
+-- those of the members that are lent to the engine
+abbrev pub those : List Bool → List Request → List Request
+those [] rs = []
+those (b ∷ bs) [] = []
+those (true ∷ bs) (r ∷ rs) = r ∷ those bs rs
+those (false ∷ bs) (r ∷ rs) = those bs rs
+
+-- each other one would be put on the disk, by the memory before the group and where there is room for so many
+abbrev pub AreRoomless : Contents → ℕ → List Bool → List Request → Type 0
+AreRoomless m left [] rs = rs ≡ []
+AreRoomless m left (b ∷ bs) [] = ⊥
+AreRoomless m left (true ∷ bs) (r ∷ rs) = AreRoomless m (left_with m left r) bs rs
+AreRoomless m left (false ∷ bs) (r ∷ rs) = (is_taken m left (Asks r) ≡ true) × AreRoomless m left bs rs
+
+-- what these requests change, by the memory before all of them
+abbrev pub changes_put_all : Contents → ℕ → List Request → List Change
+changes_put_all m left [] = []
+changes_put_all m left (r ∷ rs) = changes_put m left (Asks r) ++ changes_put_all m (left_with m left r) rs
+
+-- the next answer: a member that isn't lent is refused for want of memory
+abbrev pub next_answer : Bool → List Served → Served
+next_answer true [] = Unserved
+next_answer true (s ∷ ss) = s
+next_answer false ss = Refused NoMemory
+
+-- the answers behind it
+abbrev pub answers_left : Bool → List Served → List Served
+answers_left true [] = []
+answers_left true (s ∷ ss) = ss
+answers_left false ss = ss
+
+-- the answers to all members, by those to the ones that are lent
+abbrev pub spread : List Bool → List Served → List Served
+spread [] ss = []
+spread (b ∷ bs) ss = next_answer b ss ∷ spread bs (answers_left b ss)
+
 -- A group that is lent to the engine: its members' commands lent one after another, but that their ports take the answers later, and count the lines then.
-pub record LendsGroup {D : Type 0} (s : SharedState D) (members : List Request) (s' : SharedState D) : Type 0 where
+pub record LendsGroup {D : Type 0} (s : SharedState D) (members : List Request) (roomy : List Bool) (s' : SharedState D) : Type 0 where
   pub answers : List Served
-  pub full : s.engine.failed ≡ false → s.log.limit ≤ length s.log.trace → (answers ≡ all_refused TraceFull members) × (s'.engine ≡ s.engine)
-  pub dead : s.engine.failed ≡ true → GroupAnswered s.engine members answers s'.engine
-  pub served : length s.log.trace < s.log.limit → GroupAnswered s.engine members answers s'.engine
+  -- those for whose changes the pane has no room aren't lent, and are refused for want of memory
+  pub lent : List Served
+  pub spread_is : answers ≡ spread roomy lent
+  pub roomless : AreRoomless s.engine.memory (places_with s.engine (s.log.limit - length s.log.trace)) roomy members
+  -- where the engine has failed or the trace is full, all are lent
+  pub all : places_with s.engine (s.log.limit - length s.log.trace) ≡ 0 → (those roomy members ≡ members) × (answers ≡ lent)
+  pub full : s.engine.failed ≡ false → s.log.limit ≤ length s.log.trace → (lent ≡ all_refused TraceFull (those roomy members)) × (s'.engine ≡ s.engine)
+  pub dead : s.engine.failed ≡ true → GroupAnswered s.engine (those roomy members) lent s'.engine
+  pub served : length s.log.trace < s.log.limit → GroupAnswered s.engine (those roomy members) lent s'.engine
   pub log : s'.log ≡ with_all_unclaimed s.log members (map answer_in answers)
   pub servers : s'.servers ≡ s.servers
+  -- all that the group changed is shown then, and nothing where the engine has failed
+  pub shown : s'.engine.failed ≡ false → s'.shown ≡ s.shown ++ changes_put_all s.engine.memory (places_with s.engine (s.log.limit - length s.log.trace)) (those roomy members)
+  pub hidden : s'.engine.failed ≡ true → s'.shown ≡ s.shown
 
 -- what a port has of one holding of the lock: nothing yet, or the answer to its request, whose line is counted
 abbrev pub Holds : (Line → Bool) → Counts → Request → Option (Result ReceiptState Refusal) → Counts → Type 0

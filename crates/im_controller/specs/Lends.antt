@@ -1,5 +1,5 @@
 -- What is done under the lock. (Own.)
-use Rattle.std.specs.Prelude.{◌≡◌, ℕ, ◌<◌, ◌≤◌, Bool, true, false, Result, Ok, Err, length, if◌then◌else◌, ◌==◌}
+use Rattle.std.specs.Prelude.{◌≡◌, ◌⊎◌, ℕ, ◌<◌, ◌≤◌, ◌++◌, ◌&&◌, Bool, true, false, List, [], ◌∷◌, Result, Ok, Err, length, nat_lt, if◌then◌else◌, ◌==◌}
 use Rattle.im_types.specs.declared.operations.Entry.{Entry}
 use Rattle.im_types.specs.declared.operations.Entry.TheVariants.{Waiting}
 use Rattle.im_types.specs.declared.commands.Command.{Command}
@@ -8,8 +8,12 @@ use Rattle.im_types.specs.declared.commands.Call.{Call}
 use Rattle.im_types.specs.declared.commands.Call.TheVariants.{Command as Commands, Collect}
 use Rattle.im_types.specs.declared.commands.Line.{Line}
 use Rattle.im_types.specs.declared.refusals.Refusal.{Refusal}
-use Rattle.im_types.specs.declared.refusals.Refusal.TheVariants.{JournalFull, Failed, TraceFull, Stalled}
+use Rattle.im_types.specs.declared.refusals.Refusal.TheVariants.{JournalFull, Failed, NoMemory, TraceFull, Stalled}
+use Rattle.im_types.specs.declared.changes.Change.{Change}
+use Rattle.im_types.specs.Contents.{Contents}
+use Rattle.im_types.specs.Step.{is_accepted}
 use Rattle.im_types.specs.Trace.{told}
+use Rattle.im_types.specs.Changes.{change_by, changes_at}
 use Rattle.im_checkpoint.specs.declared.checkpoint.TurnDone.{TurnDone}
 use Rattle.im_checkpoint.specs.declared.checkpoint.TurnDone.TheVariants.{Idle}
 use Rattle.im_engine.specs.Run.{Answered, TurnAnswered}
@@ -27,16 +31,37 @@ pub record Leaves {D : Type 0} (s : SharedState D) (call : Call) (answer : Resul
   pub log : s'.log ≡ with_line s.log call answer
   pub servers : s'.servers ≡ s.servers
 
+-- whether a command is put on the disk, where there is room for so many
+abbrev pub is_taken : Contents → ℕ → Command → Bool
+is_taken m left command = is_accepted m command && nat_lt 0 left
+
+-- what it changes then
+abbrev pub changes_put : Contents → ℕ → Command → List Change
+changes_put m left command = if is_taken m left command then change_by m command ∷ [] else []
+
+-- what is shown of a command with this answer
+abbrev pub shows : Contents → Command → Result Outcome Refusal → List Change
+shows m command (Ok outcome) = changes_at m command
+shows m command (Err refusal) = []
+
+-- the pane has no room for what a command changes that would be put on the disk: nothing is changed
+pub record IsRoomless {D : Type 0} (s : SharedState D) (command : Command) (answer : Result ReceiptState Refusal) (s' : SharedState D) : Type 0 where
+  pub accepted : is_taken s.engine.memory s.engine.room command ≡ true
+  pub refused : answer ≡ Err NoMemory
+  pub same : s' ≡ s
+
 -- A command that is lent to the engine, by its answer. Refused first where the engine has failed, and then where the trace is full.
 pub record Lends {D : Type 0} (marks : Line → Bool) (s : SharedState D) (t : Counts) (command : Command) (answer : Result ReceiptState Refusal) (s' : SharedState D) (t' : Counts) : Type 0 where
   pub dead : s.engine.failed ≡ true → (answer ≡ Err Failed) × (s' ≡ s)
   pub full : s.engine.failed ≡ false → s.log.limit ≤ length s.log.trace → (answer ≡ Err TraceFull) × (s' ≡ s)
-  -- else the engine answers it, and its line is left where it has an outcome or a refusal of numbers
+  -- else the engine answers it, and its line is left where it has an outcome or a refusal of numbers; or the pane has no room for its change
   pub served : s.engine.failed ≡ false → length s.log.trace < s.log.limit →
-      Answered s.engine command (plain answer) s'.engine × Leaves s (Commands command) (plain answer) s'
+      (Answered s.engine command (plain answer) s'.engine × Leaves s (Commands command) (plain answer) s') ⊎ IsRoomless s command answer s'
   -- its port has counted the line, if there is one, and an outcome has the trace that ends in it
   pub tally : t' ≡ counts_after marks t (lines_of (Commands command) (plain answer))
-  pub receipt : answer ≡ receipt_for s'.log.trace command (plain answer)
+  -- the change of an accepted command is shown where it has an outcome, and the outcome has what is shown then
+  pub shown : s'.shown ≡ s.shown ++ shows s.engine.memory command (plain answer)
+  pub receipt : answer ≡ receipt_for s'.log.trace s'.shown command (plain answer)
 
 -- A collect, in the same order of refusals: the engine stays, and its line is left.
 pub record Looks {D : Type 0} (marks : Line → Bool) (s : SharedState D) (t : Counts) (element number : ℕ) (answer : Result Entry Refusal) (s' : SharedState D) (t' : Counts) : Type 0 where
@@ -45,23 +70,25 @@ pub record Looks {D : Type 0} (marks : Line → Bool) (s : SharedState D) (t : C
   pub found : s.engine.failed ≡ false → length s.log.trace < s.log.limit →
       (answer ≡ entry_at s.engine.memory element number) × Leaves s (Collect element number) (told answer) s' × (s'.engine ≡ s.engine)
   pub tally : t' ≡ counts_after marks t (lines_of (Collect element number) (told answer))
+  pub shown : s'.shown ≡ s.shown
 
 -- a turn of a checkpoint, as who lends it is told: there is nothing to do, though the journal is full
 abbrev pub told_turn : ℕ → Result TurnDone Refusal → Result TurnDone Refusal
 told_turn room (Ok Idle) = if room == 0 then Err JournalFull else Ok Idle
 told_turn room answer = answer
 
--- One turn of the engine: the log and the servers stay.
+-- One turn of the engine: the log, the servers and what is shown stay.
 pub record LendsTurn {D : Type 0} (s : SharedState D) (answer : Result TurnDone Refusal) (s' : SharedState D) : Type 0 where
   pub done : Result TurnDone Refusal
   pub turned : TurnAnswered s.engine done s'.engine
   pub is : answer ≡ told_turn s'.engine.room done
   pub log : s'.log ≡ s.log
   pub servers : s'.servers ≡ s.servers
+  pub shown : s'.shown ≡ s.shown
 
 -- what lies under the lock, and an element's server, if it is active, does something else
 abbrev pub with_server_at : {D : Type 0} → SharedState D → ℕ → Server → SharedState D
-with_server_at s element server = record { engine = s.engine; log = s.log; servers = with_server s.servers element server }
+with_server_at s element server = record { engine = s.engine; log = s.log; servers = with_server s.servers element server; shown = s.shown }
 
 -- A server asks whether it may wait for an entry: it waits from then on exactly where it is told to.
 pub record BeginsWait {D : Type 0} (s : SharedState D) (element number : ℕ) (answer : Result Ask Refusal) (s' : SharedState D) : Type 0 where

@@ -1,6 +1,7 @@
 -- The log: a trace with the answers that wait for their ports, and the receipts that go out of it. (Own.)
 use Rattle.std.specs.Prelude.{◌≡◌, ℕ, ◌+◌, ◌≤◌, ◌++◌, List, [], Bool, Option, None, Some, Result, Ok, Err, length, slice_get, slice_set, count_by, sum_by}
 use Rattle.std.specs.List.{AllByRecursion}
+use mathlib.Core.List.{IsPrefix}
 use Rattle.im_types.specs.declared.operations.Entry.{Entry}
 use Rattle.im_types.specs.declared.commands.Command.{Command}
 use Rattle.im_types.specs.declared.commands.Command.TheVariants.{Request as Asks}
@@ -12,13 +13,16 @@ use Rattle.im_types.specs.declared.commands.Line.{Line}
 use Rattle.im_types.specs.declared.refusals.Refusal.{Refusal}
 use Rattle.im_types.specs.Contents.{Contents}
 use Rattle.im_types.specs.Trace.{IsLegal}
+use Rattle.im_types.specs.declared.changes.Change.{Change}
+use Rattle.im_types.specs.Changes.{shown_by}
 use Rattle.im_controller.specs.Lines.{EndsIn, Counts, line_of, lines_of, counts_after}
 
--- what a command came to, and the trace that its line ends
+-- what a command came to, the trace that its line ends, and what was shown by the time that it was told
 pub record ReceiptState : Type 0 where
   pub command : Command
   pub outcome : Outcome
   pub history : List Line
+  pub told : List Change
 
 -- what was kept under a number, and the trace that the line of this collect ends
 pub record FoundState : Type 0 where
@@ -44,10 +48,14 @@ abbrev pub plain : Result ReceiptState Refusal → Result Outcome Refusal
 plain (Ok receipt) = Ok receipt.outcome
 plain (Err refusal) = Err refusal
 
--- an answer with its receipt, which has this trace
-abbrev pub receipt_for : List Line → Command → Result Outcome Refusal → Result ReceiptState Refusal
-receipt_for history command (Ok outcome) = Ok (record { command = command; outcome = outcome; history = history })
-receipt_for history command (Err refusal) = Err refusal
+-- an answer with its receipt, which has this trace and was told so much
+abbrev pub receipt_for : List Line → List Change → Command → Result Outcome Refusal → Result ReceiptState Refusal
+receipt_for history shown command (Ok outcome) = Ok (record { command = command; outcome = outcome; history = history; told = shown })
+receipt_for history shown command (Err refusal) = Err refusal
+
+-- what was shown begins with the full cells that were opened and the changes of this trace
+abbrev pub IsToldOf : Contents → List Line → List Change → Type 0
+IsToldOf m history shown = IsPrefix (shown_by m history) shown
 
 -- a legal trace that ends in the line of this answer, if that is an outcome
 abbrev pub IsProof : Contents → Call → Result Outcome Refusal → List Line → Type 0
@@ -73,10 +81,10 @@ with_unclaimed l r answer =
 abbrev pub without_unclaimed : LogState → ℕ → LogState
 without_unclaimed l element = record l { places = slice_set l.places element None }
 
--- an answer that waits in a place has a legal trace that ends in its line
-abbrev pub IsProofIn : Contents → Option UnclaimedState → Type 0
-IsProofIn m None = Unit {0}
-IsProofIn m (Some waiting) = IsProof m (Commands (Asks waiting.request)) waiting.answer waiting.history
+-- an answer that waits in a place has a beginning of the trace, legal and with its line at the end
+abbrev pub IsProofIn : Contents → List Line → Option UnclaimedState → Type 0
+IsProofIn m trace None = Unit {0}
+IsProofIn m trace (Some waiting) = IsProof m (Commands (Asks waiting.request)) waiting.answer waiting.history × IsPrefix waiting.history trace
 
 -- A legal trace with no more lines than it may have. The books count each line that its port was told: all but those whose answers wait.
 pub record IsLog (m : Contents) (marks : Line → Bool) (l : LogState) (books : Counts) : Type 0 where
@@ -84,8 +92,8 @@ pub record IsLog (m : Contents) (marks : Line → Bool) (l : LogState) (books : 
   pub few : length l.trace ≤ l.limit
   pub lines : books.lines + sum_by (λ p. length (unclaimed_lines p)) l.places ≡ length l.trace
   pub marked : books.marked + sum_by (λ p. count_by marks (unclaimed_lines p)) l.places ≡ count_by marks l.trace
-  -- and each answer that waits has a legal trace that ends in its line
-  pub proofs : AllByRecursion (IsProofIn m) l.places
+  -- and each answer that waits has a beginning of the trace, legal and with its line at the end
+  pub proofs : AllByRecursion (IsProofIn m l.trace) l.places
 
 -- a receipt is of this command
 abbrev pub IsOf : Command → Result ReceiptState Refusal → Type 0

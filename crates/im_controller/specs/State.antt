@@ -1,23 +1,27 @@
 -- What lies under the lock, as contracts see it. (Own.)
 use Rattle.std.specs.Prelude.{ℕ, List}
+use Rattle.logbook.specs.Pages.{Book}
+use Rattle.im_types.specs.declared.changes.Change.{Change}
 use Rattle.im_engine.specs.State.{EngineState}
 use Rattle.im_controller.specs.declared.servers.Server.{Server}
 use Rattle.im_controller.specs.Lines.{Counts}
 use Rattle.im_controller.specs.Log.{LogState}
 
--- what lies under the lock: the engine, its log, and what each element's server does
+-- what lies under the lock: the engine, its log, what each element's server does, and the changes that are shown
 pub record SharedState (D : Type 0) : Type 0 where
   pub engine : EngineState D
   pub log : LogState
   pub servers : List Server
+  pub shown : List Change
 
--- an engine with room for a trace, before it has a name: how many ports there are, and which ledgers count the lines and the marked lines
+-- an engine with room for a trace, before it has a name: how many ports there are, which ledgers count the lines and the marked lines, and the book of what is shown
 pub record OpeningState (D : Type 0) : Type 0 where
   pub engine : EngineState D
   pub limit : ℕ
   pub ports : ℕ
   pub lines_name : ℕ
   pub marked_name : ℕ
+  pub book : Book
 
 -- a port: its element, and how many lines it was told
 pub record PortState : Type 0 where

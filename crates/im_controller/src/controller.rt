@@ -1,25 +1,27 @@
 //! The lock, and the thread that keeps checkpoints.
 ghost use Rattle.std.specs.Prelude.{◌≡◌, ◌⊎◌, IfOk, IfErr};
 ghost use Rattle.im_types.specs.declared.refusals.Refusal.TheVariants.{NoElement};
-ghost use Rattle.im_types.specs.Trace.{end_of, IsLegal};
+ghost use mathlib.Core.List.{IsPrefix};
+ghost use Rattle.im_types.specs.Trace.{IsLegal};
+ghost use Rattle.im_types.specs.Changes.{opening};
 ghost use Rattle.im_types.specs.declared.commands.Call.TheVariants.{Command as Commands};
 ghost use Rattle.im_controller.specs.Lines.{EndsIn, line_of, lines_of, counts_after};
 ghost use Rattle.im_controller.specs.Log.{plain};
 ghost use Rattle.im_controller.specs.Groups.{Holds};
 
 use crate::bell::Bell;
-use crate::books::{Reserve, Tally};
+use crate::books::Tally;
 use crate::groups::hold;
 use crate::inbox::Inbox;
-use crate::log::Log;
-use crate::name::Name;
+use crate::name::{Name, Shown};
 use crate::ports::Port;
 use crate::receipts::Receipt;
-use crate::servers::Servers;
-use crate::shared::{Kept, Shared, Sleepers, keep_once, lend, make_server, mark_ended, who_sleeps};
+use crate::shared::{
+    Kept, Shared, Sleepers, keep_once, lend, make_glance, make_server, mark_ended, who_sleeps,
+};
 use crate::turns::Turns;
 use im_disk::Disk;
-use im_engine::Engine;
+use im_glass::Glance;
 use im_types::{Command, Refusal, Request};
 use std::sync::{Mutex, MutexGuard, Wait};
 
@@ -28,38 +30,27 @@ use std::sync::{Mutex, MutexGuard, Wait};
 ///
 /// The lock is taken in the queue's order, is never held while the queue or a bell is waited for, and a bell is rung
 /// after the lock was let go. The inbox's lock is never held while another is asked for.
-#[derive(Drop)]
+///
+/// It is ended by [`finish`](crate::finish), never dropped.
 pub struct Controller<D: Disk, K: Name> {
     pub(crate) shared: Mutex<Shared<D, K>>,
-    inbox: Mutex<Inbox>,
+    pub(crate) inbox: Mutex<Inbox>,
     pub(crate) turns: Turns,
     pub(crate) answers: Bell,
     pub(crate) work: Bell,
-    keeper: usize,
+    pub(crate) keeper: usize,
 }
 
 impl<D: Disk, K: Name> Controller<D, K> {
     // A controller over these. The keeper's place in the queue is behind those of the elements.
     pub(crate) fn over(
-        engine: Engine<D>,
-        log: Log<K>,
-        servers: Servers,
-        reserve: Reserve<K>,
+        shared: Shared<D, K>,
         inbox: Inbox,
         turns: Turns,
         keeper: usize,
-    ) -> Controller<D, K>
-        requires { end_of K.memory log.trace ≡ engine.memory }
-    {
+    ) -> Controller<D, K> {
         Controller {
-            shared: Mutex::new(Shared {
-                engine,
-                log,
-                servers,
-                reserve,
-                ended: false,
-                idle: false,
-            }),
+            shared: Mutex::new(shared),
             inbox: Mutex::new(inbox),
             turns,
             answers: Bell::new(),
@@ -79,6 +70,21 @@ impl<D: Disk, K: Name> Controller<D, K> {
         let _lock = MutexGuard::unlock(guard);
         match tally {
             Some(tally) => Ok(Port { element, tally }),
+            None => Err(Refusal::NoElement),
+        }
+    }
+
+    /// An element's glance, which has seen the full cells of the memory that was opened. It reads the full cells, and
+    /// waits for nobody. `NoElement` where there is no such element, and where it has its glance.
+    pub fn glance<R: Wait>(&self, rt: &R, element: u16) -> Result<Glance<Shown<K>>, Refusal>
+        ensures found { IfOk result (λ g. IsPrefix (opening K.memory) g) }
+        ensures refused { IfErr result (λ e. e ≡ NoElement) }
+    {
+        let mut guard = self.shared.lock(rt);
+        let glance = make_glance(&mut *guard, element);
+        let _lock = MutexGuard::unlock(guard);
+        match glance {
+            Some(glance) => Ok(glance),
             None => Err(Refusal::NoElement),
         }
     }
@@ -146,7 +152,7 @@ impl<D: Disk, K: Name> Controller<D, K> {
     {
         let turn = self.turns.wait(rt, place as usize);
         let mut guard = self.shared.lock(rt);
-        let answer = lend(&mut *guard, tally, command);
+        let answer = lend(rt, &mut *guard, tally, command);
         let sleepers = who_sleeps(&mut *guard);
         let _lock = MutexGuard::unlock(guard);
         self.turns.pass_on(rt, turn);

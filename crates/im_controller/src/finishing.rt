@@ -11,6 +11,7 @@ use crate::shared::Shared;
 use im_disk::Disk;
 use im_engine::Engine;
 use im_types::Line;
+use std::sync::Wait;
 use std::sync::ledger::Share;
 
 /// What a controller comes to.
@@ -26,10 +27,15 @@ pub struct Finished<D: Disk> {
     pub claimed: bool,
 }
 
-/// Ends a controller, with the ports that were given out. The trace is legal from the memory that was opened, and ends
+/// Ends a controller, with the ports that were given out, and waits for its readers: each glance is `PaneGone` from then
+/// on. The trace is legal from the memory that was opened, and ends
 /// in the engine's memory. Where all ports came and no answer waits, the trace has each line as often as a port was
 /// given that answer to that call: K's marks may be any.
-pub fn finish<D: Disk, K: Name>(controller: Controller<D, K>, ports: Vec<Port<K>>) -> Finished<D>
+pub fn finish<D: Disk, K: Name, R: Wait>(
+    rt: &R,
+    controller: Controller<D, K>,
+    ports: Vec<Port<K>>,
+) -> Finished<D>
     ensures legal { IsLegal K.memory result.trace.items }
     ensures end { end_of K.memory result.trace.items ≡ result.engine.memory }
     ensures whole { length ports.items ≡ K.ports → IsTrue result.came }
@@ -38,14 +44,25 @@ pub fn finish<D: Disk, K: Name>(controller: Controller<D, K>, ports: Vec<Port<K>
     ensures marked { IsTrue result.came → IsTrue result.claimed
         → count_by K.marks result.trace.items ≡ sum_by (λ p. p.told.marked) ports.items }
 {
+    let Controller {
+        shared,
+        inbox: _,
+        turns: _,
+        answers: _,
+        work: _,
+        keeper: _,
+    } = controller;
     let Shared {
         engine,
         log,
+        pane,
+        watched: _,
         servers: _,
         reserve,
         ended: _,
         idle: _,
-    } = controller.shared.into_inner();
+    } = shared.into_inner();
+    pane.end(rt);
     let Log {
         trace,
         limit: _,

@@ -7,12 +7,14 @@ ghost use Rattle.im_disk.specs.Since.{LeavesWithin, LeavesNow, CallsAtMost};
 ghost use Rattle.im_engine.specs.State.{MeansState};
 ghost use Rattle.im_engine.specs.Groups.{all_refused, group_put, calls_for_group, MeansGroup, GroupFaults};
 ghost use Rattle.im_controller.specs.Groups.{answer_in, with_all_unclaimed, AreAnswersTo, memory_after_all, lines_left};
-ghost use Rattle.im_controller.specs.Groups.{AreFreeFor, MembersAnswered, LendsGroup, Holds};
+ghost use Rattle.im_controller.specs.Groups.{AreFreeFor, MembersAnswered, LendsGroup, Holds, IsCut};
+ghost use Rattle.im_controller.specs.Groups.{those, spread, next_answer, answers_left};
 
 use crate::books::Tally;
 use crate::inbox::Inbox;
 use crate::log::Log;
 use crate::name::Name;
+use crate::panes::{choose, places_with, show_put};
 use crate::receipts::Receipt;
 use crate::shared::Shared;
 use arrayvec::ArrayVec;
@@ -88,35 +90,97 @@ fn serve_members<D: Disk>(
     engine.serve_group(members, served);
 }
 
+// The next answer, for a member that is lent or isn't.
+fn next_answer(lent: bool, rest: &[Served]) -> Served
+    ensures { result ≡ next_answer lent rest.now }
+{
+    if !lent {
+        return Served::Refused(Refusal::NoMemory);
+    }
+    match rest.split_first() {
+        Some((first, _)) => *first,
+        None => Served::Unserved,
+    }
+}
+
+// The answers behind it.
+fn answers_left(lent: bool, rest: &[Served]) -> &[Served]
+    ensures { result.now ≡ answers_left lent rest.now }
+{
+    if !lent {
+        return rest;
+    }
+    match rest.split_first() {
+        Some((_, later)) => later,
+        None => rest,
+    }
+}
+
+// The answers to all members, by those to the ones that were lent.
+fn spread(roomy: &[bool], served: &[Served], answers: &mut ArrayVec<Served, 16>)
+    requires fits { length roomy.now ≤ 16 }
+    requires empty { answers.old.items ≡ [] }
+    ensures { answers.new.items ≡ spread roomy.now served.now }
+{
+    let mut rest = served;
+    for i in 0..roomy.len() {
+        answers.push(next_answer(roomy[i], rest));
+        rest = answers_left(roomy[i], rest);
+    }
+}
+
 /// Lends the engine to the requests of a group: what [`lend`](crate::lend) of each would answer, one after another, but
-/// that the answers wait for their ports, and their lines are counted when the ports take them. It takes no memory.
+/// that the answers wait for their ports, and their lines are counted when the ports take them. What they change is
+/// shown once, after all of them were put on the disk. Tells of each member whether the pane has room for what it
+/// changes: else it isn't lent, and is refused with `NoMemory`.
 ///
 /// `Failed` for all where the engine has failed, `TraceFull` for all where the trace has no room left, and then what
-/// [`Engine::serve_group`] answers each: a refusal of numbers; `JournalFull`; `Device` for all, with no line, after
-/// which the engine has failed.
-pub fn lend_group<D: Disk, K: Name>(shared: &mut Shared<D, K>, members: &ArrayVec<Request, 16>)
+/// [`Engine::serve_group`] answers each: a refusal of numbers; `JournalFull`; `Device` for all that are lent, with no
+/// line, after which the engine has failed, and nothing more is shown.
+pub fn lend_group<D: Disk, K: Name, R: Wait>(
+    rt: &R,
+    shared: &mut Shared<D, K>,
+    members: &ArrayVec<Request, 16>,
+) -> ArrayVec<bool, 16>
+    requires cut { IsCut members.now.items }
     requires apart { AreApart members.now.items }
     requires free { AreFreeFor shared.old.log.places members.now.items }
     requires room { length shared.old.log.trace < shared.old.log.limit
         → length shared.old.log.trace + length members.now.items ≤ shared.old.log.limit }
-    ensures lends { LendsGroup shared.old members.now.items shared.new }
+    ensures lends { LendsGroup shared.old members.now.items result.items shared.new }
     // What the disk is left with, as by the engine alone.
     ensures few { D.honest shared.new.engine.disk → CallsAtMost D.past shared.old.engine.disk shared.new.engine.disk
-        (calls_for_group (length (group_put shared.old.engine members.now.items))) }
+        (calls_for_group (length (group_put shared.old.engine (those result.items members.now.items)))) }
     ensures faults { GroupFaults shared.old.engine.failed shared.new.engine.failed
         (D.failures shared.old.engine.disk) (D.failures shared.new.engine.disk) }
     ensures leaves { D.honest shared.new.engine.disk → shared.old.engine.failed ≡ false
         → LeavesWithin D.now D.past shared.old.engine.disk shared.new.engine.disk
-        (MeansGroup shared.old.engine members.now.items) }
+        (MeansGroup shared.old.engine (those result.items members.now.items)) }
     ensures doubt { D.honest shared.new.engine.disk → shared.old.engine.failed ≡ false
-        → LeavesNow (D.now shared.new.engine.disk) (MeansGroup shared.old.engine members.now.items) }
+        → LeavesNow (D.now shared.new.engine.disk) (MeansGroup shared.old.engine (those result.items members.now.items)) }
     ensures means { D.honest shared.new.engine.disk → shared.new.engine.failed ≡ false
         → LeavesNow (D.now shared.new.engine.disk) (MeansState shared.new.engine) }
     ensures honest { D.honest shared.new.engine.disk → D.honest shared.old.engine.disk }
 {
+    let mut roomy = ArrayVec::new();
+    let mut lent = ArrayVec::new();
     let mut served = ArrayVec::new();
-    serve_members(&mut shared.engine, shared.log.room(), members, &mut served);
-    keep_all(&mut shared.log, members.as_slice(), served.as_slice());
+    let mut answers = ArrayVec::new();
+    let room = shared.log.room();
+    let places = places_with(&shared.engine, room);
+    choose(
+        &mut shared.pane,
+        shared.engine.memory(),
+        places,
+        members.as_slice(),
+        &mut roomy,
+        &mut lent,
+    );
+    serve_members(&mut shared.engine, room, &lent, &mut served);
+    let _told = show_put(rt, &mut shared.pane, shared.engine.failed(), true);
+    spread(roomy.as_slice(), served.as_slice(), &mut answers);
+    keep_all(&mut shared.log, members.as_slice(), answers.as_slice());
+    roomy
 }
 
 // Serves all that is asked and whose answer has a free place, group by group.
@@ -131,7 +195,7 @@ fn serve_asked<D: Disk, K: Name, R: Wait>(rt: &R, shared: &mut Shared<D, K>, inb
         }
         from = group.next;
         if !group.members.is_empty() {
-            lend_group(shared, &group.members);
+            lend_group(rt, shared, &group.members);
         }
     }
 }
@@ -147,9 +211,14 @@ pub(crate) fn hold<D: Disk, K: Name, R: Wait>(
 ) -> Option<Result<Receipt<K>, Refusal>>
     ensures holds { Holds K.marks tally.old request.now result tally.new }
 {
-    if let Some(answer) = shared.log.claim(tally, request.element, request) {
+    if let Some(answer) = shared
+        .log
+        .claim(shared.pane.told(), tally, request.element, request)
+    {
         return Some(answer);
     }
     serve_asked(rt, shared, inbox);
-    shared.log.claim(tally, request.element, request)
+    shared
+        .log
+        .claim(shared.pane.told(), tally, request.element, request)
 }

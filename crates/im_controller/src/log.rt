@@ -7,11 +7,13 @@ ghost use Rattle.im_types.specs.declared.commands.Command.TheVariants.{Request a
 ghost use Rattle.im_types.specs.Trace.{answer_to, end_of, IsLegal};
 ghost use Rattle.im_controller.specs.Lines.{leaves_line, lines_of, memory_after, counts_after};
 ghost use Rattle.im_controller.specs.Lines.{EndsIn, EndsInAll, line_of};
-ghost use Rattle.im_controller.specs.Log.{with_line, with_unclaimed, Takes, Claims, IsProof, AreFree, receipt_for};
+ghost use Rattle.im_controller.specs.Log.{with_line, with_unclaimed, Takes, Claims, IsProof, IsToldOf, AreFree};
+ghost use Rattle.im_controller.specs.Log.{receipt_for};
 
 use crate::books::{Books, Tally};
-use crate::name::Name;
+use crate::name::{Name, Shown};
 use crate::receipts::{Found, Receipt};
+use im_glass::Told;
 use im_types::{Call, Command, Entry, Line, Outcome, Refusal, Request};
 use std::alloc::{AllocError, Global};
 use std::cmp::min;
@@ -107,16 +109,18 @@ impl<K: Name> Log<K> {
         push_line(&mut self.trace, call, answer);
     }
 
-    // The answer to a command, with the trace that its line ends.
+    // The answer to a command, with the trace that its line ends, and what is shown.
     pub(crate) fn receipt(
         &self,
+        told: Told<Shown<K>>,
         command: &Command,
         answer: Result<Outcome, Refusal>,
     ) -> Result<Receipt<K>, Refusal>
-        requires { EndsInAll self.now.trace (lines_of (Commands command.now) answer) }
-        ensures { result ≡ receipt_for self.now.trace command.now answer }
+        requires ends { EndsInAll self.now.trace (lines_of (Commands command.now) answer) }
+        requires told { IsToldOf K.memory self.now.trace told }
+        ensures { result ≡ receipt_for self.now.trace told command.now answer }
     {
-        receipt_of(Snapshot::of(&self.trace), command, answer)
+        receipt_of(Snapshot::of(&self.trace), told, command, answer)
     }
 
     // What is kept under a number, with the trace that the line of this collect ends.
@@ -163,13 +167,16 @@ impl<K: Name> Log<K> {
         );
     }
 
-    // Gives a port the answer to its request, where that waits in the element's place, and counts its line.
+    // Gives a port the answer to its request, where that waits in the element's place, and counts its line. What is
+    // shown goes with it.
     pub(crate) fn claim(
         &mut self,
+        told: Told<Shown<K>>,
         tally: &mut Tally<K>,
         element: u16,
         request: &Request,
     ) -> Option<Result<Receipt<K>, Refusal>>
+        requires told { IsToldOf K.memory self.old.trace told }
         ensures claims { Claims K.marks self.old tally.old element request.now result self.new tally.new }
         ensures trace { self.new.trace ≡ self.old.trace }
     {
@@ -177,7 +184,7 @@ impl<K: Name> Log<K> {
         let command = Command::Request(found.request);
         let answer = found.answer;
         count_line(&mut self.books, tally, Call::Command(command), answer);
-        Some(receipt_of(found.history, &command, answer))
+        Some(receipt_of(found.history, told, &command, answer))
     }
 }
 
@@ -210,17 +217,20 @@ fn count_line<K: Name>(
 // An answer with the trace that its line ends.
 fn receipt_of<K: Name>(
     history: Snapshot<Vec<Line>>,
+    told: Told<Shown<K>>,
     command: &Command,
     answer: Result<Outcome, Refusal>,
 ) -> Result<Receipt<K>, Refusal>
-    requires { IsProof K.memory (Commands command.now) answer history.value.items }
-    ensures { result ≡ receipt_for history.value.items command.now answer }
+    requires proof { IsProof K.memory (Commands command.now) answer history.value.items }
+    requires told { IsToldOf K.memory history.value.items told }
+    ensures { result ≡ receipt_for history.value.items told command.now answer }
 {
     match answer {
         Ok(outcome) => Ok(Receipt {
             outcome,
             command: Snapshot::of(command),
             history,
+            told,
             of: PhantomData,
         }),
         Err(refusal) => Err(refusal),

@@ -1,4 +1,5 @@
 //! What a controller's parts agree on.
+use im_glass::PaneName;
 use std::marker::{Brand, PhantomData};
 use std::sync::ledger::Ledger;
 
@@ -8,6 +9,7 @@ pub trait Name {
     ghost use Rattle.std.specs.Prelude.{ℕ, Bool};
     ghost use Rattle.im_types.specs.declared.commands.Line.{Line};
     ghost use Rattle.im_types.specs.Contents.{Contents};
+    ghost use Rattle.logbook.specs.Pages.{Book};
 
     /// The memory that the trace begins with.
     ghost memory: { Contents };
@@ -23,6 +25,9 @@ pub trait Name {
 
     /// How many ports there are.
     ghost ports: { ℕ };
+
+    /// The book of what is shown.
+    ghost book: { Book };
 }
 
 impl Name for Brand {
@@ -37,6 +42,8 @@ impl Name for Brand {
     ghost marked_name = { 0 };
 
     ghost ports = { 0 };
+
+    ghost book = { record { number = 0; log_name = 0; cells_name = 0 } };
 }
 
 /// The ledger of all lines.
@@ -55,4 +62,11 @@ impl<K: Name> Ledger for Marked<K> {
     ghost name = { K.marked_name };
 
     ghost parts = { K.ports };
+}
+
+/// What is shown of the full cells.
+pub struct Shown<K>(PhantomData<K>);
+
+impl<K: Name> PaneName for Shown<K> {
+    ghost book = { K.book };
 }

@@ -1,33 +1,42 @@
 //! An engine with room for a trace, before it has a name.
-ghost use Rattle.std.specs.Prelude.{◌≡◌, ◌≤◌, [], IfOk, IfErr, vec_capacity};
+ghost use Rattle.std.specs.Prelude.{◌≡◌, ◌≤◌, ◌<◌, [], IfOk, IfErr, length, vec_capacity};
 ghost use Rattle.im_types.specs.declared.refusals.Refusal.TheVariants.{NoMemory};
+ghost use Rattle.im_types.specs.Changes.{opening};
 ghost use Rattle.im_controller.specs.Log.{AreFree};
 
 use crate::books::{Books, Reserve};
 use crate::controller::Controller;
 use crate::inbox::Inbox;
 use crate::log::{Log, Unclaimed, free_places};
-use crate::name::{Lines, Marked, Name};
+use crate::name::{Lines, Marked, Name, Shown};
 use crate::servers::Servers;
+use crate::shared::Shared;
 use crate::turns::Turns;
+use im_changes::full_cells;
 use im_disk::Disk;
 use im_engine::Engine;
+use im_glass::{Unnamed, open};
+use im_memory::Memory;
 use im_types::{Line, Refusal};
 use std::alloc::{AllocError, Global};
+use std::cmp::max;
 use std::marker::Model;
+use std::sync::Wait;
 use std::sync::ledger::Blank;
 
-/// An engine with room for its trace, its servers and its ledgers: a controller but for its name.
-#[derive(Drop)]
+/// An engine with room for its trace, its servers and its ledgers, and a pane on which its full cells are shown: a
+/// controller but for its name.
 pub struct Opening<D: Disk> {
     engine: Engine<D>,
     parts: Parts,
+    pane: Unnamed,
     lines: Blank,
     marked: Blank,
 }
 
 impl<D: Disk> Model for Opening<D> {
-    ghost use Rattle.std.specs.Prelude.{◌≡◌, ◌≤◌, [], vec_capacity};
+    ghost use Rattle.std.specs.Prelude.{◌≡◌, ◌≤◌, [], length, vec_capacity};
+    ghost use Rattle.im_types.specs.Changes.{opening};
     ghost use Rattle.im_controller.specs.Log.{AreFree};
     ghost use Rattle.im_controller.specs.State.{OpeningState};
 
@@ -39,10 +48,12 @@ impl<D: Disk> Model for Opening<D> {
       ports = o.parts.ports;
       lines_name = o.lines.name;
       marked_name = o.marked.name;
+      book = o.pane.book;
     } };
 
     ghost invariant = { λ o. (o.lines.parts ≡ o.parts.ports) × (o.marked.parts ≡ o.parts.ports)
-        × (o.parts.trace.items ≡ []) × (o.parts.limit ≤ vec_capacity o.parts.trace) × AreFree o.parts.places.items };
+        × (o.parts.trace.items ≡ []) × (o.parts.limit ≤ vec_capacity o.parts.trace) × AreFree o.parts.places.items
+        × (o.pane.shown ≡ opening o.engine.memory) × (o.pane.cells ≡ length o.engine.memory.cells) };
 }
 
 // What takes memory.
@@ -54,6 +65,7 @@ struct Parts {
     servers: Servers,
     inbox: Inbox,
     turns: Turns,
+    watched: Vec<bool>,
     ports: u64,
 }
 
@@ -70,13 +82,39 @@ fn make_parts(alloc: Global, trace_room: usize, elements: u16) -> Result<Parts, 
         servers: Servers::new(alloc, elements)?,
         inbox: Inbox::new(alloc, elements)?,
         turns: Turns::new(alloc, elements as usize + 1)?,
+        watched: unwatched(alloc, elements)?,
         ports: u64::from(elements),
     })
 }
 
+// So many elements that have no glance yet.
+fn unwatched(alloc: Global, elements: u16) -> Result<Vec<bool>, AllocError> {
+    let mut watched = Vec::with_capacity(alloc, elements as usize)?;
+    for _ in 0..elements {
+        watched.push(false)?;
+    }
+    Ok(watched)
+}
+
+// A pane on which the full cells of a memory are shown.
+fn make_pane<R: Wait>(rt: &R, alloc: Global, memory: &Memory) -> Result<Unnamed, Refusal>
+    ensures { IfOk result (λ p. (p.shown ≡ opening memory.now.contents)
+        × (p.cells ≡ length memory.now.contents.cells)) }
+{
+    match full_cells(alloc, memory) {
+        Ok(fulls) => {
+            let readers = max(memory.elements(), 1);
+            open(rt, alloc, memory.cells(), readers, fulls.as_slice())
+        }
+        Err(_) => Err(Refusal::NoMemory),
+    }
+}
+
 /// Makes room for a trace of so many lines, 48 bytes each, for the server, the request and the answer of each element,
-/// and for the ledgers that count the lines. `NoMemory`, with the engine as it was, where `alloc` refuses it.
-pub fn start<D: Disk + Drop>(
+/// and for the ledgers that count the lines; and shows the full cells on a pane with a reader for each element.
+/// `NoMemory`, with the engine as it was, where `alloc` refuses it.
+pub fn start<D: Disk + Drop, R: Wait>(
+    rt: &R,
     alloc: Global,
     engine: Engine<D>,
     trace_room: usize,
@@ -85,15 +123,19 @@ pub fn start<D: Disk + Drop>(
     ensures refused { IfErr result (λ e. (e.0 ≡ NoMemory) × (e.1 ≡ engine)) }
 {
     match make_parts(alloc, trace_room, engine.memory().elements()) {
-        Ok(parts) => {
-            let ports = parts.ports;
-            Ok(Opening {
-                engine,
-                parts,
-                lines: Blank::new(ports),
-                marked: Blank::new(ports),
-            })
-        }
+        Ok(parts) => match make_pane(rt, alloc, engine.memory()) {
+            Ok(pane) => {
+                let ports = parts.ports;
+                Ok(Opening {
+                    engine,
+                    parts,
+                    pane,
+                    lines: Blank::new(ports),
+                    marked: Blank::new(ports),
+                })
+            }
+            Err(_) => Err((Refusal::NoMemory, engine)),
+        },
         Err(_) => Err((Refusal::NoMemory, engine)),
     }
 }
@@ -105,10 +147,12 @@ impl<D: Disk> Opening<D> {
         requires lines { self.lines_name ≡ K.lines_name }
         requires marked { self.marked_name ≡ K.marked_name }
         requires ports { self.ports ≡ K.ports }
+        requires book { self.book ≡ K.book }
     {
         let Opening {
             engine,
             parts,
+            pane,
             lines,
             marked,
         } = self;
@@ -119,6 +163,7 @@ impl<D: Disk> Opening<D> {
             servers,
             inbox,
             turns,
+            watched,
             ports,
         } = parts;
         let (lines_book, lines) = lines.open::<Lines<K>>();
@@ -138,6 +183,17 @@ impl<D: Disk> Opening<D> {
             left: ports,
             ports,
         };
-        Controller::over(engine, log, servers, reserve, inbox, turns, ports as usize)
+        let pane = pane.named::<Shown<K>>();
+        let shared = Shared {
+            engine,
+            log,
+            pane,
+            watched,
+            servers,
+            reserve,
+            ended: false,
+            idle: false,
+        };
+        Controller::over(shared, inbox, turns, ports as usize)
     }
 }

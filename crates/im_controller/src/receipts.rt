@@ -4,26 +4,29 @@ ghost use Rattle.im_types.specs.declared.commands.Call.TheVariants.{Command as C
 ghost use Rattle.im_types.specs.declared.commands.Outcome.TheVariants.{Entry as Tells};
 ghost use Rattle.im_types.specs.Trace.{IsLegal};
 ghost use Rattle.im_controller.specs.Lines.{EndsIn, line_of};
+ghost use Rattle.im_controller.specs.Log.{IsToldOf};
 
-use crate::name::Name;
+use crate::name::{Name, Shown};
+use im_glass::Told;
 use im_types::{Command, Entry, Line, Outcome};
 use std::marker::{Model, PhantomData};
 use std::snapshot::Snapshot;
 
-/// What a command came to. Contracts see the command beside it, and the controller's trace up to its line: a legal one
-/// from the memory that was opened.
+/// What a command came to. Contracts see the command beside it, the controller's trace up to its line: a legal one
+/// from the memory that was opened; and what was shown by then.
 #[derive(Drop)]
 pub struct Receipt<K: Name> {
     pub(crate) outcome: Outcome,
     pub(crate) command: Snapshot<Command>,
     pub(crate) history: Snapshot<Vec<Line>>,
+    pub(crate) told: Told<Shown<K>>,
     pub(crate) of: PhantomData<K>,
 }
 
 impl<K: Name> Model for Receipt<K> {
     ghost use Rattle.std.specs.Prelude.{Ok};
     ghost use Rattle.im_types.specs.declared.commands.Call.TheVariants.{Command as Commands};
-    ghost use Rattle.im_controller.specs.Log.{ReceiptState, IsProof};
+    ghost use Rattle.im_controller.specs.Log.{ReceiptState, IsProof, IsToldOf};
 
     ghost Value = { ReceiptState };
 
@@ -31,9 +34,11 @@ impl<K: Name> Model for Receipt<K> {
       command = r.command.value;
       outcome = r.outcome;
       history = r.history.value.items;
+      told = r.told;
     } };
 
-    ghost invariant = { λ r. IsProof K.memory (Commands r.command.value) (Ok r.outcome) r.history.value.items };
+    ghost invariant = { λ r. IsProof K.memory (Commands r.command.value) (Ok r.outcome) r.history.value.items
+        × IsToldOf K.memory r.history.value.items r.told };
 }
 
 impl<K: Name> Receipt<K> {
@@ -44,6 +49,15 @@ impl<K: Name> Receipt<K> {
         ensures last { EndsIn self.now.history (line_of (Commands self.now.command) (Ok self.now.outcome)) }
     {
         self.outcome
+    }
+
+    /// What was shown when the command was answered: the full cells of the memory that was opened, then the changes of
+    /// the accepted commands of its trace, in their order, and then maybe more.
+    pub fn told(&self) -> &Told<Shown<K>>
+        ensures told { result.now ≡ self.now.told }
+        ensures holds { IsToldOf K.memory self.now.history result.now }
+    {
+        &self.told
     }
 }
 

@@ -1,6 +1,8 @@
 //! What lies under the lock, and what is done there.
 ghost use Rattle.std.specs.Prelude.{◌≡◌, ◌<◌, true, false, length, Ok, Err, IfOk, IfSome};
+ghost use mathlib.Core.List.{IsPrefix};
 ghost use Rattle.im_types.specs.Trace.{IsLegal, told};
+ghost use Rattle.im_types.specs.Changes.{opening};
 ghost use Rattle.im_types.specs.declared.commands.Call.TheVariants.{Collect};
 ghost use Rattle.im_types.specs.declared.commands.Outcome.TheVariants.{Entry as Tells};
 ghost use Rattle.im_disk.specs.Moment.{Faults};
@@ -13,23 +15,29 @@ ghost use Rattle.im_controller.specs.Waits.{Awaits, IsTold, IsFoundOf, entry_of}
 
 use crate::books::{Reserve, Tally};
 use crate::log::Log;
-use crate::name::Name;
+use crate::name::{Name, Shown};
+use crate::panes::{put_ahead, show_put};
 use crate::receipts::{Found, Receipt};
 use crate::servers::{Ask, Server, Servers};
 use im_checkpoint::TurnDone;
 use im_disk::Disk;
 use im_engine::Engine;
+use im_glass::{Glance, Pane};
 use im_types::{Call, Command, Entry, Outcome, Refusal};
 use std::marker::Model;
+use std::sync::Wait;
 
 /// What lies under the lock: the engine; the trace of all that was answered from it, with books that count its lines;
-/// what each element's server does; and the shares of ports that weren't given out yet.
+/// what each element's server does; the shares of ports that weren't given out yet; and the pane that shows the full
+/// cells.
 ///
-/// The trace is legal from the memory that was opened, and its end is the engine's memory.
-#[derive(Drop)]
+/// The trace is legal from the memory that was opened, and its end is the engine's memory. What is shown is the full
+/// cells of the memory that was opened, and then the changes of the trace.
 pub struct Shared<D: Disk, K: Name> {
     pub(crate) engine: Engine<D>,
     pub(crate) log: Log<K>,
+    pub(crate) pane: Pane<Shown<K>>,
+    pub(crate) watched: Vec<bool>,
     pub(crate) servers: Servers,
     pub(crate) reserve: Reserve<K>,
     pub(crate) ended: bool,
@@ -37,24 +45,35 @@ pub struct Shared<D: Disk, K: Name> {
 }
 
 impl<D: Disk, K: Name> Model for Shared<D, K> {
-    ghost use Rattle.std.specs.Prelude.{◌≡◌};
+    ghost use Rattle.std.specs.Prelude.{◌≡◌, [], false, length};
     ghost use Rattle.im_types.specs.Trace.{end_of};
+    ghost use Rattle.im_types.specs.Changes.{shown_by};
     ghost use Rattle.im_controller.specs.State.{SharedState};
 
     ghost Value = { SharedState D };
 
-    ghost view = { λ s. record { engine = s.engine; log = s.log; servers = s.servers } };
+    ghost view = { λ s. record {
+      engine = s.engine;
+      log = s.log;
+      servers = s.servers;
+      shown = s.pane.shown;
+    } };
 
-    ghost invariant = { λ s. end_of K.memory s.log.trace ≡ s.engine.memory };
+    ghost invariant = { λ s. (end_of K.memory s.log.trace ≡ s.engine.memory)
+        × (s.pane.shown ≡ shown_by K.memory s.log.trace)
+        × (s.pane.cells ≡ length K.memory.cells)
+        × (s.engine.failed ≡ false → s.pane.ahead ≡ []) };
 }
 
 /// Lends the engine to a command, for the port whose tally this is: its line is left in the trace and counted where it
-/// has an outcome or a refusal of numbers. It takes no memory.
+/// has an outcome or a refusal of numbers. What it changes is shown after it was put on the disk, and never before.
 ///
 /// In this order: `Failed` where the engine has failed, `TraceFull` where the trace has no room left, and then what
 /// [`Engine::serve`] answers: a refusal of numbers; `JournalFull`; `Device`, after which no line is left and the engine
-/// has failed.
-pub fn lend<D: Disk, K: Name>(
+/// has failed, and nothing more is shown. `NoMemory` before `Device`, where the pane has no room for what the command
+/// changes: then all is as it was.
+pub fn lend<D: Disk, K: Name, R: Wait>(
+    rt: &R,
     shared: &mut Shared<D, K>,
     tally: &mut Tally<K>,
     command: &Command,
@@ -82,10 +101,17 @@ pub fn lend<D: Disk, K: Name>(
     if shared.log.room() == 0 {
         return Err(Refusal::TraceFull);
     }
-    // A stop in it leaves the command on the disk, whole, or not at all: its answer isn't given before.
-    let answer = shared.engine.serve(command);
-    shared.log.leave(tally, Call::Command(*command), answer);
-    shared.log.receipt(command, answer)
+    let places = u64::from(shared.engine.room());
+    match put_ahead(&mut shared.pane, shared.engine.memory(), places, command) {
+        Ok(put) => {
+            // A stop in it leaves the command on the disk, whole, or not at all: its answer isn't given before.
+            let answer = shared.engine.serve(command);
+            shared.log.leave(tally, Call::Command(*command), answer);
+            let told = show_put(rt, &mut shared.pane, shared.engine.failed(), put);
+            shared.log.receipt(told, command, answer)
+        }
+        Err(_) => Err(Refusal::NoMemory),
+    }
 }
 
 // An entry that was asked for, as an outcome.
@@ -302,6 +328,29 @@ pub(crate) fn make_server<D: Disk, K: Name>(
         return None;
     }
     shared.reserve.take()
+}
+
+// Gives out an element's glance, where it has none yet.
+pub(crate) fn make_glance<D: Disk, K: Name>(
+    shared: &mut Shared<D, K>,
+    element: u16,
+) -> Option<Glance<Shown<K>>>
+    ensures { IfSome result (λ g. IsPrefix (opening K.memory) g) }
+{
+    if !mark_watched(&mut shared.watched, element) {
+        return None;
+    }
+    shared.pane.glance()
+}
+
+// Marks an element that has no mark yet, and says whether it did.
+fn mark_watched(watched: &mut Vec<bool>, element: u16) -> bool {
+    let i = element as usize;
+    if i >= watched.len() || watched[i] {
+        return false;
+    }
+    watched[i] = true;
+    true
 }
 
 // An element's server has ended: nobody waits for it any more.

@@ -153,7 +153,7 @@ fn run_engine<
         Err(reason) => return close(alloc, engine, none, Err(reason), desk, out, observer),
     };
     let room = trace_room(orders.as_slice(), engine.memory().elements());
-    match start(alloc, engine, room) {
+    match start(rt, alloc, engine, room) {
         Ok(opening) => {
             let Outcome {
                 engine,

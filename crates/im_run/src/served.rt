@@ -147,6 +147,7 @@ pub fn serve_orders<
     requires lines { opening.lines_name ≡ K.lines_name }
     requires marked { opening.marked_name ≡ K.marked_name }
     requires ports { opening.ports ≡ K.ports }
+    requires book { opening.book ≡ K.book }
     ensures follows { Follows K.memory result.engine.memory }
 {
     let controller = opening.named::<K>();
@@ -166,7 +167,7 @@ pub fn serve_orders<
         refused,
     } = notes;
     Outcome {
-        engine: finish(controller, ports).engine,
+        engine: finish(rt, controller, ports).engine,
         sent,
         refused,
     }

@@ -1,13 +1,17 @@
-use Rattle.std.proofs.Common.{◌≡◌, false, inl, sym, ap, ◌∙◌, subst}
+use Rattle.std.proofs.Common.{◌≡◌, false, List, ◌++◌, length, refl, inl, sym, ap, ◌∙◌, subst}
+use Rattle.im_types.specs.declared.changes.Change.{Change}
+use Rattle.im_types.specs.Changes.{shown_by}
 use Rattle.im_types.specs.declared.commands.Call.TheVariants.{Command as Commands}
 use Rattle.im_types.specs.Contents.{Contents}
 use Rattle.im_types.specs.Step.{step}
-use Rattle.im_engine.specs.State.{MeansState, MeansEither}
+use Rattle.im_engine.specs.State.{EngineState, MeansState, MeansEither}
 use Rattle.im_disk.specs.Since.{LeavesNow}
-use Rattle.im_controller.specs.Lines.{memory_after}
-use Rattle.im_controller.specs.Log.{LogState}
+use Rattle.im_controller.specs.Lines.{lines_of, memory_after}
+use Rattle.im_controller.specs.Lends.{Lends, changes_put, shows}
+use Rattle.im_controller.specs.Log.{LogState, receipt_for}
 use Rattle.im_controller.specs.State.{SharedState}
 use Rattle.im_controller.proofs.LendLemmas.{answered-so, answered-memory}
+use Rattle.im_controller.proofs.ShownLemmas.{lend-shown, end-cells, told-all, lends-served, some_room}
 use Rattle.im_controller.proofs.shared.lend.Goals as goal
 
 pub returns-then-room-eq0-clause-doubt : goal.returns-then-room-eq0-clause-doubt
@@ -21,16 +25,56 @@ returns-then-room-eq0-clause-means g c =
 pub leave-requires-clause-is_so : goal.leave-requires-clause-is_so
 leave-requires-clause-is_so g c = λ told.
     answered-so c.shared.inside.engine c.serve-answer.new.self c.args.command.now c.serve-answer.result c.serve-answer.ensures.answered (sym c.failed.ensures.failed ∙ c.if-failed.false) told
-    ∙ ap (λ (m : Contents). (step m c.args.command.now).answer) (sym c.shared.invariant)
+    ∙ ap (λ (m : Contents). (step m c.args.command.now).answer) (sym c.shared.invariant.0)
+
+pub put_ahead-requires : goal.put_ahead-requires
+put_ahead-requires g c = record {
+  cells = c.shared.invariant.2 ∙ sym (end-cells g.K.Name.memory c.shared.inside.log.trace)
+      ∙ ap (λ (m : Contents). length m.cells) (c.shared.invariant.0 ∙ sym c.memory.ensures);
+}
 
 pub receipt-requires : goal.receipt-requires
-receipt-requires g c = (c.shared.inside.log.trace, ap (λ (l : LogState). l.trace) c.leave.ensures.log)
+receipt-requires g c =
+    let shown = lend-shown g.K.Name.memory c.shared.inside.engine c.serve-answer.new.self c.args.command.now c.serve-answer.result c.serve-answer.ensures.answered (sym c.failed.ensures.failed ∙ c.if-failed.false)
+    c.memory.result.now.contents c.from-places.result c.memory.ensures (c.from-places.ensures ∙ c.room-2.ensures)
+    c.shared.inside.pane c.put_ahead.new.pane c.show_put-told.new.pane (c.shared.invariant.3 (sym c.failed.ensures.failed ∙ c.if-failed.false)) c.in-Ok.ensures.ahead
+    c.failed-in-Ok.result c.failed-in-Ok.ensures.failed c.show_put-told.ensures.shown c.show_put-told.ensures.hidden
+    c.shared.inside.log.trace c.leave.new.self.trace c.shared.invariant.0 c.shared.invariant.1 (ap (λ (l : LogState). l.trace) c.leave.ensures.log) in
+    record {
+      ends = (c.shared.inside.log.trace, ap (λ (l : LogState). l.trace) c.leave.ensures.log);
+      told = told-all g.K.Name.memory c.leave.new.self.trace c.show_put-told.result (c.show_put-told.ensures.told ∙ shown.ends);
+    }
 
 pub invariant_of-shared : goal.invariant_of-shared
 invariant_of-shared g c =
-    c.leave.ensures.end ∙ ap (λ (m : Contents). memory_after m (Commands c.args.command.now) c.serve-answer.result) c.shared.invariant
-    ∙ sym (answered-memory c.shared.inside.engine c.serve-answer.new.self c.args.command.now c.serve-answer.result c.serve-answer.ensures.answered (sym c.failed.ensures.failed ∙ c.if-failed.false))
+    let ends = c.leave.ensures.end ∙ ap (λ (m : Contents). memory_after m (Commands c.args.command.now) c.serve-answer.result) c.shared.invariant.0
+    ∙ sym (answered-memory c.shared.inside.engine c.serve-answer.new.self c.args.command.now c.serve-answer.result c.serve-answer.ensures.answered (sym c.failed.ensures.failed ∙ c.if-failed.false)) in
+    let shown = lend-shown g.K.Name.memory c.shared.inside.engine c.serve-answer.new.self c.args.command.now c.serve-answer.result c.serve-answer.ensures.answered (sym c.failed.ensures.failed ∙ c.if-failed.false)
+    c.memory.result.now.contents c.from-places.result c.memory.ensures (c.from-places.ensures ∙ c.room-2.ensures)
+    c.shared.inside.pane c.put_ahead.new.pane c.show_put-told.new.pane (c.shared.invariant.3 (sym c.failed.ensures.failed ∙ c.if-failed.false)) c.in-Ok.ensures.ahead
+    c.failed-in-Ok.result c.failed-in-Ok.ensures.failed c.show_put-told.ensures.shown c.show_put-told.ensures.hidden
+    c.shared.inside.log.trace c.leave.new.self.trace c.shared.invariant.0 c.shared.invariant.1 (ap (λ (l : LogState). l.trace) c.leave.ensures.log) in
+    (ends, shown.ends, shown.pane.cells ∙ c.shared.invariant.2, λ living. shown.pane.ahead (c.failed-in-Ok.ensures.failed ∙ living))
 
-pub returns-clause-doubt : goal.returns-clause-doubt
-returns-clause-doubt g c =
+pub returns-in-Ok-clause-lends : goal.returns-in-Ok-clause-lends
+returns-in-Ok-clause-lends g c =
+    let is = c.receipt.ensures ∙ ap (λ l. receipt_for c.leave.new.self.trace l c.args.command.now c.serve-answer.result) c.show_put-told.ensures.told in
+    let room = some_room c.room.result _ _ c.if-room-eq0.false c.room.ensures.room in
+    let shown = lend-shown g.K.Name.memory c.shared.inside.engine c.serve-answer.new.self c.args.command.now c.serve-answer.result c.serve-answer.ensures.answered (sym c.failed.ensures.failed ∙ c.if-failed.false)
+    c.memory.result.now.contents c.from-places.result c.memory.ensures (c.from-places.ensures ∙ c.room-2.ensures)
+    c.shared.inside.pane c.put_ahead.new.pane c.show_put-told.new.pane (c.shared.invariant.3 (sym c.failed.ensures.failed ∙ c.if-failed.false)) c.in-Ok.ensures.ahead
+    c.failed-in-Ok.result c.failed-in-Ok.ensures.failed c.show_put-told.ensures.shown c.show_put-told.ensures.hidden
+    c.shared.inside.log.trace c.leave.new.self.trace c.shared.invariant.0 c.shared.invariant.1 (ap (λ (l : LogState). l.trace) c.leave.ensures.log) in
+    let s' : SharedState g.row.D.Denot = record { engine = c.serve-answer.new.self; log = c.leave.new.self; servers = c.shared.inside.servers; shown = c.show_put-told.new.pane.shown } in
+    subst (λ (s : SharedState g.row.D.Denot). Lends g.K.Name.marks s c.args.tally.now c.args.command.now c.receipt.result s' c.leave.new.tally) c.shared.view_is
+    (lends-served g.K.Name.marks _ s' c.args.tally.now c.leave.new.tally c.args.command.now c.serve-answer.result c.receipt.result is (sym c.failed.ensures.failed ∙ c.if-failed.false) room
+    c.serve-answer.ensures.answered c.leave.ensures.log refl c.leave.ensures.tally shown.pane.is)
+
+pub returns-in-Ok-clause-doubt : goal.returns-in-Ok-clause-doubt
+returns-in-Ok-clause-doubt g c =
     subst (λ (s : SharedState g.row.D.Denot). g.D.Disk.honest c.serve-answer.new.self.disk → s.engine.failed ≡ false → LeavesNow (g.D.Disk.now c.serve-answer.new.self.disk) (MeansEither s.engine c.args.command.now)) c.shared.view_is c.serve-answer.ensures.doubt
+
+pub returns-in-Err-clause-doubt : goal.returns-in-Err-clause-doubt
+returns-in-Err-clause-doubt g c = λ honest alive file left.
+    let means = c.failed.ensures.means honest (sym c.failed.ensures.failed ∙ c.if-failed.false) file left in
+    inl (subst (λ (s : SharedState g.row.D.Denot). MeansState s.engine file) c.shared.view_is means)

@@ -3,4 +3,4 @@ use Rattle.std.specs.Prelude.{false}
 use Rattle.im_run.proofs.run.run_engine.Given as goal
 
 abbrev pub ghosts-serve_orders : goal.ghosts-serve_orders
-ghosts-serve_orders g a = record { memory = a.opening.engine.memory; marks = λ _. false; lines_name = a.opening.lines_name; marked_name = a.opening.marked_name; ports = a.opening.ports }
+ghosts-serve_orders g a = record { memory = a.opening.engine.memory; marks = λ _. false; lines_name = a.opening.lines_name; marked_name = a.opening.marked_name; ports = a.opening.ports; book = a.opening.book }

@@ -1,14 +1,17 @@
 use Rattle.std.proofs.Common.{Some, subst, sym, ap, ◌∙◌}
 use Rattle.im_controller.specs.Lines.{counts_after}
-use Rattle.im_controller.specs.Log.{UnclaimedState, IsProofIn, unclaimed_lines}
+use Rattle.im_controller.specs.Log.{UnclaimedState, LogState, IsProofIn, IsToldOf, unclaimed_lines}
+use Rattle.im_controller.proofs.ShownLemmas.{told-earlier}
 use Rattle.im_controller.proofs.LogLemmas.{log-claims, all-get}
 use Rattle.im_controller.proofs.log.Log.claim.Goals as goal
 
 pub receipt_of-requires : goal.receipt_of-requires
 receipt_of-requires g c =
-    let m = g.K.Name.memory in
-    subst (λ (w : UnclaimedState). IsProofIn m (Some w)) (sym c.found.view_is)
-    (all-get (IsProofIn m) c.self.inside.places.items c.args.element (Some c.in_ok-found.found) c.self.invariant.0.proofs c.in_ok-found.ensures.0)
+    let m = g.K.Name.memory in let trace = c.self.inside.trace.items in
+    let proof = subst (λ (w : UnclaimedState). IsProofIn m trace (Some w)) (sym c.found.view_is)
+    (all-get (IsProofIn m trace) c.self.inside.places.items c.args.element (Some c.in_ok-found.found) c.self.invariant.0.proofs c.in_ok-found.ensures.0) in
+    let all = subst (λ (l : LogState). IsToldOf m l.trace c.args.told) (sym c.self.view_is) c.requires.told in
+    record { proof = proof.0; told = told-earlier m _ trace c.args.told proof.1 all }
 
 pub invariant_of-self-2 : goal.invariant_of-self-2
 invariant_of-self-2 g c =

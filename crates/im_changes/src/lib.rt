@@ -1,0 +1,158 @@
+//! What commands change of the full I cells, and which are full: for a pane that shows them. Contracts name the
+//! definitions of `im_types`.
+#![tactic(auto)]
+
+ghost use Rattle.std.specs.Prelude.{◌≡◌, ◌+◌, ◌≤◌, ◌++◌, Option, true, drop, take, length, option_map, OnOk, IfOk, IfSome};
+ghost use Rattle.std.specs.List.{AllByRecursion, list_any};
+ghost use Rattle.im_types.specs.Contents.{Held, held_at, full_in};
+ghost use Rattle.im_types.specs.Act.{block_with_base, is_waiting_cell};
+ghost use Rattle.im_types.specs.Presences.{presence_in};
+ghost use Rattle.im_types.specs.Changes.{is_below, store_change_in, release_change, change_of, change_by};
+ghost use Rattle.im_types.specs.Changes.{fill_at, opening};
+
+use im_memory::Memory;
+use im_types::{Block, Cell, Change, Command, Kind, Op};
+use std::alloc::{AllocError, Global};
+
+// Whether somebody waits for a cell.
+fn is_waiting(cell: Option<Cell>) -> bool
+    ensures { (held : Option Held) → cell ≡ presence_in held → result ≡ is_waiting_cell held }
+{
+    matches!(cell, Some(Cell::Waiting))
+}
+
+// The value of a full I cell.
+fn full_value(block: Option<Block>, cell: Option<Cell>) -> Option<u64>
+    ensures { (held : Option Held) → block ≡ option_map (λ h. h.block) held → cell ≡ presence_in held
+        → result ≡ full_in held }
+{
+    match block {
+        None => None,
+        Some(block) => match block.kind {
+            Kind::I => match cell {
+                Some(Cell::Full(value)) => Some(value),
+                _ => None,
+            },
+            Kind::M => None,
+        },
+    }
+}
+
+// What a store changes.
+fn store_change(a: u32, value: u64, block: Option<Block>, cell: Option<Cell>) -> Change
+    ensures { (held : Option Held) → block ≡ option_map (λ h. h.block) held → cell ≡ presence_in held
+        → result ≡ store_change_in a value held }
+{
+    match block {
+        None => Change::Same,
+        Some(block) => match block.kind {
+            Kind::I => match cell {
+                Some(Cell::Empty) => Change::Full(a, value),
+                Some(Cell::Waiting) => Change::Full(a, value),
+                Some(Cell::Full(_)) => Change::Gone(a, 1),
+                Some(Cell::Clashed(_)) => Change::Same,
+                None => Change::Same,
+            },
+            Kind::M => Change::Same,
+        },
+    }
+}
+
+// The block, if an address is its base.
+fn with_base(a: u32, block: Option<Block>) -> Option<Block>
+    ensures { (held : Option Held) → block ≡ option_map (λ h. h.block) held → result ≡ block_with_base a held }
+{
+    match block {
+        None => None,
+        Some(block) => { if block.base == a { Some(block) } else { None } }
+    }
+}
+
+// Whether somebody waits for one of so many cells.
+fn is_one_waiting(memory: &Memory, base: u32, count: u32) -> bool
+    requires { base + count ≤ length memory.now.contents.cells }
+    ensures { result ≡ list_any is_waiting_cell (take count (drop base memory.now.contents.cells)) }
+{
+    let _cells = memory.cells();
+    for i in 0..count {
+        if is_waiting(memory.cell(base + i)) {
+            return true;
+        }
+    }
+    false
+}
+
+// What a release changes.
+fn release_change(memory: &Memory, a: u32) -> Change
+    ensures { let cells = memory.now.contents.cells in
+        result ≡ release_change cells a (block_with_base a (held_at cells a)) }
+{
+    let _cells = memory.cells();
+    match with_base(a, memory.block(a)) {
+        None => Change::Same,
+        Some(block) => {
+            if is_one_waiting(memory, a, block.length) {
+                Change::Same
+            } else {
+                Change::Gone(a, block.length)
+            }
+        }
+    }
+}
+
+// What an operation changes.
+fn change_of(memory: &Memory, op: Op) -> Change
+    ensures { result ≡ change_of memory.now.contents.cells op }
+{
+    match op {
+        Op::Alloc(_, _) => Change::Same,
+        Op::Release(a) => release_change(memory, a),
+        Op::Fetch(_) => Change::Same,
+        Op::Store(a, value) => store_change(a, value, memory.block(a), memory.cell(a)),
+        Op::Take(_) => Change::Same,
+        Op::Put(_, _) => Change::Same,
+    }
+}
+
+/// What a command would change of the full I cells, if it were accepted, by the memory before it. It is of the
+/// memory's own cells. It takes a step for each cell of a block that is released, else none, and no memory.
+pub fn change_by(memory: &Memory, command: &Command) -> Change
+    ensures change { result ≡ change_by memory.now.contents command.now }
+    ensures below { is_below (length memory.now.contents.cells) result ≡ true }
+{
+    let _cells = memory.cells();
+    match command {
+        Command::Request(request) => change_of(memory, request.op),
+        Command::Confirm {
+            element: _,
+            upto: _,
+        } => Change::Same,
+    }
+}
+
+// The change that fills a cell, behind these.
+fn add_full(changes: &mut Vec<Change>, a: u32, value: Option<u64>) -> Result<(), AllocError>
+    ensures { OnOk result (changes.new.items ≡ changes.old.items ++ fill_at a value) }
+{
+    match value {
+        None => Ok(()),
+        Some(value) => {
+            changes.push(Change::Full(a, value))?;
+            Ok(())
+        }
+    }
+}
+
+/// The full I cells of a memory, in the order of their addresses, as changes of cells of which none is full: 16 bytes
+/// for each. Refused where there isn't enough memory.
+pub fn full_cells(alloc: Global, memory: &Memory) -> Result<Vec<Change>, AllocError>
+    ensures opening { IfOk result (λ changes. changes.items ≡ opening memory.now.contents) }
+    ensures below { IfOk result (λ changes.
+        AllByRecursion (λ c. is_below (length memory.now.contents.cells) c ≡ true) changes.items) }
+{
+    let mut changes = Vec::new(alloc);
+    for a in 0..memory.cells() {
+        add_full(&mut changes, a, full_value(memory.block(a), memory.cell(a)))?;
+    }
+    Ok(changes)
+}

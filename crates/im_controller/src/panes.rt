@@ -1,0 +1,141 @@
+//! What is put ahead on the pane before the engine is lent, and shown after it.
+ghost use Rattle.std.specs.Prelude.{◌≡◌, ◌<◌, ◌≤◌, ◌++◌, [], true, false, length, IfOk, OnOk, OnErr};
+ghost use Rattle.im_types.specs.declared.commands.Command.TheVariants.{Request as Asks};
+ghost use Rattle.im_types.specs.declared.commands.Request.{Request};
+ghost use Rattle.im_types.specs.Contents.{Contents};
+ghost use Rattle.im_engine.specs.Groups.{left_with};
+ghost use Rattle.im_controller.specs.Lends.{is_taken, changes_put};
+ghost use Rattle.im_controller.specs.Groups.{those, AreRoomless, changes_put_all, places_left, places_with};
+
+use arrayvec::ArrayVec;
+use im_changes::change_by;
+use im_disk::Disk;
+use im_engine::Engine;
+use im_glass::{Pane, PaneName, Told};
+use im_memory::Memory;
+use im_types::{Command, LAST, Refusal, Request};
+use std::cmp::min;
+use std::sync::Wait;
+
+// Whether a command is put on the disk, where there is room for so many.
+fn is_taken(memory: &Memory, left: u64, command: &Command) -> bool
+    ensures { result ≡ is_taken memory.now.contents left command.now }
+{
+    match memory.judge(command) {
+        Ok(accepted) => accepted && left > 0,
+        Err(_) => false,
+    }
+}
+
+// Puts ahead what a command changes, where it is put on the disk, and says whether it is. `NoMemory` where the pane has
+// no room for the change.
+pub(crate) fn put_ahead<J: PaneName>(
+    pane: &mut Pane<J>,
+    memory: &Memory,
+    left: u64,
+    command: &Command,
+) -> Result<bool, Refusal>
+    requires cells { pane.old.cells ≡ length memory.now.contents.cells }
+    ensures taken { IfOk result (λ taken. taken ≡ is_taken memory.now.contents left command.now) }
+    ensures ahead { OnOk result (pane.new ≡ record pane.old {
+      ahead = pane.old.ahead ++ changes_put memory.now.contents left command.now;
+    }) }
+    ensures roomless { OnErr result (is_taken memory.now.contents left command.now ≡ true) }
+    ensures same { OnErr result (pane.new ≡ pane.old) }
+{
+    if !is_taken(memory, left, command) {
+        return Ok(false);
+    }
+    pane.put_ahead(change_by(memory, command))?;
+    Ok(true)
+}
+
+// Shows what was put ahead, if there is anything and the engine hasn't failed; and what is shown then.
+pub(crate) fn show_put<J: PaneName, R: Wait>(
+    rt: &R,
+    pane: &mut Pane<J>,
+    failed: bool,
+    put: bool,
+) -> Told<J>
+    requires none { put ≡ false → pane.old.ahead ≡ [] }
+    ensures shown { failed ≡ false → pane.new ≡ record pane.old {
+      shown = pane.old.shown ++ pane.old.ahead;
+      ahead = [];
+    } }
+    ensures hidden { failed ≡ true → pane.new ≡ pane.old }
+    ensures told { result ≡ pane.new.shown }
+{
+    if failed {
+        return pane.told();
+    }
+    if !put {
+        return pane.told();
+    }
+    pane.show(rt)
+}
+
+// How many commands an engine takes.
+fn places_left<D: Disk>(engine: &Engine<D>) -> u64
+    ensures { result ≡ places_left engine.now }
+{
+    let gap = LAST.saturating_sub(engine.count());
+    if gap == 0 {
+        return u64::from(engine.room());
+    }
+    min(u64::from(engine.room()), gap)
+}
+
+// The same where it is alive and the trace has room.
+pub(crate) fn places_with<D: Disk>(engine: &Engine<D>, room: usize) -> u64
+    ensures { result ≡ places_with engine.now room }
+{
+    if engine.failed() {
+        return 0;
+    }
+    if room == 0 {
+        return 0;
+    }
+    places_left(engine)
+}
+
+// The places that are left behind a request.
+fn left_with(taken: bool, left: u64) -> u64
+    ensures { (m : Contents) (r : Request) → taken ≡ is_taken m left (Asks r) → result ≡ left_with m left r }
+{
+    if taken {
+        return left.saturating_sub(1);
+    }
+    left
+}
+
+// Puts ahead what the members of a group change, as far as the pane has room, and chooses those that are lent.
+pub(crate) fn choose<J: PaneName>(
+    pane: &mut Pane<J>,
+    memory: &Memory,
+    left: u64,
+    members: &[Request],
+    roomy: &mut ArrayVec<bool, 16>,
+    lent: &mut ArrayVec<Request, 16>,
+)
+    requires cells { pane.old.cells ≡ length memory.now.contents.cells }
+    requires fits { length members.now ≤ 16 }
+    requires empty { (roomy.old.items ≡ []) × (lent.old.items ≡ []) }
+    ensures roomless { AreRoomless memory.now.contents left roomy.new.items members.now }
+    ensures lent { lent.new.items ≡ those roomy.new.items members.now }
+    ensures ahead { pane.new ≡ record pane.old {
+      ahead = pane.old.ahead ++ changes_put_all memory.now.contents left lent.new.items;
+    } }
+{
+    let mut left = left;
+    for i in 0..members.len() {
+        let member = members[i];
+        match put_ahead(pane, memory, left, &Command::Request(member)) {
+            Ok(taken) => {
+                left = left_with(taken, left);
+                roomy.push(true);
+                lent.push(member);
+            }
+            Err(_) => roomy.push(false),
+        }
+    }
+}
