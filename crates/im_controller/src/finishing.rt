@@ -27,10 +27,10 @@ pub struct Finished<D: Disk> {
     pub claimed: bool,
 }
 
-/// Ends a controller, with the ports that were given out, and waits for its readers: each glance is `PaneGone` from then
-/// on. The trace is legal from the memory that was opened, and ends
-/// in the engine's memory. Where all ports came and no answer waits, the trace has each line as often as a port was
-/// given that answer to that call: K's marks may be any.
+/// Ends a controller, with the ports that were given out, and waits for its readers: each glance is `PaneGone` from
+/// then on. The trace is legal from the memory that was opened, and ends in the engine's memory. Where all ports came
+/// and no answer waits, the trace has each line as often as a port was given that answer to that call: K's marks may be
+/// any.
 pub fn finish<D: Disk, K: Name, R: Wait>(
     rt: &R,
     controller: Controller<D, K>,

@@ -157,7 +157,8 @@ pub fn lend_group<D: Disk, K: Name, R: Wait>(
         → LeavesWithin D.now D.past shared.old.engine.disk shared.new.engine.disk
         (MeansGroup shared.old.engine (those result.items members.now.items)) }
     ensures doubt { D.honest shared.new.engine.disk → shared.old.engine.failed ≡ false
-        → LeavesNow (D.now shared.new.engine.disk) (MeansGroup shared.old.engine (those result.items members.now.items)) }
+        → LeavesNow (D.now shared.new.engine.disk)
+        (MeansGroup shared.old.engine (those result.items members.now.items)) }
     ensures means { D.honest shared.new.engine.disk → shared.new.engine.failed ≡ false
         → LeavesNow (D.now shared.new.engine.disk) (MeansState shared.new.engine) }
     ensures honest { D.honest shared.new.engine.disk → D.honest shared.old.engine.disk }

@@ -22,12 +22,17 @@ use std::sync::Wait;
 use std::thread::Threads;
 
 // A new memory on a disk that never fails, and room for a trace.
-fn opening(alloc: Global, scene: Scene, limits: Limits) -> Result<Opening<FuseDisk>> {
+fn opening<R: Wait>(
+    rt: &R,
+    alloc: Global,
+    scene: Scene,
+    limits: Limits,
+) -> Result<Opening<FuseDisk>> {
     let disk = FuseDisk::new(MemDisk::new(alloc, image_length(limits))?, LAST, Mode::Stop);
     let Ok(engine) = Engine::format(alloc, disk, limits) else {
         return Err(anyhow!("no image was formatted"));
     };
-    match start(alloc, engine, scene.room()) {
+    match start(rt, alloc, engine, scene.room()) {
         Ok(opening) => Ok(opening),
         Err(_) => Err(anyhow!("no room")),
     }
@@ -46,6 +51,7 @@ fn show_named<K: Name + Send + Sync, R: Threads + Wait + Sync>(
     requires lines { opening.lines_name ≡ K.lines_name }
     requires marked { opening.marked_name ≡ K.marked_name }
     requires ports { opening.ports ≡ K.ports }
+    requires book { opening.book ≡ K.book }
 {
     show(rt, alloc, scene, limits, opening.named::<K>(), said)
 }
@@ -59,8 +65,8 @@ fn show_scene<R: Threads + Wait + Sync>(
     let Some(limits) = scene.limits() else {
         return Err(anyhow!("these are no sizes"));
     };
-    let opening = opening(alloc, scene, limits)?;
     writeln!(said, "{}", scene.head())?;
+    let opening = opening(rt, alloc, scene, limits)?;
     show_named::<Brand, R>(rt, alloc, scene, limits, opening, said)
 }
 

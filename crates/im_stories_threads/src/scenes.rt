@@ -334,8 +334,12 @@ pub fn show<K: Name + Send + Sync, R: Threads + Wait + Sync>(
     controller: Controller<FuseDisk, K>,
     said: &mut String,
 ) -> Result<()> {
-    let ports = act(rt, alloc, &controller, scene, said)?;
-    let finished = finish(controller, ports);
+    let (ports, acted) = match act(rt, alloc, &controller, scene, said) {
+        Ok(ports) => (ports, Ok(())),
+        Err(error) => (Vec::new(alloc), Err(error)),
+    };
+    let finished = finish(rt, controller, ports);
+    acted?;
     if scene.blocks().is_none() {
         add_finished(said, &finished)?;
     }

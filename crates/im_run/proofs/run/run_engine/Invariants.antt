@@ -1,4 +1,4 @@
--- The name of the controller: the memory that it begins with, and its ledgers.
+-- The name of the controller: the memory that it begins with, and its ledgers, and the book of its pane.
 use Rattle.std.specs.Prelude.{false}
 use Rattle.im_run.proofs.run.run_engine.Given as goal
 
