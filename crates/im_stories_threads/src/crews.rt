@@ -1,8 +1,10 @@
-//! Threads beside each other: one for each port that plays a part, and one that keeps checkpoints.
+//! Threads beside each other: one for each port that plays a part, one for each glance, and one that keeps checkpoints.
 
+use crate::glances::{Looked, ROUNDS, watch};
 use crate::parts::{Part, Told, play};
-use im_controller::{Controller, Name, Port};
+use im_controller::{Controller, Name, Port, Shown};
 use im_disk::Disk;
+use im_glass::Glance;
 use std::alloc::{AllocError, Global};
 use std::sync::Wait;
 use std::thread;
@@ -31,6 +33,8 @@ pub struct Done<K: Name> {
 pub struct Played<K: Name> {
     /// The ports, in the tasks' order.
     pub done: Vec<Done<K>>,
+    /// The glances, in their order.
+    pub looked: Vec<Looked<Shown<K>>>,
     /// The thread that keeps checkpoints was there to the end, and was refused nothing.
     pub kept: bool,
 }
@@ -78,10 +82,47 @@ fn keep<'s, E, D: Disk + Drop + Send, K: Name + Send + Sync, R: Threads + Wait +
     }
 }
 
+// Begins a thread that looks again and again, if one can be made.
+fn begin_to_watch<'s, E, K: Name + Send + Sync + 's>(
+    scope: &Scope<'s, E>,
+    glance: Glance<Shown<K>>,
+) -> Option<JoinHandle<Looked<Shown<K>>>> {
+    match scope.spawn(move || watch(glance, ROUNDS)) {
+        Ok(watcher) => Some(watcher),
+        Err(_) => None,
+    }
+}
+
 // Waits for the end of a thread, if it could be made.
 fn end<K: Name, R: Threads>(rt: &R, thread: Option<JoinHandle<Done<K>>>, done: &mut Vec<Done<K>>) {
     if let Some(thread) = thread {
         let _kept = done.push(thread.join(rt));
+    }
+}
+
+// Begins a thread for each glance.
+fn watch_all<'s, E, K: Name + Send + Sync + 's>(
+    scope: &Scope<'s, E>,
+    glances: Vec<Glance<Shown<K>>>,
+    watchers: Vec<Option<JoinHandle<Looked<Shown<K>>>>>,
+) -> Vec<Option<JoinHandle<Looked<Shown<K>>>>> {
+    let mut watchers = watchers;
+    for glance in glances {
+        let _kept = watchers.push(begin_to_watch(scope, glance));
+    }
+    watchers
+}
+
+// Waits for the ends of the threads that look.
+fn end_watchers<K: Name, R: Threads>(
+    rt: &R,
+    watchers: Vec<Option<JoinHandle<Looked<Shown<K>>>>>,
+    looked: &mut Vec<Looked<Shown<K>>>,
+) {
+    for watcher in watchers {
+        if let Some(watcher) = watcher {
+            let _kept = looked.push(watcher.join(rt));
+        }
     }
 }
 
@@ -109,25 +150,31 @@ fn play_tasks<'s, E, D: Disk + Drop + Send, K: Name + Send + Sync, R: Threads + 
     }
 }
 
-/// Plays all parts, each in a thread of its own, beside the thread that keeps checkpoints until they have returned: all
-/// at once, or in turn, each once the one before it has ended. `AllocError` where there is no room for a list of them.
+/// Plays all parts, each in a thread of its own, beside one for each glance, and the thread that keeps checkpoints until
+/// they have returned: all at once, or in turn, each once the one before it has ended. `AllocError` where there is no
+/// room for a list of them.
 pub fn play_all<D: Disk + Drop + Send, K: Name + Send + Sync, R: Threads + Wait + Sync>(
     rt: &R,
     alloc: Global,
     controller: &Controller<D, K>,
     in_turn: bool,
     tasks: Vec<Task<K>>,
+    glances: Vec<Glance<Shown<K>>>,
 ) -> Result<Played<K>, AllocError> {
     let threads = Vec::with_capacity(alloc, tasks.len())?;
+    let watchers = Vec::with_capacity(alloc, glances.len())?;
     let mut done = Vec::with_capacity(alloc, tasks.len())?;
+    let mut looked = Vec::with_capacity(alloc, glances.len())?;
     thread::scope(thread::scope_env(), rt, move |scope| {
         let keeper = keep(rt, scope, controller);
+        let watchers = watch_all(scope, glances, watchers);
         play_tasks(rt, scope, controller, in_turn, tasks, threads, &mut done);
+        end_watchers(rt, watchers, &mut looked);
         controller.end(rt);
         let kept = match keeper {
             Some(keeper) => keeper.join(rt),
             None => false,
         };
-        Ok(Played { done, kept })
+        Ok(Played { done, looked, kept })
     })
 }

@@ -1,10 +1,12 @@
 //! Threads under one lock: what ports are answered beside each other, that the thread that keeps checkpoints works,
-//! that servers wait and are woken, and that the plain memory serves a long trace again alike.
+//! that servers wait and are woken, that readers wait for nobody, and that the plain memory serves a long trace again
+//! alike.
 #![tactic(auto)]
 
 ghost use Rattle.std.specs.Prelude.{◌≡◌};
 
 mod crews;
+mod glances;
 mod parts;
 mod scenes;
 mod traces;
@@ -77,6 +79,8 @@ fn show_all<R: Threads + Wait + Sync>(rt: &R, alloc: Global, said: &mut String) 
         Scene::OneLine,
         Scene::ServersWait,
         Scene::Sixteen,
+        Scene::Largest,
+        Scene::Readers,
     ] {
         show_scene(rt, alloc, scene, said)?;
     }

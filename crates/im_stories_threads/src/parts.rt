@@ -1,5 +1,6 @@
 //! What a thread does with its port.
 
+use crate::glances::value_at;
 use im_controller::{Controller, Name, Port};
 use im_disk::Disk;
 use im_types::{Entry, Op, Outcome, Refusal, Reply};
@@ -15,6 +16,8 @@ pub enum Part {
     Fetches(u64),
     /// At this place, so many puts, takes, stores and fetches in turn, from number 1 on; each sixteen are confirmed.
     Mixed(u32, u64),
+    /// So many stores, each at the next address, from number 1 and address 0 on; each sixteen are confirmed.
+    Stores(u64),
     /// Waits for the answer to number 1.
     Waits,
     /// Stores 7 at address 0, and then waits for a take of address 1, where nobody puts.
@@ -104,19 +107,27 @@ fn op_of(place: u32, i: u64) -> Op {
     }
 }
 
-// Requests of all kinds, with a confirmation behind each sixteen.
-fn mixed<D: Disk, K: Name, R: Wait>(
+// The operation of a part's request.
+fn op_in(part: Part, i: u64) -> Op {
+    match part {
+        Part::Mixed(place, _) => op_of(place, i),
+        _ => Op::Store(i as u32, value_at(i as u32)),
+    }
+}
+
+// The requests of a part, with a confirmation behind each sixteen.
+fn requests<D: Disk, K: Name, R: Wait>(
     rt: &R,
     controller: &Controller<D, K>,
     port: &mut Port<K>,
-    place: u32,
+    part: Part,
     many: u64,
 ) -> Told {
     let mut accepted = 0u64;
     let mut last = Err(Refusal::Gap);
     for i in 0..many {
         let number = i.saturating_add(1);
-        last = entry_of(submit(rt, controller, port, number, op_of(place, i)));
+        last = entry_of(submit(rt, controller, port, number, op_in(part, i)));
         if last.is_ok() {
             accepted = accepted.saturating_add(1);
         }
@@ -165,7 +176,7 @@ pub fn play<D: Disk, K: Name, R: Wait>(
 ) -> Told {
     match part {
         Part::Fetches(many) => fetches(rt, controller, port, many),
-        Part::Mixed(place, many) => mixed(rt, controller, port, place, many),
+        Part::Mixed(_, many) | Part::Stores(many) => requests(rt, controller, port, part, many),
         Part::Waits => Told {
             accepted: 0,
             last: await_answer(rt, controller, port, 1),

@@ -1,10 +1,11 @@
 //! The scenes: what threads do with a new memory, and what is told of it.
 
-use crate::crews::{Done, Task, play_all};
+use crate::crews::{Done, Played, Task, play_all};
+use crate::glances::{CELLS, Looked, READERS, add_looked, ask_and_teach, glances, largest};
 use crate::parts::Part;
 use crate::traces::{alike, fetches_of};
 use anyhow::{Result, anyhow};
-use im_controller::{Controller, Finished, Name, Port, Receipt, finish};
+use im_controller::{Controller, Finished, Name, Port, Receipt, Shown, finish};
 use im_disk::FuseDisk;
 use im_engine::Engine;
 use im_story::{add_entry, add_outcome, add_refusal};
@@ -26,6 +27,10 @@ pub enum Scene {
     ServersWait,
     /// Sixteen threads of 1,002 requests each.
     Sixteen,
+    /// The largest memory, and a glance at its last cell.
+    Largest,
+    /// Readers that look again and again beside a writer.
+    Readers,
 }
 
 impl Scene {
@@ -37,6 +42,8 @@ impl Scene {
             Scene::OneLine => Limits::new(64, 2, 16),
             Scene::ServersWait => Limits::new(64, 3, 256),
             Scene::Sixteen => Limits::new(512, 17, 4096),
+            Scene::Largest => Limits::new(65_536, 64, 4096),
+            Scene::Readers => Limits::new(512, 9, 4096),
         }
     }
 
@@ -45,6 +52,7 @@ impl Scene {
         match self {
             Scene::OneLine => 1,
             Scene::Sixteen => 20_000,
+            Scene::Readers => 1_000,
             _ => 100,
         }
     }
@@ -53,8 +61,9 @@ impl Scene {
     fn threads(self) -> u16 {
         match self {
             Scene::Two | Scene::KeeperWorks | Scene::ServersWait => 2,
-            Scene::OneLine => 1,
+            Scene::OneLine | Scene::Readers => 1,
             Scene::Sixteen => 16,
+            Scene::Largest => 0,
         }
     }
 
@@ -68,6 +77,7 @@ impl Scene {
             (Scene::ServersWait, 1) => Part::Waits,
             (Scene::ServersWait, _) => Part::StoresAndStalls,
             (Scene::Sixteen, _) => Part::Mixed(u32::from(element).saturating_sub(1), 1_002),
+            (Scene::Largest, _) | (Scene::Readers, _) => Part::Stores(u64::from(CELLS)),
         }
     }
 
@@ -76,6 +86,7 @@ impl Scene {
         match self {
             Scene::ServersWait => Some((1, 1)),
             Scene::Sixteen => Some((256, 16)),
+            Scene::Readers => Some((CELLS, 1)),
             _ => None,
         }
     }
@@ -94,6 +105,19 @@ impl Scene {
         }
     }
 
+    // How many glances have a thread: those of elements 1, 2 and so on.
+    fn readers(self) -> u16 {
+        match self {
+            Scene::Readers => READERS,
+            _ => 0,
+        }
+    }
+
+    // Whether its trace is of fetches where no block is.
+    fn is_of_fetches(self) -> bool {
+        matches!(self, Scene::Two | Scene::KeeperWorks | Scene::OneLine)
+    }
+
     /// Its head.
     pub fn head(self) -> &'static str {
         match self {
@@ -103,6 +127,8 @@ impl Scene {
             Scene::OneLine => "a trace with room for one line",
             Scene::ServersWait => "one server is woken, and one waits for nobody",
             Scene::Sixteen => "sixteen threads of 1,002 requests each",
+            Scene::Largest => "the largest memory, and a glance at its last cell",
+            Scene::Readers => "eight readers beside a writer",
         }
     }
 }
@@ -118,8 +144,8 @@ fn add_told<K: Name>(said: &mut String, done: &Done<K>) -> Result<()> {
     Ok(())
 }
 
-// Gives out a port.
-fn port<K: Name, R: Wait>(
+/// Gives out a port.
+pub fn port<K: Name, R: Wait>(
     rt: &R,
     controller: &Controller<FuseDisk, K>,
     element: u16,
@@ -130,24 +156,24 @@ fn port<K: Name, R: Wait>(
     }
 }
 
-// Adds a line for a call and its answer.
-fn add_call(said: &mut String, call: &str, answer: Result<Outcome, Refusal>) -> Result<()> {
+/// Adds a line for a call and its answer.
+pub fn add_call(said: &mut String, call: &str, answer: Result<Outcome, Refusal>) -> Result<()> {
     write!(said, "  {call}: ")?;
     add_outcome(said, answer)?;
     said.push_str("\n")?;
     Ok(())
 }
 
-// What a receipt's command came to.
-fn outcome_of<K: Name>(answer: Result<Receipt<K>, Refusal>) -> Result<Outcome, Refusal> {
+/// What a receipt's command came to.
+pub fn outcome_of<K: Name>(answer: Result<Receipt<K>, Refusal>) -> Result<Outcome, Refusal> {
     match answer {
         Ok(receipt) => Ok(receipt.outcome()),
         Err(refusal) => Err(refusal),
     }
 }
 
-// Submits a request, and tells its answer.
-fn submit<K: Name, R: Wait>(
+/// Submits a request, and tells its answer.
+pub fn submit<K: Name, R: Wait>(
     rt: &R,
     controller: &Controller<FuseDisk, K>,
     port: &mut Port<K>,
@@ -231,13 +257,20 @@ fn tasks<K: Name, R: Wait>(
     Ok(tasks)
 }
 
-// Tells what came of the parts, and gathers the ports.
-fn gather<K: Name>(done: Vec<Done<K>>, ports: &mut Vec<Port<K>>, said: &mut String) -> Result<()> {
+// Tells what came of the parts and the readings, gathers the ports, and gives the glances back.
+fn gather<K: Name>(
+    played: Played<K>,
+    ports: &mut Vec<Port<K>>,
+    said: &mut String,
+) -> Result<Vec<Looked<Shown<K>>>> {
+    let Played { done, looked, kept } = played;
     for done in done {
         add_told(said, &done)?;
         ports.push(done.port)?;
     }
-    Ok(())
+    add_looked(said, looked.as_slice())?;
+    writeln!(said, "  checkpoints were kept to the end: {kept}")?;
+    Ok(looked)
 }
 
 // Plays a scene; the ports come back.
@@ -251,10 +284,14 @@ fn play<K: Name + Send + Sync, R: Threads + Wait + Sync>(
     let mut ports = Vec::new(alloc);
     ports.push(set_up(rt, controller, scene, said)?)?;
     let tasks = tasks(rt, alloc, controller, scene, said)?;
-    let played = play_all(rt, alloc, controller, scene.is_in_turn(), tasks)?;
-    let kept = played.kept;
-    gather(played.done, &mut ports, said)?;
-    writeln!(said, "  checkpoints were kept to the end: {kept}")?;
+    let glances = glances(rt, alloc, controller, scene.readers())?;
+    let played = play_all(rt, alloc, controller, scene.is_in_turn(), tasks, glances)?;
+    let looked = gather(played, &mut ports, said)?;
+    if !looked.is_empty() {
+        if let Some(port) = ports.as_mut_slice().get_mut(1) {
+            ask_and_teach(rt, controller, port, looked, said)?;
+        }
+    }
     Ok(ports)
 }
 
@@ -286,6 +323,9 @@ fn act<K: Name + Send + Sync, R: Threads + Wait + Sync>(
     scene: Scene,
     said: &mut String,
 ) -> Result<Vec<Port<K>>> {
+    if let Scene::Largest = scene {
+        return largest(rt, alloc, controller, said);
+    }
     let mut ports = play(rt, alloc, controller, scene, said)?;
     if let Some(number) = scene.asks() {
         if let Some(port) = ports.as_mut_slice().get_mut(1) {
@@ -340,7 +380,7 @@ pub fn show<K: Name + Send + Sync, R: Threads + Wait + Sync>(
     };
     let finished = finish(rt, controller, ports);
     acted?;
-    if scene.blocks().is_none() {
+    if scene.is_of_fetches() {
         add_finished(said, &finished)?;
     }
     add_again(alloc, limits, &finished, said)?;
