@@ -1,24 +1,19 @@
 -- The members that are lent: those that were looked at, and what the others add.
-use Rattle.std.proofs.Common.{◌≡◌, ℕ, suc, ◌+◌, ◌<◌, ◌≤◌, Bool, true, false, List, [], ◌∷◌, ◌++◌, refl, sym, ap, ◌∙◌, subst, Result, length, length-append, length-drop, map, drop, get_or, append_assoc, append-nil, arith, if◌then◌else◌}
+use Rattle.std.proofs.Common.{◌≡◌, ℕ, suc, ◌+◌, ◌<◌, ◌≤◌, Bool, true, false, List, [], ◌∷◌, ◌++◌, refl, sym, ap, ◌∙◌, subst, length, length-append, length-drop, map, drop, get_or, append_assoc, append-nil, arith}
 use Rattle.std.proofs.Math.Seq.{drop-cons}
 use Rattle.std.proofs.lemmas.List.{drop_all}
-use Rattle.im_types.specs.declared.changes.Change.{Change}
 use Rattle.im_types.specs.declared.commands.Command.TheVariants.{Request as Asks}
 use Rattle.im_types.specs.declared.commands.Request.{Request}
-use Rattle.im_types.specs.declared.commands.Outcome.{Outcome}
 use Rattle.im_types.specs.declared.commands.Call.TheVariants.{Command as Commands}
-use Rattle.im_types.specs.declared.commands.Line.{Line}
 use Rattle.im_types.specs.declared.groups.Served.{Served}
-use Rattle.im_types.specs.declared.groups.Served.TheVariants.{Refused, Unserved}
-use Rattle.im_types.specs.declared.refusals.Refusal.{Refusal}
 use Rattle.im_types.specs.Contents.{Contents}
 use Rattle.im_types.specs.Groups.{AreOthers, AreApart}
 use Rattle.im_laws.proofs.Tests.{true_false}
 use Rattle.im_engine.specs.Groups.{left_with}
 use Rattle.im_glass.specs.Panes.{PaneView}
-use Rattle.im_controller.specs.Groups.{those, AreRoomless, changes_put_all, next_answer, answers_left, spread, answer_in, MayFollow, IsCut, AreAnswersTo, memory_after_all, lines_left}
+use Rattle.im_controller.specs.Groups.{those, AreRoomless, changes_put_all, next_answer, answers_left, spread, answer_in, MayFollow, IsCut, lines_left}
 use Rattle.im_controller.specs.Lines.{lines_of}
-use Rattle.im_controller.specs.Lends.{is_taken, changes_put}
+use Rattle.im_controller.specs.Lends.{is_taken}
 use Rattle.im_controller.proofs.GroupLemmas.{Fits, few_lines}
 use Rattle.im_controller.proofs.PutLemmas.{lines_all, taken-none, left-none}
 

@@ -1,7 +1,5 @@
 -- A group that is lent, and what is shown then.
-use Rattle.std.proofs.Common.{◌≡◌, ◌⊎◌, ⊎_elim, ℕ, ◌+◌, ◌-◌, ◌<◌, ◌≤◌, Bool, true, false, List, [], ◌∷◌, ◌++◌, refl, sym, ap, ◌∙◌, subst, length, map, arith}
-use Rattle.im_types.specs.declared.changes.Change.{Change}
-use Rattle.im_types.specs.declared.commands.Line.{Line}
+use Rattle.std.proofs.Common.{◌≡◌, ⊎_elim, ℕ, ◌+◌, ◌-◌, ◌<◌, ◌≤◌, Bool, true, false, List, [], ◌++◌, refl, sym, ap, ◌∙◌, subst, length, map, arith}
 use Rattle.im_types.specs.declared.commands.Request.{Request}
 use Rattle.im_types.specs.declared.groups.Served.{Served}
 use Rattle.im_types.specs.declared.refusals.Refusal.TheVariants.{TraceFull}
@@ -15,11 +13,11 @@ use Rattle.im_engine.specs.Groups.{all_refused, GroupAnswered}
 use Rattle.im_glass.specs.Panes.{PaneView}
 use Rattle.im_controller.specs.Log.{LogState}
 use Rattle.im_controller.specs.State.{SharedState}
-use Rattle.im_controller.specs.Groups.{IsCut, answer_in, with_all_unclaimed, AreFreeFor, AreAnswersTo, lines_left, MembersAnswered, places_with, those, AreRoomless, changes_put_all, spread, LendsGroup}
+use Rattle.im_controller.specs.Groups.{IsCut, answer_in, with_all_unclaimed, lines_left, MembersAnswered, places_with, those, AreRoomless, changes_put_all, spread, LendsGroup}
 use Rattle.im_controller.proofs.GroupLemmas.{Fits, members-fit, members-room}
 use Rattle.im_controller.proofs.PutLemmas.{lines_all, all-trace, GroupShows, members-shown}
 use Rattle.im_controller.proofs.Choosing.{those-apart, those-cut, spread-fits, spread-lines, spread-left, all-lent}
-use Rattle.im_controller.proofs.ShownLemmas.{PaneShows, pane-shows, shown-grows}
+use Rattle.im_controller.proofs.ShownLemmas.{pane-shows, shown-grows}
 
 -- what was chosen and served
 pub record Group {D : Type 0} (e f : EngineState D) (room : ℕ) (members : List Request) (roomy : List Bool) (lent : List Request) (ss answers : List Served) : Type 0 where

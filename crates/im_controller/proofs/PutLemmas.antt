@@ -1,5 +1,5 @@
 -- What the members of a group change is known before it: it is what their lines show.
-use Rattle.std.proofs.Common.{◌≡◌, ◌≢◌, ⊎_elim, ℕ, zero, suc, ◌+◌, ◌-◌, ◌<◌, ◌≤◌, min, ◌&&◌, ◌==◌, Bool, true, false, List, [], ◌∷◌, ◌++◌, refl, sym, ap, ◌∙◌, subst, Result, Ok, Err, length, map, append_assoc, append-nil, arith, if◌then◌else◌}
+use Rattle.std.proofs.Common.{◌≡◌, ⊎_elim, ℕ, zero, suc, ◌+◌, ◌-◌, ◌<◌, min, ◌&&◌, ◌==◌, Bool, true, false, List, [], ◌∷◌, ◌++◌, refl, sym, ap, ◌∙◌, subst, Result, Err, length, map, append_assoc, append-nil, arith, if◌then◌else◌}
 use Rattle.std.specs.Prelude.{IsOk, nat_lt}
 use Rattle.std.proofs.lemmas.Bool.Decides.{nat_tests}
 use Rattle.im_types.specs.declared.TheConstants.{LAST}
@@ -27,7 +27,7 @@ use Rattle.im_laws.proofs.GroupLemmas.{same_test, above_zero, one_leaves}
 use Rattle.im_fulls.specs.Groups.{MayPrecede}
 use Rattle.im_fulls.proofs.GroupLemmas.{group-changes}
 use Rattle.im_engine.specs.State.{EngineState}
-use Rattle.im_engine.specs.Groups.{reached_in, group_put, after_group, all_refused, answers_in, GroupAnswered, left_with}
+use Rattle.im_engine.specs.Groups.{reached_in, group_put, all_refused, answers_in, GroupAnswered, left_with}
 use Rattle.im_controller.specs.Lines.{leaves_line, line_of, lines_of}
 use Rattle.im_controller.specs.Log.{LogState, with_unclaimed}
 use Rattle.im_controller.specs.Groups.{is_social, stored_at, are_apart_at, are_together, MayFollow, IsCut, answer_in, with_all_unclaimed, MembersAnswered, places_with, changes_put_all}

@@ -11,11 +11,11 @@ use Rattle.im_types.specs.declared.commands.Call.TheVariants.{Command as Command
 use Rattle.im_types.specs.declared.commands.Line.{Line}
 use Rattle.im_types.specs.declared.refusals.Refusal.{Refusal}
 use Rattle.im_types.specs.Contents.{Contents}
-use Rattle.im_types.specs.Step.{step, is_accepted}
-use Rattle.im_types.specs.Trace.{contents_after, end_of, IsLegal}
+use Rattle.im_types.specs.Step.{is_accepted}
+use Rattle.im_types.specs.Trace.{contents_after, end_of}
 use Rattle.im_types.specs.Changes.{change_by, changes_at, changes_in, changes_of, opening, shown_by}
 use Rattle.im_laws.proofs.Tests.{true_false}
-use Rattle.im_laws.proofs.AcceptLemmas.{unaccepted-leaves, accepted-ok}
+use Rattle.im_laws.proofs.AcceptLemmas.{accepted-ok}
 use Rattle.im_laws.proofs.MemoryLemmas.{step-cell_count}
 use Rattle.im_engine.specs.State.{EngineState}
 use Rattle.im_engine.specs.Run.{Answered}
@@ -23,7 +23,7 @@ use Rattle.im_glass.specs.Panes.{PaneView}
 use Rattle.im_controller.specs.Lines.{Counts, leaves_line, line_of, lines_of, memory_after, counts_after}
 use Rattle.im_controller.specs.Log.{ReceiptState, IsToldOf, plain, receipt_for, with_line}
 use Rattle.im_controller.specs.State.{SharedState}
-use Rattle.im_controller.specs.Lends.{Lends, is_taken, changes_put, shows}
+use Rattle.im_controller.specs.Lends.{Lends, changes_put, shows}
 use Rattle.im_controller.proofs.LendLemmas.{ok-leaves}
 
 pub changes-append : (m : Contents) (earlier later : List Line) → changes_of m (earlier ++ later) ≡ changes_of m earlier ++ changes_of (end_of m earlier) later

@@ -1,4 +1,4 @@
-use Rattle.std.proofs.Common.{◌≡◌, ◌+◌, ◌<◌, ◌≤◌, false, List, refl, ap, arith, sym, subst, ◌∙◌, map, length}
+use Rattle.std.proofs.Common.{◌≡◌, ◌+◌, ◌<◌, ◌≤◌, false, List, refl, ap, sym, subst, ◌∙◌, map, length}
 use Rattle.im_types.specs.declared.commands.Request.{Request}
 use Rattle.im_types.specs.Contents.{Contents}
 use Rattle.im_types.specs.Changes.{shown_by}

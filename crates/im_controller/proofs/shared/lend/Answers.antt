@@ -1,13 +1,11 @@
-use Rattle.std.proofs.Common.{◌≡◌, false, List, ◌++◌, length, refl, inl, sym, ap, ◌∙◌, subst}
-use Rattle.im_types.specs.declared.changes.Change.{Change}
-use Rattle.im_types.specs.Changes.{shown_by}
+use Rattle.std.proofs.Common.{◌≡◌, false, length, refl, inl, sym, ap, ◌∙◌, subst}
 use Rattle.im_types.specs.declared.commands.Call.TheVariants.{Command as Commands}
 use Rattle.im_types.specs.Contents.{Contents}
 use Rattle.im_types.specs.Step.{step}
-use Rattle.im_engine.specs.State.{EngineState, MeansState, MeansEither}
+use Rattle.im_engine.specs.State.{MeansState, MeansEither}
 use Rattle.im_disk.specs.Since.{LeavesNow}
-use Rattle.im_controller.specs.Lines.{lines_of, memory_after}
-use Rattle.im_controller.specs.Lends.{Lends, changes_put, shows}
+use Rattle.im_controller.specs.Lines.{memory_after}
+use Rattle.im_controller.specs.Lends.{Lends}
 use Rattle.im_controller.specs.Log.{LogState, receipt_for}
 use Rattle.im_controller.specs.State.{SharedState}
 use Rattle.im_controller.proofs.LendLemmas.{answered-so, answered-memory}
