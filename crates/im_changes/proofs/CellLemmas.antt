@@ -1,13 +1,13 @@
 -- Cells one after another: those that are waited for, and those that are full.
-use Rattle.std.proofs.Common.{◌≡◌, ℕ, zero, suc, ◌+◌, ◌-◌, ◌<◌, ◌≤◌, List, ◌++◌, sym, ap, ◌∙◌, take, drop, length, append_assoc, append-nil, arith}
+use Rattle.std.proofs.Common.{◌≡◌, ℕ, zero, suc, ◌+◌, ◌-◌, ◌<◌, ◌≤◌, List, ◌++◌, sym, ap, ◌∙◌, take, drop, length, append-nil, arith}
 use Rattle.std.specs.Prelude.{Option, None, Bool, ◌||◌}
 use Rattle.std.specs.List.{list_any}
 use Rattle.std.proofs.Math.Seq.{drop-cons}
 use Rattle.std.proofs.lemmas.List.{drop_all}
 use Rattle.im_types.specs.declared.changes.Change.{Change}
-use Rattle.im_types.specs.Contents.{Held, Contents, held_at, full_in}
+use Rattle.im_types.specs.Contents.{Held, Contents, held_at}
 use Rattle.im_types.specs.Act.{is_waiting_cell}
-use Rattle.im_types.specs.Changes.{fill_at, fills_from, opening}
+use Rattle.im_types.specs.Changes.{fills_from, opening}
 
 abbrev pub waits_in : List (Option Held) → ℕ → ℕ → Bool
 waits_in cells a n = list_any is_waiting_cell (take n (drop a cells))
@@ -21,14 +21,6 @@ waits-step cells a (suc n) within some =
     ap (λ l. list_any is_waiting_cell (take (suc n) l)) (drop-cons cells a None within)
     ∙ ap (λ k. is_waiting_cell (held_at cells a) || waits_in cells k n) next
     ∙ ap (λ k. is_waiting_cell (held_at cells a) || waits_in cells (a + 1) k) less
-
-pub fills-step : (cells : List (Option Held)) (a : ℕ) (xs : List Change) → a < length cells
-    → (xs ++ fill_at a (full_in (held_at cells a))) ++ fills_from (a + 1) (drop (a + 1) cells) ≡ xs ++ fills_from a (drop a cells)
-fills-step cells a xs within =
-    let next : a + 1 ≡ suc a = omega arith in
-    append_assoc xs (fill_at a (full_in (held_at cells a))) (fills_from (a + 1) (drop (a + 1) cells))
-    ∙ ap (λ k. xs ++ (fill_at a (full_in (held_at cells a)) ++ fills_from k (drop k cells))) next
-    ∙ ap (λ l. xs ++ fills_from a l) (sym (drop-cons cells a None within))
 
 -- behind the last cell nothing is left
 pub fills-all : (m : Contents) (xs : List Change) (a : ℕ) → length m.cells ≤ a → xs ++ fills_from a (drop a m.cells) ≡ opening m → xs ≡ opening m

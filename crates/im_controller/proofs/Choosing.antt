@@ -26,53 +26,6 @@ pub record Chooses (m : Contents) (left0 : ℕ) (rs0 : List Request) (p0 : PaneV
   pub many : length roomy + length rs ≡ length rs0
   pub few : length lent ≤ length roomy
 
-pub chooses-start : (m : Contents) (left : ℕ) (rs : List Request) (p : PaneView) (roomy : List Bool) (lent : List Request) → roomy ≡ [] → lent ≡ [] → Chooses m left rs p left rs roomy lent p
-chooses-start m left rs p roomy lent none empty = rw (none, empty) (record {
-  roomless = λ bs is. is;
-  chosen = λ bs. refl;
-  puts = λ qs. refl;
-  pane = refl;
-  many = omega arith;
-  few = omega arith;
-})
-
-module _ (m : Contents) (left0 : ℕ) (rs0 : List Request) (p0 : PaneView) (left : ℕ) (rs : List Request) (roomy : List Bool) (lent : List Request) (p : PaneView) (r : Request) (k : Chooses m left0 rs0 p0 left (r ∷ rs) roomy lent p) where
-  pub chooses-true : (left' : ℕ) (p' : PaneView) → left' ≡ left_with m left r → p' ≡ record p { ahead = p.ahead ++ changes_put m left (Asks r) }
-      → Chooses m left0 rs0 p0 left' rs (roomy ++ true ∷ []) (lent ++ r ∷ []) p'
-  chooses-true left' p' less put =
-      let put_is = changes_put m left (Asks r) in record {
-        roomless = λ bs is. subst (λ (xs : List Bool). AreRoomless m left0 xs rs0) (sym (append_assoc roomy (true ∷ []) bs)) (k.roomless (true ∷ bs) (subst (λ (n : ℕ). AreRoomless m n bs rs) less is));
-        chosen = λ bs. append_assoc lent (r ∷ []) (those bs rs) ∙ k.chosen (true ∷ bs) ∙ ap (λ xs. those xs rs0) (sym (append_assoc roomy (true ∷ []) bs));
-        puts = λ qs.
-            ap (λ (q : PaneView). q.ahead ++ changes_put_all m left' qs) put
-            ∙ ap (λ n. (p.ahead ++ put_is) ++ changes_put_all m n qs) less
-            ∙ append_assoc p.ahead put_is (changes_put_all m (left_with m left r) qs)
-            ∙ k.puts (r ∷ qs)
-            ∙ ap (λ xs. p0.ahead ++ changes_put_all m left0 xs) (sym (append_assoc lent (r ∷ []) qs));
-        pane =
-            put ∙ ap (λ (q : PaneView). record q { ahead = p.ahead ++ put_is }) k.pane
-            ∙ ap (λ xs. record p0 { ahead = xs }) (sym (ap (λ (q : PaneView). q.ahead) put));
-        many = omega (arith, k.many, length-append roomy (true ∷ []));
-        few = omega (arith, k.few, length-append roomy (true ∷ []), length-append lent (r ∷ []));
-      }
-
-  pub chooses-false : (p' : PaneView) → is_taken m left (Asks r) ≡ true → p' ≡ p → Chooses m left0 rs0 p0 left rs (roomy ++ false ∷ []) lent p'
-  chooses-false p' taken same = record {
-    roomless = λ bs is. subst (λ (xs : List Bool). AreRoomless m left0 xs rs0) (sym (append_assoc roomy (false ∷ []) bs)) (k.roomless (false ∷ bs) (taken, is));
-    chosen = λ bs. k.chosen (false ∷ bs) ∙ ap (λ xs. those xs rs0) (sym (append_assoc roomy (false ∷ []) bs));
-    puts = λ qs. ap (λ (q : PaneView). q.ahead ++ changes_put_all m left qs) same ∙ k.puts qs;
-    pane = same ∙ k.pane ∙ ap (λ (q : PaneView). record p0 { ahead = q.ahead }) (sym same);
-    many = omega (arith, k.many, length-append roomy (false ∷ []));
-    few = omega (arith, k.few, length-append roomy (false ∷ []));
-  }
-
--- the same by the place of the next member
-pub chooses-next : (m : Contents) (left0 : ℕ) (rs0 : List Request) (p0 : PaneView) (left : ℕ) (roomy : List Bool) (lent : List Request) (p : PaneView) (i : ℕ) (d : Request) → i < length rs0
-    → Chooses m left0 rs0 p0 left (drop i rs0) roomy lent p → Chooses m left0 rs0 p0 left (get_or rs0 i d ∷ drop (i + 1) rs0) roomy lent p
-chooses-next m left0 rs0 p0 left roomy lent p i d within k =
-    let next : suc i ≡ i + 1 = omega arith in
-    subst (λ (qs : List Request). Chooses m left0 rs0 p0 left qs roomy lent p) (drop-cons rs0 i d within ∙ ap (λ n. get_or rs0 i d ∷ drop n rs0) next) k
-
 -- and at the end
 module _ (m : Contents) (left0 : ℕ) (rs0 : List Request) (p0 : PaneView) (left : ℕ) (roomy : List Bool) (lent : List Request) (p : PaneView) (i : ℕ) (past : length rs0 ≤ i) (k : Chooses m left0 rs0 p0 left (drop i rs0) roomy lent p) where
   pub chosen-roomless : AreRoomless m left0 roomy rs0
