@@ -1,6 +1,6 @@
 //! What a thread does with its port.
 
-use crate::glances::value_at;
+use crate::glances::{CELLS, value_at};
 use im_controller::{Controller, Name, Port};
 use im_disk::Disk;
 use im_types::{Entry, Op, Outcome, Refusal, Reply};
@@ -111,7 +111,10 @@ fn op_of(place: u32, i: u64) -> Op {
 fn op_in(part: Part, i: u64) -> Op {
     match part {
         Part::Mixed(place, _) => op_of(place, i),
-        _ => Op::Store(i as u32, value_at(i as u32)),
+        _ => {
+            let at = (i % u64::from(CELLS)) as u32;
+            Op::Store(at, value_at(at))
+        }
     }
 }
 
