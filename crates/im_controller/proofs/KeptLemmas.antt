@@ -101,8 +101,8 @@ all_put s (r ∷ rs) =
 
 -- ---- what a file means
 
-less_room : (m : Contents) (count room : ℕ) (file : List ℕ) → Means m count room file → Means m count 0 file
-less_room m count room file it = (it.0, omega arith, it.2)
+meant : {D : Type 0} (e : EngineState D) (file : List ℕ) → MeansState e file → Means e.memory e.count 0 file
+meant e file it = (it.0, omega arith, it.2)
 
 longer : (m : Contents) (count : ℕ) (told more : List Command) (file : List ℕ) → MeansSome m count told file → MeansSome m count (told ++ more) file
 longer m count told more file means =
@@ -182,7 +182,7 @@ module _ {D : Type 0} (now : D → Moment) (past : D → List Moment) (failures 
       count = λ living. omega (arith, (far living).1, counted, length-append told cs);
       leaves = subst (λ (l : List Command). Leaves b.now (now f.disk) b.past (past f.disk) (MeansSome m b.count l)) (sym (append-nil (told ++ cs))) leaves_all;
       last = λ file left. inl (all_told m b.count (told ++ cs) f.memory f.count file ((far is).0 ∙ ap (λ n. after n cs) ends ∙ sym (after-append m told cs)) (omega (arith, (far is).1, counted, length-append told cs))
-          (less_room f.memory f.count f.room file (means is file left)));
+          (meant f file (means is file left)));
       rose = λ dead. absurd (true_false (sym dead ∙ is));
       stayed = λ living. stayed living ∙ it.stayed alive;
     }
@@ -200,7 +200,7 @@ module _ {D : Type 0} (now : D → Moment) (past : D → List Moment) (failures 
         accepts = refl;
         count = λ _. omega arith;
         leaves = leaves_start (now e.disk) (past e.disk) (MeansSome m e.count []);
-        last = λ file left. inl (all_told m e.count [] e.memory e.count file same (omega arith) (less_room e.memory e.count e.room file (means file left)));
+        last = λ file left. inl (all_told m e.count [] e.memory e.count file same (omega arith) (meant e file (means file left)));
         rose = λ dead. absurd (true_false (sym dead ∙ alive));
         stayed = λ _. refl;
       })
@@ -212,8 +212,8 @@ module _ {D : Type 0} (now : D → Moment) (past : D → List Moment) (failures 
     none_yet = record { rose = λ dead. absurd (true_false (sym dead ∙ alive)); stayed = λ _. refl }
 
     either : (c : Command) (file : List ℕ) → MeansEither e c file → MeansBoth e (c ∷ []) file
-    either c file (inl image) = inl (less_room e.memory e.count e.room file image)
-    either c file (inr image) = inr (less_room (step e.memory c).contents (e.count + 1) _ file image)
+    either c file (inl image) = inl (meant e file image)
+    either c file (inr image) = inr (meant (with_command e c) file image)
 
     module _ (told : List Command) (it : Has told e) (ends : e.memory ≡ after m told) where
       module _ (c : Command) (a : Result Outcome Refusal) (answered : Answered e c a f) (cause : Faults (λ r. Unit {0}) a (failures e.disk) (failures f.disk))
@@ -260,8 +260,8 @@ module _ {D : Type 0} (now : D → Moment) (past : D → List Moment) (failures 
           let counts = failures_turned failures e e f a answered cause none_yet in
           subst (λ (l : List Command). Has l f) (none_by f.failed)
           (kept_more told [] e f it alive ends refl
-          (leaves_weaker (now e.disk) (now f.disk) (past e.disk) (past f.disk) (MeansState e) (MeansBoth e []) leaves (λ file image. inl (less_room e.memory e.count e.room file image)))
-          (λ file left. inl (less_room e.memory e.count e.room file (last file left))) far means counts.rose counts.stayed)
+          (leaves_weaker (now e.disk) (now f.disk) (past e.disk) (past f.disk) (MeansState e) (MeansBoth e []) leaves (λ file image. inl (meant e file image)))
+          (λ file left. inl (meant e file (last file left))) far means counts.rose counts.stayed)
         where
           far : f.failed ≡ false → (f.memory ≡ e.memory) × (f.count ≡ e.count + 0)
           far living = ⊎_elim
@@ -288,10 +288,10 @@ module _ {D : Type 0} (now : D → Moment) (past : D → List Moment) (failures 
         group_count = puts-counted (reached_in e) rs
 
         group_either : (file : List ℕ) → MeansGroup e rs file → MeansBoth e puts file
-        group_either file (inl image) = inl (less_room e.memory e.count e.room file image)
+        group_either file (inl image) = inl (meant e file image)
         group_either file (inr image) =
             inr (subst (λ (x : Contents). Means x (e.count + length puts) 0 file) group_after
-            (subst (λ (n : ℕ). Means (after_group e rs).memory n 0 file) group_count (less_room (after_group e rs).memory (after_group e rs).count (after_group e rs).room file image)))
+            (subst (λ (n : ℕ). Means (after_group e rs).memory n 0 file) group_count (meant (after_group e rs) file image)))
 
         lines_done : ss ≡ answers_in e rs → accepted_in e.memory (lines_all rs (map answer_in ss)) ≡ puts
         lines_done is =

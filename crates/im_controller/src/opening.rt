@@ -111,7 +111,7 @@ fn make_pane<R: Wait>(rt: &R, alloc: Global, memory: &Memory) -> Result<Unnamed,
     }
 }
 
-/// Makes room for a trace of so many lines, 48 bytes each, for the server, the request and the answer of each element,
+/// Makes room for a trace of so many lines, 88 bytes each, for the server, the request and the answer of each element,
 /// and for the ledgers that count the lines; and shows the full cells on a pane with a reader for each element.
 /// `NoMemory`, with the engine as it was, where `alloc` refuses it.
 pub fn start<D: Disk + Drop, R: Wait>(

@@ -69,8 +69,7 @@ invariant_of-shared g c =
     let e = c.shared.inside.engine in let f = c.serve_members.new.engine in let m = g.K.Name.memory in let trace = c.shared.inside.log.trace in
     let lent = c.choose.new.lent.items in let ss = c.serve_members.new.served.items in
     let same = lines-same e f c.room-room.result rs c.choose.new.roomy.items lent ss xs it c.requires.cut c.requires.apart in
-    let lines = ap (λ (l : LogState). l.trace) log ∙ all-trace c.shared.inside.log rs (map answer_in xs) ∙ ap (λ ls. trace ++ ls) same in
-    (
+    let lines = ap (λ (l : LogState). l.trace) log ∙ all-trace c.shared.inside.log rs (map answer_in xs) ∙ ap (λ ls. trace ++ ls) same in (
       ends,
       pane.shown_is ∙ ap (λ (l : LogState). shown_by g.K.Name.memory l.trace) (sym log),
       pane.cells ∙ c.shared.invariant.2,

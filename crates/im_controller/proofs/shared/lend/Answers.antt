@@ -55,8 +55,7 @@ invariant_of-shared g c =
     c.failed-in-Ok.result c.failed-in-Ok.ensures.failed c.show_put-told.ensures.shown c.show_put-told.ensures.hidden
     c.shared.inside.log.trace c.leave.new.self.trace c.shared.invariant.0 c.shared.invariant.1 (ap (λ (l : LogState). l.trace) c.leave.ensures.log) in
     let alive = sym c.failed.ensures.failed ∙ c.if-failed.false in
-    let e = c.shared.inside.engine in let m = g.K.Name.memory in let trace = c.shared.inside.log.trace in
-    (
+    let e = c.shared.inside.engine in let m = g.K.Name.memory in let trace = c.shared.inside.log.trace in (
       ends,
       shown.ends,
       shown.pane.cells ∙ c.shared.invariant.2,

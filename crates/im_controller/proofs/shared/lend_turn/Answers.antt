@@ -17,8 +17,7 @@ returns-clause-now g c =
 
 pub invariant_of-shared : goal.invariant_of-shared
 invariant_of-shared g c =
-    let e = c.shared.inside.engine in let f = c.turn-done.new.self in let m = g.K.Name.memory in let trace = c.shared.inside.log.trace in
-    (
+    let e = c.shared.inside.engine in let f = c.turn-done.new.self in let m = g.K.Name.memory in let trace = c.shared.inside.log.trace in (
       c.shared.invariant.0 ∙ sym (turned_memory e f c.turn-done.result c.turn-done.ensures.answered),
       c.shared.invariant.1,
       c.shared.invariant.2,
