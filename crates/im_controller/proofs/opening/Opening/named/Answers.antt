@@ -15,8 +15,7 @@ pub invariant_of-shared : goal.invariant_of-shared
 invariant_of-shared g c =
     let i = c.self.invariant in let e = c.self.inside.engine in let m = g.K.Name.memory in
     let begun = ap (λ (o : OpeningState g.row.D.Denot). begun_in g.D.Disk.now g.D.Disk.past g.D.Disk.failures o.engine) c.self.view_is ∙ c.requires.begun in
-    let memory = ap (λ (o : OpeningState g.row.D.Denot). o.engine.memory) c.self.view_is ∙ c.requires.memory in
-    (
+    let memory = ap (λ (o : OpeningState g.row.D.Denot). o.engine.memory) c.self.view_is ∙ c.requires.memory in (
       search rules,
       search rules,
       search rules,
