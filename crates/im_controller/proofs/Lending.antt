@@ -50,7 +50,7 @@ module _ {D : Type 0} (e f : EngineState D) (room : ℕ) (members : List Request
     shows-lent : GroupShows e.memory (lines_all lent (map answer_in ss)) (changes_put_all e.memory (places_with e room) lent) f.failed
     shows-lent = members-shown e f lent ss (subst IsCut (sym it.lent_is) (those-cut roomy members cut)) (subst AreApart (sym it.lent_is) (those-apart roomy members apart)) room it.answered
 
-    lines-same : lines_all members (map answer_in answers) ≡ lines_all lent (map answer_in ss)
+    pub lines-same : lines_all members (map answer_in answers) ≡ lines_all lent (map answer_in ss)
     lines-same =
         ap (λ xs. lines_all members (map answer_in xs)) it.answers_is ∙ spread-lines roomy members ss e.memory (places_with e room) it.roomless whole-lent
         ∙ ap (λ rs. lines_all rs (map answer_in ss)) (sym it.lent_is)

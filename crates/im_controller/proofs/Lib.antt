@@ -9,3 +9,4 @@ pub mod Keeping
 pub mod GroupLemmas
 pub mod Choosing
 pub mod Lending
+pub mod KeptLemmas

@@ -163,7 +163,7 @@ module _ (s : Reached) (m : Contents) (r : Request) (at : changes_at s.contents 
       by_put true = left-next s r
       by_put false = refl
 
-one-end : (s : Reached) (r : Request) → end_of s.contents (lines_of (Commands (Asks r)) (answer_of s r)) ≡ (reached_by_one s r).contents
+pub one-end : (s : Reached) (r : Request) → end_of s.contents (lines_of (Commands (Asks r)) (answer_of s r)) ≡ (reached_by_one s r).contents
 one-end s r = end-lines s.contents [] (Commands (Asks r)) (answer_of s r) ∙ sym (member-after s r)
 
 -- what the members' lines show is what they change by the memory before all of them
@@ -179,7 +179,7 @@ group-lines s m (r ∷ rs) cut apart like =
 
 -- ---- a group
 
-refused-lines : (e : Refusal) → leaves_line (Err e) ≡ false → (rs : List Request) → lines_all rs (map answer_in (all_refused e rs)) ≡ []
+pub refused-lines : (e : Refusal) → leaves_line (Err e) ≡ false → (rs : List Request) → lines_all rs (map answer_in (all_refused e rs)) ≡ []
 refused-lines e lineless [] = refl
 refused-lines e lineless (r ∷ rs) = ap (λ b. (if b then line_of (Commands (Asks r)) (Err e) ∷ [] else []) ++ lines_all rs (map answer_in (all_refused e rs))) lineless ∙ refused-lines e lineless rs
 

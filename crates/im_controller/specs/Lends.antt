@@ -1,5 +1,5 @@
 -- What is done under the lock. (Own.)
-use Rattle.std.specs.Prelude.{◌≡◌, ◌⊎◌, ℕ, ◌<◌, ◌≤◌, ◌++◌, ◌&&◌, Bool, true, false, List, [], ◌∷◌, Result, Ok, Err, length, nat_lt, if◌then◌else◌, ◌==◌}
+use Rattle.std.specs.Prelude.{◌≡◌, ◌⊎◌, ℕ, ◌<◌, ◌≤◌, ◌++◌, ◌&&◌, Bool, true, false, List, [], ◌∷◌, Result, Ok, Err, length, count_by, nat_lt, if◌then◌else◌, ◌==◌}
 use Rattle.im_types.specs.declared.operations.Entry.{Entry}
 use Rattle.im_types.specs.declared.operations.Entry.TheVariants.{Waiting}
 use Rattle.im_types.specs.declared.commands.Command.{Command}
@@ -8,7 +8,7 @@ use Rattle.im_types.specs.declared.commands.Call.{Call}
 use Rattle.im_types.specs.declared.commands.Call.TheVariants.{Command as Commands, Collect}
 use Rattle.im_types.specs.declared.commands.Line.{Line}
 use Rattle.im_types.specs.declared.refusals.Refusal.{Refusal}
-use Rattle.im_types.specs.declared.refusals.Refusal.TheVariants.{JournalFull, Failed, NoMemory, TraceFull, Stalled}
+use Rattle.im_types.specs.declared.refusals.Refusal.TheVariants.{JournalFull, Device, Failed, NoMemory, TraceFull, Stalled}
 use Rattle.im_types.specs.declared.changes.Change.{Change}
 use Rattle.im_types.specs.Contents.{Contents}
 use Rattle.im_types.specs.Step.{is_accepted}
@@ -21,9 +21,10 @@ use Rattle.im_controller.specs.declared.servers.Ask.{Ask}
 use Rattle.im_controller.specs.declared.servers.Ask.TheVariants.{Go, Wait}
 use Rattle.im_controller.specs.declared.servers.Server.{Server}
 use Rattle.im_controller.specs.declared.servers.Server.TheVariants.{Active, Waits}
+use Rattle.im_controller.specs.declared.tellers.Standing.{Standing}
 use Rattle.im_controller.specs.Lines.{Counts, lines_of, counts_after}
 use Rattle.im_controller.specs.Log.{ReceiptState, plain, receipt_for, with_line}
-use Rattle.im_controller.specs.Servers.{entry_at, is_answered, are_stuck, with_server}
+use Rattle.im_controller.specs.Servers.{entry_at, is_answered, is_waiting, are_stuck, with_server}
 use Rattle.im_controller.specs.State.{SharedState}
 
 -- the line of a call, if it leaves one, stands in the log; the servers stay
@@ -77,6 +78,10 @@ abbrev pub told_turn : ℕ → Result TurnDone Refusal → Result TurnDone Refus
 told_turn room (Ok Idle) = if room == 0 then Err JournalFull else Ok Idle
 told_turn room answer = answer
 
+-- why a turn is refused: a call of the disk failed, earlier or now
+abbrev pub IsTurnFault : Refusal → Type 0
+IsTurnFault e = (e ≡ Failed) ⊎ (e ≡ Device)
+
 -- One turn of the engine: the log, the servers and what is shown stay.
 pub record LendsTurn {D : Type 0} (s : SharedState D) (answer : Result TurnDone Refusal) (s' : SharedState D) : Type 0 where
   pub done : Result TurnDone Refusal
@@ -85,6 +90,10 @@ pub record LendsTurn {D : Type 0} (s : SharedState D) (answer : Result TurnDone 
   pub log : s'.log ≡ s.log
   pub servers : s'.servers ≡ s.servers
   pub shown : s'.shown ≡ s.shown
+
+-- how things stand: how many servers wait for an entry, and how many more commands the journal has room for
+abbrev pub standing_in : {D : Type 0} → SharedState D → Standing
+standing_in s = record { waits = count_by is_waiting s.servers; room = s.engine.room }
 
 -- what lies under the lock, and an element's server, if it is active, does something else
 abbrev pub with_server_at : {D : Type 0} → SharedState D → ℕ → Server → SharedState D

@@ -5,3 +5,4 @@ pub mod State
 pub mod Lends
 pub mod Waits
 pub mod Groups
+pub mod Kept

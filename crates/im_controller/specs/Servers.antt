@@ -27,6 +27,13 @@ is_active (Some Unmade) = false
 is_active (Some Retired) = false
 is_active None = false
 
+-- whether a server waits for an entry
+abbrev pub is_waiting : Server → Bool
+is_waiting Unmade = false
+is_waiting Active = false
+is_waiting (Waits number) = true
+is_waiting Retired = false
+
 -- whether a server, if it is active, waits for an entry that isn't answered
 abbrev pub is_stuck : Contents → ℕ → Server → Bool
 is_stuck m element Unmade = true

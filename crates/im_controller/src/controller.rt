@@ -8,6 +8,7 @@ ghost use Rattle.im_types.specs.declared.commands.Call.TheVariants.{Command as C
 ghost use Rattle.im_controller.specs.Lines.{EndsIn, line_of, lines_of, counts_after};
 ghost use Rattle.im_controller.specs.Log.{plain};
 ghost use Rattle.im_controller.specs.Groups.{Holds};
+ghost use Rattle.im_controller.specs.Lends.{IsTurnFault};
 
 use crate::bell::Bell;
 use crate::books::Tally;
@@ -17,8 +18,10 @@ use crate::name::{Name, Shown};
 use crate::ports::Port;
 use crate::receipts::Receipt;
 use crate::shared::{
-    Kept, Shared, Sleepers, keep_once, lend, make_glance, make_server, mark_ended, who_sleeps,
+    Kept, Shared, Sleepers, keep_once, lend, make_glance, make_server, mark_ended, stands_for,
+    who_sleeps,
 };
+use crate::tellers::{Silent, Teller};
 use crate::turns::Turns;
 use im_disk::Disk;
 use im_glass::Glance;
@@ -101,27 +104,47 @@ impl<D: Disk, K: Name> Controller<D, K> {
     /// nothing to do, until the controller ends. While the journal has less room than there are elements it keeps its
     /// place at the head of the queue, so that groups don't shrink to what one turn makes free. `Device` where a call
     /// of the disk failed in its turn, and `Failed` where an earlier one did.
-    pub fn keep_checkpoints<R: Wait>(&self, rt: &R) -> Result<(), Refusal> {
+    pub fn keep_checkpoints<R: Wait>(&self, rt: &R) -> Result<(), Refusal>
+        ensures only { IfErr result IsTurnFault }
+    {
+        self.keep_checkpoints_and_tell(rt, &mut Silent)
+    }
+
+    /// The same, and tells how things stand after each turn before which the teller listened, but for turns after which
+    /// the keeper keeps its place.
+    pub fn keep_checkpoints_and_tell<T: Teller, R: Wait>(
+        &self,
+        rt: &R,
+        teller: &mut T,
+    ) -> Result<(), Refusal>
+        ensures only { IfErr result IsTurnFault }
+    {
+        let mut listens = teller.listens();
         let mut turn = self.turns.wait(rt, self.keeper);
         for _ in rt.forever() {
             let mut guard = self.shared.lock(rt);
             let kept = keep_once(&mut *guard);
+            let standing = stands_for(&*guard, listens);
             // Read before the lock is let go: whoever changes something after this rings later.
             let seen = self.work.read(rt);
             let _lock = MutexGuard::unlock(guard);
-            if matches!(kept, Kept::Pressed) {
+            if matches!(kept, Ok(Kept::Pressed)) {
                 continue;
             }
             self.turns.pass_on(rt, turn);
+            if let Some(standing) = standing {
+                teller.tell(standing);
+            }
             match kept {
-                Kept::Ended => return Ok(()),
-                Kept::Refused(refusal) => {
+                Ok(Kept::Ended) => return Ok(()),
+                Ok(Kept::Worked) | Ok(Kept::Pressed) => {}
+                Ok(Kept::Idle) => self.work.wait_past(rt, seen),
+                Err(refusal) => {
                     self.answers.ring(rt);
                     return Err(refusal);
                 }
-                Kept::Worked | Kept::Pressed => {}
-                Kept::Idle => self.work.wait_past(rt, seen),
             }
+            listens = teller.listens();
             turn = self.turns.wait(rt, self.keeper);
         }
         unreachable!()

@@ -1,6 +1,7 @@
 //! The end of a controller.
-ghost use Rattle.std.specs.Prelude.{◌≡◌, ◌≤◌, ◌+◌, IsTrue, length, sum_by, count_by};
+ghost use Rattle.std.specs.Prelude.{◌≡◌, ◌≤◌, ◌+◌, false, IsTrue, length, sum_by, count_by};
 ghost use Rattle.im_types.specs.Trace.{IsLegal, end_of};
+ghost use Rattle.im_controller.specs.Kept.{HasKept, accepted_in};
 
 use crate::books::{Books, Reserve, Tally};
 use crate::controller::Controller;
@@ -31,6 +32,10 @@ pub struct Finished<D: Disk> {
 /// then on. The trace is legal from the memory that was opened, and ends in the engine's memory. Where all ports came
 /// and no answer waits, the trace has each line as often as a port was given that answer to that call: K's marks may be
 /// any.
+///
+/// Each file that a crash has left since the trace began means the memory that was opened after a beginning of the
+/// trace's accepted commands; and each that it may leave now, after all of them. Where a call of the disk has failed,
+/// the commands that it left in doubt may be there too, all of them or none.
 pub fn finish<D: Disk, K: Name, R: Wait>(
     rt: &R,
     controller: Controller<D, K>,
@@ -38,6 +43,9 @@ pub fn finish<D: Disk, K: Name, R: Wait>(
 ) -> Finished<D>
     ensures legal { IsLegal K.memory result.trace.items }
     ensures end { end_of K.memory result.trace.items ≡ result.engine.memory }
+    ensures kept { D.honest result.engine.disk → K.begun.failed ≡ false
+        → HasKept D.now D.past D.failures K.begun K.memory (accepted_in K.memory result.trace.items) result.engine }
+    ensures honest { D.honest result.engine.disk → K.honest }
     ensures whole { length ports.items ≡ K.ports → IsTrue result.came }
     ensures lines { IsTrue result.came → IsTrue result.claimed
         → length result.trace.items ≡ sum_by (λ p. p.told.lines) ports.items }

@@ -19,6 +19,7 @@ mod ports;
 mod receipts;
 mod servers;
 mod shared;
+mod tellers;
 mod turns;
 
 pub use books::Tally;
@@ -30,4 +31,5 @@ pub use opening::{Opening, start};
 pub use ports::Port;
 pub use receipts::{Found, Receipt};
 pub use servers::{Ask, Server, stuck_is_each};
-pub use shared::{Shared, begin_wait, lend, lend_turn, look};
+pub use shared::{Shared, begin_wait, lend, lend_turn, look, stands};
+pub use tellers::{Silent, Standing, Teller};

@@ -10,6 +10,7 @@ pub trait Name {
     ghost use Rattle.im_types.specs.declared.commands.Line.{Line};
     ghost use Rattle.im_types.specs.Contents.{Contents};
     ghost use Rattle.logbook.specs.Pages.{Book};
+    ghost use Rattle.im_controller.specs.Kept.{Begun};
 
     /// The memory that the trace begins with.
     ghost memory: { Contents };
@@ -28,6 +29,12 @@ pub trait Name {
 
     /// The book of what is shown.
     ghost book: { Book };
+
+    /// What was known of the engine when the trace began.
+    ghost begun: { Begun };
+
+    /// That its disk was honest then.
+    ghost honest: { Type 0 };
 }
 
 impl Name for Brand {
@@ -44,6 +51,16 @@ impl Name for Brand {
     ghost ports = { 0 };
 
     ghost book = { record { number = 0; log_name = 0; cells_name = 0 } };
+
+    ghost begun = { record {
+      now = record { bytes = []; ranges = [] };
+      past = [];
+      failures = 0;
+      count = 0;
+      failed = false;
+    } };
+
+    ghost honest = { Unit {0} };
 }
 
 /// The ledger of all lines.

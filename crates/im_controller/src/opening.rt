@@ -3,6 +3,7 @@ ghost use Rattle.std.specs.Prelude.{◌≡◌, ◌≤◌, ◌<◌, [], IfOk, IfE
 ghost use Rattle.im_types.specs.declared.refusals.Refusal.TheVariants.{NoMemory};
 ghost use Rattle.im_types.specs.Changes.{opening};
 ghost use Rattle.im_controller.specs.Log.{AreFree};
+ghost use Rattle.im_controller.specs.Kept.{begun_in};
 
 use crate::books::{Books, Reserve};
 use crate::controller::Controller;
@@ -110,7 +111,7 @@ fn make_pane<R: Wait>(rt: &R, alloc: Global, memory: &Memory) -> Result<Unnamed,
     }
 }
 
-/// Makes room for a trace of so many lines, 48 bytes each, for the server, the request and the answer of each element,
+/// Makes room for a trace of so many lines, 88 bytes each, for the server, the request and the answer of each element,
 /// and for the ledgers that count the lines; and shows the full cells on a pane with a reader for each element.
 /// `NoMemory`, with the engine as it was, where `alloc` refuses it.
 pub fn start<D: Disk + Drop, R: Wait>(
@@ -148,6 +149,8 @@ impl<D: Disk> Opening<D> {
         requires marked { self.marked_name ≡ K.marked_name }
         requires ports { self.ports ≡ K.ports }
         requires book { self.book ≡ K.book }
+        requires begun { begun_in D.now D.past D.failures self.engine ≡ K.begun }
+        requires honest { D.honest self.engine.disk → K.honest }
     {
         let Opening {
             engine,
@@ -177,6 +180,8 @@ impl<D: Disk> Opening<D> {
             },
             places,
         };
+        // So that it is known what the files left at the start mean.
+        let _failed = engine.failed();
         let reserve = Reserve {
             lines,
             marked,

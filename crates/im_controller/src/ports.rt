@@ -1,11 +1,13 @@
 //! Ports: one element's way to the lock.
-ghost use Rattle.std.specs.Prelude.{◌≡◌, Ok, IfOk};
+ghost use Rattle.std.specs.Prelude.{◌≡◌, ◌⊎◌, Ok, IfOk, IfErr};
 ghost use Rattle.im_types.specs.declared.commands.Call.TheVariants.{Command as Commands, Collect};
 ghost use Rattle.im_types.specs.declared.commands.Command.TheVariants.{Request as Asks, Confirm};
 ghost use Rattle.im_types.specs.declared.commands.Outcome.TheVariants.{Entry as Tells};
+ghost use Rattle.im_types.specs.declared.refusals.Refusal.TheVariants.{JournalFull};
 ghost use Rattle.im_types.specs.Trace.{IsLegal, told};
 ghost use Rattle.im_controller.specs.Lines.{EndsIn, line_of, lines_of, counts_after};
 ghost use Rattle.im_controller.specs.Log.{plain};
+ghost use Rattle.im_controller.specs.Lends.{IsTurnFault};
 ghost use Rattle.im_controller.specs.Waits.{entry_of, IsFoundOf, IsAwaited};
 
 use crate::books::Tally;
@@ -160,6 +162,7 @@ impl<K: Name> Port<K> {
         controller: &Controller<D, K>,
     ) -> Result<TurnDone, Refusal>
         ensures same { self.new ≡ self.old }
+        ensures only { IfErr result (λ e. IsTurnFault e ⊎ (e ≡ JournalFull)) }
     {
         let turn = controller.turns.wait(rt, self.element as usize);
         let mut guard = controller.shared.lock(rt);

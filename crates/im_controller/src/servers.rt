@@ -1,7 +1,7 @@
 //! The servers of the elements, and which of them wait.
-ghost use Rattle.std.specs.Prelude.{◌≡◌, ◌↔◌, ◌≤◌, ◌||◌, ◌==◌, ℕ, List, true, length, IfOk};
+ghost use Rattle.std.specs.Prelude.{◌≡◌, ◌↔◌, ◌≤◌, ◌||◌, ◌==◌, ℕ, List, true, length, count_by, if◌then◌else◌, IfOk};
 ghost use Rattle.im_types.specs.Contents.{Contents};
-ghost use Rattle.im_controller.specs.Servers.{is_stuck, are_stuck, with_server, Makes, AllStuckBut};
+ghost use Rattle.im_controller.specs.Servers.{is_waiting, is_stuck, are_stuck, with_server, Makes, AllStuckBut};
 
 use im_memory::Memory;
 use im_types::Entry;
@@ -45,6 +45,30 @@ impl Model for Servers {
     ghost view = { λ s. s.all.items };
 
     ghost invariant = { λ s. length s.all.items ≤ 65536 };
+}
+
+// One for a server that waits for an entry.
+fn one_waiting(server: Server) -> u32
+    ensures { result ≡ (if is_waiting server then 1 else 0) }
+{
+    match server {
+        Server::Waits(_) => 1,
+        Server::Unmade => 0,
+        Server::Active => 0,
+        Server::Retired => 0,
+    }
+}
+
+// How many of them wait for an entry.
+fn count_waiting(servers: &[Server]) -> u32
+    requires { length servers.now ≤ 65536 }
+    ensures { result ≡ count_by is_waiting servers.now }
+{
+    let mut waits = 0;
+    for i in 0..servers.len() {
+        waits += one_waiting(servers[i]);
+    }
+    waits
 }
 
 // Whether a server, if it is active, waits for an entry that isn't answered.
@@ -133,6 +157,13 @@ impl Servers {
         ensures { result ≡ are_stuck memory.now.contents caller 0 self.now }
     {
         are_stuck(memory, caller, self.all.as_slice())
+    }
+
+    // How many of them wait.
+    pub(crate) fn waiting(&self) -> u32
+        ensures { result ≡ count_by is_waiting self.now }
+    {
+        count_waiting(self.all.as_slice())
     }
 
     // Whether one of them waits.

@@ -1,16 +1,17 @@
 //! What lies under the lock, and what is done there.
-ghost use Rattle.std.specs.Prelude.{◌≡◌, ◌<◌, true, false, length, Ok, Err, IfOk, IfSome};
+ghost use Rattle.std.specs.Prelude.{◌≡◌, ◌⊎◌, ◌<◌, true, false, length, Ok, Err, IfOk, IfErr, IfSome, IsErrOf};
 ghost use mathlib.Core.List.{IsPrefix};
 ghost use Rattle.im_types.specs.Trace.{IsLegal, told};
 ghost use Rattle.im_types.specs.Changes.{opening};
 ghost use Rattle.im_types.specs.declared.commands.Call.TheVariants.{Collect};
 ghost use Rattle.im_types.specs.declared.commands.Outcome.TheVariants.{Entry as Tells};
+ghost use Rattle.im_types.specs.declared.refusals.Refusal.TheVariants.{JournalFull};
 ghost use Rattle.im_disk.specs.Moment.{Faults};
 ghost use Rattle.im_disk.specs.Since.{LeavesWithin, LeavesNow, CallsAtMost, CallsBy};
 ghost use Rattle.im_engine.specs.Run.{calls_for};
 ghost use Rattle.im_engine.specs.State.{MeansState, MeansEither};
 ghost use Rattle.im_controller.specs.Lines.{EndsIn, line_of};
-ghost use Rattle.im_controller.specs.Lends.{Lends, Looks, LendsTurn, BeginsWait, told_turn, with_server_at};
+ghost use Rattle.im_controller.specs.Lends.{Lends, Looks, LendsTurn, IsTurnFault, BeginsWait, told_turn, standing_in, with_server_at};
 ghost use Rattle.im_controller.specs.Waits.{Awaits, IsTold, IsFoundOf, entry_of};
 
 use crate::books::{Reserve, Tally};
@@ -19,6 +20,7 @@ use crate::name::{Name, Shown};
 use crate::panes::{put_ahead, show_put};
 use crate::receipts::{Found, Receipt};
 use crate::servers::{Ask, Server, Servers};
+use crate::tellers::Standing;
 use im_checkpoint::TurnDone;
 use im_disk::Disk;
 use im_engine::Engine;
@@ -32,7 +34,9 @@ use std::sync::Wait;
 /// cells.
 ///
 /// The trace is legal from the memory that was opened, and its end is the engine's memory. What is shown is the full
-/// cells of the memory that was opened, and then the changes of the trace.
+/// cells of the memory that was opened, and then the changes of the trace. Each file that a crash has left since then
+/// means the memory that was opened after a beginning of the trace's accepted commands, and of those that are in doubt
+/// where a call of the disk has failed; and each that it may leave now has all those of the trace.
 pub struct Shared<D: Disk, K: Name> {
     pub(crate) engine: Engine<D>,
     pub(crate) log: Log<K>,
@@ -49,6 +53,7 @@ impl<D: Disk, K: Name> Model for Shared<D, K> {
     ghost use Rattle.im_types.specs.Trace.{end_of};
     ghost use Rattle.im_types.specs.Changes.{shown_by};
     ghost use Rattle.im_controller.specs.State.{SharedState};
+    ghost use Rattle.im_controller.specs.Kept.{HasKept, accepted_in};
 
     ghost Value = { SharedState D };
 
@@ -62,7 +67,10 @@ impl<D: Disk, K: Name> Model for Shared<D, K> {
     ghost invariant = { λ s. (end_of K.memory s.log.trace ≡ s.engine.memory)
         × (s.pane.shown ≡ shown_by K.memory s.log.trace)
         × (s.pane.cells ≡ length K.memory.cells)
-        × (s.engine.failed ≡ false → s.pane.ahead ≡ []) };
+        × (s.engine.failed ≡ false → s.pane.ahead ≡ [])
+        × (D.honest s.engine.disk → K.honest)
+        × (D.honest s.engine.disk → K.begun.failed ≡ false
+        → HasKept D.now D.past D.failures K.begun K.memory (accepted_in K.memory s.log.trace) s.engine) };
 }
 
 /// Lends the engine to a command, for the port whose tally this is: its line is left in the trace and counted where it
@@ -172,6 +180,8 @@ fn told_turn(room: u32, done: Result<TurnDone, Refusal>) -> Result<TurnDone, Ref
 /// there is nothing to do though the journal has no room.
 pub fn lend_turn<D: Disk, K: Name>(shared: &mut Shared<D, K>) -> Result<TurnDone, Refusal>
     ensures lends { LendsTurn shared.old result shared.new }
+    ensures only { IfErr result (λ e. IsTurnFault e ⊎ (e ≡ JournalFull)) }
+    ensures full { IsErrOf result JournalFull → (shared.new.engine.room ≡ 0) × (shared.new.engine.failed ≡ false) }
     // What the disk is left with, as by the engine alone.
     ensures few { D.honest shared.new.engine.disk
         → CallsAtMost D.past shared.old.engine.disk shared.new.engine.disk 4 }
@@ -265,6 +275,27 @@ pub(crate) fn ask_once<D: Disk, K: Name>(
     }
 }
 
+/// How things stand.
+pub fn stands<D: Disk, K: Name>(shared: &Shared<D, K>) -> Standing
+    ensures stands { result ≡ standing_in shared.now }
+{
+    Standing {
+        waits: shared.servers.waiting(),
+        room: shared.engine.room(),
+    }
+}
+
+// The same for whoever listens.
+pub(crate) fn stands_for<D: Disk, K: Name>(
+    shared: &Shared<D, K>,
+    listens: bool,
+) -> Option<Standing> {
+    if !listens {
+        return None;
+    }
+    Some(stands(shared))
+}
+
 // What the checkpointing thread comes to in one holding of the lock.
 #[derive(Clone, Copy)]
 pub(crate) enum Kept {
@@ -272,27 +303,36 @@ pub(crate) enum Kept {
     Worked,
     Pressed, // It worked, and more has to be made free before all elements are served.
     Idle,
-    Refused(Refusal),
 }
 
 // One holding of the lock by the checkpointing thread: one turn, unless the controller has ended.
-pub(crate) fn keep_once<D: Disk, K: Name>(shared: &mut Shared<D, K>) -> Kept {
+pub(crate) fn keep_once<D: Disk, K: Name>(shared: &mut Shared<D, K>) -> Result<Kept, Refusal>
+    ensures { IfErr result IsTurnFault }
+{
     if shared.ended {
-        return Kept::Ended;
+        return Ok(Kept::Ended);
     }
     match lend_turn(shared) {
-        Ok(TurnDone::Idle) | Err(Refusal::JournalFull) => {
-            shared.idle = true; // Whoever lends next wakes it.
-            Kept::Idle
-        }
+        Ok(TurnDone::Idle) => Ok(fall_asleep(shared)),
         Ok(_) => {
             if shared.engine.room() < shared.log.elements() as u32 {
-                return Kept::Pressed;
+                return Ok(Kept::Pressed);
             }
-            Kept::Worked
+            Ok(Kept::Worked)
         }
-        Err(refusal) => Kept::Refused(refusal),
+        Err(refusal) => {
+            if refusal == Refusal::JournalFull {
+                return Ok(fall_asleep(shared)); // Only a command makes it work again.
+            }
+            Err(refusal)
+        }
     }
+}
+
+// There is nothing to do: whoever lends next wakes the checkpointing thread.
+fn fall_asleep<D: Disk, K: Name>(shared: &mut Shared<D, K>) -> Kept {
+    shared.idle = true;
+    Kept::Idle
 }
 
 // Ends the loops that keep checkpoints.

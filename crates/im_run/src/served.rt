@@ -2,6 +2,7 @@
 ghost use Rattle.std.specs.Prelude.{◌≡◌};
 ghost use Rattle.im_types.specs.Trace.{IsLegal, end_of};
 ghost use Rattle.im_types.specs.declared.commands.Line.{Line};
+ghost use Rattle.im_controller.specs.Kept.{begun_in};
 ghost use Rattle.im_run.specs.Running.{Follows};
 
 use crate::orders::Order;
@@ -148,6 +149,8 @@ pub fn serve_orders<
     requires marked { opening.marked_name ≡ K.marked_name }
     requires ports { opening.ports ≡ K.ports }
     requires book { opening.book ≡ K.book }
+    requires begun { begun_in D.now D.past D.failures opening.engine ≡ K.begun }
+    requires honest { D.honest opening.engine.disk → K.honest }
     ensures follows { Follows K.memory result.engine.memory }
 {
     let controller = opening.named::<K>();

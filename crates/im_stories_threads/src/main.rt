@@ -4,6 +4,7 @@
 #![tactic(auto)]
 
 ghost use Rattle.std.specs.Prelude.{◌≡◌};
+ghost use Rattle.im_controller.specs.Kept.{begun_in};
 
 mod crews;
 mod glances;
@@ -14,7 +15,7 @@ mod traces;
 use crate::scenes::{Scene, show};
 use anyhow::{Result, anyhow};
 use im_controller::{Name, Opening, start};
-use im_disk::{FuseDisk, MemDisk, Mode};
+use im_disk::{Disk, FuseDisk, MemDisk, Mode};
 use im_engine::Engine;
 use im_types::layout::image_length;
 use im_types::{LAST, Limits};
@@ -54,6 +55,9 @@ fn show_named<K: Name + Send + Sync, R: Threads + Wait + Sync>(
     requires marked { opening.marked_name ≡ K.marked_name }
     requires ports { opening.ports ≡ K.ports }
     requires book { opening.book ≡ K.book }
+    requires begun { begun_in ⟦<FuseDisk as Disk>⟧.now ⟦<FuseDisk as Disk>⟧.past ⟦<FuseDisk as Disk>⟧.failures
+        opening.engine ≡ K.begun }
+    requires honest { ⟦<FuseDisk as Disk>⟧.honest opening.engine.disk → K.honest }
 {
     show(rt, alloc, scene, limits, opening.named::<K>(), said)
 }

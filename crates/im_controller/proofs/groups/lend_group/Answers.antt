@@ -1,4 +1,4 @@
-use Rattle.std.proofs.Common.{◌≡◌, ◌+◌, ◌<◌, ◌≤◌, false, List, refl, ap, sym, subst, ◌∙◌, map, length}
+use Rattle.std.proofs.Common.{◌≡◌, ◌+◌, ◌++◌, ◌<◌, ◌≤◌, false, List, refl, ap, sym, subst, ◌∙◌, map, length}
 use Rattle.im_types.specs.declared.commands.Request.{Request}
 use Rattle.im_types.specs.Contents.{Contents}
 use Rattle.im_types.specs.Changes.{shown_by}
@@ -7,9 +7,12 @@ use Rattle.im_engine.specs.Groups.{MeansGroup, calls_for_group, group_put}
 use Rattle.im_controller.specs.Log.{LogState}
 use Rattle.im_controller.specs.State.{SharedState}
 use Rattle.im_controller.specs.Groups.{answer_in, those, with_all_unclaimed, AreAnswersTo, memory_after_all, AreFreeFor, LendsGroup}
+use Rattle.im_controller.specs.Kept.{accepted_in}
 use Rattle.im_controller.proofs.ShownLemmas.{end-cells}
+use Rattle.im_controller.proofs.PutLemmas.{lines_all, all-trace}
+use Rattle.im_controller.proofs.KeptLemmas.{accepted-after, kept_on, kept_members}
 use Rattle.im_controller.proofs.Choosing.{those-apart}
-use Rattle.im_controller.proofs.Lending.{group-is, group-fits, group-room, group-pane, lends-group}
+use Rattle.im_controller.proofs.Lending.{group-is, group-fits, group-room, group-pane, lines-same, lends-group}
 use Rattle.im_controller.proofs.groups.lend_group.Goals as goal
 
 pub choose-requires : goal.choose-requires
@@ -63,7 +66,21 @@ invariant_of-shared g c =
     let log = c.keep_all.ensures.log ∙ ap (λ rs. with_all_unclaimed c.shared.inside.log rs (map answer_in c.as_slice-5.result.now)) c.as_slice-4.ensures.value
     ∙ ap (λ xs. with_all_unclaimed c.shared.inside.log c.args.members.now.items (map answer_in xs)) c.as_slice-5.ensures.value in
     let ends = c.keep_all.ensures.end ∙ rw (c.as_slice-4.ensures.value, c.as_slice-5.ensures.value) (ap (λ m. memory_after_all m rs (map answer_in xs)) c.shared.invariant.0 ∙ fits.ends) in
-    (ends, pane.shown_is ∙ ap (λ (l : LogState). shown_by g.K.Name.memory l.trace) (sym log), pane.cells ∙ c.shared.invariant.2, pane.ahead)
+    let e = c.shared.inside.engine in let f = c.serve_members.new.engine in let m = g.K.Name.memory in let trace = c.shared.inside.log.trace in
+    let lent = c.choose.new.lent.items in let ss = c.serve_members.new.served.items in
+    let same = lines-same e f c.room-room.result rs c.choose.new.roomy.items lent ss xs it c.requires.cut c.requires.apart in
+    let lines = ap (λ (l : LogState). l.trace) log ∙ all-trace c.shared.inside.log rs (map answer_in xs) ∙ ap (λ ls. trace ++ ls) same in (
+      ends,
+      pane.shown_is ∙ ap (λ (l : LogState). shown_by g.K.Name.memory l.trace) (sym log),
+      pane.cells ∙ c.shared.invariant.2,
+      pane.ahead,
+      (λ honest. c.shared.invariant.4 (c.serve_members.ensures.honest honest)),
+      (λ honest began.
+          kept_on g.D.Disk.now g.D.Disk.past g.D.Disk.failures g.K.Name.begun m e f trace c.keep_all.new.log.trace (lines_all lent (map answer_in ss)) lines c.shared.invariant.0
+          (kept_members g.D.Disk.now g.D.Disk.past g.D.Disk.failures g.K.Name.begun m e f (accepted_in m trace) (c.shared.invariant.5 (c.serve_members.ensures.honest honest) began)
+          (sym (accepted-after m trace ∙ c.shared.invariant.0)) lent ss c.serve_members.ensures.faults (c.serve_members.ensures.leaves honest) (c.serve_members.ensures.doubt honest) (c.serve_members.ensures.means honest)
+          c.room-room.result c.serve_members.ensures.answered)),
+    )
 
 pub returns-clause-lends : goal.returns-clause-lends
 returns-clause-lends g c =

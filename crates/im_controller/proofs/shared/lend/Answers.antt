@@ -8,8 +8,10 @@ use Rattle.im_controller.specs.Lines.{memory_after}
 use Rattle.im_controller.specs.Lends.{Lends}
 use Rattle.im_controller.specs.Log.{LogState, receipt_for}
 use Rattle.im_controller.specs.State.{SharedState}
+use Rattle.im_controller.specs.Kept.{accepted_in}
 use Rattle.im_controller.proofs.LendLemmas.{answered-so, answered-memory}
 use Rattle.im_controller.proofs.ShownLemmas.{lend-shown, end-cells, told-all, lends-served, some_room}
+use Rattle.im_controller.proofs.KeptLemmas.{accepted-after, kept_on, kept_lent}
 use Rattle.im_controller.proofs.shared.lend.Goals as goal
 
 pub returns-then-room-eq0-clause-doubt : goal.returns-then-room-eq0-clause-doubt
@@ -52,7 +54,20 @@ invariant_of-shared g c =
     c.shared.inside.pane c.put_ahead.new.pane c.show_put-told.new.pane (c.shared.invariant.3 (sym c.failed.ensures.failed ∙ c.if-failed.false)) c.in-Ok.ensures.ahead
     c.failed-in-Ok.result c.failed-in-Ok.ensures.failed c.show_put-told.ensures.shown c.show_put-told.ensures.hidden
     c.shared.inside.log.trace c.leave.new.self.trace c.shared.invariant.0 c.shared.invariant.1 (ap (λ (l : LogState). l.trace) c.leave.ensures.log) in
-    (ends, shown.ends, shown.pane.cells ∙ c.shared.invariant.2, λ living. shown.pane.ahead (c.failed-in-Ok.ensures.failed ∙ living))
+    let alive = sym c.failed.ensures.failed ∙ c.if-failed.false in
+    let e = c.shared.inside.engine in let m = g.K.Name.memory in let trace = c.shared.inside.log.trace in (
+      ends,
+      shown.ends,
+      shown.pane.cells ∙ c.shared.invariant.2,
+      (λ living. shown.pane.ahead (c.failed-in-Ok.ensures.failed ∙ living)),
+      (λ honest. c.shared.invariant.4 (c.serve-answer.ensures.honest honest)),
+      (λ honest began.
+          kept_on g.D.Disk.now g.D.Disk.past g.D.Disk.failures g.K.Name.begun m e c.serve-answer.new.self trace c.leave.new.self.trace _ (ap (λ (l : LogState). l.trace) c.leave.ensures.log) c.shared.invariant.0
+          (kept_lent g.D.Disk.now g.D.Disk.past g.D.Disk.failures g.K.Name.begun m e c.serve-answer.new.self alive (accepted_in m trace)
+          (c.shared.invariant.5 (c.serve-answer.ensures.honest honest) began) (sym (accepted-after m trace ∙ c.shared.invariant.0))
+          c.args.command.now c.serve-answer.result c.serve-answer.ensures.answered c.serve-answer.ensures.faults
+          (c.serve-answer.ensures.leaves honest alive) (c.serve-answer.ensures.doubt honest alive) (c.serve-answer.ensures.means honest))),
+    )
 
 pub returns-in-Ok-clause-lends : goal.returns-in-Ok-clause-lends
 returns-in-Ok-clause-lends g c =

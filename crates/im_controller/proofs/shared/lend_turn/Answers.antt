@@ -1,9 +1,41 @@
-use Rattle.std.proofs.Common.{◌≡◌, false, subst}
+use Rattle.std.proofs.Common.{◌≡◌, ◌⊎◌, ◌∙◌, false, ap, subst, sym, Result, Err}
+use Rattle.std.specs.Prelude.{IfErr}
 use Rattle.im_disk.specs.Since.{LeavesNow}
 use Rattle.im_engine.specs.State.{MeansState}
+use Rattle.im_checkpoint.specs.declared.checkpoint.TurnDone.{TurnDone}
+use Rattle.im_types.specs.declared.refusals.Refusal.{Refusal}
+use Rattle.im_types.specs.declared.refusals.Refusal.TheVariants.{JournalFull}
+use Rattle.im_controller.specs.Lends.{IsTurnFault, told_turn}
+use Rattle.im_controller.specs.Kept.{accepted_in}
 use Rattle.im_controller.specs.State.{SharedState}
+use Rattle.im_controller.proofs.KeptLemmas.{accepted-after, kept_turn, turned_memory, turned_alive, turn-only, turn-full}
 use Rattle.im_controller.proofs.shared.lend_turn.Goals as goal
 
 pub returns-clause-now : goal.returns-clause-now
 returns-clause-now g c =
     subst (λ (s : SharedState g.row.D.Denot). g.D.Disk.honest c.turn-done.new.self.disk → s.engine.failed ≡ false → LeavesNow (g.D.Disk.now c.turn-done.new.self.disk) (MeansState s.engine)) c.shared.view_is c.turn-done.ensures.now
+
+pub invariant_of-shared : goal.invariant_of-shared
+invariant_of-shared g c =
+    let e = c.shared.inside.engine in let f = c.turn-done.new.self in let m = g.K.Name.memory in let trace = c.shared.inside.log.trace in (
+      c.shared.invariant.0 ∙ sym (turned_memory e f c.turn-done.result c.turn-done.ensures.answered),
+      c.shared.invariant.1,
+      c.shared.invariant.2,
+      (λ living. c.shared.invariant.3 (turned_alive e f c.turn-done.result c.turn-done.ensures.answered living)),
+      (λ honest. c.shared.invariant.4 (c.turn-done.ensures.honest honest)),
+      (λ honest began.
+          kept_turn g.D.Disk.now g.D.Disk.past g.D.Disk.failures g.K.Name.begun m e f (accepted_in m trace) (c.shared.invariant.5 (c.turn-done.ensures.honest honest) began)
+          (sym (accepted-after m trace ∙ c.shared.invariant.0)) c.turn-done.result c.turn-done.ensures.answered c.turn-done.ensures.faults
+          (c.turn-done.ensures.leaves honest) (c.turn-done.ensures.now honest) (c.turn-done.ensures.means honest)),
+    )
+
+pub returns-clause-only : goal.returns-clause-only
+returns-clause-only g c =
+    let is = c.told_turn.ensures ∙ ap (λ n. told_turn n c.turn-done.result) c.room.ensures in
+    subst (λ (a : Result TurnDone Refusal). IfErr a (λ r. IsTurnFault r ⊎ (r ≡ JournalFull))) (sym is)
+    (turn-only c.shared.inside.engine c.turn-done.new.self c.turn-done.result c.turn-done.ensures.answered)
+
+pub returns-clause-full : goal.returns-clause-full
+returns-clause-full g c = λ full.
+    let is = c.told_turn.ensures ∙ ap (λ n. told_turn n c.turn-done.result) c.room.ensures in
+    turn-full c.shared.inside.engine c.turn-done.new.self c.turn-done.result c.turn-done.ensures.answered (sym is ∙ full)

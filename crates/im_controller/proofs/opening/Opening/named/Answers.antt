@@ -1,7 +1,28 @@
+use Rattle.std.proofs.Common.{◌∙◌, List, ap, rules, subst, sym}
+use Rattle.im_types.specs.declared.commands.Line.{Line}
+use Rattle.im_controller.specs.State.{OpeningState}
+use Rattle.im_controller.specs.Kept.{Begun, begun_in, accepted_in, HasKept}
 use Rattle.im_controller.proofs.LogLemmas.{log-starts}
+use Rattle.im_controller.proofs.KeptLemmas.{kept_start}
 use Rattle.im_controller.proofs.opening.Opening.named.Goals as goal
 
 pub invariant_of-log : goal.invariant_of-log
 invariant_of-log g c =
     let i = c.self.invariant in
     (log-starts g.K.Name.memory g.K.Name.marks _ _ _ _ i.2 i.4 c.open-lines_book.ensures.total c.open-marked_book.ensures.total, i.3)
+
+pub invariant_of-shared : goal.invariant_of-shared
+invariant_of-shared g c =
+    let i = c.self.invariant in let e = c.self.inside.engine in let m = g.K.Name.memory in
+    let begun = ap (λ (o : OpeningState g.row.D.Denot). begun_in g.D.Disk.now g.D.Disk.past g.D.Disk.failures o.engine) c.self.view_is ∙ c.requires.begun in
+    let memory = ap (λ (o : OpeningState g.row.D.Denot). o.engine.memory) c.self.view_is ∙ c.requires.memory in (
+      search rules,
+      search rules,
+      search rules,
+      search rules,
+      search rules,
+      (λ honest began.
+          let alive = ap (λ (b : Begun). b.failed) begun ∙ began in
+          subst (λ (ls : List Line). HasKept g.D.Disk.now g.D.Disk.past g.D.Disk.failures g.K.Name.begun m (accepted_in m ls) e) (sym i.2)
+          (kept_start g.D.Disk.now g.D.Disk.past g.D.Disk.failures g.K.Name.begun m e begun memory alive (c.failed-failed.ensures.means honest alive))),
+    )

@@ -1,0 +1,429 @@
+-- What a crash leaves, with a command, a group or a turn more.
+use Rattle.std.proofs.Common.{◌≡◌, ◌⊎◌, inl, inr, ⊎_elim, ℕ, zero, suc, ◌+◌, ◌<◌, ◌≤◌, Bool, true, false, ◌&&◌, List, [], ◌∷◌, ◌++◌, length, length-append, append_assoc, map, take, refl, sym, ap, ◌∙◌, subst, arith, if◌then◌else◌, Result, Ok, Err}
+use Rattle.std.specs.Prelude.{Some, nat_lt, ◌==◌, IfErr}
+use Rattle.std.proofs.lemmas.Bool.Decides.{nat_tests}
+use Rattle.std.proofs.lemmas.List.{append-nil, take_all, take-append-le}
+use Rattle.im_types.specs.declared.commands.Command.{Command}
+use Rattle.im_types.specs.declared.commands.Command.TheVariants.{Request as Asks}
+use Rattle.im_types.specs.declared.commands.Request.{Request}
+use Rattle.im_types.specs.declared.commands.Outcome.{Outcome}
+use Rattle.im_types.specs.declared.commands.Call.{Call}
+use Rattle.im_types.specs.declared.commands.Call.TheVariants.{Command as Commands, Collect}
+use Rattle.im_types.specs.declared.commands.Line.{Line}
+use Rattle.im_types.specs.declared.groups.Served.{Served}
+use Rattle.im_types.specs.declared.refusals.Refusal.{Refusal}
+use Rattle.im_types.specs.declared.refusals.Refusal.TheVariants.{JournalFull, Device, Failed, TraceFull}
+use Rattle.im_types.specs.Contents.{Contents}
+use Rattle.im_types.specs.Meaning.{Means, Reached, accept_each}
+use Rattle.im_types.specs.Run.{after, accepted}
+use Rattle.im_types.specs.Step.{step, is_accepted}
+use Rattle.im_types.specs.Trace.{contents_after, end_of}
+use Rattle.im_types.specs.Groups.{is_new, is_put, answer_of, reached_by_one, reached_by_all, answers_of, puts_of}
+use Rattle.im_laws.specs.Traces.{command_in, commands_of}
+use Rattle.im_laws.proofs.Tests.{true_false, true_or_false}
+use Rattle.im_laws.proofs.AcceptLemmas.{accepted-ok}
+use Rattle.im_laws.proofs.RunLemmas.{after-append, accepted-append, after-accepted}
+use Rattle.im_laws.proofs.TraceLemmas.{end_of-commands}
+use Rattle.im_laws.proofs.GroupLemmas.{puts-after, puts-accepted, puts-counted}
+use Rattle.im_disk.specs.Moment.{Moment, Rises, Faults}
+use Rattle.im_disk.specs.Since.{Leaves, LeavesNow}
+use Rattle.im_disk.proofs.SinceLemmas.{leaves_start, leaves_then, leaves_weaker}
+use Rattle.im_checkpoint.specs.declared.checkpoint.TurnDone.{TurnDone}
+use Rattle.im_checkpoint.specs.declared.checkpoint.TurnDone.TheVariants.{Idle, Began, Page, Synced, InForce, Swept}
+use Rattle.im_checkpoint.proofs.Fitting.{none_or_some}
+use Rattle.im_engine.specs.State.{EngineState, MeansState, MeansEither, with_command}
+use Rattle.im_engine.specs.Run.{Answered, TurnAnswered}
+use Rattle.im_engine.specs.Groups.{reached_in, group_put, after_group, answers_in, all_refused, GroupAnswered, GroupFaults, MeansGroup}
+use Rattle.im_engine.proofs.Keeping.{accept_both, accept_one}
+use Rattle.im_engine.proofs.Running.{Failures, failures_more, failures_turned}
+use Rattle.im_controller.specs.Lines.{leaves_line, line_of, lines_of}
+use Rattle.im_controller.specs.Groups.{answer_in, MembersAnswered}
+use Rattle.im_controller.specs.Lends.{IsTurnFault, told_turn}
+use Rattle.im_controller.specs.Kept.{Begun, begun_in, accepted_in, MeansThrough, MeansSome, MeansAll, HasKept}
+use Rattle.im_controller.proofs.LendLemmas.{ok-leaves}
+use Rattle.im_controller.proofs.GroupLemmas.{answers_served}
+use Rattle.im_controller.proofs.PutLemmas.{lines_all, one-end, refused-lines}
+
+-- ---- the accepted commands of a trace
+
+commands-append : (earlier later : List Line) → commands_of (earlier ++ later) ≡ commands_of earlier ++ commands_of later
+commands-append [] later = refl
+commands-append (line ∷ earlier) later = ap (λ l. command_in line.call ++ l) (commands-append earlier later) ∙ sym (append_assoc (command_in line.call) (commands_of earlier) (commands_of later))
+
+pub accepted-after : (m : Contents) (trace : List Line) → after m (accepted_in m trace) ≡ end_of m trace
+accepted-after m trace = after-accepted m (commands_of trace) ∙ sym (end_of-commands m trace)
+
+-- of a longer one
+pub accepted-more : (m e : Contents) (trace more : List Line) → end_of m trace ≡ e → accepted_in m (trace ++ more) ≡ accepted_in m trace ++ accepted_in e more
+accepted-more m e trace more ends =
+    ap (accepted m) (commands-append trace more) ∙ accepted-append m (commands_of trace) (commands_of more)
+    ∙ ap (λ n. accepted_in m trace ++ accepted n (commands_of more)) (sym (end_of-commands m trace) ∙ ends)
+
+-- of a line
+module _ (m : Contents) (c : Command) (a : Result Outcome Refusal) where
+  lineless : leaves_line a ≡ false → accepted_in m (lines_of (Commands c) a) ≡ []
+  lineless none = ap (λ b. accepted_in m (if b then line_of (Commands c) a ∷ [] else [])) none
+
+  unaccepted : is_accepted m c ≡ false → accepted_in m (lines_of (Commands c) a) ≡ []
+  unaccepted un = by_line (leaves_line a)
+    where
+      by_line : (b : Bool) → accepted_in m (if b then line_of (Commands c) a ∷ [] else []) ≡ []
+      by_line true = ap (λ b. if b then c ∷ [] else []) un
+      by_line false = refl
+
+  lined : leaves_line a ≡ true → is_accepted m c ≡ true → accepted_in m (lines_of (Commands c) a) ≡ c ∷ []
+  lined some is = ap (λ b. accepted_in m (if b then line_of (Commands c) a ∷ [] else [])) some ∙ ap (λ b. if b then c ∷ [] else []) is
+
+-- of a group's members
+one_put : (s : Reached) (r : Request) → accepted_in s.contents (lines_of (Commands (Asks r)) (answer_of s r)) ≡ (if is_put s r then Asks r ∷ [] else [])
+one_put s r = by_tests (is_new s r) (nat_lt 0 s.room) refl refl
+  where
+    answer_is : (c : Bool) → is_new s r ≡ true → (s.room == 0) ≡ c → answer_of s r ≡ (if c then Err JournalFull else (step s.contents (Asks r)).answer)
+    answer_is c new none = ap (λ x. if x && (s.room == 0) then Err JournalFull else (step s.contents (Asks r)).answer) new ∙ ap (λ x. if x then Err JournalFull else (step s.contents (Asks r)).answer) none
+
+    by_tests : (b c : Bool) → is_new s r ≡ b → nat_lt 0 s.room ≡ c → accepted_in s.contents (lines_of (Commands (Asks r)) (answer_of s r)) ≡ (if b && c then Asks r ∷ [] else [])
+    by_tests false c new some = unaccepted s.contents (Asks r) (answer_of s r) new
+    by_tests true false new some =
+        let none : (s.room == 0) ≡ true = grind (arith, nat_tests) in
+        lineless s.contents (Asks r) (answer_of s r) (ap leaves_line (answer_is true new none))
+    by_tests true true new some =
+        let none : (s.room == 0) ≡ false = grind (arith, nat_tests) in
+        lined s.contents (Asks r) (answer_of s r)
+        (ap leaves_line (answer_is false new none) ∙ ok-leaves (step s.contents (Asks r)).answer (accepted-ok s.contents (Asks r) new)) new
+
+all_put : (s : Reached) (rs : List Request) → accepted_in s.contents (lines_all rs (answers_of s rs)) ≡ puts_of s rs
+all_put s [] = refl
+all_put s (r ∷ rs) =
+    let t = reached_by_one s r in
+    accepted-more s.contents t.contents (lines_of (Commands (Asks r)) (answer_of s r)) (lines_all rs (answers_of t rs)) (one-end s r)
+    ∙ ap (λ l. l ++ accepted_in t.contents (lines_all rs (answers_of t rs))) (one_put s r)
+    ∙ ap (λ l. (if is_put s r then Asks r ∷ [] else []) ++ l) (all_put t rs)
+
+-- ---- what a file means
+
+meant : {D : Type 0} (e : EngineState D) (file : List ℕ) → MeansState e file → Means e.memory e.count 0 file
+meant e file it = (it.0, omega arith, it.2)
+
+longer : (m : Contents) (count : ℕ) (told more : List Command) (file : List ℕ) → MeansSome m count told file → MeansSome m count (told ++ more) file
+longer m count told more file means =
+    let within : means.0 ≤ length told = means.1 in (
+      means.0,
+      omega (arith, length-append told more),
+      subst (λ (k : List Command). Means (after m k) (count + means.0) 0 file) (sym (take-append-le means.0 told more within)) means.2,
+    )
+
+-- the file means what the engine is before these commands, or after all of them
+abbrev pub MeansBoth : {D : Type 0} → EngineState D → List Command → List ℕ → Type 0
+MeansBoth e cs file = Means e.memory e.count 0 file ⊎ Means (after e.memory cs) (e.count + length cs) 0 file
+
+module _ (m : Contents) (count : ℕ) (told : List Command) where
+  all_told : (n : Contents) (c : ℕ) (file : List ℕ) → n ≡ after m told → c ≡ count + length told → Means n c 0 file → MeansAll m count told file
+  all_told n c file same counted means =
+      subst (λ (k : List Command). Means (after m k) (count + length told) 0 file) (sym (take_all (length told) told (omega arith)))
+      (subst (λ (x : Contents). Means x (count + length told) 0 file) same (subst (λ (k : ℕ). Means n k 0 file) counted means))
+
+  some_told : (file : List ℕ) → MeansAll m count told file → MeansSome m count told file
+  some_told file means = (length told, omega arith, means)
+
+module _ {D : Type 0} (now : D → Moment) (past : D → List Moment) (failures : D → ℕ) (b : Begun) (m : Contents) where
+  abbrev Has : List Command → EngineState D → Type 0
+  Has told e = HasKept now past failures b m told e
+
+  -- nothing was done
+  pub kept_same : (told told' : List Command) (e f : EngineState D) → f ≡ e → told' ≡ told → Has told e → Has told' f
+  kept_same told told' e f same lines it = subst (λ (x : EngineState D). Has told' x) (sym same) (subst (λ (l : List Command). Has l e) (sym lines) it)
+
+  module _ (told cs : List Command) (e f : EngineState D) (it : Has told e) (alive : e.failed ≡ false) (ends : e.memory ≡ after m told) (takes : accept_each e.memory cs ≡ Some (after e.memory cs))
+      (leaves : Leaves (now e.disk) (now f.disk) (past e.disk) (past f.disk) (MeansBoth e cs)) (last : LeavesNow (now f.disk) (MeansBoth e cs))
+      (far : f.failed ≡ false → (f.memory ≡ after e.memory cs) × (f.count ≡ e.count + length cs)) (means : f.failed ≡ false → LeavesNow (now f.disk) (MeansState f))
+      (rose : f.failed ≡ true → Rises (failures e.disk) (failures f.disk)) (stayed : f.failed ≡ false → failures f.disk ≡ failures e.disk) where
+    no_doubt : told ++ it.doubt ≡ told
+    no_doubt = ap (λ l. told ++ l) (it.sure alive) ∙ append-nil told
+
+    all : List Command
+    all = told ++ cs
+
+    takes_all : accept_each m (told ++ cs) ≡ Some (after m (told ++ cs))
+    takes_all =
+        accept_both m e.memory (after e.memory cs) told cs
+        (subst (λ (l : List Command). accept_each m l ≡ Some (after m l)) no_doubt it.accepts ∙ ap Some (sym ends)) takes
+        ∙ ap Some (ap (λ n. after n cs) ends ∙ sym (after-append m told cs))
+
+    counted : e.count ≡ b.count + length told
+    counted = it.count alive
+
+    both : (file : List ℕ) → MeansBoth e cs file → MeansAll m b.count told file ⊎ MeansAll m b.count (told ++ cs) file
+    both file (inl image) = inl (all_told m b.count told e.memory e.count file ends counted image)
+    both file (inr image) = inr (all_told m b.count (told ++ cs) (after e.memory cs) (e.count + length cs) file (ap (λ n. after n cs) ends ∙ sym (after-append m told cs)) (omega (arith, counted, length-append told cs)) image)
+
+    some_both : (file : List ℕ) → MeansBoth e cs file → MeansSome m b.count (told ++ cs) file
+    some_both file image = ⊎_elim (λ old. longer m b.count told cs file (some_told m b.count told file old)) (λ new. some_told m b.count (told ++ cs) file new) (both file image)
+
+    leaves_all : Leaves b.now (now f.disk) b.past (past f.disk) (MeansSome m b.count (told ++ cs))
+    leaves_all =
+        leaves_then b.now (now e.disk) (now f.disk) b.past (past e.disk) (past f.disk) (MeansSome m b.count told) (MeansBoth e cs) (MeansSome m b.count (told ++ cs))
+        (subst (λ (l : List Command). Leaves b.now (now e.disk) b.past (past e.disk) (MeansSome m b.count l)) no_doubt it.leaves) leaves (longer m b.count told cs) some_both
+
+    by_failed : (dead : Bool) → f.failed ≡ dead → Has (told ++ (if dead then [] else cs)) f
+    by_failed true is = subst (λ (l : List Command). Has l f) (sym (append-nil told)) (record {
+      doubt = cs;
+      sure = λ living. absurd (true_false (sym is ∙ living));
+      accepts = takes_all;
+      count = λ living. absurd (true_false (sym is ∙ living));
+      leaves = leaves_all;
+      last = λ file left. both file (last file left);
+      rose = λ dead. subst (λ (n : ℕ). Rises n (failures f.disk)) (it.stayed alive) (rose dead);
+      stayed = λ living. absurd (true_false (sym is ∙ living));
+    })
+    by_failed false is = record {
+      doubt = [];
+      sure = λ _. refl;
+      accepts = subst (λ (l : List Command). accept_each m l ≡ Some (after m l)) (sym (append-nil (told ++ cs))) takes_all;
+      count = λ living. omega (arith, (far living).1, counted, length-append told cs);
+      leaves = subst (λ (l : List Command). Leaves b.now (now f.disk) b.past (past f.disk) (MeansSome m b.count l)) (sym (append-nil (told ++ cs))) leaves_all;
+      last = λ file left. inl (all_told m b.count (told ++ cs) f.memory f.count file ((far is).0 ∙ ap (λ n. after n cs) ends ∙ sym (after-append m told cs)) (omega (arith, (far is).1, counted, length-append told cs))
+          (meant f file (means is file left)));
+      rose = λ dead. absurd (true_false (sym dead ∙ is));
+      stayed = λ living. stayed living ∙ it.stayed alive;
+    }
+
+    -- these commands more, which are in doubt where the engine has failed
+    pub kept_more : Has (told ++ (if f.failed then [] else cs)) f
+    kept_more = by_failed f.failed refl
+
+  -- where nothing was acknowledged yet
+  pub kept_start : (e : EngineState D) → begun_in now past failures e ≡ b → e.memory ≡ m → e.failed ≡ false → LeavesNow (now e.disk) (MeansState e) → Has [] e
+  kept_start e is same alive means =
+      subst (λ (x : Begun). HasKept now past failures x m [] e) is (record {
+        doubt = [];
+        sure = λ _. refl;
+        accepts = refl;
+        count = λ _. omega arith;
+        leaves = leaves_start (now e.disk) (past e.disk) (MeansSome m e.count []);
+        last = λ file left. inl (all_told m e.count [] e.memory e.count file same (omega arith) (meant e file (means file left)));
+        rose = λ dead. absurd (true_false (sym dead ∙ alive));
+        stayed = λ _. refl;
+      })
+
+  -- ---- a command, a turn, a group
+
+  module _ (e f : EngineState D) (alive : e.failed ≡ false) where
+    none_yet : Failures failures e e
+    none_yet = record { rose = λ dead. absurd (true_false (sym dead ∙ alive)); stayed = λ _. refl }
+
+    either : (c : Command) (file : List ℕ) → MeansEither e c file → MeansBoth e (c ∷ []) file
+    either c file (inl image) = inl (meant e file image)
+    either c file (inr image) = inr (meant (with_command e c) file image)
+
+    module _ (told : List Command) (it : Has told e) (ends : e.memory ≡ after m told) where
+      module _ (c : Command) (a : Result Outcome Refusal) (answered : Answered e c a f) (cause : Faults (λ r. Unit {0}) a (failures e.disk) (failures f.disk))
+          (leaves : Leaves (now e.disk) (now f.disk) (past e.disk) (past f.disk) (MeansEither e c)) (last : LeavesNow (now f.disk) (MeansEither e c)) (means : f.failed ≡ false → LeavesNow (now f.disk) (MeansState f)) where
+        abbrev Next : Type 0
+        Next = Has (told ++ accepted_in e.memory (lines_of (Commands c) a)) f
+
+        stays : f ≡ e → accepted_in e.memory (lines_of (Commands c) a) ≡ [] → Next
+        stays same none = kept_same told _ e f same (ap (λ l. told ++ l) none ∙ append-nil told) it
+
+        counts : Failures failures e f
+        counts = failures_more failures e e f c a answered cause none_yet
+
+        goes : is_accepted e.memory c ≡ true → (f.failed ≡ false → (f.memory ≡ (step e.memory c).contents) × (f.count ≡ e.count + 1)) → accepted_in e.memory (lines_of (Commands c) a) ≡ (if f.failed then [] else c ∷ []) → Next
+        goes is far lines =
+            subst (λ (l : List Command). Has (told ++ l) f) (sym lines)
+            (kept_more told (c ∷ []) e f it alive ends (accept_one e.memory c is)
+            (leaves_weaker (now e.disk) (now f.disk) (past e.disk) (past f.disk) (MeansEither e c) (MeansBoth e (c ∷ [])) leaves (either c))
+            (λ file left. either c file (last file left)) far means counts.rose counts.stayed)
+
+        put : is_accepted e.memory c ≡ true → ((a ≡ (step e.memory c).answer) × (f ≡ record (with_command e c) { disk = f.disk })) ⊎ ((a ≡ Err Device) × (f ≡ record e { disk = f.disk; failed = true })) → Next
+        put is (inl done) =
+            let living : f.failed ≡ false = ap (λ (x : EngineState D). x.failed) done.1 ∙ alive in
+            goes is (λ _. (ap (λ (x : EngineState D). x.memory) done.1, ap (λ (x : EngineState D). x.count) done.1))
+            (lined e.memory c a (ap leaves_line done.0 ∙ ok-leaves (step e.memory c).answer (accepted-ok e.memory c is)) is ∙ sym (ap (λ x. if x then [] else c ∷ []) living))
+        put is (inr doubt) =
+            let dead : f.failed ≡ true = ap (λ (x : EngineState D). x.failed) doubt.1 in
+            goes is (λ living. absurd (true_false (sym dead ∙ living))) (lineless e.memory c a (ap leaves_line doubt.0) ∙ sym (ap (λ x. if x then [] else c ∷ []) dead))
+
+        -- a command was lent
+        pub kept_lent : Next
+        kept_lent = ⊎_elim
+            (λ is. ⊎_elim
+            (λ none. let full = answered.full alive is none in stays full.1 (lineless e.memory c a (ap leaves_line full.0)))
+            (λ some. put is (answered.put alive is some))
+            (none_or_some e.room))
+            (λ un. stays (answered.unaccepted alive un).1 (unaccepted e.memory c a un))
+            (true_or_false (is_accepted e.memory c))
+
+      -- a turn was lent
+      pub kept_turned : (a : Result TurnDone Refusal) → TurnAnswered e a f → Faults (λ r. Unit {0}) a (failures e.disk) (failures f.disk)
+          → Leaves (now e.disk) (now f.disk) (past e.disk) (past f.disk) (MeansState e) → LeavesNow (now f.disk) (MeansState e) → (f.failed ≡ false → LeavesNow (now f.disk) (MeansState f)) → Has told f
+      kept_turned a answered cause leaves last means =
+          let counts = failures_turned failures e e f a answered cause none_yet in
+          subst (λ (l : List Command). Has l f) (none_by f.failed)
+          (kept_more told [] e f it alive ends refl
+          (leaves_weaker (now e.disk) (now f.disk) (past e.disk) (past f.disk) (MeansState e) (MeansBoth e []) leaves (λ file image. inl (meant e file image)))
+          (λ file left. inl (meant e file (last file left))) far means counts.rose counts.stayed)
+        where
+          far : f.failed ≡ false → (f.memory ≡ e.memory) × (f.count ≡ e.count + 0)
+          far living = ⊎_elim
+              (λ done. (done.2.memory, omega (arith, done.2.count)))
+              (λ doubt. absurd (true_false (sym (ap (λ (x : EngineState D). x.failed) doubt.1) ∙ living)))
+              (answered.alive alive)
+
+          none_by : (dead : Bool) → told ++ (if dead then [] else []) ≡ told
+          none_by true = append-nil told
+          none_by false = append-nil told
+
+      module _ (rs : List Request) (ss : List Served) (answered : GroupAnswered e rs ss f) (cause : GroupFaults e.failed f.failed (failures e.disk) (failures f.disk))
+          (leaves : Leaves (now e.disk) (now f.disk) (past e.disk) (past f.disk) (MeansGroup e rs)) (last : LeavesNow (now f.disk) (MeansGroup e rs)) (means : f.failed ≡ false → LeavesNow (now f.disk) (MeansState f)) where
+        abbrev puts : List Command
+        puts = group_put e rs
+
+        abbrev NextAll : Type 0
+        NextAll = Has (told ++ accepted_in e.memory (lines_all rs (map answer_in ss))) f
+
+        group_after : (after_group e rs).memory ≡ after e.memory puts
+        group_after = puts-after (reached_in e) rs
+
+        group_count : (after_group e rs).count ≡ e.count + length puts
+        group_count = puts-counted (reached_in e) rs
+
+        group_either : (file : List ℕ) → MeansGroup e rs file → MeansBoth e puts file
+        group_either file (inl image) = inl (meant e file image)
+        group_either file (inr image) =
+            inr (subst (λ (x : Contents). Means x (e.count + length puts) 0 file) group_after
+            (subst (λ (n : ℕ). Means (after_group e rs).memory n 0 file) group_count (meant (after_group e rs) file image)))
+
+        lines_done : ss ≡ answers_in e rs → accepted_in e.memory (lines_all rs (map answer_in ss)) ≡ puts
+        lines_done is =
+            ap (λ xs. accepted_in e.memory (lines_all rs (map answer_in xs))) is
+            ∙ ap (λ xs. accepted_in e.memory (lines_all rs xs)) (answers_served (answers_of (reached_in e) rs)) ∙ all_put (reached_in e) rs
+
+        group_goes : (f.failed ≡ false → (f.memory ≡ (after_group e rs).memory) × (f.count ≡ (after_group e rs).count)) → accepted_in e.memory (lines_all rs (map answer_in ss)) ≡ (if f.failed then [] else puts) → NextAll
+        group_goes far lines =
+            subst (λ (l : List Command). Has (told ++ l) f) (sym lines)
+            (kept_more told puts e f it alive ends (puts-accepted (reached_in e) rs ∙ ap Some group_after)
+            (leaves_weaker (now e.disk) (now f.disk) (past e.disk) (past f.disk) (MeansGroup e rs) (MeansBoth e puts) leaves group_either)
+            (λ file left. group_either file (last file left)) (λ living. ((far living).0 ∙ group_after, (far living).1 ∙ group_count)) means
+            (λ dead. (cause.failed alive dead).0) (λ living. cause.steady (living ∙ sym alive)))
+
+        group_by : (cs : List Command) → puts ≡ cs → NextAll
+        group_by [] none =
+            let is = answered.none alive none in kept_same told _ e f is.1 (ap (λ l. told ++ l) (lines_done is.0 ∙ none) ∙ append-nil told) it
+        group_by (c ∷ cs) some = ⊎_elim
+            (λ done. let living : f.failed ≡ false = ap (λ (x : EngineState D). x.failed) done.1 ∙ alive in
+            group_goes (λ _. (ap (λ (x : EngineState D). x.memory) done.1, ap (λ (x : EngineState D). x.count) done.1)) (lines_done done.0 ∙ sym (ap (λ x. if x then [] else puts) living)))
+            (λ doubt. let dead : f.failed ≡ true = ap (λ (x : EngineState D). x.failed) doubt.1 in
+            group_goes (λ living. absurd (true_false (sym dead ∙ living)))
+            (ap (λ xs. accepted_in e.memory (lines_all rs (map answer_in xs))) doubt.0 ∙ ap (accepted_in e.memory) (refused-lines Device refl rs) ∙ sym (ap (λ x. if x then [] else puts) dead)))
+            (answered.put alive (omega (arith, ap length some)))
+
+        -- a group was lent
+        pub kept_group : NextAll
+        kept_group = group_by puts refl
+
+  -- whichever way its members were answered
+  module _ (e f : EngineState D) (told : List Command) (it : Has told e) (ends : e.memory ≡ after m told) (rs : List Request) (ss : List Served) (cause : GroupFaults e.failed f.failed (failures e.disk) (failures f.disk))
+      (leaves : e.failed ≡ false → Leaves (now e.disk) (now f.disk) (past e.disk) (past f.disk) (MeansGroup e rs)) (last : e.failed ≡ false → LeavesNow (now f.disk) (MeansGroup e rs))
+      (means : f.failed ≡ false → LeavesNow (now f.disk) (MeansState f)) where
+    refused : (r : Refusal) → leaves_line (Err r) ≡ false → ss ≡ all_refused r rs → f ≡ e → Has (told ++ accepted_in e.memory (lines_all rs (map answer_in ss))) f
+    refused r none is same =
+        kept_same told _ e f same
+        (ap (λ l. told ++ l) (ap (λ xs. accepted_in e.memory (lines_all rs (map answer_in xs))) is ∙ ap (accepted_in e.memory) (refused-lines r none rs)) ∙ append-nil told) it
+
+    by_room : (dead : Bool) (room n : ℕ) → e.failed ≡ dead → room ≡ n → MembersAnswered e room rs ss f → Has (told ++ accepted_in e.memory (lines_all rs (map answer_in ss))) f
+    by_room true room n dead is a = let it = (a.dead dead).dead dead in refused Failed refl it.0 it.1
+    by_room false room zero alive is a = let full = a.full alive is in refused TraceFull refl full.0 full.1
+    by_room false room (suc n) alive is a = kept_group e f alive told it ends rs ss (a.served (omega (arith, is))) cause (leaves alive) (last alive) means
+
+    pub kept_members : (room : ℕ) → MembersAnswered e room rs ss f → Has (told ++ accepted_in e.memory (lines_all rs (map answer_in ss))) f
+    kept_members room a = by_room e.failed room room refl refl a
+
+  -- the lines of a trace more
+  pub kept_on : (e f : EngineState D) (trace trace' more : List Line) → trace' ≡ trace ++ more → end_of m trace ≡ e.memory → Has (accepted_in m trace ++ accepted_in e.memory more) f → Has (accepted_in m trace') f
+  kept_on e f trace trace' more is ends it = subst (λ (l : List Command). Has l f) (sym (ap (accepted_in m) is ∙ accepted-more m e.memory trace more ends)) it
+
+  -- a line of a collect more
+  pub kept_looked : (e : EngineState D) (trace trace' : List Line) (element number : ℕ) (a : Result Outcome Refusal) → trace' ≡ trace ++ lines_of (Collect element number) a → Has (accepted_in m trace) e → Has (accepted_in m trace') e
+  kept_looked e trace trace' element number a is it =
+      subst (λ (l : List Command). Has l e) (sym (ap (accepted_in m) is ∙ accepted-more m (end_of m trace) trace _ refl ∙ ap (λ l. accepted_in m trace ++ l) (by_line (leaves_line a)) ∙ append-nil (accepted_in m trace))) it
+    where
+      by_line : (b : Bool) → accepted_in (end_of m trace) (if b then line_of (Collect element number) a ∷ [] else []) ≡ []
+      by_line true = refl
+      by_line false = refl
+
+  -- a turn, whether the engine had failed or not
+  pub kept_turn : (e f : EngineState D) (told : List Command) → Has told e → e.memory ≡ after m told → (a : Result TurnDone Refusal) → TurnAnswered e a f → Faults (λ r. Unit {0}) a (failures e.disk) (failures f.disk)
+      → (e.failed ≡ false → Leaves (now e.disk) (now f.disk) (past e.disk) (past f.disk) (MeansState e)) → (e.failed ≡ false → LeavesNow (now f.disk) (MeansState e)) → (f.failed ≡ false → LeavesNow (now f.disk) (MeansState f)) → Has told f
+  kept_turn e f told it ends a answered cause leaves last means = ⊎_elim
+      (λ dead. kept_same told told e f (answered.dead dead).1 refl it)
+      (λ alive. kept_turned e f alive told it ends a answered cause (leaves alive) (last alive) means)
+      (true_or_false e.failed)
+
+-- a turn leaves the memory, and no engine that has failed works again
+pub turned_memory : {D : Type 0} (e f : EngineState D) (a : Result TurnDone Refusal) → TurnAnswered e a f → f.memory ≡ e.memory
+turned_memory {D} e f a answered = ⊎_elim
+    (λ dead. ap (λ (x : EngineState D). x.memory) (answered.dead dead).1)
+    (λ alive. ⊎_elim (λ done. done.2.memory) (λ doubt. ap (λ (x : EngineState D). x.memory) doubt.1) (answered.alive alive))
+    (true_or_false e.failed)
+
+pub turned_alive : {D : Type 0} (e f : EngineState D) (a : Result TurnDone Refusal) → TurnAnswered e a f → f.failed ≡ false → e.failed ≡ false
+turned_alive {D} e f a answered living = ⊎_elim
+    (λ dead. sym (ap (λ (x : EngineState D). x.failed) (answered.dead dead).1) ∙ living)
+    (λ alive. alive)
+    (true_or_false e.failed)
+
+-- why a turn is refused
+module _ {D : Type 0} (e f : EngineState D) (done : Result TurnDone Refusal) (answered : TurnAnswered e done f) where
+  pub turn-only : IfErr (told_turn f.room done) (λ r. IsTurnFault r ⊎ (r ≡ JournalFull))
+  turn-only = ⊎_elim
+      (λ dead. subst (λ (a : Result TurnDone Refusal). IfErr (told_turn f.room a) (λ r. IsTurnFault r ⊎ (r ≡ JournalFull))) (sym (answered.dead dead).0) (inl (inl refl)))
+      (λ alive. ⊎_elim
+      (λ ok. subst (λ (a : Result TurnDone Refusal). IfErr (told_turn f.room a) (λ r. IsTurnFault r ⊎ (r ≡ JournalFull))) (sym ok.1) (by_done ok.0))
+      (λ doubt. subst (λ (a : Result TurnDone Refusal). IfErr (told_turn f.room a) (λ r. IsTurnFault r ⊎ (r ≡ JournalFull))) (sym doubt.0) (inl (inr refl)))
+      (answered.alive alive))
+      (true_or_false e.failed)
+    where
+      by_room : (b : Bool) → IfErr (if b then Err JournalFull else Ok Idle) (λ r. IsTurnFault r ⊎ (r ≡ JournalFull))
+      by_room true = inr refl
+      by_room false = tt
+
+      by_done : (d : TurnDone) → IfErr (told_turn f.room (Ok d)) (λ r. IsTurnFault r ⊎ (r ≡ JournalFull))
+      by_done Idle = by_room (f.room == 0)
+      by_done Began = tt
+      by_done (Page n) = tt
+      by_done Synced = tt
+      by_done InForce = tt
+      by_done Swept = tt
+
+  pub turn-full : told_turn f.room done ≡ Err JournalFull → (f.room ≡ 0) × (f.failed ≡ false)
+  turn-full is = ⊎_elim
+      (λ dead. absurd (failed_full (sym (ap (told_turn f.room) (answered.dead dead).0) ∙ is)))
+      (λ alive. ⊎_elim
+      (λ ok. (by_done ok.0 (sym (ap (told_turn f.room) ok.1) ∙ is), ok.2.alive))
+      (λ doubt. absurd (device_full (sym (ap (told_turn f.room) doubt.0) ∙ is)))
+      (answered.alive alive))
+      (true_or_false e.failed)
+    where
+      IsFull : Result TurnDone Refusal → Type 0
+      IsFull answer = answer ≡ Err JournalFull
+
+      failed_full : IsFull (Err Failed) → ⊥
+      failed_full same = absurd (cc)
+
+      device_full : IsFull (Err Device) → ⊥
+      device_full same = absurd (cc)
+
+      done_full : (d : TurnDone) → IsFull (Ok d) → ⊥
+      done_full d same = absurd (cc)
+
+      by_room : (b : Bool) → (f.room == 0) ≡ b → (if b then Err JournalFull else Ok Idle) ≡ Err JournalFull → f.room ≡ 0
+      by_room true none same = grind (arith, nat_tests)
+      by_room false some same = absurd (done_full Idle same)
+
+      by_done : (d : TurnDone) → told_turn f.room (Ok d) ≡ Err JournalFull → f.room ≡ 0
+      by_done Idle same = by_room (f.room == 0) refl same
+      by_done Began same = absurd (done_full Began same)
+      by_done (Page n) same = absurd (done_full (Page n) same)
+      by_done Synced same = absurd (done_full Synced same)
+      by_done InForce same = absurd (done_full InForce same)
+      by_done Swept same = absurd (done_full Swept same)
