@@ -1,16 +1,18 @@
 //! Laws of what files mean: each is the contract of a function that does nothing.
-ghost use Rattle.std.specs.Prelude.{◌≡◌, ℕ, ◌<◌, List, [], length, map, true, false, Result};
+ghost use Rattle.std.specs.Prelude.{◌≡◌, ℕ, ◌<◌, List, [], length, map, true, false, Result, Err};
 ghost use Rattle.im_types.specs.declared.refusals.Refusal.{Refusal};
 ghost use Rattle.im_types.specs.declared.refusals.Refusal.TheVariants.{Device, Failed};
 ghost use Rattle.im_types.specs.declared.commands.Request.{Request};
+ghost use Rattle.im_types.specs.declared.commands.Command.{Command};
 ghost use Rattle.im_types.specs.Contents.{Contents, empty_contents};
 ghost use Rattle.im_types.specs.Sizes.{AreLimits};
 ghost use Rattle.im_types.specs.Layout.{Sizes, layout_1};
+ghost use Rattle.im_types.specs.Step.{step};
 ghost use Rattle.im_types.specs.Meaning.{Means, Reached, Reads};
 ghost use Rattle.im_types.specs.Groups.{as_served, answers_of, puts_of};
 ghost use Rattle.im_image.specs.Fresh.{new_image};
 ghost use Rattle.im_engine.specs.Groups.{all_refused};
-ghost use Rattle.im_engine.specs.Run.{has_device, acknowledged_members};
+ghost use Rattle.im_engine.specs.Run.{is_device, has_device, acknowledged_members};
 ghost use Rattle.im_engine.specs.State.{IsFirstFault};
 
 /// A file means one thing: reading it comes to one memory, one count and one room, or to one first fault.
@@ -42,4 +44,10 @@ pub fn groups_acknowledge_what_they_put()
     ensures fault { (s : Reached) (members : List Request)
         → 0 < length (puts_of s members) → has_device (all_refused Device members) ≡ true }
     ensures dead { (members : List Request) → has_device (all_refused Failed members) ≡ false }
+{}
+
+/// What a command comes to on a memory never tells that a call of the disk failed.
+pub fn steps_tell_of_no_failure()
+    ensures { (m : Contents) (command : Command) (refusal : Refusal)
+        → (step m command).answer ≡ Err refusal → is_device refusal ≡ false }
 {}

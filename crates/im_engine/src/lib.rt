@@ -15,5 +15,6 @@ pub use engine::Engine;
 pub use groups::are_apart;
 pub use laws::{
     files_mean_one_thing, groups_acknowledge_what_they_put, new_images_mean_the_empty_memory,
+    steps_tell_of_no_failure,
 };
 pub use run::{Answer, Event};
