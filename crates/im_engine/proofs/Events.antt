@@ -1,17 +1,17 @@
 -- How far a run of commands, groups and turns has come.
-use Rattle.std.proofs.Common.{◌≡◌, ◌⊎◌, inl, inr, ⊎_elim, ℕ, zero, suc, ◌+◌, ◌<◌, ◌≤◌, Bool, true, false, ◌&&◌, List, [], ◌∷◌, ◌++◌, length, take, get_or, Result, Ok, Err, append_assoc, refl, sym, ◌∙◌, ap, subst, arith, length-append, if◌then◌else◌}
+use Rattle.std.proofs.Common.{◌≡◌, ◌⊎◌, inl, inr, ⊎_elim, ℕ, ◌+◌, ◌<◌, ◌≤◌, Bool, true, false, ◌&&◌, List, [], ◌∷◌, ◌++◌, length, take, get_or, Result, Ok, Err, append_assoc, refl, sym, ◌∙◌, ap, subst, arith, length-append, if◌then◌else◌}
 use Rattle.std.proofs.lemmas.List.{append-nil, take_all, take-append-le, take_more, length-take-le}
 use Rattle.im_types.specs.declared.commands.Request.{Request}
 use Rattle.im_types.specs.declared.commands.Command.{Command}
 use Rattle.im_types.specs.declared.commands.Outcome.{Outcome}
 use Rattle.im_types.specs.declared.groups.Served.{Served as ServedMember}
 use Rattle.im_types.specs.declared.refusals.Refusal.{Refusal}
-use Rattle.im_types.specs.declared.refusals.Refusal.TheVariants.{JournalFull, Device, Failed}
+use Rattle.im_types.specs.declared.refusals.Refusal.TheVariants.{Device, Failed}
 use Rattle.im_types.specs.Contents.{Contents}
 use Rattle.im_types.specs.Step.{step, is_accepted}
 use Rattle.im_types.specs.Run.{after}
-use Rattle.im_types.specs.Meaning.{Means, Reached}
-use Rattle.im_types.specs.Groups.{answers_of, puts_of, reached_by_all}
+use Rattle.im_types.specs.Meaning.{Means}
+use Rattle.im_types.specs.Groups.{puts_of}
 use Rattle.im_laws.proofs.RunLemmas.{after-append}
 use Rattle.im_laws.proofs.GroupLemmas.{puts-after, puts-counted}
 use Rattle.im_laws.proofs.Tests.{true_or_false}
@@ -437,19 +437,18 @@ module _ {D : Type 0} (old mid new : EngineState D) (events : List Event) (answe
           length answers,
           omega arith,
           subst (λ (l : List Answer). MeansAll old (put_on_disk old.memory old.count (take (length answers) events) l) file) (sym same)
-          (subst (λ (k : ℕ). MeansAll old (put_on_disk old.memory old.count (take k events) answers) file) (sym size)
-          (subst (λ (l : List Command). MeansAll old l file) (sym none) (before old mid new sure_far doubt_far event a far it f file means))),
+              (subst (λ (k : ℕ). MeansAll old (put_on_disk old.memory old.count (take k events) answers) file) (sym size)
+              (subst (λ (l : List Command). MeansAll old l file) (sym none) (before old mid new sure_far doubt_far event a far it f file means))),
         )
 
     with_this : (file : List ℕ) → MeansAll old (sure_here ++ doubt_here) file → MeansBeginningOf old events longer_answers file
     with_this file means =
         let size_is : length longer_answers ≡ i + 1 = omega (arith, ap length items, length-append answers (a ∷ []), size) in
-        let same : take (length longer_answers) longer_answers ≡ longer_answers = take_all (length longer_answers) longer_answers (omega arith) in
-        (
+        let same : take (length longer_answers) longer_answers ≡ longer_answers = take_all (length longer_answers) longer_answers (omega arith) in (
           length longer_answers,
           omega arith,
           subst (λ (l : List Answer). MeansAll old (put_on_disk old.memory old.count (take (length longer_answers) events) l) file) (sym same)
-          (subst (λ (k : ℕ). MeansAll old (put_on_disk old.memory old.count (take k events) longer_answers) file) (sym size_is) means),
+              (subst (λ (k : ℕ). MeansAll old (put_on_disk old.memory old.count (take k events) longer_answers) file) (sym size_is) means),
         )
 
     leaves_on : (now : D → Moment) (past : D → List Moment)

@@ -1,6 +1,6 @@
 -- How far a run has come.
-use Rattle.std.proofs.Common.{◌≡◌, ◌⊎◌, inl, inr, ⊎_elim, ℕ, ◌+◌, ◌<◌, ◌≤◌, Bool, true, false, ◌&&◌, ◌||◌, List, [], ◌∷◌, ◌++◌, length, take, get_or, Result, Ok, Err, append_assoc, refl, sym, ◌∙◌, ap, subst, arith, length-append, if◌then◌else◌, IsErrOf}
-use Rattle.std.proofs.lemmas.List.{append-nil, take_all, take_at, take-append-le, take_more, length-take-le}
+use Rattle.std.proofs.Common.{◌≡◌, ◌⊎◌, inl, inr, ⊎_elim, ℕ, ◌+◌, ◌<◌, ◌≤◌, Bool, true, false, ◌&&◌, List, [], ◌∷◌, ◌++◌, length, Result, Ok, Err, refl, sym, ◌∙◌, ap, subst, arith, length-append, if◌then◌else◌, IsErrOf}
+use Rattle.std.proofs.lemmas.List.{append-nil, take_all, take_at, take-append-le}
 use Rattle.im_types.specs.declared.commands.Request.{Request}
 use Rattle.im_types.specs.declared.commands.Command.{Command}
 use Rattle.im_types.specs.declared.commands.Outcome.{Outcome}
