@@ -3,6 +3,7 @@
 #![tactic(auto)]
 
 mod apart;
+mod emptying;
 mod engine;
 mod format;
 mod groups;
@@ -11,6 +12,7 @@ mod open;
 mod run;
 
 pub use apart::Group;
+pub use emptying::Empties;
 pub use engine::Engine;
 pub use groups::are_apart;
 pub use laws::{
