@@ -24,9 +24,6 @@ use Rattle.im_engine.specs.Groups.{reached_in, after_group, group_put, all_refus
 use Rattle.im_engine.specs.Run.{Answered, TurnAnswered, AnsweredInTurn, is_device, has_device, acknowledged_members, acknowledged_by, is_doubt, reached_at, in_doubt_by, in_doubt}
 use Rattle.im_promise.specs.Acknowledged.{calls_in_doubt, most_of, most_of_one, is_fault, IsFailed, IsAnswer, AreAnswers}
 
-true_false : (b : Bool) → b ≡ true → b ≡ false → ⊥
-true_false b t f = absurd (cc)
-
 bool_cases : (b : Bool) → (b ≡ true) ⊎ (b ≡ false)
 bool_cases true = inl refl
 bool_cases false = inr refl

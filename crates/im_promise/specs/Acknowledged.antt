@@ -23,6 +23,7 @@ most_of (Serve command) = 1
 most_of (Together members) = length members
 most_of Turn = 0
 
+-- the most that one event of a list has
 abbrev pub most_of_one : List Event → ℕ
 most_of_one [] = 0
 most_of_one (event ∷ events) = max (most_of event) (most_of_one events)
