@@ -91,7 +91,7 @@ fn add_row(said: &mut String, row: &[Answer]) -> Result<()> {
 
 // How many answers from the first one on make a row.
 fn row_length(answers: &[Answer]) -> usize {
-    let mut length = 0;
+    let mut length: usize = 0;
     let mut rest = answers;
     while let Some((first, later)) = rest.split_first() {
         length = answers.len().min(length.saturating_add(1));
