@@ -31,7 +31,7 @@ imem serve = status 2
 says IMAGE = yes
 imem serve a.img s = status 2
 says 's' = yes
-says Usage: imem serve <IMAGE> = yes
+says Usage: imem serve [OPTIONS] <IMAGE> = yes
 imem inspect = status 2
 -- The usage is that of the subcommand.
 says Usage: imem inspect <IMAGE> = yes
