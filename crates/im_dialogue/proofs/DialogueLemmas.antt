@@ -1,9 +1,8 @@
 -- A dialogue from its opening to its end.
-use Rattle.std.proofs.Common.{◌≡◌, ⊎_elim, inl, inr, ℕ, ◌≤◌, List, [], ◌++◌, length, refl, sym, subst, arith}
-use Rattle.std.specs.Prelude.{Option, false}
+use Rattle.std.proofs.Common.{◌≡◌, ⊎_elim, inl, ℕ, List, [], ◌++◌, length, refl, sym, subst, arith}
+use Rattle.std.specs.Prelude.{Option, Bool, false}
 use Rattle.std.specs.Io.KnownBytes.{Appends}
 use Rattle.std.proofs.KnownBytes.{Appends-nil}
-use Rattle.im_types.specs.declared.commands.Command.{Command}
 use Rattle.im_disk.specs.Moment.{Moment, Left}
 use Rattle.im_disk.specs.Since.{Leaves, LeavesNow}
 use Rattle.im_disk.proofs.SinceLemmas.{left_now, leaves_now, leaves_then}
@@ -11,19 +10,19 @@ use Rattle.im_engine.specs.State.{EngineState, MeansState}
 use Rattle.im_engine.specs.Run.{MeansBeginning}
 use Rattle.im_text.specs.Printing.{Begins, IsLast}
 use Rattle.im_text.proofs.PrintingLemmas.{take-all}
-use Rattle.im_dialogue.specs.Talk.{put_of, texts_of, Silenced, Talking, TalksOn, TalkEnds}
-use Rattle.im_dialogue.specs.Dialogue.{Closed, PrintsThenLast, Talked}
+use Rattle.im_dialogue.specs.Talk.{put_of, texts_of, Talking, TalksOn, TalkEnds}
+use Rattle.im_dialogue.specs.Dialogue.{Closed, Talked}
 use Rattle.im_dialogue.proofs.TalkLemmas.{at_start, ended_at}
 
-module _ {D : Type 0} (now : D → Moment) (past : D → List Moment) where
+module _ {D : Type 0} (watch : Bool) (now : D → Moment) (past : D → List Moment) where
   -- an opening leaves nothing new, and what it found was there
   pub talked : (old : D) (start : EngineState D) (new : D) (was is : Option (List ℕ)) (status : ℕ) → Leaves (now old) (now start.disk) (past old) (past start.disk) (Left (now old)) → LeavesNow (now start.disk) (MeansState start)
-      → Closed now past start new was is status → Talked now past old new was is status
+      → Closed watch now past start new was is status → Talked watch now past old new was is status
   talked old start new was is status opened means it = record {
     start = start;
     said = it.said;
     doubt = it.doubt;
-    one = it.one;
+    few = it.few;
     found = (
       (now start.disk).bytes,
       ⊎_elim (λ left. left) (λ left. left) (leaves_now (now old) (now start.disk) (past old) (past start.disk) (Left (now old)) opened (now start.disk).bytes (left_now (now start.disk))),
@@ -39,35 +38,35 @@ module _ {D : Type 0} (now : D → Moment) (past : D → List Moment) where
 
   module _ (honest : D → Type 0) where
     -- nothing is said yet
-    talking : (start : EngineState D) (was : Option (List ℕ)) → start.failed ≡ false → (honest start.disk → LeavesNow (now start.disk) (MeansState start)) → Talking now past honest start was start was
+    talking : (start : EngineState D) (was : Option (List ℕ)) → start.failed ≡ false → (honest start.disk → LeavesNow (now start.disk) (MeansState start)) → Talking watch now past honest start was start was
     talking start was works means = λ h. (h, ([], (at_start now past honest start works (means h), Appends-nil was)))
 
     -- all lines of the input were served
     pub closed_on : (start engine : EngineState D) (disk : D) (was is : Option (List ℕ)) (status : ℕ) → disk ≡ engine.disk → start.failed ≡ false → (honest start.disk → LeavesNow (now start.disk) (MeansState start))
-        → TalksOn now past honest start was engine is → honest disk → honest start.disk × Closed now past start disk was is status
-    closed_on start engine disk was is status same works means on = subst (λ (d : D). honest d → honest start.disk × Closed now past start d was is status) (sym same) (λ h.
+        → TalksOn watch now past honest start was engine is → honest disk → honest start.disk × Closed watch now past start disk was is status
+    closed_on start engine disk was is status same works means on = subst (λ (d : D). honest d → honest start.disk × Closed watch now past start d was is status) (sym same) (λ h.
         let far = on start was (talking start was works means) h in (
           far.0,
           record {
             said = far.1.0;
             doubt = [];
-            one = omega arith;
+            few = omega arith;
             ended = ended_at now past honest start engine far.1.0 far.1.1.0;
-            printed = (is, (length (texts_of far.1.0), subst (Appends was is) (sym (take-all (texts_of far.1.0))) far.1.1.1), ([], (inl refl, (0, Appends-nil is))));
+            printed = (is, (length (texts_of watch start.memory far.1.0), subst (Appends was is) (sym (take-all (texts_of watch start.memory far.1.0))) far.1.1.1), ([], (inl refl, (0, Appends-nil is))));
             whole = λ zero. (refl, far.1.1.1);
           },
         ))
 
     -- it was ended, and no more than a refusal printed then
     pub closed_by : (start engine : EngineState D) (disk : D) (was mid is : Option (List ℕ)) (status : ℕ) → disk ≡ engine.disk → start.failed ≡ false → (honest start.disk → LeavesNow (now start.disk) (MeansState start))
-        → TalkEnds now past honest start was engine mid → (last : List ℕ) × (IsLast last × Begins mid is last) → status ≡ 1 → honest disk → honest start.disk × Closed now past start disk was is status
-    closed_by start engine disk was mid is status same works means ends last refused = subst (λ (d : D). honest d → honest start.disk × Closed now past start d was is status) (sym same) (λ h.
+        → TalkEnds watch now past honest start was engine mid → (last : List ℕ) × (IsLast last × Begins mid is last) → status ≡ 1 → honest disk → honest start.disk × Closed watch now past start disk was is status
+    closed_by start engine disk was mid is status same works means ends last refused = subst (λ (d : D). honest d → honest start.disk × Closed watch now past start d was is status) (sym same) (λ h.
         let far = ends start was (talking start was works means) h in (
           far.0,
           record {
             said = far.1.said;
             doubt = far.1.doubt;
-            one = far.1.one;
+            few = far.1.few;
             ended = far.1.ended;
             printed = (mid, far.1.printed, last);
             whole = λ zero. absurd (omega arith);

@@ -1,2 +1,4 @@
 pub mod TalkLemmas
+pub mod WatchLemmas
+pub mod GroupTalk
 pub mod DialogueLemmas

@@ -1,5 +1,5 @@
 -- What was said over an engine, line by line.
-use Rattle.std.proofs.Common.{◌≡◌, ◌∙◌, inl, inr, ⊎_elim, ℕ, suc, ◌+◌, ◌≤◌, Bool, true, false, List, [], ◌∷◌, ◌++◌, length, take, refl, sym, ap, subst, length-append, arith}
+use Rattle.std.proofs.Common.{◌≡◌, ◌∙◌, inl, inr, ⊎_elim, ℕ, suc, ◌+◌, ◌≤◌, Bool, false, List, [], ◌∷◌, ◌++◌, length, take, refl, sym, ap, subst, length-append, arith}
 use Rattle.std.specs.Prelude.{Option, Some, Result, Ok, Err, MatchResult}
 use Rattle.std.specs.Io.KnownBytes.{Appends}
 use Rattle.std.proofs.KnownBytes.{Appends-trans}
@@ -7,6 +7,8 @@ use Rattle.std.proofs.lemmas.List.{append-nil}
 use Rattle.im_text.specs.Printing.{Begins}
 use Rattle.im_text.proofs.PrintingLemmas.{take-all, true_false}
 use Rattle.im_dialogue.specs.Answers.{answer_text}
+use Rattle.im_dialogue.specs.Watching.{watch_text}
+use Rattle.im_types.specs.declared.TheConstants.{MAX_GROUP}
 use Rattle.im_types.specs.declared.commands.Command.{Command}
 use Rattle.im_types.specs.declared.commands.Outcome.{Outcome}
 use Rattle.im_types.specs.declared.refusals.Refusal.{Refusal}
@@ -85,8 +87,7 @@ module _ {D : Type 0} (now : D → Moment) (past : D → List Moment) (honest : 
       let all : MeansAfter start put (length put) file = means_all start old put at.run at.works file means in
       let same : put ++ [] ≡ put = append-nil put in (
         length put,
-        omega arith,
-        subst (λ (l : List Command). length put ≤ length l) (sym same) (omega arith),
+        inl refl,
         subst (λ (l : List Command). MeansAfter start l (length put) file) (sym same) all,
       )
 
@@ -174,23 +175,22 @@ module _ {D : Type 0} (now : D → Moment) (past : D → List Moment) (honest : 
 
   -- the file has what was said, and the command in doubt or not
   in_doubt : (start : EngineState D) (said : List Exchange) (c : Command) (more : List Command) (file : List ℕ) → more ≡ c ∷ [] → AllOrLess start (put_of start.memory said ++ more) file → MeansSaid start said more file
-  in_doubt start said c more file one (many, inl all, means) =
-      let len = length-append (put_of start.memory said) more in (many, omega (arith), omega (arith), means)
+  in_doubt start said c more file one (many, inl all, means) = (many, inr all, means)
   in_doubt start said c more file one (many, inr less, means) =
       let len = length-append (put_of start.memory said) more in
       let single : length more ≡ 1 = ap (λ (l : List Command). length l) one in
       let e = less.1 in
-      (many, omega (arith), omega (arith), means)
+      (many, inl (omega arith), means)
 
   serve_ended : (start old new : EngineState D) (said : List Exchange) (c : Command) (a : Result Outcome Refusal) → IsAt now past start old said → Answered old c a new
       → (old.failed ≡ false → Leaves (now old.disk) (now new.disk) (past old.disk) (past new.disk) (MeansEither old c))
       → (old.failed ≡ false → LeavesNow (now new.disk) (MeansEither old c))
-      → (doubt : List Command) × (length doubt ≤ 1) × HasEnded now past start new.disk said doubt
+      → (doubt : List Command) × (length doubt ≤ MAX_GROUP) × HasEnded now past start new.disk said doubt
   serve_ended start old new said c a at it leaves doubt = elim (went start old new (put_of start.memory said) c a at.run it) [
     | inl same ↦ ([], omega arith, subst (λ (s : EngineState D). HasEnded now past start s.disk said []) (sym same.0) (ended_at start old said at))
     | inr on ↦ (
       put_by_command (after start.memory (put_of start.memory said)) c a,
-      subst (λ (l : List Command). length l ≤ 1) (sym on.0) (omega arith),
+      subst (λ (l : List Command). length l ≤ MAX_GROUP) (sym on.0) (omega arith),
       record {
         answered = at.answered;
         leaves = leaves_on start old new (put_of start.memory said) c a at.run it now past at.leaves leaves;
@@ -252,64 +252,108 @@ module _ {D : Type 0} (now : D → Moment) (past : D → List Moment) (honest : 
 
   -- ---- what was printed
 
-  silent : (start engine : EngineState D) (held was is : Option (List ℕ)) (said : List Exchange) (x : Exchange) → IsAt now past start engine (x ∷ said) → Appends held was (texts_of said)
-      → Begins was is (answer_text x.name x.answer) → Silent now past start held engine.disk is
-  silent start engine held was is said x at before (many, more) = record {
-    said = x ∷ said;
-    doubt = [];
-    one = omega arith;
-    ended = ended_at start engine (x ∷ said) at;
-    printed = (
-      length (texts_of said) + many,
-      subst (Appends held is) (sym (take-past (texts_of said) (answer_text x.name x.answer) many)) (Appends-trans held was is (texts_of said) (take many (answer_text x.name x.answer)) before more),
-    );
-  }
+  module _ (watch : Bool) where
+    pub silent : (start engine : EngineState D) (held was is : Option (List ℕ)) (said after_all : List Exchange) (text : List ℕ) → IsAt now past start engine after_all
+        → texts_of watch start.memory after_all ≡ texts_of watch start.memory said ++ text → Appends held was (texts_of watch start.memory said) → Begins was is text → Silent watch now past start held engine.disk is
+    silent start engine held was is said after_all text at same before (many, more) =
+        let here : List ℕ = texts_of watch start.memory said in
+        record {
+          said = after_all;
+          doubt = [];
+          few = omega arith;
+          ended = ended_at start engine after_all at;
+          printed = (
+            length here + many,
+            subst (λ (l : List ℕ). Appends held is (take (length here + many) l)) (sym same)
+                (subst (Appends held is) (sym (take-past here text many)) (Appends-trans held was is here (take many text) before more)),
+          );
+        }
 
-  -- nothing more was printed of what was said and is ended
-  silent_here : (start engine : EngineState D) (held is : Option (List ℕ)) (said : List Exchange) (doubt : List Command) → length doubt ≤ 1 → HasEnded now past start engine.disk said doubt → Appends held is (texts_of said)
-      → Silent now past start held engine.disk is
-  silent_here start engine held is said doubt one ended printed = record {
-    said = said;
-    doubt = doubt;
-    one = one;
-    ended = ended;
-    printed = (length (texts_of said), subst (Appends held is) (sym (take-all (texts_of said))) printed);
-  }
+    -- nothing more was printed of what was said and is ended
+    silent_here : (start engine : EngineState D) (held is : Option (List ℕ)) (said : List Exchange) (doubt : List Command) → length doubt ≤ MAX_GROUP → HasEnded now past start engine.disk said doubt
+        → Appends held is (texts_of watch start.memory said) → Silent watch now past start held engine.disk is
+    silent_here start engine held is said doubt few ended printed = record {
+      said = said;
+      doubt = doubt;
+      few = few;
+      ended = ended;
+      printed = (length (texts_of watch start.memory said), subst (Appends held is) (sym (take-all (texts_of watch start.memory said))) printed);
+    }
 
-  -- it is ended with nothing more said
-  pub halts_talk : (old new : EngineState D) (was : Option (List ℕ)) → (honest new.disk → honest old.disk) → Halts now past honest old new → TalkEnds now past honest old was new was
-  halts_talk old new was back halts = λ start held so_far h.
-      let far = so_far (back h) in
-      let ended = halts start far.1.0 (λ b. (far.0, far.1.1.0)) h in
-      (far.0, silent_here start new held was far.1.0 ended.1.0 ended.1.1 ended.1.2 far.1.1.1)
+    -- it is ended with nothing more said
+    pub halts_talk : (old new : EngineState D) (was : Option (List ℕ)) → (honest new.disk → honest old.disk) → Halts now past honest old new → TalkEnds watch now past honest old was new was
+    halts_talk old new was back halts = λ start held so_far h.
+        let far = so_far (back h) in
+        let ended = halts start far.1.0 (λ b. (far.0, far.1.1.0)) h in
+        (far.0, silent_here start new held was far.1.0 ended.1.0 ended.1.1 ended.1.2 far.1.1.1)
 
-  pub talk_ends_here : (engine : EngineState D) (was : Option (List ℕ)) → TalkEnds now past honest engine was engine was
-  talk_ends_here engine was = halts_talk engine engine was (λ h. h) (ends_here engine)
+    pub talk_ends_here : (engine : EngineState D) (was : Option (List ℕ)) → TalkEnds watch now past honest engine was engine was
+    talk_ends_here engine was = halts_talk engine engine was (λ h. h) (ends_here engine)
 
-  -- the line of an answer was printed
-  pub talks_on : (old new : EngineState D) (was is : Option (List ℕ)) (asked : Option Asked) (answer : Answer) (line name : List ℕ) → asked_of line ≡ asked → (honest new.disk → honest old.disk)
-      → Says now past honest old new asked answer → Appends was is (answer_text name answer) → TalksOn now past honest old was new is
-  talks_on old new was is asked answer line name read back says printed = λ start held so_far h.
-      let far = so_far (back h) in
-      let said = says start far.1.0 line name read (λ b. (far.0, far.1.1.0)) h in (
-        far.0,
-        (
-          record { line = line; answer = answer; name = name } ∷ far.1.0,
-          (said.1, Appends-trans held was is (texts_of far.1.0) (answer_text name answer) far.1.1.1 printed),
-        ),
-      )
+    -- what was said without a line of its own goes on
+    pub goes_talk : (old new : EngineState D) (was : Option (List ℕ)) → (honest new.disk → honest old.disk) → GoesOn now past honest old new → TalksOn watch now past honest old was new was
+    goes_talk old new was back goes = λ start held so_far h.
+        let far = so_far (back h) in
+        let on = goes start far.1.0 (λ b. (far.0, far.1.1.0)) h in
+        (far.0, (far.1.0, (on.1, far.1.1.1)))
 
-  -- a beginning of it was printed
-  pub talk_ends : (old new : EngineState D) (was is : Option (List ℕ)) (asked : Option Asked) (answer : Answer) (line name : List ℕ) → asked_of line ≡ asked → (honest new.disk → honest old.disk)
-      → Says now past honest old new asked answer → Begins was is (answer_text name answer) → TalkEnds now past honest old was new is
-  talk_ends old new was is asked answer line name read back says printed = λ start held so_far h.
-      let far = so_far (back h) in
-      let said = says start far.1.0 line name read (λ b. (far.0, far.1.1.0)) h in
-      (far.0, silent start new held was is far.1.0 (record { line = line; answer = answer; name = name }) said.1 far.1.1.1 printed)
+    -- what is told behind the answer, at the memory where it was answered
+    told_at : (start old new : EngineState D) (said : List Exchange) (asked : Option Asked) (answer : Answer) (line name told : List ℕ) → asked_of line ≡ asked → IsAt now past start old said
+        → IsAt now past start new (record { line = line; answer = answer; name = name } ∷ said)
+        → ((n : ℕ) → Answers old.memory n asked answer → told ≡ watch_text watch old.memory answer) → told ≡ watch_text watch (after start.memory (put_of start.memory said)) answer
+    told_at start old new said asked answer line name told read at after_it is =
+        let m : Contents = after start.memory (put_of start.memory said) in
+        let same : old.memory ≡ after start.memory (put_of start.memory said) = at.run.memory at.works in
+        let answers : Answers old.memory (start.count + length (put_of start.memory said)) asked answer
+        = subst (λ (m : Contents). Answers m (start.count + length (put_of start.memory said)) asked answer) (sym same)
+        (subst (λ (o : Option Asked). Answers (after start.memory (put_of start.memory said)) (start.count + length (put_of start.memory said)) o answer) read after_it.answered.0) in
+        subst (λ (m : Contents). told ≡ watch_text watch m answer) same (is (start.count + length (put_of start.memory said)) answers)
 
-  pub ends_after : (old mid new : EngineState D) (was been is : Option (List ℕ)) → TalksOn now past honest old was mid been → TalkEnds now past honest mid been new is → TalkEnds now past honest old was new is
-  ends_after old mid new was been is on ends = λ start held so_far. ends start held (on start held so_far)
+    -- the line of an answer was printed, and those behind it
+    pub talks_on : (old new : EngineState D) (was is : Option (List ℕ)) (asked : Option Asked) (answer : Answer) (line name told : List ℕ) → asked_of line ≡ asked → (honest new.disk → honest old.disk)
+        → Says now past honest old new asked answer → ((n : ℕ) → Answers old.memory n asked answer → told ≡ watch_text watch old.memory answer)
+        → Appends was is (answer_text name answer ++ told) → TalksOn watch now past honest old was new is
+    talks_on old new was is asked answer line name told read back says tells printed = λ start held so_far h.
+        let far = so_far (back h) in
+        let said = says start far.1.0 line name read (λ b. (far.0, far.1.1.0)) h in
+        let same = told_at start old new far.1.0 asked answer line name told read far.1.1.0 said.1 tells in (
+          far.0,
+          (
+            record { line = line; answer = answer; name = name } ∷ far.1.0,
+            (
+              said.1,
+              subst (λ (t : List ℕ). Appends held is (texts_of watch start.memory far.1.0 ++ (answer_text name answer ++ t))) same
+                  (Appends-trans held was is (texts_of watch start.memory far.1.0) (answer_text name answer ++ told) far.1.1.1 printed),
+            ),
+          ),
+        )
 
-  -- what was said is ended where it stands
-  pub end_here : (old new : EngineState D) (was is : Option (List ℕ)) → TalksOn now past honest old was new is → TalkEnds now past honest old was new is
-  end_here old new was is on = ends_after old new new was is is on (talk_ends_here new is)
+    -- a beginning of them was printed
+    pub talk_ends : (old new : EngineState D) (was is : Option (List ℕ)) (asked : Option Asked) (answer : Answer) (line name told : List ℕ) → asked_of line ≡ asked → (honest new.disk → honest old.disk)
+        → Says now past honest old new asked answer → ((n : ℕ) → Answers old.memory n asked answer → told ≡ watch_text watch old.memory answer)
+        → Begins was is (answer_text name answer ++ told) → TalkEnds watch now past honest old was new is
+    talk_ends old new was is asked answer line name told read back says tells printed = λ start held so_far h.
+        let far = so_far (back h) in
+        let said = says start far.1.0 line name read (λ b. (far.0, far.1.1.0)) h in
+        let same = told_at start old new far.1.0 asked answer line name told read far.1.1.0 said.1 tells in (
+          far.0,
+          silent start new held was is far.1.0 (record { line = line; answer = answer; name = name } ∷ far.1.0) (answer_text name answer ++ told) said.1
+              (ap (λ (t : List ℕ). texts_of watch start.memory far.1.0 ++ (answer_text name answer ++ t)) (sym same)) far.1.1.1 printed,
+        )
+
+    pub ends_after : (old mid new : EngineState D) (was been is : Option (List ℕ)) → TalksOn watch now past honest old was mid been → TalkEnds watch now past honest mid been new is → TalkEnds watch now past honest old was new is
+    ends_after old mid new was been is on ends = λ start held so_far. ends start held (on start held so_far)
+
+    -- what was said is ended where it stands
+    pub end_here : (old new : EngineState D) (was is : Option (List ℕ)) → TalksOn watch now past honest old was new is → TalkEnds watch now past honest old was new is
+    end_here old new was is on = ends_after old new new was is is on (talk_ends_here new is)
+
+    -- what was said, and then what the last call comes to
+    pub then_talks : {T E : Type 0} (old mid new : EngineState D) (was been is : Option (List ℕ)) (result : Result T E) → TalksOn watch now past honest old was mid been
+        → MatchResult result (λ n. TalksOn watch now past honest mid been new is) (λ e. TalkEnds watch now past honest mid been new is)
+        → MatchResult result (λ n. TalksOn watch now past honest old was new is) (λ e. TalkEnds watch now past honest old was new is)
+    then_talks old mid new was been is (Ok n) on it = λ start held so_far. it start held (on start held so_far)
+    then_talks old mid new was been is (Err e) on it = ends_after old mid new was been is on it
+
+    pub on_after : (old mid new : EngineState D) (was been is : Option (List ℕ)) → TalksOn watch now past honest old was mid been → TalksOn watch now past honest mid been new is → TalksOn watch now past honest old was new is
+    on_after old mid new was been is on it = λ start held so_far. it start held (on start held so_far)

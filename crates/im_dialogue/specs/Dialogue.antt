@@ -1,6 +1,7 @@
 -- What a dialogue leaves on a disk. (Own.)
-use Rattle.std.specs.Prelude.{◌≡◌, ◌⊎◌, ℕ, ◌≤◌, List, [], ◌++◌, length, Option}
+use Rattle.std.specs.Prelude.{◌≡◌, ◌⊎◌, ℕ, ◌≤◌, Bool, List, [], ◌++◌, length, Option}
 use Rattle.std.specs.Io.KnownBytes.{Appends}
+use Rattle.im_types.specs.declared.TheConstants.{MAX_GROUP}
 use Rattle.im_types.specs.declared.commands.Command.{Command}
 use Rattle.im_disk.specs.Moment.{Moment, Left}
 use Rattle.im_disk.specs.Since.{Leaves, LeavesNow}
@@ -15,29 +16,29 @@ PrintsThenLast was is text = (mid : Option (List ℕ)) × Begins was mid text ×
 
 -- An engine was closed, and the status given, after this was said on it. Where the status is 0 nothing is in doubt, and all
 -- answers were printed, and nothing else.
-pub record Closed {D : Type 0} (now : D → Moment) (past : D → List Moment) (start : EngineState D) (disk : D) (was is : Option (List ℕ)) (status : ℕ) : Type 0 where
+pub record Closed {D : Type 0} (watch : Bool) (now : D → Moment) (past : D → List Moment) (start : EngineState D) (disk : D) (was is : Option (List ℕ)) (status : ℕ) : Type 0 where
   pub said : List Exchange
   pub doubt : List Command
-  pub one : length doubt ≤ 1
+  pub few : length doubt ≤ MAX_GROUP
   pub ended : HasEnded now past start disk said doubt
-  pub printed : PrintsThenLast was is (texts_of said)
-  pub whole : status ≡ 0 → (doubt ≡ []) × Appends was is (texts_of said)
+  pub printed : PrintsThenLast was is (texts_of watch start.memory said)
+  pub whole : status ≡ 0 → (doubt ≡ []) × Appends was is (texts_of watch start.memory said)
 
 -- The image was opened, with the meaning of a file that a crash could leave then, and this was said on it, the last first:
 -- each line was answered on the memory after those before it. From then on a crash leaves the memory after a beginning of
--- the commands that were put; and at the end after all of them, or with one in doubt. Where the status is 0 none is in doubt,
+-- the commands that were put; and at the end after all of them, with those in doubt all together or not at all. Where the status is 0 none is in doubt,
 -- and all answers were printed, and nothing else.
-pub record Talked {D : Type 0} (now : D → Moment) (past : D → List Moment) (old new : D) (was is : Option (List ℕ)) (status : ℕ) : Type 0 where
+pub record Talked {D : Type 0} (watch : Bool) (now : D → Moment) (past : D → List Moment) (old new : D) (was is : Option (List ℕ)) (status : ℕ) : Type 0 where
   pub start : EngineState D
   pub said : List Exchange
   pub doubt : List Command
-  pub one : length doubt ≤ 1
+  pub few : length doubt ≤ MAX_GROUP
   pub found : (file : List ℕ) × Left (now old) file × MeansState start file
   pub answered : AreAnswered start.memory start.count said
   pub leaves : Leaves (now old) (now new) (past old) (past new) (MeansBeginning start (put_of start.memory said ++ doubt))
   pub kept : LeavesNow (now new) (MeansSaid start said doubt)
-  pub printed : PrintsThenLast was is (texts_of said)
-  pub whole : status ≡ 0 → (doubt ≡ []) × Appends was is (texts_of said)
+  pub printed : PrintsThenLast was is (texts_of watch start.memory said)
+  pub whole : status ≡ 0 → (doubt ≡ []) × Appends was is (texts_of watch start.memory said)
 
 -- The image was not opened: a crash leaves nothing that it couldn't leave before, and no more than a refusal was printed.
 pub record NotOpened {D : Type 0} (now : D → Moment) (past : D → List Moment) (old new : D) (was is : Option (List ℕ)) (status : ℕ) : Type 0 where
@@ -46,8 +47,8 @@ pub record NotOpened {D : Type 0} (now : D → Moment) (past : D → List Moment
   pub leaves : Leaves (now old) (now new) (past old) (past new) (Left (now old))
 
 -- The same of a disk that was opened at this moment, before which there was none.
-pub record TalkedFrom {D : Type 0} (now : D → Moment) (past : D → List Moment) (first : Moment) (new : D) (before after : Option (List ℕ)) (status : ℕ) : Type 0 where
+pub record TalkedFrom {D : Type 0} (watch : Bool) (now : D → Moment) (past : D → List Moment) (first : Moment) (new : D) (before after : Option (List ℕ)) (status : ℕ) : Type 0 where
   pub old : D
   pub was : now old ≡ first
   pub none : past old ≡ []
-  pub talked : NotOpened now past old new before after status ⊎ Talked now past old new before after status
+  pub talked : NotOpened now past old new before after status ⊎ Talked watch now past old new before after status

@@ -1,5 +1,6 @@
 -- A dialogue over an engine: what was asked, what it was answered, and what a crash leaves of it. (Own.)
 use Rattle.std.specs.Prelude.{◌≡◌, ◌⊎◌, ℕ, ◌+◌, ◌≤◌, Bool, true, false, List, [], ◌∷◌, ◌++◌, length, Option, None, Some, Result, Err}
+use Rattle.im_types.specs.declared.TheConstants.{MAX_GROUP}
 use Rattle.std.specs.Io.KnownBytes.{Appends}
 use Rattle.im_types.specs.declared.commands.Command.{Command}
 use Rattle.im_types.specs.declared.commands.Outcome.{Outcome}
@@ -22,6 +23,7 @@ use Rattle.im_dialogue.specs.declared.answers.Answer.{Answer}
 use Rattle.im_dialogue.specs.declared.answers.Answer.TheVariants.{Served, Kept, Window, Room, Turned, Count, Wrong}
 use Rattle.im_dialogue.specs.Asking.{asked_of}
 use Rattle.im_dialogue.specs.Answers.{answer_text}
+use Rattle.im_dialogue.specs.Watching.{watch_text}
 
 -- ---- what was said
 
@@ -61,10 +63,11 @@ abbrev pub AreAnswered : Contents → ℕ → List Exchange → Type 0
 AreAnswered m commands [] = Unit {0}
 AreAnswered m commands (x ∷ xs) = Answers (after m (put_of m xs)) (commands + length (put_of m xs)) (asked_of x.line) x.answer × AreAnswered m commands xs
 
--- the lines that were answered, one below the other
-abbrev pub texts_of : List Exchange → List ℕ
-texts_of [] = []
-texts_of (x ∷ xs) = texts_of xs ++ answer_text x.name x.answer
+-- the lines that were answered on this memory, one below the other; where it is watched, behind each those of the requests
+-- whose answers it brought
+abbrev pub texts_of : Bool → Contents → List Exchange → List ℕ
+texts_of watch m [] = []
+texts_of watch m (x ∷ xs) = texts_of watch m xs ++ (answer_text x.name x.answer ++ watch_text watch (after m (put_of m xs)) x.answer)
 
 -- the refusal says that a call of the disk failed, and ends the dialogue
 abbrev pub is_end : Refusal → Bool
@@ -82,11 +85,12 @@ pub record IsAt {D : Type 0} (now : D → Moment) (past : D → List Moment) (st
   pub leaves : Leaves (now start.disk) (now engine.disk) (past start.disk) (past engine.disk) (MeansBeginning start (put_of start.memory said))
   pub kept : LeavesNow (now engine.disk) (MeansState engine)
 
--- the file means what the engine is after all commands that were put by what was said, and perhaps after those in doubt
+-- the file means what the engine is after all commands that were put by what was said, and after those in doubt all together or
+-- not at all
 abbrev pub MeansSaid : {D : Type 0} → EngineState D → List Exchange → List Command → List ℕ → Type 0
-MeansSaid s said doubt file = (many : ℕ) × (length (put_of s.memory said) ≤ many) × (many ≤ length (put_of s.memory said ++ doubt)) × MeansAfter s (put_of s.memory said ++ doubt) many file
+MeansSaid s said doubt file = (many : ℕ) × ((many ≡ length (put_of s.memory said)) ⊎ (many ≡ length (put_of s.memory said ++ doubt))) × MeansAfter s (put_of s.memory said ++ doubt) many file
 
--- All that was said was done, and it was ended, by a command in doubt or without one: what was said is in every file that a
+-- All that was said was done, and it was ended, by commands in doubt or without any: what was said is in every file that a
 -- crash leaves.
 pub record HasEnded {D : Type 0} (now : D → Moment) (past : D → List Moment) (start : EngineState D) (disk : D) (said : List Exchange) (doubt : List Command) : Type 0 where
   pub answered : AreAnswered start.memory start.count said
@@ -99,7 +103,7 @@ Going now past honest start engine said = honest engine.disk → honest start.di
 
 -- the same, and it was ended
 abbrev pub Ended : {D : Type 0} → (D → Moment) → (D → List Moment) → (D → Type 0) → EngineState D → D → List Exchange → Type 0
-Ended now past honest start disk said = honest disk → honest start.disk × ((doubt : List Command) × (length doubt ≤ 1) × HasEnded now past start disk said doubt)
+Ended now past honest start disk said = honest disk → honest start.disk × ((doubt : List Command) × (length doubt ≤ MAX_GROUP) × HasEnded now past start disk said doubt)
 
 -- nothing more was said
 abbrev pub GoesOn : {D : Type 0} → (D → Moment) → (D → List Moment) → (D → Type 0) → EngineState D → EngineState D → Type 0
@@ -117,25 +121,25 @@ Says {D} now past honest old new asked answer = (start : EngineState D) (said : 
 -- ---- and printed
 
 -- since the writer held this, what was said was printed, line by line
-abbrev pub Talking : {D : Type 0} → (D → Moment) → (D → List Moment) → (D → Type 0) → EngineState D → Option (List ℕ) → EngineState D → Option (List ℕ) → Type 0
-Talking now past honest start was engine is = honest engine.disk → honest start.disk × ((said : List Exchange) × (IsAt now past start engine said × Appends was is (texts_of said)))
+abbrev pub Talking : {D : Type 0} → Bool → (D → Moment) → (D → List Moment) → (D → Type 0) → EngineState D → Option (List ℕ) → EngineState D → Option (List ℕ) → Type 0
+Talking watch now past honest start was engine is = honest engine.disk → honest start.disk × ((said : List Exchange) × (IsAt now past start engine said × Appends was is (texts_of watch start.memory said)))
 
--- what was said, of which a beginning was printed, and the command in doubt, if there is one
-pub record Silent {D : Type 0} (now : D → Moment) (past : D → List Moment) (start : EngineState D) (was : Option (List ℕ)) (disk : D) (is : Option (List ℕ)) : Type 0 where
+-- what was said, of which a beginning was printed, and the commands in doubt, if there are some
+pub record Silent {D : Type 0} (watch : Bool) (now : D → Moment) (past : D → List Moment) (start : EngineState D) (was : Option (List ℕ)) (disk : D) (is : Option (List ℕ)) : Type 0 where
   pub said : List Exchange
   pub doubt : List Command
-  pub one : length doubt ≤ 1
+  pub few : length doubt ≤ MAX_GROUP
   pub ended : HasEnded now past start disk said doubt
-  pub printed : Begins was is (texts_of said)
+  pub printed : Begins was is (texts_of watch start.memory said)
 
 -- the same, and it was ended
-abbrev pub Silenced : {D : Type 0} → (D → Moment) → (D → List Moment) → (D → Type 0) → EngineState D → Option (List ℕ) → D → Option (List ℕ) → Type 0
-Silenced now past honest start was disk is = honest disk → honest start.disk × Silent now past start was disk is
+abbrev pub Silenced : {D : Type 0} → Bool → (D → Moment) → (D → List Moment) → (D → Type 0) → EngineState D → Option (List ℕ) → D → Option (List ℕ) → Type 0
+Silenced watch now past honest start was disk is = honest disk → honest start.disk × Silent watch now past start was disk is
 
 -- lines were asked and answered, and their answers printed
-abbrev pub TalksOn : {D : Type 0} → (D → Moment) → (D → List Moment) → (D → Type 0) → EngineState D → Option (List ℕ) → EngineState D → Option (List ℕ) → Type 0
-TalksOn {D} now past honest old was new is = (start : EngineState D) (held : Option (List ℕ)) → Talking now past honest start held old was → Talking now past honest start held new is
+abbrev pub TalksOn : {D : Type 0} → Bool → (D → Moment) → (D → List Moment) → (D → Type 0) → EngineState D → Option (List ℕ) → EngineState D → Option (List ℕ) → Type 0
+TalksOn {D} watch now past honest old was new is = (start : EngineState D) (held : Option (List ℕ)) → Talking watch now past honest start held old was → Talking watch now past honest start held new is
 
 -- the same, and it was ended
-abbrev pub TalkEnds : {D : Type 0} → (D → Moment) → (D → List Moment) → (D → Type 0) → EngineState D → Option (List ℕ) → EngineState D → Option (List ℕ) → Type 0
-TalkEnds {D} now past honest old was new is = (start : EngineState D) (held : Option (List ℕ)) → Talking now past honest start held old was → Silenced now past honest start held new.disk is
+abbrev pub TalkEnds : {D : Type 0} → Bool → (D → Moment) → (D → List Moment) → (D → Type 0) → EngineState D → Option (List ℕ) → EngineState D → Option (List ℕ) → Type 0
+TalkEnds {D} watch now past honest old was new is = (start : EngineState D) (held : Option (List ℕ)) → Talking watch now past honest start held old was → Silenced watch now past honest start held new.disk is

@@ -19,24 +19,25 @@ use std::io::{BufRead, Write};
 ///
 /// Where the image isn't opened, a crash leaves nothing that it couldn't leave before. From the opening on, a crash
 /// leaves the memory after a beginning of the commands that were put on the image, and at the end after all that were
-/// answered, and perhaps one more where a call of the disk failed. What was printed is a beginning of the answers, then
-/// of the refusal; and where the status is 0, all answers and nothing else.
+/// answered, and where a call of the disk failed perhaps after those of the line or group that it was for. What was
+/// printed is a beginning of the answers, then of the refusal; and where the status is 0, all answers and nothing else.
 pub fn dialogue_on<D: Disk, R: BufRead, W: Write, N: Observer>(
     alloc: Global,
     disk: D,
     input: &mut R,
+    watch: bool,
     out: &mut W,
     observer: &mut N,
 ) -> (u8, D)
     ensures status { result.0 ≤ 1 }
     ensures talked { D.honest result.1
         → NotOpened D.now D.past disk result.1 (W.contents out.old) (W.contents out.new) result.0
-        ⊎ Talked D.now D.past disk result.1 (W.contents out.old) (W.contents out.new) result.0 }
+        ⊎ Talked watch D.now D.past disk result.1 (W.contents out.old) (W.contents out.new) result.0 }
     ensures honest { D.honest result.1 → D.honest disk }
 {
     // A stop in it leaves what a stop before it leaves: an opening writes nothing.
     match Engine::open(alloc, disk) {
-        Ok(engine) => talk_on(alloc, engine, input, out, observer),
+        Ok(engine) => talk_on(alloc, engine, input, watch, out, observer),
         Err((refusal, mut disk)) => {
             let reason = diagnose(alloc, &mut disk, refusal);
             (end(alloc, Err(reason), out, observer), disk)
@@ -49,6 +50,7 @@ fn talk_on<D: Disk, R: BufRead, W: Write, N: Observer>(
     alloc: Global,
     mut engine: Engine<D>,
     input: &mut R,
+    watch: bool,
     out: &mut W,
     observer: &mut N,
 ) -> (u8, D)
@@ -56,10 +58,10 @@ fn talk_on<D: Disk, R: BufRead, W: Write, N: Observer>(
     requires means { D.honest engine.disk → LeavesNow (D.now engine.disk) (MeansState engine) }
     ensures status { result.0 ≤ 1 }
     ensures closed { D.honest result.1
-        → Closed D.now D.past engine result.1 (W.contents out.old) (W.contents out.new) result.0 }
+        → Closed watch D.now D.past engine result.1 (W.contents out.old) (W.contents out.new) result.0 }
     ensures honest { D.honest result.1 → D.honest engine.disk }
 {
-    match serve_lines(alloc, &mut engine, input, out) {
+    match serve_lines(alloc, &mut engine, input, watch, out) {
         Ok(()) => (0, engine.close()),
         Err(reason) => (end(alloc, Err(reason), out, observer), engine.close()),
     }

@@ -6,6 +6,8 @@ mod asking;
 mod dialogue;
 mod serving;
 mod talk;
+mod together;
+mod watching;
 
 pub use answers::{Answer, Expected, add_answer};
 pub use asking::{Asked, read_asked};

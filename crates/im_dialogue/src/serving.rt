@@ -1,5 +1,5 @@
 //! A dialogue, line by line.
-ghost use Rattle.std.specs.Prelude.{◌≡◌, List, ℕ, Some, None, OnOk, MatchResult, string_bytes};
+ghost use Rattle.std.specs.Prelude.{◌≡◌, ◌++◌, Bool, List, ℕ, Some, None, OnOk, MatchResult, string_bytes};
 ghost use Rattle.std.specs.Io.KnownBytes.{Appends};
 ghost use Rattle.im_text.specs.Printing.{Begins};
 ghost use Rattle.im_dialogue.specs.Answers.{answer_text};
@@ -8,16 +8,20 @@ ghost use Rattle.im_dialogue.specs.Talk.{TalkEnds, TalksOn};
 
 use crate::answers::{Answer, Expected, add_answer};
 use crate::asking::{Asked, read_asked};
-use crate::talk::{answer, wrong};
+use crate::talk::{answer, make_room, wrong};
+use crate::together::{gather, serve_members};
+use crate::watching::{make_nows, told_with};
+use arrayvec::ArrayVec;
 use im_damage::Damage;
 use im_disk::Disk;
 use im_engine::Engine;
 use im_text::{Reason, put_through};
+use im_types::{MAX_GROUP, Request};
 use std::alloc::{AllocError, Global};
 use std::io::{BufRead, Write};
 
-// The name of the refusal that an answer is, if it is one.
-fn name_of(alloc: Global, answer: Answer) -> Result<String, AllocError> {
+/// The name of the refusal that an answer is, if it is one.
+pub(crate) fn name_of(alloc: Global, answer: Answer) -> Result<String, AllocError> {
     let mut name = String::new(alloc);
     if let Some(refusal) = answer.refusal() {
         write!(name, "{refusal}")?;
@@ -25,30 +29,43 @@ fn name_of(alloc: Global, answer: Answer) -> Result<String, AllocError> {
     Ok(name)
 }
 
-// Makes the line of an answer.
-fn make_text(alloc: Global, text: &mut String, answer: Answer) -> Result<(), AllocError>
-    ensures { OnOk result ((name : List ℕ) × (string_bytes text.new ≡ answer_text name answer)) }
+// Makes the line of an answer, and those that are told behind it.
+fn make_text(alloc: Global, text: &mut String, answer: Answer, nows: &str) -> Result<(), AllocError>
+    ensures { OnOk result ((name : List ℕ) × (string_bytes text.new ≡ answer_text name answer ++ nows.now)) }
 {
     let name = name_of(alloc, answer)?;
     text.clear();
-    add_answer(text, answer, name.as_str())
+    add_answer(text, answer, name.as_str())?;
+    text.push_str(nows)
 }
 
-// Prints the line of an answer, and has the writer put it through.
+// Prints the line of an answer with those that are told behind it, and has the writer put them through.
 fn say<W: Write>(
     alloc: Global,
     text: &mut String,
     answer: Answer,
+    nows: &str,
     out: &mut W,
 ) -> Result<(), Reason>
     ensures { MatchResult result
-        (λ _. (name : List ℕ) × Appends (W.contents out.old) (W.contents out.new) (answer_text name answer))
-        (λ _. (name : List ℕ) × Begins (W.contents out.old) (W.contents out.new) (answer_text name answer)) }
+        (λ _. (name : List ℕ) × Appends (W.contents out.old) (W.contents out.new) (answer_text name answer ++ nows.now))
+        (λ _. (name : List ℕ) × Begins (W.contents out.old) (W.contents out.new) (answer_text name answer ++ nows.now)) }
 {
-    match make_text(alloc, text, answer) {
+    match make_text(alloc, text, answer, nows) {
         Ok(()) => put_through(out, text.as_str()),
         Err(_) => Err(Reason::Memory),
     }
+}
+
+// What is made anew for each line, in memory that is kept from line to line.
+#[derive(Drop)]
+struct Drafts {
+    // A line that was read.
+    line: Vec<u8>,
+    // The line of its answer.
+    text: String,
+    // Those that are told behind it.
+    nows: String,
 }
 
 // Does what a line asks, and prints the answer. Answers whether the dialogue goes on.
@@ -56,17 +73,23 @@ fn serve_asked<D: Disk, W: Write>(
     alloc: Global,
     engine: &mut Engine<D>,
     asked: Asked,
+    watch: bool,
     text: &mut String,
+    nows: &mut String,
     out: &mut W,
 ) -> Result<bool, Reason>
     ensures { (line : List ℕ) → asked_of line ≡ Some asked → MatchResult result
-        (λ _. TalksOn D.now D.past D.honest engine.old (W.contents out.old) engine.new (W.contents out.new))
-        (λ _. TalkEnds D.now D.past D.honest engine.old (W.contents out.old) engine.new (W.contents out.new)) }
+        (λ _. TalksOn watch D.now D.past D.honest engine.old (W.contents out.old) engine.new (W.contents out.new))
+        (λ _. TalkEnds watch D.now D.past D.honest engine.old (W.contents out.old) engine.new (W.contents out.new)) }
 {
+    // Who waits is looked up before the command acts: then they are resumed.
+    if let Err(_) = make_nows(nows, engine.memory(), asked, watch) {
+        return Err(Reason::Memory);
+    }
     match answer(engine, asked) {
         Ok(None) => Ok(false),
         // The command is on the disk before its line is printed: a stop between them leaves it to be asked again.
-        Ok(Some(answer)) => match say(alloc, text, answer, out) {
+        Ok(Some(answer)) => match say(alloc, text, answer, told_with(answer, nows.as_str()), out) {
             Ok(()) => Ok(true),
             Err(reason) => Err(reason),
         },
@@ -110,11 +133,17 @@ fn refuse_line<D: Disk, W: Write>(
     out: &mut W,
 ) -> Result<(), Reason>
     requires wrong { asked_of line.now ≡ None }
-    ensures { MatchResult result
-        (λ _. TalksOn D.now D.past D.honest engine.now (W.contents out.old) engine.now (W.contents out.new))
-        (λ _. TalkEnds D.now D.past D.honest engine.now (W.contents out.old) engine.now (W.contents out.new)) }
+    ensures { (watch : Bool) → MatchResult result
+        (λ _. TalksOn watch D.now D.past D.honest engine.now (W.contents out.old) engine.now (W.contents out.new))
+        (λ _. TalkEnds watch D.now D.past D.honest engine.now (W.contents out.old) engine.now (W.contents out.new)) }
 {
-    match say(alloc, text, wrong(engine, number, expected_of(line)), out) {
+    match say(
+        alloc,
+        text,
+        wrong(engine, number, expected_of(line)),
+        "",
+        out,
+    ) {
         Ok(()) => Ok(()),
         Err(reason) => Err(reason),
     }
@@ -125,16 +154,18 @@ fn serve_line<D: Disk, W: Write>(
     alloc: Global,
     engine: &mut Engine<D>,
     number: u64,
+    watch: bool,
     line: &[u8],
     text: &mut String,
+    nows: &mut String,
     out: &mut W,
 ) -> Result<bool, Reason>
     ensures { MatchResult result
-        (λ _. TalksOn D.now D.past D.honest engine.old (W.contents out.old) engine.new (W.contents out.new))
-        (λ _. TalkEnds D.now D.past D.honest engine.old (W.contents out.old) engine.new (W.contents out.new)) }
+        (λ _. TalksOn watch D.now D.past D.honest engine.old (W.contents out.old) engine.new (W.contents out.new))
+        (λ _. TalkEnds watch D.now D.past D.honest engine.old (W.contents out.old) engine.new (W.contents out.new)) }
 {
     match read_asked(alloc, line) {
-        Ok(Some(asked)) => serve_asked(alloc, engine, asked, text, out),
+        Ok(Some(asked)) => serve_asked(alloc, engine, asked, watch, text, nows, out),
         Ok(None) => match refuse_line(alloc, engine, number, line, text, out) {
             Ok(()) => Ok(true),
             Err(reason) => Err(reason),
@@ -153,35 +184,136 @@ fn next_line<R: BufRead>(input: &mut R, line: &mut Vec<u8>) -> Result<bool, Reas
     }
 }
 
+// Serves the lines that stand in the reader's buffer together as one group, where they are two or more and there is room
+// for their commands. How many they were, or none.
+fn serve_together<D: Disk, R: BufRead, W: Write>(
+    alloc: Global,
+    engine: &mut Engine<D>,
+    input: &mut R,
+    watch: bool,
+    text: &mut String,
+    out: &mut W,
+) -> Result<u64, Reason>
+    ensures { MatchResult result
+        (λ _. TalksOn watch D.now D.past D.honest engine.old (W.contents out.old) engine.new (W.contents out.new))
+        (λ _. TalkEnds watch D.now D.past D.honest engine.old (W.contents out.old) engine.new (W.contents out.new)) }
+{
+    let mut members: ArrayVec<Request, 16> = ArrayVec::new();
+    let taken = match gather(alloc, input, watch, MAX_GROUP, &mut members) {
+        Ok(taken) => taken,
+        Err(reason) => return Err(reason),
+    };
+    let many = members.len() as u32;
+    if many < 2 {
+        return Ok(0);
+    }
+    if let Err(refusal) = make_room(engine, many) {
+        return Err(Reason::Image(refusal, Damage::Unknown));
+    }
+    if engine.room() < many {
+        return Ok(0); // Each by itself is given what room turns can make.
+    }
+    input.consume(taken);
+    match serve_members(alloc, engine, watch, &members, text, out) {
+        Ok(()) => Ok(many as u64),
+        Err(reason) => Err(reason),
+    }
+}
+
+// Reads a line and serves it by itself. One, or none where the dialogue is at its end.
+fn serve_alone<D: Disk, R: BufRead, W: Write>(
+    alloc: Global,
+    engine: &mut Engine<D>,
+    input: &mut R,
+    number: u64,
+    watch: bool,
+    drafts: &mut Drafts,
+    out: &mut W,
+) -> Result<u64, Reason>
+    ensures { MatchResult result
+        (λ _. TalksOn watch D.now D.past D.honest engine.old (W.contents out.old) engine.new (W.contents out.new))
+        (λ _. TalkEnds watch D.now D.past D.honest engine.old (W.contents out.old) engine.new (W.contents out.new)) }
+{
+    match next_line(input, &mut drafts.line) {
+        Ok(true) => {}
+        Ok(false) => return Ok(0),
+        Err(reason) => return Err(reason),
+    }
+    let line = drafts.line.as_slice();
+    match serve_line(
+        alloc,
+        engine,
+        number,
+        watch,
+        line,
+        &mut drafts.text,
+        &mut drafts.nows,
+        out,
+    ) {
+        Ok(true) => Ok(1),
+        Ok(false) => Ok(0),
+        Err(reason) => Err(reason),
+    }
+}
+
+// Serves what is read next: lines that stand together, or one. How many, or none where the dialogue is at its end.
+fn serve_next<D: Disk, R: BufRead, W: Write>(
+    alloc: Global,
+    engine: &mut Engine<D>,
+    input: &mut R,
+    number: u64,
+    watch: bool,
+    drafts: &mut Drafts,
+    out: &mut W,
+) -> Result<u64, Reason>
+    ensures { MatchResult result
+        (λ _. TalksOn watch D.now D.past D.honest engine.old (W.contents out.old) engine.new (W.contents out.new))
+        (λ _. TalkEnds watch D.now D.past D.honest engine.old (W.contents out.old) engine.new (W.contents out.new)) }
+{
+    match serve_together(alloc, engine, input, watch, &mut drafts.text, out) {
+        Ok(0) => serve_alone(alloc, engine, input, number, watch, drafts, out),
+        Ok(many) => Ok(many),
+        Err(reason) => Err(reason),
+    }
+}
+
 /// Serves a dialogue on an engine, until the input ends or `quit` is asked. Each line of the input is answered by one
-/// line, in their order, which is written and put through once what it tells is on the disk, and before the next line
-/// is read. A line that isn't in the grammar is answered by what was expected, and changes nothing. The end of the
-/// input without a line feed is no line.
+/// line, in their order, which is written and put through once what it tells is on the disk. A line that isn't in the
+/// grammar is answered by what was expected, and changes nothing. The end of the input without a line feed is no line.
+///
+/// Up to 16 requests of elements that differ, whose lines stand in the reader's buffer one behind the other, are served
+/// as one group, and their answers written together: they are those that the lines would have by themselves. No line
+/// waits for another. All other lines are answered before the next one is read.
+///
+/// Where it is watched (`watch`), the line of a request is followed by a line `E.N now REPLY` for each request that
+/// waited and is answered by it, in the order in which they came. A request that may bring such lines is then served by
+/// itself.
 ///
 /// A refusal is an answer, but for `Device` and `Failed`, where a call of the disk failed: they end it, as do an input
 /// that can't be read, an output that can't be written, and want of memory. What was printed is then a beginning of the
-/// answers, and each command that was answered is in every file that a crash leaves.
+/// answers, and each command that was answered is in every file that a crash leaves; those of a group that wasn't
+/// answered are there all together or not at all.
 pub fn serve_lines<D: Disk, R: BufRead, W: Write>(
     alloc: Global,
     engine: &mut Engine<D>,
     input: &mut R,
+    watch: bool,
     out: &mut W,
 ) -> Result<(), Reason>
     ensures { MatchResult result
-        (λ _. TalksOn D.now D.past D.honest engine.old (W.contents out.old) engine.new (W.contents out.new))
-        (λ _. TalkEnds D.now D.past D.honest engine.old (W.contents out.old) engine.new (W.contents out.new)) }
+        (λ _. TalksOn watch D.now D.past D.honest engine.old (W.contents out.old) engine.new (W.contents out.new))
+        (λ _. TalkEnds watch D.now D.past D.honest engine.old (W.contents out.old) engine.new (W.contents out.new)) }
 {
-    let mut line = Vec::new(alloc);
-    let mut text = String::new(alloc);
-    for number in 1..u64::MAX {
-        match next_line(input, &mut line) {
-            Ok(true) => {}
-            Ok(false) => return Ok(()),
-            Err(reason) => return Err(reason),
-        }
-        match serve_line(alloc, engine, number, line.as_slice(), &mut text, out) {
-            Ok(true) => {}
-            Ok(false) => return Ok(()),
+    let mut drafts = Drafts {
+        line: Vec::new(alloc),
+        text: String::new(alloc),
+        nows: String::new(alloc),
+    };
+    let mut number: u64 = 1;
+    for _served in 0..u64::MAX {
+        match serve_next(alloc, engine, input, number, watch, &mut drafts, out) {
+            Ok(0) => return Ok(()),
+            Ok(many) => number = number.saturating_add(many),
             Err(reason) => return Err(reason),
         }
     }

@@ -158,8 +158,8 @@ output can't be written; 2 a bad command line; 3 the elements wait for each othe
 const SERVE: &str = "Serve a dialogue: read a line, answer it by a line, until the input ends";
 
 const SERVE_EXAMPLES: &str =
-    "Reads standard input line by line, and prints the answer to each once what it tells is on the disk,
-before it reads the next. Requests have their numbers, and one that is sent again acts once:
+    "Reads standard input line by line, and prints the answer to each once what it tells is on the disk.
+Requests have their numbers, and one that is sent again acts once:
   E.N alloc i|m LENGTH, E.N release A, E.N fetch A, E.N store A VALUE, E.N take A, E.N put A VALUE
                         element E's request N: 'E.N REPLY' or 'E.N refused NUMBER NAME'
   collect E.N           what is kept for it now

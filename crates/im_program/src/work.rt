@@ -9,7 +9,7 @@ ghost use Rattle.im_image.specs.Fresh.{new_image};
 ghost use Rattle.im_report.specs.Inspecting.{Tells};
 ghost use Rattle.im_text.specs.Printing.{Begins, IsLast};
 ghost use Rattle.im_serial.specs.Serving.{ServedFrom};
-ghost use Rattle.im_dialogue.specs.Dialogue.{TalkedFrom};
+ghost use Rattle.im_dialogue.specs.Dialogue.{NotOpened, Talked, TalkedFrom};
 ghost use Rattle.im_run.specs.Running.{Ran};
 ghost use Rattle.im_program.specs.Words.{demonstration, task_of, task_of_job};
 ghost use Rattle.im_program.specs.Working.{DoneOn};
@@ -30,7 +30,7 @@ use im_text::{Observer, Reason, put_refusal};
 use im_types::{Limits, MAX_CELLS, MAX_ELEMENTS, Refusal};
 use std::alloc::Global;
 use std::fs::{self, File, OpenOptions};
-use std::io::{self, Eprint, ErrorKind, Input, Read, Write};
+use std::io::{self, BufReader, Eprint, ErrorKind, Input, Read, Write};
 use std::rt::Files;
 use std::sync::Wait;
 use std::thread::Threads;
@@ -278,6 +278,27 @@ pub fn run_file<
     }
 }
 
+/// Serves a dialogue of standard input on a disk. It is read as much at once as there is, so that lines which stand
+/// together are served together; where there is no memory for that, byte by byte.
+fn talk_on_input<R: AllocGlobal + Input, D: Disk, W: Write, N: Observer>(
+    rt: &R,
+    disk: D,
+    watch: bool,
+    out: &mut W,
+    observer: &mut N,
+) -> (u8, D)
+    ensures status { result.0 ≤ 1 }
+    ensures talked { D.honest result.1
+        → NotOpened D.now D.past disk result.1 (W.contents out.old) (W.contents out.new) result.0
+        ⊎ Talked watch D.now D.past disk result.1 (W.contents out.old) (W.contents out.new) result.0 }
+    ensures honest { D.honest result.1 → D.honest disk }
+{
+    match BufReader::new(rt.alloc(), rt.reader()) {
+        Ok(mut input) => dialogue_on(rt.alloc(), disk, &mut input, watch, out, observer),
+        Err(_) => dialogue_on(rt.alloc(), disk, &mut rt.reader(), watch, out, observer),
+    }
+}
+
 /// Serves a dialogue of standard input on the image of a file, and gives its disk back, with the status and the lines
 /// of [`dialogue_on`].
 ///
@@ -292,20 +313,20 @@ pub fn run_file<
 pub fn talk_file<R: Files<File = File> + AllocGlobal + Input, S: Start, W: Write, N: Observer>(
     rt: &R,
     image: &str,
+    watch: bool,
     out: &mut W,
     observer: &mut N,
     start: S,
 ) -> Result<(u8, FileDisk<S>), Refusal>
     ensures status { IfOk result (λ r. r.0 ≤ 1) }
     ensures talked { IfOk result (λ r. ⟦<FileDisk<S> as Disk>⟧.honest r.1 →
-        TalkedFrom ⟦<FileDisk<S> as Disk>⟧.now ⟦<FileDisk<S> as Disk>⟧.past
+        TalkedFrom watch ⟦<FileDisk<S> as Disk>⟧.now ⟦<FileDisk<S> as Disk>⟧.past
         S.first r.1 (W.contents out.old) (W.contents out.new) r.0) }
     ensures refused { IfErr result (λ refusal. refusal ≡ Device) }
     ensures same { OnErr result (Keeps (W.contents out.old) (W.contents out.new)) }
 {
-    let mut input = rt.reader();
     match FileDisk::open(rt, image, start) {
-        Ok(disk) => Ok(dialogue_on(rt.alloc(), disk, &mut input, out, observer)),
+        Ok(disk) => Ok(talk_on_input(rt, disk, watch, out, observer)),
         Err(fault) => Err(refusal_of(rt, image, fault, observer)),
     }
 }
@@ -430,7 +451,7 @@ fn do_job<R: Files<File = File> + AllocGlobal + Input, S: Start, W: Write, N: Ob
             Ok((status, disk)) => Ok((status, Some(disk))),
             Err(refusal) => Err(refusal),
         },
-        Job::Serve { image } => match talk_file(rt, image, out, observer, start) {
+        Job::Serve { image } => match talk_file(rt, image, false, out, observer, start) {
             Ok((status, disk)) => Ok((status, Some(disk))),
             Err(refusal) => Err(refusal),
         },

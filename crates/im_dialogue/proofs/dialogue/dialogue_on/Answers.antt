@@ -7,4 +7,4 @@ returns-in-Ok-clause-talked g c = λ honest.
     let was = c.talk_on.ensures.honest honest in
     let engine = c.in-Ok.engine in
     let e = c.in-Ok.ensures in
-    inr (talked g.D.Disk.now g.D.Disk.past c.args.disk engine c.talk_on.result.1 (g.W.Write.contents c.args.out.now) (g.W.Write.contents c.talk_on.new.out) c.talk_on.result.0 (e.leaves was) (e.means was) (c.talk_on.ensures.closed honest))
+    inr (talked c.args.watch g.D.Disk.now g.D.Disk.past c.args.disk engine c.talk_on.result.1 (g.W.Write.contents c.args.out.now) (g.W.Write.contents c.talk_on.new.out) c.talk_on.result.0 (e.leaves was) (e.means was) (c.talk_on.ensures.closed honest))

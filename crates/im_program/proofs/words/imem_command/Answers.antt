@@ -1,4 +1,4 @@
-use Rattle.std.proofs.Common.{◌≡◌, ◌∙◌, ap, ap₂}
+use Rattle.std.proofs.Common.{◌∙◌, ap, ap₂}
 use Rattle.clap.specs.Words.{App, with_subcommand}
 use Rattle.im_program.proofs.words.imem_command.Goals as goal
 

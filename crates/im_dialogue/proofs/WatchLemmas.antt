@@ -1,0 +1,98 @@
+-- What is told of those that waited.
+use Rattle.std.proofs.Common.{◌≡◌, ◌∙◌, ℕ, Bool, true, false, List, [], take, drop, refl, sym, subst, if◌then◌else◌}
+use Rattle.std.specs.Prelude.{◌==◌, Option, None, Some, Result, Ok, Err}
+use Rattle.std.specs.List.{list_any}
+use Rattle.im_types.specs.declared.operations.Op.{Op}
+use Rattle.im_types.specs.declared.operations.Op.TheVariants.{Alloc, Release, Fetch, Store, Take, Put}
+use Rattle.im_types.specs.declared.operations.Kind.{Kind}
+use Rattle.im_types.specs.declared.operations.Kind.TheVariants.{I, M}
+use Rattle.im_types.specs.declared.operations.Reply.{Reply}
+use Rattle.im_types.specs.declared.operations.Reply.TheVariants.{BadLength, WrongKind, Released, StillWaiting}
+use Rattle.im_types.specs.declared.operations.Entry.TheVariants.{Answered}
+use Rattle.im_types.specs.declared.operations.Waiter.{Waiter}
+use Rattle.im_types.specs.declared.operations.Block.{Block}
+use Rattle.im_types.specs.declared.commands.Outcome.{Outcome}
+use Rattle.im_types.specs.declared.refusals.Refusal.{Refusal}
+use Rattle.im_types.specs.Contents.{CellState, Empty, Full, Clashed, Held, Contents, held_at}
+use Rattle.im_types.specs.Place.{place, fill}
+use Rattle.im_types.specs.Act.{Served, act, at_cell, allocate_at, release_block, block_with_base, is_waiting_cell, fetch, take_from, same_kind, serve_cell, only_tells}
+use Rattle.im_dialogue.specs.declared.asking.Asked.{Asked}
+use Rattle.im_dialogue.specs.declared.asking.Asked.TheVariants as asks
+use Rattle.im_dialogue.specs.declared.answers.Answer.{Answer}
+use Rattle.im_dialogue.specs.declared.answers.Answer.TheVariants.{Served as ServedAs}
+use Rattle.im_dialogue.specs.Watching.{watch_text, is_quiet, told_by, told_with}
+use Rattle.im_dialogue.specs.Talk.{Answers}
+
+-- ---- who is resumed
+
+-- by a cell of the kind that the operation is for
+at_one : (kind : Kind) (serve : CellState → Served) (cells : List (Option Held)) (a : ℕ) (held : Held) (to : CellState → List (Waiter × Reply)) → ((s : CellState) → (serve s).resumed ≡ to s)
+    → (at_cell kind serve cells a (Some held)).resumed ≡ (if same_kind kind held.block.kind then to held.state else [])
+at_one kind serve cells a held to is = by_test (same_kind kind held.block.kind)
+  where
+    by_test : (b : Bool) → (if b then serve_cell cells a held.block (serve held.state) else only_tells cells WrongKind).resumed ≡ (if b then to held.state else [])
+    by_test true = is held.state
+    by_test false = refl
+
+-- nobody is resumed by the other operations
+
+none_resumed : (kind : Kind) (serve : CellState → Served) (cells : List (Option Held)) (a : ℕ) (held : Option Held) → ((s : CellState) → (serve s).resumed ≡ []) → (at_cell kind serve cells a held).resumed ≡ []
+none_resumed kind serve cells a None none = refl
+none_resumed kind serve cells a (Some held) none = at_one kind serve cells a held (λ s. []) none ∙ same [] (same_kind kind held.block.kind)
+  where
+    same : (xs : List (Waiter × Reply)) (b : Bool) → (if b then xs else xs) ≡ xs
+    same xs true = refl
+    same xs false = refl
+
+fetch_resumes : (who : Waiter) (s : CellState) → (fetch who s).resumed ≡ []
+fetch_resumes who (Empty waiters) = refl
+fetch_resumes who (Full v) = refl
+fetch_resumes who (Clashed v) = refl
+
+take_resumes : (who : Waiter) (s : CellState) → (take_from who s).resumed ≡ []
+take_resumes who (Empty waiters) = refl
+take_resumes who (Full v) = refl
+take_resumes who (Clashed v) = refl
+
+alloc_resumes : (cells : List (Option Held)) (kind : Kind) (n : ℕ) (b : Bool) (found : Option ℕ) → (if b then only_tells cells BadLength else allocate_at cells kind n found).resumed ≡ []
+alloc_resumes cells kind n true found = refl
+alloc_resumes cells kind n false None = refl
+alloc_resumes cells kind n false (Some base) = refl
+
+release_resumes : (cells : List (Option Held)) (a : ℕ) (found : Option Block) → (release_block cells a found).resumed ≡ []
+release_resumes cells a None = refl
+release_resumes cells a (Some block) = by_test (list_any is_waiting_cell (take block.length (drop a cells)))
+  where
+    by_test : (b : Bool) → (if b then only_tells cells StillWaiting else record { cells = fill cells a block.length None; entry = Answered Released; resumed = [] }).resumed ≡ []
+    by_test true = refl
+    by_test false = refl
+
+pub quiet_resumes : (cells : List (Option Held)) (who : Waiter) (op : Op) → is_quiet op ≡ true → (act cells who op).resumed ≡ []
+quiet_resumes cells who (Alloc kind n) quiet = alloc_resumes cells kind n (n == 0) (place n cells)
+quiet_resumes cells who (Release a) quiet = release_resumes cells a (block_with_base a (held_at cells a))
+quiet_resumes cells who (Fetch a) quiet = none_resumed I (fetch who) cells a (held_at cells a) (fetch_resumes who)
+quiet_resumes cells who (Take a) quiet = none_resumed M (take_from who) cells a (held_at cells a) (take_resumes who)
+quiet_resumes cells who (Store a v) quiet = absurd (cc)
+quiet_resumes cells who (Put a v) quiet = absurd (cc)
+
+-- ---- what is told behind an answer
+
+pub told_is : (watch : Bool) (m : Contents) (n : ℕ) (asked : Option Asked) (answer : Answer) → Answers m n asked answer → told_with answer (told_by watch m asked) ≡ watch_text watch m answer
+told_is watch m n (Some (asks.Serve command)) answer (outcome, is, of) = by_answer answer outcome is
+  where
+    by_outcome : (o : Result Outcome Refusal) → told_with (ServedAs command o) (told_by watch m (Some (asks.Serve command))) ≡ watch_text watch m (ServedAs command o)
+    by_outcome (Ok outcome) = refl
+    by_outcome (Err refusal) = refl
+
+    by_answer : (a : Answer) (o : Result Outcome Refusal) → a ≡ ServedAs command o → told_with a (told_by watch m (Some (asks.Serve command))) ≡ watch_text watch m a
+    by_answer a o is = subst (λ (x : Answer). told_with x (told_by watch m (Some (asks.Serve command))) ≡ watch_text watch m x) (sym is) (by_outcome o)
+told_is watch m n (Some (asks.Collect who)) answer is = subst (λ (x : Answer). told_with x [] ≡ watch_text watch m x) (sym is) refl
+told_is watch m n (Some (asks.Window element)) answer is = subst (λ (x : Answer). told_with x [] ≡ watch_text watch m x) (sym is) refl
+told_is watch m n (Some asks.Room) answer (room, is) = subst (λ (x : Answer). told_with x [] ≡ watch_text watch m x) (sym is) refl
+told_is watch m n (Some asks.Turn) answer (done, is) = subst (λ (x : Answer). told_with x [] ≡ watch_text watch m x) (sym is) refl
+told_is watch m n (Some asks.Count) answer is = subst (λ (x : Answer). told_with x [] ≡ watch_text watch m x) (sym is) refl
+told_is watch m n (Some asks.Quit) answer none = absurd none
+told_is watch m n None answer (number, (expected, is)) = subst (λ (x : Answer). told_with x [] ≡ watch_text watch m x) (sym is) refl
+
+pub wrong_tells : (watch : Bool) (m : Contents) (n : ℕ) (answer : Answer) → Answers m n None answer → [] ≡ watch_text watch m answer
+wrong_tells watch m n answer (number, (expected, is)) = subst (λ (x : Answer). [] ≡ watch_text watch m x) (sym is) refl

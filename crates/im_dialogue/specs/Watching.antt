@@ -1,0 +1,66 @@
+-- What those that watch are told: a request that waited, when its answer comes. (Own.)
+use Rattle.std.specs.Prelude.{◌≡◌, ℕ, Bool, true, false, List, [], ◌∷◌, ◌++◌, Option, None, Some, Ok, if◌then◌else◌}
+use Rattle.im_types.specs.declared.operations.Op.{Op}
+use Rattle.im_types.specs.declared.operations.Op.TheVariants.{Store, Put}
+use Rattle.im_types.specs.declared.operations.Kind.{Kind}
+use Rattle.im_types.specs.declared.operations.Reply.{Reply}
+use Rattle.im_types.specs.declared.operations.Entry.TheVariants.{Answered}
+use Rattle.im_types.specs.declared.operations.Waiter.{Waiter}
+use Rattle.im_types.specs.declared.commands.Command.{Command}
+use Rattle.im_types.specs.declared.commands.Command.TheVariants.{Request as Asks, Confirm}
+use Rattle.im_types.specs.declared.commands.Request.{Request}
+use Rattle.im_types.specs.Contents.{Contents, Held}
+use Rattle.im_types.specs.Act.{act, same_kind}
+use Rattle.im_types.specs.Step.{asker, is_accepted}
+use Rattle.im_text.specs.Printing.{now_line}
+use Rattle.im_dialogue.specs.declared.asking.Asked.{Asked}
+use Rattle.im_dialogue.specs.declared.asking.Asked.TheVariants as asks
+use Rattle.im_dialogue.specs.declared.answers.Answer.{Answer}
+use Rattle.im_dialogue.specs.declared.answers.Answer.TheVariants.{Served}
+
+-- E.N now REPLY: the answer to a request that waited
+abbrev pub told_now : Waiter × Reply → List ℕ
+told_now resumed = now_line (Some (record { element = resumed.0.element; number = resumed.0.number; entry = Answered resumed.1 }))
+
+-- the lines of those that were resumed, in their order
+abbrev pub nows_text : List (Waiter × Reply) → List ℕ
+nows_text [] = []
+nows_text (resumed ∷ others) = told_now resumed ++ nows_text others
+
+-- those that wait and that a command resumes, with their answers: none where it isn't accepted
+abbrev pub resumed_by : Contents → Command → List (Waiter × Reply)
+resumed_by m (Asks r) = if is_accepted m (Asks r) then (act m.cells (asker r) r.op).resumed else []
+resumed_by m (Confirm element upto) = []
+
+-- what is told behind the answer to a line, where it is watched
+abbrev pub watch_text : Bool → Contents → Answer → List ℕ
+watch_text watch m (Served command (Ok outcome)) = if watch then nows_text (resumed_by m command) else []
+watch_text watch m answer = []
+
+-- no request that waits is answered by such an operation
+abbrev pub is_quiet : Op → Bool
+is_quiet (Store a v) = false
+is_quiet (Put a v) = false
+is_quiet op = true
+
+-- each of the requests is of such an operation
+abbrev pub AreQuiet : List Request → Type 0
+AreQuiet [] = Unit {0}
+AreQuiet (r ∷ rs) = (is_quiet r.op ≡ true) × AreQuiet rs
+
+-- ---- as it is made
+
+-- what a command will tell those that watch, if it is put on the disk
+abbrev pub told_by : Bool → Contents → Option Asked → List ℕ
+told_by watch m (Some (asks.Serve command)) = if watch then nows_text (resumed_by m command) else []
+told_by watch m asked = []
+
+-- so much of it is told, by what the line is answered
+abbrev pub told_with : Answer → List ℕ → List ℕ
+told_with (Served command (Ok outcome)) nows = nows
+told_with answer nows = []
+
+-- a cell of a block of this kind
+abbrev pub is_of_kind : Kind → Option Held → Bool
+is_of_kind kind None = false
+is_of_kind kind (Some held) = same_kind kind held.block.kind

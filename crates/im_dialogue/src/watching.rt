@@ -1,0 +1,143 @@
+//! What those that watch are told behind an answer: the requests that waited, and whose answers the line brought.
+ghost use Rattle.std.specs.Prelude.{◌≡◌, ◌++◌, OnOk, string_bytes};
+ghost use Rattle.im_types.specs.declared.operations.Kind.TheVariants.{I, M};
+ghost use Rattle.im_types.specs.declared.operations.Reply.TheVariants.{Value};
+ghost use Rattle.im_types.specs.Act.{act, at_cell, put, store};
+ghost use Rattle.im_types.specs.Contents.{held_at};
+ghost use Rattle.im_types.specs.Step.{asker, is_accepted};
+ghost use Rattle.im_dialogue.specs.Watching.{is_of_kind, is_quiet, nows_text, resumed_by, told_by, told_now, told_with};
+
+use crate::answers::Answer;
+use crate::asking::Asked;
+use im_memory::Memory;
+use im_text::add_entry;
+use im_types::{Command, Entry, Kind, Op, Reply, Request, Waiter};
+use std::alloc::AllocError;
+
+/// Whether no request that waits is answered by such an operation.
+pub(crate) fn is_quiet(op: Op) -> bool
+    ensures { result ≡ is_quiet op }
+{
+    !matches!(op, Op::Store(_, _) | Op::Put(_, _))
+}
+
+// Adds `E.N now value VALUE`.
+fn add_now(out: &mut String, who: Waiter, value: u64) -> Result<(), AllocError>
+    ensures { OnOk result (string_bytes out.new ≡ string_bytes out.old ++ told_now (who, Value value)) }
+{
+    let element = who.element;
+    let number = who.number;
+    write!(out, "{element}.{number} now ")?;
+    add_entry(out, Entry::Answered(Reply::Value(value)))?;
+    out.push_str("\n")
+}
+
+// Whether a cell is one of a block of this kind.
+fn is_of_kind(memory: &Memory, a: u32, kind: Kind) -> bool
+    ensures { result ≡ is_of_kind kind (held_at memory.now.contents.cells a) }
+{
+    match memory.block(a) {
+        Some(block) => block.kind == kind,
+        None => false,
+    }
+}
+
+// Adds the lines of the readers that wait at a cell, of which a store of this value resumes all.
+fn add_readers(out: &mut String, memory: &Memory, a: u32, value: u64) -> Result<(), AllocError>
+    ensures { let cells = memory.now.contents.cells in OnOk result (string_bytes out.new
+        ≡ string_bytes out.old ++ nows_text (at_cell I (store value) cells a (held_at cells a)).resumed) }
+{
+    if !is_of_kind(memory, a, Kind::I) {
+        return Ok(());
+    }
+    for reader in memory.waiters(a) {
+        add_now(out, reader, value)?;
+    }
+    Ok(())
+}
+
+// Adds the line of the first taker that waits at a cell, the only one that a put of this value resumes.
+fn add_taker(out: &mut String, memory: &Memory, a: u32, value: u64) -> Result<(), AllocError>
+    ensures { let cells = memory.now.contents.cells in OnOk result (string_bytes out.new
+        ≡ string_bytes out.old ++ nows_text (at_cell M (put value) cells a (held_at cells a)).resumed) }
+{
+    if !is_of_kind(memory, a, Kind::M) {
+        return Ok(());
+    }
+    match memory.waiter(a, 0) {
+        Some(taker) => add_now(out, taker, value),
+        None => Ok(()),
+    }
+}
+
+// Adds the lines of those that a new request resumes.
+fn add_resumed(out: &mut String, memory: &Memory, request: &Request) -> Result<(), AllocError>
+    ensures { OnOk result (string_bytes out.new ≡ string_bytes out.old
+        ++ nows_text (act memory.now.contents.cells (asker request.now) request.now.op).resumed) }
+{
+    match request.op {
+        Op::Store(a, value) => add_readers(out, memory, a, value),
+        Op::Put(a, value) => add_taker(out, memory, a, value),
+        Op::Alloc(_, _) | Op::Release(_) | Op::Fetch(_) | Op::Take(_) => Ok(()),
+    }
+}
+
+// Whether a memory would accept a command.
+fn accepts(memory: &Memory, command: &Command) -> bool
+    ensures { result ≡ is_accepted memory.now.contents command.now }
+{
+    match memory.judge(command) {
+        Ok(accepted) => accepted,
+        Err(_) => false,
+    }
+}
+
+// Adds the lines of those that a command resumes.
+fn add_by_command(out: &mut String, memory: &Memory, command: &Command) -> Result<(), AllocError>
+    ensures { OnOk result (string_bytes out.new
+        ≡ string_bytes out.old ++ nows_text (resumed_by memory.now.contents command.now)) }
+{
+    match command {
+        Command::Request(request) => {
+            if accepts(memory, command) {
+                add_resumed(out, memory, request)
+            } else {
+                Ok(())
+            }
+        }
+        Command::Confirm { .. } => Ok(()),
+    }
+}
+
+/// Makes the lines of those that wait on this memory, and that what is asked resumes if it is put on the disk; none where
+/// it isn't watched.
+pub(crate) fn make_nows(
+    nows: &mut String,
+    memory: &Memory,
+    asked: Asked,
+    watch: bool,
+) -> Result<(), AllocError>
+    ensures { OnOk result (string_bytes nows.new ≡ told_by watch memory.now.contents (Some asked)) }
+{
+    nows.clear();
+    match asked {
+        Asked::Serve(command) => {
+            if watch {
+                add_by_command(nows, memory, &command)
+            } else {
+                Ok(())
+            }
+        }
+        _ => Ok(()),
+    }
+}
+
+/// So much of these lines is told, by what a line is answered: all where a command was done, and else nothing.
+pub(crate) fn told_with<'a>(answer: Answer, nows: &'a str) -> &'a str
+    ensures { result.now ≡ told_with answer nows.entry.now }
+{
+    match answer {
+        Answer::Served(_, Ok(_)) => nows,
+        _ => "",
+    }
+}
