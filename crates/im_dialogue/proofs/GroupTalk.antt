@@ -33,6 +33,7 @@ use Rattle.im_engine.specs.Run.{HasRun, MeansAfter, MeansBeginning, put_by_comma
 use Rattle.im_engine.specs.Groups.{reached_in, after_group, group_put, MeansGroup, all_refused, answers_in, GroupAnswered}
 use Rattle.im_engine.proofs.Accepting.{accepted_answers}
 use Rattle.im_engine.proofs.Running.{means_all}
+use Rattle.im_engine.proofs.Members.{puts_few}
 use Rattle.im_dialogue.specs.declared.asking.Asked.{Asked}
 use Rattle.im_dialogue.specs.declared.asking.Asked.TheVariants as asks
 use Rattle.im_dialogue.specs.declared.answers.Answer.TheVariants.{Served as ServedAs}
@@ -119,14 +120,6 @@ whole old new rs ss it = ⊎_elim
         (λ done. ap length done.0 ∙ answers_length (reached_in old) rs)
         (λ fault. ap length fault.0 ∙ alike_length _ rs)
         (it.put f (omega (arith, ap length some)))
-
-few_put : (s : Reached) (rs : List Request) → length (puts_of s rs) ≤ length rs
-few_put s [] = omega arith
-few_put s (r ∷ rs) = by_test (is_put s r) (few_put (reached_by_one s r) rs)
-  where
-    by_test : (b : Bool) → length (puts_of (reached_by_one s r) rs) ≤ length rs → length ((if b then Asks r ∷ [] else []) ++ puts_of (reached_by_one s r) rs) ≤ length (r ∷ rs)
-    by_test true less = omega (arith, less)
-    by_test false less = omega (arith, less)
 
 -- ---- one member
 
@@ -298,7 +291,7 @@ module _ {D : Type 0} (now : D → Moment) (past : D → List Moment) (honest : 
         far.0,
         (
           group_put old rs,
-          omega (arith, few, few_put (reached_in old) rs),
+          omega (arith, few, puts_few (reached_in old) rs),
           record {
             answered = far.1.answered;
             leaves = group_leaves start said far.1 (leaves h);

@@ -157,6 +157,14 @@ sizes_after s t m n command same is it = record {
 }
 
 -- a group of nobody leaves all as it is
+pub puts_few : (s : Reached) (rs : List Request) → length (puts_of s rs) ≤ length rs
+puts_few s [] = omega arith
+puts_few s (r ∷ rs) = by_test (is_put s r) (puts_few (reached_by_one s r) rs)
+  where
+    by_test : (b : Bool) → length (puts_of (reached_by_one s r) rs) ≤ length rs → length ((if b then Asks r ∷ [] else []) ++ puts_of (reached_by_one s r) rs) ≤ length (r ∷ rs)
+    by_test true less = omega (arith, less)
+    by_test false less = omega (arith, less)
+
 pub none_reached : (s : Reached) (rs : List Request) → puts_of s rs ≡ [] → reached_by_all s rs ≡ s
 none_reached s [] none = refl
 none_reached s (r ∷ rs) none = by_test (is_put s r) refl none (none_reached (reached_by_one s r) rs)

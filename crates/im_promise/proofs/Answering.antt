@@ -22,6 +22,7 @@ use Rattle.im_engine.specs.declared.run.Answer.TheVariants.{Served as Told, Grou
 use Rattle.im_engine.specs.State.{EngineState, with_command}
 use Rattle.im_engine.specs.Groups.{reached_in, after_group, group_put, all_refused, answers_in, GroupAnswered}
 use Rattle.im_engine.specs.Run.{Answered, TurnAnswered, AnsweredInTurn, is_device, has_device, acknowledged_members, acknowledged_by, is_doubt, reached_at, in_doubt_by, in_doubt}
+use Rattle.im_engine.proofs.Members.{puts_few}
 use Rattle.im_promise.specs.Acknowledged.{calls_in_doubt, most_of, most_of_one, is_fault, IsFailed, IsAnswer, AreAnswers}
 
 bool_cases : (b : Bool) → (b ≡ true) ⊎ (b ≡ false)
@@ -42,14 +43,6 @@ one_at_most c false = omega arith
 
 no_more : {X : Type 0} (xs ys : List X) → xs ≡ [] → ys ≡ [] → xs ++ ys ≡ []
 no_more xs ys none rest = ap (λ l. l ++ ys) none ∙ rest
-
-puts_few : (s : Reached) (members : List Request) → length (puts_of s members) ≤ length members
-puts_few s [] = omega arith
-puts_few s (r ∷ rs) = by_test (is_put s r) (puts_few (reached_by_one s r) rs)
-  where
-    by_test : (b : Bool) → length (puts_of (reached_by_one s r) rs) ≤ length rs → length ((if b then Asks r ∷ [] else []) ++ puts_of (reached_by_one s r) rs) ≤ length (r ∷ rs)
-    by_test true rest = omega (arith, rest)
-    by_test false rest = omega (arith, rest)
 
 ok_of : (a : Result Outcome Refusal) → IsOk a → (o : Outcome) × (a ≡ Ok o)
 ok_of (Ok o) ok = (o, refl)
