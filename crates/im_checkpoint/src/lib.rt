@@ -7,6 +7,7 @@
 #![tactic(auto)]
 
 mod checkpoint;
+mod copies;
 mod header;
 
 pub use checkpoint::{Checkpoint, TurnDone};

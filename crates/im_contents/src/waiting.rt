@@ -9,6 +9,7 @@ ghost use Rattle.im_contents.specs.Marking.{place_in, AreFew, mark_one, mark_lis
 ghost use Rattle.im_contents.specs.Marking.{AreMarked};
 
 use crate::lists::Lists;
+use im_cell::CellRow;
 use im_records::WindowRecord;
 use im_types::{CellRecord, Entry, Kept, Kind, Op, PresenceTag, WINDOW, Waiter};
 use std::alloc::{AllocError, Global};
@@ -144,7 +145,7 @@ fn mark_cell(
 
 // The same for all cells; where nobody waits at any, it takes one step.
 fn mark_all(
-    cells: &[CellRecord],
+    cells: &CellRow,
     lists: &Lists,
     windows: &[WindowRecord],
     marks: &mut [bool],
@@ -159,7 +160,7 @@ fn mark_all(
         return true;
     }
     for address in 0..cells.len() {
-        if !mark_cell(address, &cells[address], lists, windows, marks) {
+        if !mark_cell(address, &cells.at(address), lists, windows, marks) {
             return false;
         }
     }
@@ -196,7 +197,7 @@ fn are_marked(windows: &[WindowRecord], marks: &[bool]) -> bool
 // Whether each request in a list has a waiting entry for its cell, none stands twice, and each waiting entry is of one
 // of them. No entry is marked yet.
 fn agree_by_marks(
-    cells: &[CellRecord],
+    cells: &CellRow,
     lists: &Lists,
     windows: &[WindowRecord],
     marks: &mut [bool],
@@ -216,7 +217,7 @@ fn agree_by_marks(
 /// entry.
 pub fn agree(
     alloc: Global,
-    cells: &[CellRecord],
+    cells: &CellRow,
     lists: &Lists,
     windows: &[WindowRecord],
 ) -> Result<bool, AllocError>
