@@ -349,14 +349,7 @@ impl Checkpoint {
         let page = self.next;
         let limits = self.header.limits;
         let mut bytes = [0; PAGE];
-        page_for(
-            &self.recent,
-            &self.copies,
-            memory,
-            limits,
-            page,
-            &mut bytes,
-        );
+        page_for(&self.recent, &self.copies, memory, limits, page, &mut bytes);
         let at = area_at(limits, 1 - self.header.area as usize) + PAGE * page;
         // Nobody reads the area that isn't in force: what a stop leaves of the page doesn't count.
         if let Err(_) = disk.write_at(at, &bytes) {

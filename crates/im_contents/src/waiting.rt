@@ -144,12 +144,7 @@ fn mark_cell(
 }
 
 // The same for all cells; where nobody waits at any, it takes one step.
-fn mark_all(
-    cells: &CellRow,
-    lists: &Lists,
-    windows: &[WindowRecord],
-    marks: &mut [bool],
-) -> bool
+fn mark_all(cells: &CellRow, lists: &Lists, windows: &[WindowRecord], marks: &mut [bool]) -> bool
     requires few { AreFew windows.now }
     requires places { length marks.old ≡ WINDOW * length windows.now }
     requires count { length lists.now ≡ length cells.now }

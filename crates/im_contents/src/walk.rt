@@ -125,11 +125,7 @@ fn find_lists(
 /// cell's presence tag says, and each node that is marked as one of a list stands once in one of them.
 ///
 /// `BadPage` where there are no such lists, `NoMemory` where there is no room for them. It ends whatever the links are.
-pub fn read_lists(
-    alloc: Global,
-    nodes: &[NodeRecord],
-    cells: &CellRow,
-) -> Result<Lists, Refusal>
+pub fn read_lists(alloc: Global, nodes: &[NodeRecord], cells: &CellRow) -> Result<Lists, Refusal>
     requires { length nodes.now ≤ NONE }
     ensures found { IfOk result (λ lists. ShowLists nodes.now cells.now lists) }
     ensures count { IfOk result (λ lists. length lists ≡ length cells.now) }

@@ -58,8 +58,8 @@ impl AreaRecords {
 
     /// The cells and the windows alone: the nodes are given back.
     pub fn into_parts(self) -> (CellRow, Vec<WindowRecord>)
-        ensures cells { result.0 ≡ self.entry.cells }
-        ensures windows { result.1.items ≡ self.entry.windows }
+        ensures cells { result.0 ≡ self.cells }
+        ensures windows { result.1.items ≡ self.windows }
     {
         let AreaRecords { cells, windows, .. } = self;
         (cells, windows)

@@ -26,12 +26,7 @@ fn cell_within(cells: u32, nodes: u32, bytes: &[u8]) -> Option<CellRecord>
     }
 }
 
-fn first_cells(
-    alloc: Global,
-    cells: u32,
-    nodes: u32,
-    bytes: &[u8],
-) -> Result<CellRow, Refusal>
+fn first_cells(alloc: Global, cells: u32, nodes: u32, bytes: &[u8]) -> Result<CellRow, Refusal>
     requires { CELL_RECORD * cells ≤ length bytes.now }
     ensures found { IfOk result (λ row. BeginWithCells cells cells nodes bytes.now row) }
     ensures bad { IsErrOf result Refusal.BadPage → (row : List CellRecordSpec)
