@@ -103,7 +103,7 @@ impl Restoring {
     /// The memory that the parts stand for. It takes no memory.
     pub fn finish(self) -> Memory
         requires { AreComplete self }
-        ensures { result.contents ≡ contents_shown self.entry }
+        ensures { result.contents ≡ contents_shown self }
     {
         let Restoring {
             cells,
