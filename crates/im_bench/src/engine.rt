@@ -1,20 +1,31 @@
-// Requests to an engine on a file, one by one and as groups of sixteen. Their elements take turns, none asks more than
-// its window keeps, and each stores into a cell of its own.
+// Requests to an engine on a file, one by one and as groups of sixteen, and turns of a checkpoint. Their elements take
+// turns, none asks more than its window keeps, and each stores into a cell of its own.
 use arrayvec::ArrayVec;
 use im_disk::{Disk, FileDisk, Unknown};
 use im_engine::{Engine, are_apart};
-use im_types::{Command, Op, Refusal, Request, Served};
+use im_types::{Command, MAX_CELLS, Op, Refusal, Request, Served};
 
 // Element 0 made the block.
 const ASKERS: u32 = 48;
 
-// The request with an index.
-fn store(index: u32) -> Request {
+// The stores that come before a turn.
+const BEFORE: u32 = 16;
+
+// From one store to the next of those that lie far apart: some 32 pages of cells.
+const STEP: u32 = 4_099;
+
+// The request with an index, which stores into this cell.
+fn store_into(index: u32, cell: u32) -> Request {
     Request {
         element: (index % ASKERS + 1) as u16,
         number: (index / ASKERS) as u64 + 1,
-        op: Op::Store(index, index as u64 + 7),
+        op: Op::Store(cell, index as u64 + 7),
     }
+}
+
+// The request with an index.
+fn store(index: u32) -> Request {
+    store_into(index, index)
 }
 
 // Sixteen requests, from the one with this index on.
@@ -74,6 +85,44 @@ pub fn made(count: u32) -> u64 {
     sum
 }
 
+// Serves the requests with these indexes, each by itself, all over an image of the largest size. How many were
+// answered.
+fn far_apart<D: Disk>(engine: &mut Engine<D>, from: u32, to: u32) -> u64 {
+    let mut sum = 0u64;
+    for index in from..to {
+        let request = store_into(index, index.wrapping_mul(STEP) % MAX_CELLS);
+        if engine.serve(&Command::Request(request)).is_ok() {
+            sum = sum.wrapping_add(1);
+        }
+    }
+    sum
+}
+
+// Makes so many turns. How many weren't refused.
+fn make_turns<D: Disk>(engine: &mut Engine<D>, count: u32) -> u64 {
+    let mut sum = 0u64;
+    for _turn in 0..count {
+        if engine.turn().is_ok() {
+            sum = sum.wrapping_add(1);
+        }
+    }
+    sum
+}
+
+/// Serves a few stores, then makes so many turns: the first of them begins a checkpoint. How many weren't refused.
+pub fn turns<D: Disk>(engine: &mut Engine<D>, count: u32) -> u64 {
+    let _served = far_apart(engine, 0, BEFORE);
+    make_turns(engine, count)
+}
+
+/// Serves a few stores, makes so many turns, and serves more stores while the pages of a checkpoint are left, or, after
+/// no turn, while there is none. How many of these were answered.
+pub fn after_turns<D: Disk>(engine: &mut Engine<D>, turns: u32, count: u32) -> u64 {
+    let _served = far_apart(engine, 0, BEFORE);
+    let _made = make_turns(engine, turns);
+    far_apart(engine, BEFORE, count.saturating_add(BEFORE))
+}
+
 /// Opens the image at a path, and does a workload's calls on it; `None` where none has this name.
 pub fn on_file(
     rt: &HostRuntime,
@@ -92,6 +141,9 @@ pub fn on_file(
         "stores_one_by_one" => Some(Ok(one_by_one(&mut engine, count))),
         "stores_together" => Some(Ok(together(&mut engine, count))),
         "stores_made" => Some(Ok(made(count))),
+        "turns" => Some(Ok(turns(&mut engine, count))),
+        "stores_with_no_checkpoint" => Some(Ok(after_turns(&mut engine, 0, count))),
+        "stores_beside_a_checkpoint" => Some(Ok(after_turns(&mut engine, 1, count))),
         _ => None,
     }
 }

@@ -1,7 +1,7 @@
 -- A page is copied behind the others, or over its copy.
 use Rattle.std.proofs.Common.{replicate, ◌≡◌, ◌≢◌, ⊎_elim, ℕ, zero, suc, ◌+◌, ◌<◌, ◌≤◌, List, [], ◌∷◌, ◌++◌, map, length, set, get_or, refl, sym, ap, ◌∙◌, subst, arith, length-set}
-use Rattle.im_checkpoint.specs.declared.copies.Place.{Place}
-use Rattle.im_checkpoint.specs.declared.copies.Place.TheVariants.{Nowhere, At}
+use Rattle.im_checkpoint.specs.declared.page_copies.Place.{Place}
+use Rattle.im_checkpoint.specs.declared.page_copies.Place.TheVariants.{Nowhere, At}
 use Rattle.std.proofs.lemmas.Bool.{cases_eq}
 use Rattle.std.proofs.lemmas.List.{length-replicate, get_or-set_same, get_or-set_other, get_or_append_left, get_or_at, get_or-map, length_push, map-set}
 use Rattle.im_checkpoint.specs.Copied.{blank, copy_at, copy_of, taken, place_of, AreCopies}

@@ -1,7 +1,7 @@
 -- Copies of pages, one behind another in the order in which they were made. (Own.)
 use Rattle.std.specs.Prelude.{◌≡◌, ℕ, suc, ◌<◌, ◌≤◌, List, [], ◌∷◌, length, replicate, slice_index_or}
-use Rattle.im_checkpoint.specs.declared.copies.Place.{Place}
-use Rattle.im_checkpoint.specs.declared.copies.Place.TheVariants.{Nowhere, At}
+use Rattle.im_checkpoint.specs.declared.page_copies.Place.{Place}
+use Rattle.im_checkpoint.specs.declared.page_copies.Place.TheVariants.{Nowhere, At}
 use Rattle.im_types.specs.Layout.{page_bytes}
 
 -- the page without a copy

@@ -41,7 +41,7 @@ ghost use Rattle.im_image.specs.Reading.{HasSizes};
 ghost use Rattle.im_checkpoint.specs.Keeping.{Paged, paged, Fits, IsKept, Prepares};
 ghost use Rattle.im_checkpoint.specs.Keeping.{IsAtRest, HasPagesLeft, IsReady, ComesTo, KeepsMeaning};
 
-use crate::copies::PageCopies;
+use crate::page_copies::PageCopies;
 use crate::header::{close_other, next_header, open_next};
 use im_disk::Disk;
 use im_image::{Header, encode_page};

@@ -7,7 +7,7 @@
 #![tactic(auto)]
 
 mod checkpoint;
-mod copies;
+mod page_copies;
 mod header;
 
 pub use checkpoint::{Checkpoint, TurnDone};

@@ -1,9 +1,9 @@
 use Rattle.std.proofs.Common.{◌≡◌, ◌<◌, length, sym, ap, ◌∙◌, arith}
 use Rattle.std.proofs.lemmas.List.{get_or_default, length-map}
-use Rattle.im_checkpoint.specs.declared.copies.Place.TheVariants.{Nowhere, At}
+use Rattle.im_checkpoint.specs.declared.page_copies.Place.TheVariants.{Nowhere, At}
 use Rattle.im_checkpoint.specs.Copied.{blank, copy_at, place_of}
 use Rattle.im_checkpoint.proofs.Copied.{copy-is}
-use Rattle.im_checkpoint.proofs.copies.PageCopies.copy.Goals as goal
+use Rattle.im_checkpoint.proofs.page_copies.PageCopies.copy.Goals as goal
 
 pub index-requires-in-At : goal.index-requires-in-At
 index-requires-in-At c =

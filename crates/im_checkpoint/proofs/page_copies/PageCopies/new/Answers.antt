@@ -1,5 +1,5 @@
 use Rattle.im_checkpoint.proofs.Copied.{none-kept}
-use Rattle.im_checkpoint.proofs.copies.PageCopies.new.Goals as goal
+use Rattle.im_checkpoint.proofs.page_copies.PageCopies.new.Goals as goal
 
 pub invariant_of-result : goal.invariant_of-result
 invariant_of-result c =

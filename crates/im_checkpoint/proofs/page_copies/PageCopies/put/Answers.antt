@@ -1,9 +1,9 @@
 use Rattle.std.proofs.Common.{[], ◌∷◌, ◌++◌, vec_capacity, ◌≡◌, ◌<◌, ℕ, List, length, set, map, sym, ap, subst, ◌∙◌, arith}
 use Rattle.std.proofs.lemmas.List.{get_or_default, length-map}
-use Rattle.im_checkpoint.specs.declared.copies.Place.TheVariants.{Nowhere, At}
+use Rattle.im_checkpoint.specs.declared.page_copies.Place.TheVariants.{Nowhere, At}
 use Rattle.im_checkpoint.specs.Copied.{copy_at, place_of, AreCopies}
 use Rattle.im_checkpoint.proofs.Copied.{over-view, behind-kept, behind-view, has-room}
-use Rattle.im_checkpoint.proofs.copies.PageCopies.put.Goals as goal
+use Rattle.im_checkpoint.proofs.page_copies.PageCopies.put.Goals as goal
 
 pub index_mut-requires : goal.index_mut-requires
 index_mut-requires c =
