@@ -41,8 +41,8 @@ ghost use Rattle.im_image.specs.Reading.{HasSizes};
 ghost use Rattle.im_checkpoint.specs.Keeping.{Paged, paged, Fits, IsKept, Prepares};
 ghost use Rattle.im_checkpoint.specs.Keeping.{IsAtRest, HasPagesLeft, IsReady, ComesTo, KeepsMeaning};
 
-use crate::page_copies::PageCopies;
 use crate::header::{close_other, next_header, open_next};
+use crate::page_copies::PageCopies;
 use im_disk::Disk;
 use im_image::{Header, encode_page};
 use im_journal::Journal;

@@ -7,7 +7,7 @@
 #![tactic(auto)]
 
 mod checkpoint;
-mod page_copies;
 mod header;
+mod page_copies;
 
 pub use checkpoint::{Checkpoint, TurnDone};
