@@ -1,8 +1,8 @@
-// When a program writes to the journal of its image, in nanoseconds: how long each of its commands takes, the calls of the
-// disk and what follows them, is the time from a command's first write to that of the next.
+// When a program writes to the journal of its image, in nanoseconds: a command takes, with the calls of the disk and what
+// follows them, the time from its first write to that of the next.
 //
-// It is loaded before the C library (LD_PRELOAD). At the program's end the file that WRITE_TIMES_TOLD names has a line for each
-// write of more than one byte at or past the offset WRITE_TIMES_FROM.
+// It is loaded before the C library (LD_PRELOAD). At the program's end the file that WRITE_TIMES_TOLD names has a line for
+// each write of more than one byte at or past the offset WRITE_TIMES_FROM.
 #include <stdio.h>
 #include <stdlib.h>
 #include <sys/syscall.h>

@@ -11,8 +11,8 @@ const ASKERS: u32 = 48;
 // The stores that come before a turn.
 const BEFORE: u32 = 16;
 
-// From one store to the next of those that lie far apart: some 32 pages of cells.
-const STEP: u32 = 4_099;
+// The cells of a page: on an image of the largest size as many stores are each on a page of its own as it has pages.
+const STEP: u32 = 128;
 
 // The request with an index, which stores into this cell.
 fn store_into(index: u32, cell: u32) -> Request {
@@ -85,9 +85,9 @@ pub fn made(count: u32) -> u64 {
     sum
 }
 
-// Serves the requests with these indexes, each by itself, all over an image of the largest size. How many were
-// answered.
-fn far_apart<D: Disk>(engine: &mut Engine<D>, from: u32, to: u32) -> u64 {
+// Serves the requests with these indexes, each by itself; on an image of the largest size each is on a page of its own.
+// How many were answered.
+fn on_pages<D: Disk>(engine: &mut Engine<D>, from: u32, to: u32) -> u64 {
     let mut sum = 0u64;
     for index in from..to {
         let request = store_into(index, index.wrapping_mul(STEP) % MAX_CELLS);
@@ -111,16 +111,16 @@ fn make_turns<D: Disk>(engine: &mut Engine<D>, count: u32) -> u64 {
 
 /// Serves a few stores, then makes so many turns: the first of them begins a checkpoint. How many weren't refused.
 pub fn turns<D: Disk>(engine: &mut Engine<D>, count: u32) -> u64 {
-    let _served = far_apart(engine, 0, BEFORE);
+    let _served = on_pages(engine, 0, BEFORE);
     make_turns(engine, count)
 }
 
 /// Serves a few stores, makes so many turns, and serves more stores while the pages of a checkpoint are left, or, after
 /// no turn, while there is none. How many of these were answered.
 pub fn after_turns<D: Disk>(engine: &mut Engine<D>, turns: u32, count: u32) -> u64 {
-    let _served = far_apart(engine, 0, BEFORE);
+    let _served = on_pages(engine, 0, BEFORE);
     let _made = make_turns(engine, turns);
-    far_apart(engine, BEFORE, count.saturating_add(BEFORE))
+    on_pages(engine, BEFORE, count.saturating_add(BEFORE))
 }
 
 /// Opens the image at a path, and does a workload's calls on it; `None` where none has this name.
