@@ -3,6 +3,8 @@ pub mod Making
 pub mod Serving
 pub mod Accepting
 pub mod Running
+pub mod Acknowledging
+pub mod Events
 pub mod Opening
 pub mod FilesMean
 mod Counterexamples

@@ -1,8 +1,10 @@
 -- How far a run has come.
-use Rattle.std.proofs.Common.{◌≡◌, ◌⊎◌, inl, inr, ⊎_elim, ℕ, ◌+◌, ◌<◌, ◌≤◌, Bool, true, false, ◌&&◌, ◌||◌, List, [], ◌∷◌, ◌++◌, length, take, get_or, Result, Ok, Err, append_assoc, refl, sym, ◌∙◌, ap, subst, arith, length-append, if◌then◌else◌, IsErrOf}
-use Rattle.std.proofs.lemmas.List.{append-nil, take_all, take_at, take-append-le, take_more, length-take-le}
+use Rattle.std.proofs.Common.{◌≡◌, ◌⊎◌, inl, inr, ⊎_elim, ℕ, ◌+◌, ◌<◌, ◌≤◌, Bool, true, false, ◌&&◌, List, [], ◌∷◌, ◌++◌, length, Result, Ok, Err, refl, sym, ◌∙◌, ap, subst, arith, length-append, if◌then◌else◌, IsErrOf}
+use Rattle.std.proofs.lemmas.List.{append-nil, take_all, take_at, take-append-le}
+use Rattle.im_types.specs.declared.commands.Request.{Request}
 use Rattle.im_types.specs.declared.commands.Command.{Command}
 use Rattle.im_types.specs.declared.commands.Outcome.{Outcome}
+use Rattle.im_types.specs.declared.groups.Served.{Served as ServedMember}
 use Rattle.im_types.specs.declared.refusals.Refusal.{Refusal}
 use Rattle.im_types.specs.declared.refusals.Refusal.TheVariants.{Device, Failed}
 use Rattle.im_types.specs.Contents.{Contents}
@@ -21,12 +23,14 @@ use Rattle.im_disk.proofs.SinceLemmas.{leaves_then, leaves_weaker}
 use Rattle.im_journal.specs.Holding.{room_after}
 use Rattle.im_checkpoint.specs.declared.checkpoint.TurnDone.{TurnDone}
 use Rattle.im_engine.specs.declared.run.Event.{Event}
-use Rattle.im_engine.specs.declared.run.Event.TheVariants.{Command as Serve, Turn}
+use Rattle.im_engine.specs.declared.run.Event.TheVariants.{Command as Serve, Group as Together, Turn}
 use Rattle.im_engine.specs.declared.run.Answer.{Answer}
-use Rattle.im_engine.specs.declared.run.Answer.TheVariants.{Served, Turned as TookTurn}
+use Rattle.im_engine.specs.declared.run.Answer.TheVariants.{Served as Told, Grouped, Turned as TookTurn}
 use Rattle.im_engine.specs.State.{EngineState, MeansState, MeansEither, with_command}
-use Rattle.im_engine.specs.Run.{Answered, TurnTaken, TurnAnswered, EventAnswered, AnsweredInTurn, is_put, put_by_command, put_by_event, put_on_disk, HasRun, MeansBy, MeansAfter, MeansBeginning, MeansAllOrInDoubt, is_doubt, has_doubt, IsDevice, HasDevice, HasCause}
+use Rattle.im_engine.specs.Groups.{reached_in, group_put, answers_in, GroupAnswered, GroupFaults}
+use Rattle.im_engine.specs.Run.{Answered, TurnTaken, TurnAnswered, EventAnswered, has_device, is_put, put_by_command, HasRun, MeansAfter, MeansBeginning, MeansAllOrInDoubt, IsDevice, HasDevice, HasCause}
 use Rattle.im_engine.proofs.Accepting.{Answers, accepted_answers}
+use Rattle.im_engine.proofs.Acknowledging.{answers-no_device, some-device, failed-no_device}
 
 -- after all these commands, or all but the last one
 abbrev pub AllOrLess : {D : Type 0} → EngineState D → List Command → List ℕ → Type 0
@@ -35,25 +39,6 @@ AllOrLess s commands file = MeansAllOrInDoubt (Unit {0}) s commands file
 -- after all these commands
 abbrev pub All : {D : Type 0} → EngineState D → List Command → List ℕ → Type 0
 All s commands file = MeansAfter s commands (length commands) file
-
-pub in_turn_more : {D : Type 0} (old mid new : EngineState D) (events : List Event) (answers : List Answer) (e : Event) (a : Answer)
-    → AnsweredInTurn old events answers mid → EventAnswered mid e a new → AnsweredInTurn old (events ++ e ∷ []) (answers ++ a ∷ []) new
-in_turn_more {D} old mid new [] [] e a it one = (new, subst (λ (s : EngineState D). EventAnswered s e a new) it one, refl)
-in_turn_more old mid new [] (b ∷ answers) e a it one = absurd it
-in_turn_more old mid new (d ∷ events) [] e a it one = absurd it
-in_turn_more old mid new (d ∷ events) (b ∷ answers) e a it one = (it.0, it.1, in_turn_more it.0 mid new events answers e a it.2 one)
-
-pub put_on_disk-push : (m : Contents) (events : List Event) (answers : List Answer) (e : Event) (a : Answer) → length events ≡ length answers
-    → put_on_disk m (events ++ e ∷ []) (answers ++ a ∷ []) ≡ put_on_disk m events answers ++ put_by_event (after m (put_on_disk m events answers)) e a
-put_on_disk-push m [] [] e a same = append-nil (put_by_event m e a)
-put_on_disk-push m [] (b ∷ answers) e a same = absurd (omega arith)
-put_on_disk-push m (d ∷ events) [] e a same = absurd (omega arith)
-put_on_disk-push m (d ∷ events) (b ∷ answers) e a same =
-    let p : List Command = put_by_event m d b in
-    let t : List Command = put_on_disk (after m (put_by_event m d b)) events answers in
-    ap (λ (l : List Command). put_by_event m d b ++ l) (put_on_disk-push (after m (put_by_event m d b)) events answers e a (omega arith))
-    ∙ ap (λ (x : Contents). put_by_event m d b ++ (put_on_disk (after m (put_by_event m d b)) events answers ++ put_by_event x e a)) (sym (after-append m (put_by_event m d b) (put_on_disk (after m (put_by_event m d b)) events answers)))
-    ∙ sym (append_assoc (put_by_event m d b) (put_on_disk (after m (put_by_event m d b)) events answers) (put_by_event (after m (put_by_event m d b ++ put_on_disk (after m (put_by_event m d b)) events answers)) e a))
 
 not_put : (m : Contents) (c : Command) (a : Result Outcome Refusal) → is_put a ≡ false → put_by_command m c a ≡ []
 not_put m c a e = by_test (is_accepted m c) (is_put a) e
@@ -217,99 +202,8 @@ module _ {D : Type 0} (old mid new : EngineState D) (put : List Command) (a : Re
       (λ f file left. (length put, inl refl, means_all old mid put far f file (call f file left)))
       (true_or_false mid.failed)
 
--- one event more
-
-pub far_by : {D : Type 0} (old mid new : EngineState D) (put : List Command) (e : Event) (a : Answer) → HasRun old mid put → EventAnswered mid e a new → HasRun old new (put ++ put_by_event (after old.memory put) e a)
-far_by old mid new put (Serve c) (Served a) far it = far_on old mid new put c a far it
-far_by old mid new put (Serve c) (TookTurn a) far it = absurd it
-far_by old mid new put Turn (Served a) far it = absurd it
-far_by old mid new put Turn (TookTurn a) far it = subst (λ (l : List Command). HasRun old new l) (sym (append-nil put)) (far_turned old mid new put a far it)
-
-module _ {D : Type 0} (now : D → Moment) (past : D → List Moment) where
-  leaves_by : (old mid new : EngineState D) (put : List Command) (e : Event) (a : Answer) → HasRun old mid put → EventAnswered mid e a new
-      → Leaves (now old.disk) (now mid.disk) (past old.disk) (past mid.disk) (MeansBeginning old put)
-      → (mid.failed ≡ false → Leaves (now mid.disk) (now new.disk) (past mid.disk) (past new.disk) (MeansBy mid e))
-      → Leaves (now old.disk) (now new.disk) (past old.disk) (past new.disk) (MeansBeginning old (put ++ put_by_event (after old.memory put) e a))
-  leaves_by old mid new put (Serve c) (Served a) far it so_far call = leaves_on old mid new put c a far it now past so_far call
-  leaves_by old mid new put (Serve c) (TookTurn a) far it so_far call = absurd it
-  leaves_by old mid new put Turn (Served a) far it so_far call = absurd it
-  leaves_by old mid new put Turn (TookTurn a) far it so_far call =
-      subst (λ (l : List Command). Leaves (now old.disk) (now new.disk) (past old.disk) (past new.disk) (MeansBeginning old l)) (sym (append-nil put))
-      (leaves_turned old mid new put a far it now past so_far call)
-
-  now_by : (old mid new : EngineState D) (put : List Command) (e : Event) (a : Answer) → HasRun old mid put → EventAnswered mid e a new
-      → LeavesNow (now mid.disk) (AllOrLess old put) → (mid.failed ≡ false → LeavesNow (now new.disk) (MeansBy mid e))
-      → LeavesNow (now new.disk) (AllOrLess old (put ++ put_by_event (after old.memory put) e a))
-  now_by old mid new put (Serve c) (Served a) far it so_far call = now_on old mid new put c a far it now so_far call
-  now_by old mid new put (Serve c) (TookTurn a) far it so_far call = absurd it
-  now_by old mid new put Turn (Served a) far it so_far call = absurd it
-  now_by old mid new put Turn (TookTurn a) far it so_far call =
-      subst (λ (l : List Command). LeavesNow (now new.disk) (AllOrLess old l)) (sym (append-nil put)) (now_turned old mid new put a far it now so_far call)
-
--- no answer leaves a command in doubt
-
-neither_doubt : (a b : Bool) → (a || b) ≡ false → (a ≡ false) × (b ≡ false)
-neither_doubt true b is = absurd (cc)
-neither_doubt false b is = (refl, is)
-
-no_doubt_before : (answers : List Answer) (a : Answer) → has_doubt (answers ++ a ∷ []) ≡ false → (has_doubt answers ≡ false) × (is_doubt a ≡ false)
-no_doubt_before [] a none = (refl, (neither_doubt (is_doubt a) false none).0)
-no_doubt_before (b ∷ answers) a none =
-    let x = neither_doubt (is_doubt b) (has_doubt (answers ++ a ∷ [])) none in
-    let y = no_doubt_before answers a x.1 in
-    (ap (λ (c : Bool). c || has_doubt answers) x.0 ∙ y.0, y.1)
-
 true_false : (b : Bool) → b ≡ true → b ≡ false → ⊥
 true_false b t f = absurd (cc)
-
-device_is_doubt : (a : Result Outcome Refusal) → a ≡ Err Device → is_doubt (Served a) ≡ true
-device_is_doubt a e = ap (λ (r : Result Outcome Refusal). is_doubt (Served r)) e
-
-module _ {D : Type 0} (now : D → Moment) where
-  -- a command's call after which the engine has failed, and no doubt: it had failed before
-  told_failed : (old mid new : EngineState D) (put : List Command) (c : Command) (a : Result Outcome Refusal) → Answered mid c a new → is_doubt (Served a) ≡ false → new.failed ≡ true
-      → (new ≡ mid) × (put_by_command (after old.memory put) c a ≡ [])
-  told_failed old mid new put c a it sure dead = ⊎_elim
-      (λ was. ((it.dead was).1, not_put (after old.memory put) c a (ap (λ (x : Result Outcome Refusal). is_put x) (it.dead was).0)))
-      (λ f. ⊎_elim
-      (λ accepted. ⊎_elim
-      (λ none. absurd (true_false new.failed dead (ap (λ (s : EngineState D). s.failed) (it.full f accepted none).1 ∙ f)))
-      (λ some. ⊎_elim
-      (λ done. absurd (true_false new.failed dead (ap (λ (s : EngineState D). s.failed) done.1 ∙ f)))
-      (λ fault. absurd (true_false (is_doubt (Served a)) (device_is_doubt a fault.0) sure))
-      (it.put f accepted some))
-      (none_or_some mid.room))
-      (λ un. absurd (true_false new.failed dead (ap (λ (s : EngineState D). s.failed) (it.unaccepted f un).1 ∙ f)))
-      (true_or_false (is_accepted mid.memory c)))
-      (true_or_false mid.failed)
-
-  told_turned : (old mid new : EngineState D) (put : List Command) (a : Result TurnDone Refusal) → HasRun old mid put → TurnAnswered mid a new
-      → LeavesNow (now mid.disk) (All old put) → (mid.failed ≡ false → LeavesNow (now new.disk) (MeansState mid)) → LeavesNow (now new.disk) (All old put)
-  told_turned old mid new put a far it so_far call = ⊎_elim
-      (λ dead. subst (λ (s : EngineState D). LeavesNow (now s.disk) (All old put)) (sym (it.dead dead).1) so_far)
-      (λ f file left. means_all old mid put far f file (call f file left))
-      (true_or_false mid.failed)
-
-  told_by : (old mid new : EngineState D) (put : List Command) (e : Event) (a : Answer) → HasRun old mid put → EventAnswered mid e a new → is_doubt a ≡ false
-      → LeavesNow (now mid.disk) (All old put) → (mid.failed ≡ false → LeavesNow (now new.disk) (MeansBy mid e)) → (new.failed ≡ false → LeavesNow (now new.disk) (MeansState new))
-      → LeavesNow (now new.disk) (All old (put ++ put_by_event (after old.memory put) e a))
-  told_by old mid new put (Serve c) (Served a) far it sure so_far call works = ⊎_elim
-      (λ dead. let same = told_failed old mid new put c a it sure dead in
-      subst (λ (l : List Command). LeavesNow (now new.disk) (All old (put ++ l))) (sym same.1)
-      (subst (λ (l : List Command). LeavesNow (now new.disk) (All old l)) (sym (append-nil put))
-      (subst (λ (s : EngineState D). LeavesNow (now s.disk) (All old put)) (sym same.0) so_far)))
-      (λ f file left. means_all old new (put ++ put_by_command (after old.memory put) c a) (far_on old mid new put c a far it) f file (works f file left))
-      (true_or_false new.failed)
-  told_by old mid new put (Serve c) (TookTurn a) far it sure so_far call works = absurd it
-  told_by old mid new put Turn (Served a) far it sure so_far call works = absurd it
-  told_by old mid new put Turn (TookTurn a) far it sure so_far call works =
-      subst (λ (l : List Command). LeavesNow (now new.disk) (All old l)) (sym (append-nil put)) (told_turned old mid new put a far it so_far call)
-
-pub told_start : {D : Type 0} (s : EngineState D) (file : List ℕ) → MeansState s file → All s [] file
-told_start s file means = subst (λ (n : ℕ). Means s.memory n 0 file) (none s.count) (some_room s.memory s.count s.room file means)
-  where
-    none : (n : ℕ) → n ≡ n + 0
-    none n = omega arith
 
 -- a run that has done nothing yet
 pub far_start : {D : Type 0} (s : EngineState D) → HasRun s s []
@@ -321,49 +215,6 @@ now_start s file means = (0, inl refl, subst (λ (n : ℕ). Means s.memory n 0 f
     none : (n : ℕ) → n ≡ n + 0
     none n = omega arith
 
--- one event more of a run
-
-module _ {D : Type 0} (old mid new : EngineState D) (events : List Event) (answers longer_answers : List Answer) (i : ℕ) (d : Event) (a : Answer)
-    (lt : i < length events) (size : length answers ≡ i) (items : longer_answers ≡ answers ++ a ∷ []) (it : EventAnswered mid (get_or events i d) a new) where
-  abbrev put : List Command
-  put = put_on_disk old.memory (take i events) answers
-
-  stepped : take (i + 1) events ≡ take i events ++ get_or events i d ∷ []
-  stepped = take_more events i d lt
-
-  grown : put_on_disk old.memory (take (i + 1) events) longer_answers ≡ put ++ put_by_event (after old.memory put) (get_or events i d) a
-  grown = (λ k. put_on_disk old.memory (stepped k) (items k))
-      ∙ put_on_disk-push old.memory (take i events) answers (get_or events i d) a (let n : length (take i events) ≡ i = length-take-le i events (omega arith) in omega arith)
-
-  pub answers_step : AnsweredInTurn old (take i events) answers mid → AnsweredInTurn old (take (i + 1) events) longer_answers new
-  answers_step so_far = subst (λ (l : List Event). AnsweredInTurn old l longer_answers new) (sym stepped)
-      (subst (λ (l : List Answer). AnsweredInTurn old (take i events ++ get_or events i d ∷ []) l new) (sym items) (in_turn_more old mid new (take i events) answers (get_or events i d) a so_far it))
-
-  module _ (far : HasRun old mid put) where
-    pub far_step : HasRun old new (put_on_disk old.memory (take (i + 1) events) longer_answers)
-    far_step = subst (λ (l : List Command). HasRun old new l) (sym grown) (far_by old mid new put (get_or events i d) a far it)
-
-    pub leaves_step_on : (now : D → Moment) (past : D → List Moment)
-        → Leaves (now old.disk) (now mid.disk) (past old.disk) (past mid.disk) (MeansBeginning old put)
-        → (mid.failed ≡ false → Leaves (now mid.disk) (now new.disk) (past mid.disk) (past new.disk) (MeansBy mid (get_or events i d)))
-        → Leaves (now old.disk) (now new.disk) (past old.disk) (past new.disk) (MeansBeginning old (put_on_disk old.memory (take (i + 1) events) longer_answers))
-    leaves_step_on now past so_far call =
-        subst (λ (l : List Command). Leaves (now old.disk) (now new.disk) (past old.disk) (past new.disk) (MeansBeginning old l)) (sym grown)
-        (leaves_by now past old mid new put (get_or events i d) a far it so_far call)
-
-    pub now_step_on : (now : D → Moment) (past : D → List Moment) → LeavesNow (now mid.disk) (AllOrLess old put)
-        → (mid.failed ≡ false → LeavesNow (now new.disk) (MeansBy mid (get_or events i d)))
-        → LeavesNow (now new.disk) (AllOrLess old (put_on_disk old.memory (take (i + 1) events) longer_answers))
-    now_step_on now past so_far call =
-        subst (λ (l : List Command). LeavesNow (now new.disk) (AllOrLess old l)) (sym grown) (now_by now past old mid new put (get_or events i d) a far it so_far call)
-
-    pub told_step : (now : D → Moment) → (has_doubt answers ≡ false → LeavesNow (now mid.disk) (All old put))
-        → (mid.failed ≡ false → LeavesNow (now new.disk) (MeansBy mid (get_or events i d))) → (new.failed ≡ false → LeavesNow (now new.disk) (MeansState new))
-        → has_doubt longer_answers ≡ false → LeavesNow (now new.disk) (All old (put_on_disk old.memory (take (i + 1) events) longer_answers))
-    told_step now so_far call works none =
-        let sure = no_doubt_before answers a (subst (λ (l : List Answer). has_doubt l ≡ false) items none) in
-        subst (λ (l : List Command). LeavesNow (now new.disk) (All old l)) (sym grown) (told_by now old mid new put (get_or events i d) a far it sure.1 (so_far sure.0) call works)
-
 -- failures so far
 
 pub record Counted {D : Type 0} (failures : D → ℕ) (old now : EngineState D) (answers : List Answer) : Type 0 where
@@ -373,11 +224,11 @@ pub record Counted {D : Type 0} (failures : D → ℕ) (old now : EngineState D)
 pub counted_start : {D : Type 0} (failures : D → ℕ) (s : EngineState D) → Counted failures s s []
 counted_start failures s = record { device = λ none. absurd none; steady = λ none. refl }
 
-has_device : (answers : List Answer) (a : Answer) → HasDevice (answers ++ a ∷ []) → HasDevice answers ⊎ IsDevice a
-has_device [] a (inl it) = inr it
-has_device [] a (inr it) = absurd it
-has_device (b ∷ answers) a (inl it) = inl (inl it)
-has_device (b ∷ answers) a (inr it) = ⊎_elim (λ x. inl (inr x)) (λ x. inr x) (has_device answers a it)
+had_device : (answers : List Answer) (a : Answer) → HasDevice (answers ++ a ∷ []) → HasDevice answers ⊎ IsDevice a
+had_device [] a (inl it) = inr it
+had_device [] a (inr it) = absurd it
+had_device (b ∷ answers) a (inl it) = inl (inl it)
+had_device (b ∷ answers) a (inr it) = ⊎_elim (λ x. inl (inr x)) (λ x. inr x) (had_device answers a it)
 
 device_before : (answers : List Answer) (a : Answer) → HasDevice answers → HasDevice (answers ++ a ∷ [])
 device_before [] a it = absurd it
@@ -389,16 +240,63 @@ device_last [] a it = inl it
 device_last (b ∷ answers) a it = inr (device_last answers a it)
 
 dead_event : {D : Type 0} (mid new : EngineState D) (e : Event) (a : Answer) → EventAnswered mid e a new → mid.failed ≡ true → (IsDevice a → ⊥) × (new ≡ mid)
-dead_event mid new (Serve c) (Served a) it dead = (λ d. let f : a ≡ Err Failed = (it.dead dead).0 in let g : a ≡ Err Device = d in absurd (cc), (it.dead dead).1)
+dead_event mid new (Serve c) (Told a) it dead = (λ d. let f : a ≡ Err Failed = (it.dead dead).0 in let g : a ≡ Err Device = d in absurd (cc), (it.dead dead).1)
+dead_event mid new (Serve c) (Grouped room served) it dead = absurd it
 dead_event mid new (Serve c) (TookTurn a) it dead = absurd it
-dead_event mid new Turn (Served a) it dead = absurd it
+dead_event mid new (Together members) (Told a) it dead = absurd it
+dead_event mid new (Together members) (Grouped room served) it dead = (
+  λ d. true_false (has_device served.items) d (ap has_device (it.1.dead dead).0 ∙ failed-no_device members),
+  (it.1.dead dead).1,
+)
+dead_event mid new (Together members) (TookTurn a) it dead = absurd it
+dead_event mid new Turn (Told a) it dead = absurd it
+dead_event mid new Turn (Grouped room served) it dead = absurd it
 dead_event mid new Turn (TookTurn a) it dead = (λ d. let f : a ≡ Err Failed = (it.dead dead).0 in let g : a ≡ Err Device = d in absurd (cc), (it.dead dead).1)
+
+group_fails : {D : Type 0} (mid new : EngineState D) (members : List Request) (served : List ServedMember) → GroupAnswered mid members served new → mid.failed ≡ false → has_device served ≡ true → new.failed ≡ true
+group_fails mid new members served it f d = by_put (group_put mid members) refl
+  where
+    told : served ≡ answers_in mid members → ⊥
+    told is = true_false (has_device served) d (ap has_device is ∙ answers-no_device (reached_in mid) members)
+
+    by_put : (put : List Command) → group_put mid members ≡ put → new.failed ≡ true
+    by_put [] none = absurd (told (it.none f none).0)
+    by_put (command ∷ commands) is = ⊎_elim
+        (λ done. absurd (told done.0))
+        (λ fault. ap (λ (s : EngineState _). s.failed) fault.1)
+        (it.put f (omega (arith, ap length is)))
+
+-- a member is answered `Device` exactly where the engine fails now
+pub group_causes : {D : Type 0} (mid new : EngineState D) (members : List Request) (served : List ServedMember) (old now : ℕ) → GroupAnswered mid members served new → GroupFaults mid.failed new.failed old now
+    → (has_device served ≡ true → Rises old now × (old ≤ now)) × (has_device served ≡ false → now ≡ old)
+group_causes mid new members served old now it faults = (λ d. rose d, λ none. stayed none)
+  where
+    rose : has_device served ≡ true → Rises old now × (old ≤ now)
+    rose d = ⊎_elim
+        (λ dead. absurd (true_false (has_device served) d (ap has_device (it.dead dead).0 ∙ failed-no_device members)))
+        (λ f. faults.failed f (group_fails mid new members served it f d))
+        (true_or_false mid.failed)
+
+    by_put : has_device served ≡ false → mid.failed ≡ false → (put : List Command) → group_put mid members ≡ put → new.failed ≡ mid.failed
+    by_put none f [] empty = ap (λ (s : EngineState _). s.failed) (it.none f empty).1
+    by_put none f (command ∷ commands) is =
+        let some : 0 < length (group_put mid members) = omega (arith, ap length is) in
+        ⊎_elim
+        (λ done. ap (λ (s : EngineState _). s.failed) done.1)
+        (λ fault. absurd (true_false (has_device served) (ap has_device fault.0 ∙ some-device (reached_in mid) members some) none))
+        (it.put f some)
+
+    stayed : has_device served ≡ false → now ≡ old
+    stayed none = faults.steady (⊎_elim
+        (λ dead. ap (λ (s : EngineState _). s.failed) (it.dead dead).1)
+        (λ f. by_put none f (group_put mid members) refl)
+        (true_or_false mid.failed))
 
 not_of_a_step : (m : Contents) (c : Command) → (step m c).answer ≡ Err Device → ⊥
 not_of_a_step m c e = let few : number_of Device ≤ 6 = step-refusals m c Device e in absurd (omega (arith, few))
 
 device_fails : (D : Type 0) (mid new : EngineState D) (e : Event) (a : Answer) → EventAnswered mid e a new → mid.failed ≡ false → IsDevice a → new.failed ≡ true
-device_fails D mid new (Serve c) (Served a) it f d = ⊎_elim
+device_fails D mid new (Serve c) (Told a) it f d = ⊎_elim
     (λ accepted. ⊎_elim
     (λ none. let x : a ≡ Err JournalFull = (it.full f accepted none).0 in let y : a ≡ Err Device = d in absurd (cc))
     (λ some. ⊎_elim
@@ -408,8 +306,13 @@ device_fails D mid new (Serve c) (Served a) it f d = ⊎_elim
     (none_or_some mid.room))
     (λ un. absurd (not_of_a_step mid.memory c (sym (it.unaccepted f un).0 ∙ d)))
     (true_or_false (is_accepted mid.memory c))
+device_fails D mid new (Serve c) (Grouped room served) it f d = absurd it
 device_fails D mid new (Serve c) (TookTurn a) it f d = absurd it
-device_fails D mid new Turn (Served a) it f d = absurd it
+device_fails D mid new (Together members) (Told a) it f d = absurd it
+device_fails D mid new (Together members) (Grouped room served) it f d = group_fails mid new members served.items it.1 f d
+device_fails D mid new (Together members) (TookTurn a) it f d = absurd it
+device_fails D mid new Turn (Told a) it f d = absurd it
+device_fails D mid new Turn (Grouped room served) it f d = absurd it
 device_fails D mid new Turn (TookTurn a) it f d = ⊎_elim
     (λ done. let x : a ≡ Ok done.0 = done.1 in let y : a ≡ Err Device = d in absurd (cc))
     (λ fault. ap (λ (s : EngineState D). s.failed) fault.1)
@@ -426,7 +329,12 @@ caused_by (Ok x) old new same = (λ d. absurd (ok_is_no_device x d), λ none. sa
 caused_by {T} (Err e) old new fault = (λ d. fault.1 (device_of {T = T} e d), λ none. fault.2 (λ is. none (ap (λ (r : Refusal). Err r) is)))
 
 caused : (a : Answer) (old new : ℕ) → HasCause a old new → (IsDevice a → Rises old new × (old ≤ new)) × ((IsDevice a → ⊥) → new ≡ old)
-caused (Served a) old new cause = caused_by a old new cause
+caused (Told a) old new cause = caused_by a old new cause
+caused (Grouped room served) old new cause = (cause.0, λ none. cause.1 (not_true (has_device served.items) none))
+  where
+    not_true : (b : Bool) → (b ≡ true → ⊥) → b ≡ false
+    not_true true not = absurd (not refl)
+    not_true false not = refl
 caused (TookTurn a) old new cause = caused_by a old new cause
 
 -- where no answer leaves a command in doubt, all are there
@@ -446,7 +354,7 @@ counted_step {D} failures old mid new answers e a it cause so_far = let both = c
       (λ dead. absurd ((dead_event mid new e a it dead).0 now))
       (λ f. (subst (λ (n : ℕ). Rises n (failures new.disk) × (n ≤ failures new.disk)) (so_far.steady (λ before. true_false mid.failed (so_far.device before).1 f)) (both.0 now), device_fails D mid new e a it f now))
       (true_or_false mid.failed))
-      (has_device answers a has);
+      (had_device answers a has);
   steady = λ none. both.1 (λ d. none (device_last answers a d)) ∙ so_far.steady (λ d. none (device_before answers a d));
 }
 
@@ -489,7 +397,7 @@ failures_on failures start mid new e a it cause by_device so_far =
 
 pub failures_more : {D : Type 0} (failures : D → ℕ) (start mid new : EngineState D) (c : Command) (a : Result Outcome Refusal) → Answered mid c a new → Faults (λ e. Unit {0}) a (failures mid.disk) (failures new.disk)
     → Failures failures start mid → Failures failures start new
-failures_more failures start mid new c a it cause so_far = failures_on failures start mid new (Serve c) (Served a) it cause (λ f dead. fails_by_device mid new c a it f dead) so_far
+failures_more failures start mid new c a it cause so_far = failures_on failures start mid new (Serve c) (Told a) it cause (λ f dead. fails_by_device mid new c a it f dead) so_far
 
 pub failures_turned : {D : Type 0} (failures : D → ℕ) (start mid new : EngineState D) (a : Result TurnDone Refusal) → TurnAnswered mid a new → Faults (λ e. Unit {0}) a (failures mid.disk) (failures new.disk)
     → Failures failures start mid → Failures failures start new

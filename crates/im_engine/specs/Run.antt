@@ -1,21 +1,27 @@
--- Commands and turns one after another, and what the files mean that a crash may leave. (Own.)
+-- Commands, groups and turns one after another, and what the files mean that a crash may leave. (Own.)
 use Rattle.std.specs.Prelude.{◌≡◌, ◌⊎◌, ℕ, ◌+◌, ◌<◌, ◌≤◌, Bool, true, false, ◌&&◌, ◌||◌, List, [], ◌∷◌, ◌++◌, length, take, Result, Ok, Err, IsErrOf, if◌then◌else◌}
+use Rattle.im_types.specs.declared.commands.Request.{Request}
 use Rattle.im_types.specs.declared.commands.Command.{Command}
+use Rattle.im_types.specs.declared.commands.Command.TheVariants.{Request as Asks}
 use Rattle.im_types.specs.declared.commands.Outcome.{Outcome}
+use Rattle.im_types.specs.declared.groups.Served.{Served}
+use Rattle.im_types.specs.declared.groups.Served.TheVariants.{Unserved, Done, Refused}
 use Rattle.im_types.specs.declared.refusals.Refusal.{Refusal}
 use Rattle.im_types.specs.declared.refusals.Refusal.TheVariants.{JournalFull, Device, Failed}
 use Rattle.im_types.specs.Contents.{Contents}
 use Rattle.im_types.specs.Step.{step, is_accepted}
 use Rattle.im_types.specs.Run.{after}
-use Rattle.im_types.specs.Meaning.{Means}
+use Rattle.im_types.specs.Meaning.{Means, Reached}
+use Rattle.im_types.specs.Groups.{puts_of}
 use Rattle.im_disk.specs.Moment.{Rises, Faults}
 use Rattle.im_checkpoint.specs.declared.checkpoint.TurnDone.{TurnDone}
 use Rattle.im_checkpoint.specs.Turns.{Turned}
 use Rattle.im_engine.specs.State.{EngineState, MeansState, MeansEither, with_command, journal_in, checkpoint_in}
+use Rattle.im_engine.specs.Groups.{GroupAnswered, MeansGroup}
 use Rattle.im_engine.specs.declared.run.Event.{Event}
-use Rattle.im_engine.specs.declared.run.Event.TheVariants.{Command as Serve, Turn}
+use Rattle.im_engine.specs.declared.run.Event.TheVariants.{Command as Serve, Group as Together, Turn}
 use Rattle.im_engine.specs.declared.run.Answer.{Answer}
-use Rattle.im_engine.specs.declared.run.Answer.TheVariants.{Served, Turned as TookTurn}
+use Rattle.im_engine.specs.declared.run.Answer.TheVariants.{Served as Told, Grouped, Turned as TookTurn}
 
 -- an engine's answer to one command, and what it comes to, on any disk
 pub record Answered {D : Type 0} (old : EngineState D) (command : Command) (answer : Result Outcome Refusal) (new : EngineState D) : Type 0 where
@@ -44,16 +50,22 @@ pub record TurnAnswered {D : Type 0} (old : EngineState D) (answer : Result Turn
       ((done : TurnDone) × (answer ≡ Ok done) × TurnTaken old done new)
       ⊎ ((answer ≡ Err Device) × (new ≡ record old { disk = new.disk; failed = true }))
 
--- an engine's answer to one event
+-- an engine's answer to one event; that to a group tells the room that it found
 abbrev pub EventAnswered : {D : Type 0} → EngineState D → Event → Answer → EngineState D → Type 0
-EventAnswered old (Serve command) (Served answer) new = Answered old command answer new
+EventAnswered old (Serve command) (Told answer) new = Answered old command answer new
+EventAnswered old (Together members) (Grouped room served) new = (room ≡ old.room) × GroupAnswered old members served.items new
 EventAnswered old Turn (TookTurn answer) new = TurnAnswered old answer new
+EventAnswered old (Serve command) (Grouped room served) new = ⊥
 EventAnswered old (Serve command) (TookTurn answer) new = ⊥
-EventAnswered old Turn (Served answer) new = ⊥
+EventAnswered old (Together members) (Told answer) new = ⊥
+EventAnswered old (Together members) (TookTurn answer) new = ⊥
+EventAnswered old Turn (Told answer) new = ⊥
+EventAnswered old Turn (Grouped room served) new = ⊥
 
 -- what a file means that is left within an event
 abbrev pub MeansBy : {D : Type 0} → EngineState D → Event → List ℕ → Type 0
 MeansBy old (Serve command) file = MeansEither old command file
+MeansBy old (Together members) file = MeansGroup old members file
 MeansBy old Turn file = MeansState old file
 
 -- the answers to events, one after another
@@ -68,6 +80,17 @@ abbrev pub is_device : Refusal → Bool
 is_device Device = true
 is_device refusal = false
 
+-- a member was answered so
+abbrev pub says_device : Served → Bool
+says_device Unserved = false
+says_device (Done outcome) = false
+says_device (Refused refusal) = is_device refusal
+
+-- one of the members was, as all are then
+abbrev pub has_device : List Served → Bool
+has_device [] = false
+has_device (answer ∷ served) = says_device answer || has_device served
+
 -- the answer says that a command was put on the disk, or is in doubt
 abbrev pub is_put : Result Outcome Refusal → Bool
 is_put (Ok outcome) = true
@@ -77,18 +100,73 @@ is_put (Err refusal) = is_device refusal
 abbrev pub put_by_command : Contents → Command → Result Outcome Refusal → List Command
 put_by_command m command answer = if is_accepted m command && is_put answer then command ∷ [] else []
 
--- the same, of an event
-abbrev pub put_by_event : Contents → Event → Answer → List Command
-put_by_event m (Serve command) (Served answer) = put_by_command m command answer
-put_by_event m (Serve command) (TookTurn answer) = []
-put_by_event m Turn answer = []
+-- ---- what was acknowledged
 
--- the accepted commands that were put on the disk, the one in doubt among them, by what each was answered
-abbrev pub put_on_disk : Contents → List Event → List Answer → List Command
-put_on_disk m [] answers = []
-put_on_disk m (event ∷ events) [] = []
-put_on_disk m (event ∷ events) (answer ∷ answers) =
-    put_by_event m event answer ++ put_on_disk (after m (put_by_event m event answer)) events answers
+-- the command of a member, if it changes the memory and was answered what it comes to
+abbrev pub acknowledged_member : Contents → Request → Served → List Command
+acknowledged_member m r Unserved = []
+acknowledged_member m r (Done outcome) = if is_accepted m (Asks r) then Asks r ∷ [] else []
+acknowledged_member m r (Refused refusal) = []
+
+-- those of the members of a group, one after another
+abbrev pub acknowledged_members : Contents → List Request → List Served → List Command
+acknowledged_members m [] served = []
+acknowledged_members m (r ∷ members) [] = []
+acknowledged_members m (r ∷ members) (answer ∷ served) =
+    acknowledged_member m r answer ++ acknowledged_members (after m (acknowledged_member m r answer)) members served
+
+-- the commands of this event that change the memory and were answered what they come to
+abbrev pub acknowledged_by : Contents → Event → Answer → List Command
+acknowledged_by m (Serve command) (Told (Ok outcome)) = if is_accepted m command then command ∷ [] else []
+acknowledged_by m (Serve command) (Told (Err refusal)) = []
+acknowledged_by m (Serve command) (Grouped room served) = []
+acknowledged_by m (Serve command) (TookTurn answer) = []
+acknowledged_by m (Together members) (Told answer) = []
+acknowledged_by m (Together members) (Grouped room served) = acknowledged_members m members served.items
+acknowledged_by m (Together members) (TookTurn answer) = []
+acknowledged_by m Turn answer = []
+
+-- the accepted commands that were acknowledged, in their order
+abbrev pub acknowledged : Contents → List Event → List Answer → List Command
+acknowledged m [] answers = []
+acknowledged m (event ∷ events) [] = []
+acknowledged m (event ∷ events) (answer ∷ answers) =
+    acknowledged_by m event answer ++ acknowledged (after m (acknowledged_by m event answer)) events answers
+
+-- ---- what is in doubt
+
+-- the answer leaves the commands of its event in doubt
+abbrev pub is_doubt : Answer → Bool
+is_doubt (Told (Ok outcome)) = false
+is_doubt (Told (Err refusal)) = is_device refusal
+is_doubt (Grouped room served) = has_device served.items
+is_doubt (TookTurn answer) = false
+
+-- a memory, a count of commands and a room
+abbrev pub reached_at : Contents → ℕ → ℕ → Reached
+reached_at m count room = record { contents = m; count = count; room = room }
+
+-- The command of this event, if it would change the memory and was answered `Device`; of a group that was answered so, all
+-- the commands that it would have put into the room that it found.
+abbrev pub in_doubt_by : Contents → ℕ → Event → Answer → List Command
+in_doubt_by m count (Serve command) answer = if is_accepted m command && is_doubt answer then command ∷ [] else []
+in_doubt_by m count (Together members) (Told answer) = []
+in_doubt_by m count (Together members) (Grouped room served) = if has_device served.items then puts_of (reached_at m count room) members else []
+in_doubt_by m count (Together members) (TookTurn answer) = []
+in_doubt_by m count Turn answer = []
+
+-- the commands in doubt, of which nobody knows whether they are on the disk: all of them, or none
+abbrev pub in_doubt : Contents → ℕ → List Event → List Answer → List Command
+in_doubt m count [] answers = []
+in_doubt m count (event ∷ events) [] = []
+in_doubt m count (event ∷ events) (answer ∷ answers) = let sure = acknowledged_by m event answer in
+    in_doubt_by m count event answer ++ in_doubt (after m sure) (count + length sure) events answers
+
+-- the acknowledged commands, and those in doubt behind them
+abbrev pub put_on_disk : Contents → ℕ → List Event → List Answer → List Command
+put_on_disk m count events answers = acknowledged m events answers ++ in_doubt m count events answers
+
+-- ---- what the files mean
 
 -- Unless it has failed, the engine has all that was put on the disk.
 pub record HasRun {D : Type 0} (old new : EngineState D) (put : List Command) : Type 0 where
@@ -96,6 +174,19 @@ pub record HasRun {D : Type 0} (old new : EngineState D) (put : List Command) : 
   pub memory : new.failed ≡ false → new.memory ≡ after old.memory put
   -- and as many commands more
   pub count : new.failed ≡ false → new.count ≡ old.count + length put
+
+-- the file means what the engine is after all these commands
+abbrev pub MeansAll : {D : Type 0} → EngineState D → List Command → List ℕ → Type 0
+MeansAll s commands file = Means (after s.memory commands) (s.count + length commands) 0 file
+
+-- the file means what the engine is after the commands of a beginning of these events: of each event all commands, or none
+abbrev pub MeansBeginningOf : {D : Type 0} → EngineState D → List Event → List Answer → List ℕ → Type 0
+MeansBeginningOf s events answers file =
+    (many : ℕ) × (many ≤ length answers) × MeansAll s (put_on_disk s.memory s.count (take many events) (take many answers)) file
+
+-- the file means what the engine is after these commands, or after those in doubt too, all of them
+abbrev pub MeansWithOrWithout : {D : Type 0} → EngineState D → List Command → List Command → List ℕ → Type 0
+MeansWithOrWithout s commands doubt file = MeansAll s commands file ⊎ MeansAll s (commands ++ doubt) file
 
 -- the file means what the engine is after this many of these commands
 abbrev pub MeansAfter : {D : Type 0} → EngineState D → List Command → ℕ → List ℕ → Type 0
@@ -109,20 +200,12 @@ MeansBeginning s commands file = (many : ℕ) × (many ≤ length commands) × M
 abbrev pub MeansAllOrInDoubt : {D : Type 0} → Type 0 → EngineState D → List Command → List ℕ → Type 0
 MeansAllOrInDoubt doubt s commands file = (many : ℕ) × ((many ≡ length commands) ⊎ (doubt × (length commands ≡ many + 1))) × MeansAfter s commands many file
 
--- the answer leaves its command in doubt
-abbrev pub is_doubt : Answer → Bool
-is_doubt (Served (Ok outcome)) = false
-is_doubt (Served (Err refusal)) = is_device refusal
-is_doubt (TookTurn answer) = false
-
--- one of the answers does
-abbrev pub has_doubt : List Answer → Bool
-has_doubt [] = false
-has_doubt (answer ∷ answers) = is_doubt answer || has_doubt answers
+-- ---- failures
 
 -- the answer says that a call of the disk failed
 abbrev pub IsDevice : Answer → Type 0
-IsDevice (Served answer) = IsErrOf answer Device
+IsDevice (Told answer) = IsErrOf answer Device
+IsDevice (Grouped room served) = has_device served.items ≡ true
 IsDevice (TookTurn answer) = IsErrOf answer Device
 
 -- one of the answers does
@@ -132,7 +215,8 @@ HasDevice (answer ∷ answers) = IsDevice answer ⊎ HasDevice answers
 
 -- an answer is `Device` exactly where the count of failures rose
 abbrev pub HasCause : Answer → ℕ → ℕ → Type 0
-HasCause (Served answer) old new = Faults (λ e. Unit {0}) answer old new
+HasCause (Told answer) old new = Faults (λ e. Unit {0}) answer old new
+HasCause (Grouped room served) old new = (has_device served.items ≡ true → Rises old new × (old ≤ new)) × (has_device served.items ≡ false → new ≡ old)
 HasCause (TookTurn answer) old new = Faults (λ e. Unit {0}) answer old new
 
 -- one of the answers is `Device` exactly where the count of failures rose

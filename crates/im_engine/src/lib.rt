@@ -2,6 +2,7 @@
 //! a file that means the memory after a beginning of the accepted commands.
 #![tactic(auto)]
 
+mod apart;
 mod emptying;
 mod engine;
 mod format;
@@ -10,8 +11,12 @@ mod laws;
 mod open;
 mod run;
 
+pub use apart::Group;
 pub use emptying::Empties;
 pub use engine::Engine;
 pub use groups::are_apart;
-pub use laws::{files_mean_one_thing, new_images_mean_the_empty_memory};
+pub use laws::{
+    files_mean_one_thing, groups_acknowledge_what_they_put, new_images_mean_the_empty_memory,
+    steps_tell_of_no_failure,
+};
 pub use run::{Answer, Event};

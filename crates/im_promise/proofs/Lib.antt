@@ -1,5 +1,5 @@
 pub mod Sent
-pub mod Splitting
+pub mod Answering
 pub mod Recovering
 pub mod Reopening
 pub mod Grouping

@@ -1,6 +1,6 @@
 -- What an opening after a crash finds, where it is known what every file means that could be left.
-use Rattle.std.proofs.Common.{◌≡◌, ◌⊎◌, inl, inr, ⊎_elim, ℕ, ◌+◌, ◌≤◌, true, List, [], ◌∷◌, ◌++◌, length, take, refl, sym, ap, ◌∙◌, subst, arith, length-append}
-use Rattle.std.proofs.lemmas.List.{append-nil, take_all, take_at}
+use Rattle.std.proofs.Common.{◌≡◌, ◌⊎◌, inl, inr, ⊎_elim, ℕ, ◌+◌, ◌≤◌, List, [], ◌∷◌, ◌++◌, length, refl, sym, ap, ◌∙◌, subst, arith}
+use Rattle.std.proofs.lemmas.List.{append-nil}
 use Rattle.im_types.specs.declared.commands.Command.{Command}
 use Rattle.im_types.specs.declared.refusals.Refusal.{Refusal}
 use Rattle.im_types.specs.Contents.{Contents}
@@ -11,9 +11,7 @@ use Rattle.im_disk.specs.Since.{Leaves, LeavesNow}
 use Rattle.im_engine.specs.declared.run.Event.{Event}
 use Rattle.im_engine.specs.declared.run.Answer.{Answer}
 use Rattle.im_engine.specs.State.{EngineState, MeansState, IsFirstFault}
-use Rattle.im_engine.specs.Run.{MeansAllOrInDoubt, put_on_disk, has_doubt}
-use Rattle.im_promise.specs.Acknowledged.{acknowledged, in_doubt}
-use Rattle.im_promise.proofs.Splitting.{IsSplit}
+use Rattle.im_engine.specs.Run.{acknowledged, in_doubt, MeansAll, MeansWithOrWithout}
 
 -- ---- files
 
@@ -59,44 +57,38 @@ pub could_be_left : (old mid new : Moment) (past_mid past_new : List Moment) →
 could_be_left old mid new past_mid past_new it = left_again old mid it.ranges it.left new.bytes (was_left mid new past_mid past_new it.opened new.bytes (left_now new))
 
 module _ {D E : Type 0} (s : EngineState D) (e : EngineState E) (old mid new : Moment) (past_mid past_new : List Moment) (crash : Crashes old mid new past_mid past_new) where
-  module _ (events : List Event) (answers : List Answer) (one : MeansOne) (split : IsSplit s.memory events answers)
-      (said : LeavesNow old (MeansAllOrInDoubt (has_doubt answers ≡ true) s (put_on_disk s.memory events answers))) (means : LeavesNow new (MeansState e)) where
+  module _ (events : List Event) (answers : List Answer) (one : MeansOne)
+      (said : LeavesNow old (MeansWithOrWithout s (acknowledged s.memory events answers) (in_doubt s.memory s.count events answers))) (means : LeavesNow new (MeansState e)) where
     abbrev ack : List Command
     ack = acknowledged s.memory events answers
 
     abbrev doubt : List Command
-    doubt = in_doubt s.memory events answers
+    doubt = in_doubt s.memory s.count events answers
 
-    -- the acknowledged commands, and the one in doubt or not
+    -- the acknowledged commands, and those in doubt or not
     pub record IsFound : Type 0 where
       pub also : List Command
       pub or_not : (also ≡ []) ⊎ (also ≡ doubt)
       pub memory : e.memory ≡ after s.memory (ack ++ also)
       pub count : e.count ≡ s.count + length (ack ++ also)
 
-    found_by : (many : ℕ) → (e.memory ≡ after s.memory (take many (put_on_disk s.memory events answers))) → (e.count ≡ s.count + many)
-        → ((many ≡ length (put_on_disk s.memory events answers)) ⊎ ((has_doubt answers ≡ true) × (length (put_on_disk s.memory events answers) ≡ many + 1))) → IsFound
-    found_by many memory count (inl all) = record {
-      also = doubt;
-      or_not = inr refl;
-      memory = memory ∙ ap (λ (l : List Command). after s.memory l) (take_all many (put_on_disk s.memory events answers) (omega (arith, all)) ∙ split.parts);
-      count = count ∙ ap (λ (n : ℕ). s.count + n) (all ∙ ap length split.parts);
-    }
-    found_by many memory count (inr (has, less)) =
-        let n : length ack ≡ many = omega (arith, split.some has, ap length split.parts, length-append ack doubt, less) in
+    by_commands : (l : List Command) → MeansAll s l new.bytes → (e.memory ≡ after s.memory l) × (e.count ≡ s.count + length l)
+    by_commands l it = one new.bytes e.memory (after s.memory l) e.count (s.count + length l) e.room 0 (means new.bytes (left_now new)) it
+
+    found_by : MeansWithOrWithout s ack doubt new.bytes → IsFound
+    found_by (inl without) =
+        let same = by_commands ack without in
         let none : ack ++ [] ≡ ack = append-nil ack in
         record {
           also = [];
           or_not = inl refl;
-          memory = memory ∙ ap (λ (l : List Command). after s.memory l) (ap (λ (l : List Command). take many l) split.parts ∙ take_at ack doubt many n ∙ sym none);
-          count = count ∙ ap (λ (k : ℕ). s.count + k) (sym n ∙ ap length (sym none));
+          memory = same.0 ∙ ap (λ (l : List Command). after s.memory l) (sym none);
+          count = same.1 ∙ ap (λ (l : List Command). s.count + length l) (sym none);
         }
+    found_by (inr all) = let same = by_commands (ack ++ doubt) all in record { also = doubt; or_not = inr refl; memory = same.0; count = same.1 }
 
     pub found : IsFound
-    found =
-        let it : MeansAllOrInDoubt (has_doubt answers ≡ true) s (put_on_disk s.memory events answers) new.bytes = said new.bytes (could_be_left old mid new past_mid past_new crash) in
-        let same = one new.bytes e.memory (after s.memory (take it.0 (put_on_disk s.memory events answers))) e.count (s.count + it.0) e.room 0 (means new.bytes (left_now new)) it.2 in
-        found_by it.0 same.0 same.1 it.1
+    found = found_by (said new.bytes (could_be_left old mid new past_mid past_new crash))
 
 -- an image that means something isn't refused for a fault
 pub is_no_fault : (old mid new : Moment) (past_mid past_new : List Moment) → Crashes old mid new past_mid past_new → NoFault → (P : List ℕ → Type 0) → ((file : List ℕ) → P file → (m : Contents) × (count : ℕ) × (room : ℕ) × Means m count room file) → LeavesNow old P
@@ -105,8 +97,9 @@ is_no_fault old mid new past_mid past_new crash none P meant said fault told =
     let it = meant new.bytes (said new.bytes (could_be_left old mid new past_mid past_new crash)) in
     none new.bytes fault it.0 it.1 it.2 (told new.bytes (left_now new)) it.3
 
-pub meant_or_in_doubt : {D : Type 0} (doubt : Type 0) (s : EngineState D) (commands : List Command) (file : List ℕ) → MeansAllOrInDoubt doubt s commands file → (m : Contents) × (count : ℕ) × (room : ℕ) × Means m count room file
-meant_or_in_doubt why s commands file it = (after s.memory (take it.0 commands), s.count + it.0, 0, it.2)
+pub meant_with_or_without : {D : Type 0} (s : EngineState D) (commands doubt : List Command) (file : List ℕ) → MeansWithOrWithout s commands doubt file → (m : Contents) × (count : ℕ) × (room : ℕ) × Means m count room file
+meant_with_or_without s commands more file (inl it) = (after s.memory commands, s.count + length commands, 0, it)
+meant_with_or_without s commands more file (inr it) = (after s.memory (commands ++ more), s.count + length (commands ++ more), 0, it)
 
 -- with nothing served the meaning stays
 pub still_means : {D E : Type 0} (s : EngineState D) (e : EngineState E) (file : List ℕ) → MeansOne → MeansState s file → MeansState e file → (e.memory ≡ s.memory) × (e.count ≡ s.count)

@@ -1,70 +1,76 @@
--- Which commands of a run were acknowledged, and which is in doubt. (Own.)
-use Rattle.std.specs.Prelude.{◌≡◌, ◌⊎◌, Bool, true, false, List, [], ◌∷◌, ◌++◌, ◌&&◌, Ok, Err, if◌then◌else◌}
-use Rattle.im_types.specs.declared.commands.Command.{Command}
+-- Whether events were answered as the sequential memory answers them, and how many calls left something in doubt. (Own.)
+use Rattle.std.specs.Prelude.{◌≡◌, ◌⊎◌, ℕ, ◌+◌, ◌<◌, max, Bool, true, false, List, [], ◌∷◌, length, map, Ok, Err, if◌then◌else◌}
 use Rattle.im_types.specs.declared.refusals.Refusal.TheVariants.{JournalFull, Device, Failed}
 use Rattle.im_types.specs.Contents.{Contents}
 use Rattle.im_types.specs.Step.{step, is_accepted}
 use Rattle.im_types.specs.Run.{after}
+use Rattle.im_types.specs.Groups.{as_served, answers_of, puts_of}
 use Rattle.im_engine.specs.declared.run.Event.{Event}
-use Rattle.im_engine.specs.declared.run.Event.TheVariants.{Command as Serve, Turn}
+use Rattle.im_engine.specs.declared.run.Event.TheVariants.{Command as Serve, Group as Together, Turn}
 use Rattle.im_engine.specs.declared.run.Answer.{Answer}
-use Rattle.im_engine.specs.declared.run.Answer.TheVariants.{Served, Turned as TookTurn}
-use Rattle.im_engine.specs.Run.{is_device, is_doubt}
+use Rattle.im_engine.specs.declared.run.Answer.TheVariants.{Served as Told, Grouped, Turned as TookTurn}
+use Rattle.im_engine.specs.Groups.{all_refused}
+use Rattle.im_engine.specs.Run.{is_device, has_device, is_doubt, acknowledged_by, reached_at}
 
--- the command of this event, if it changes the memory and was answered what it comes to
-abbrev pub acknowledged_by : Contents → Event → Answer → List Command
-acknowledged_by m (Serve command) (Served (Ok outcome)) = if is_accepted m command then command ∷ [] else []
-acknowledged_by m (Serve command) (Served (Err refusal)) = []
-acknowledged_by m (Serve command) (TookTurn answer) = []
-acknowledged_by m Turn answer = []
+-- how many of the calls left their commands in doubt
+abbrev pub calls_in_doubt : List Answer → ℕ
+calls_in_doubt [] = 0
+calls_in_doubt (answer ∷ answers) = (if is_doubt answer then 1 else 0) + calls_in_doubt answers
 
--- the accepted commands that were acknowledged, in their order
-abbrev pub acknowledged : Contents → List Event → List Answer → List Command
-acknowledged m [] answers = []
-acknowledged m (event ∷ events) [] = []
-acknowledged m (event ∷ events) (answer ∷ answers) =
-    acknowledged_by m event answer ++ acknowledged (after m (acknowledged_by m event answer)) events answers
+-- the most commands that one of these events has: one of a command, the members' of a group, and none of a turn
+abbrev pub most_of : Event → ℕ
+most_of (Serve command) = 1
+most_of (Together members) = length members
+most_of Turn = 0
 
--- the command of this event, if it would change the memory and was answered `Device`
-abbrev pub in_doubt_by : Contents → Event → Answer → List Command
-in_doubt_by m (Serve command) answer = if is_accepted m command && is_doubt answer then command ∷ [] else []
-in_doubt_by m Turn answer = []
-
--- the commands in doubt, of which nobody knows whether they are on the disk
-abbrev pub in_doubt : Contents → List Event → List Answer → List Command
-in_doubt m [] answers = []
-in_doubt m (event ∷ events) [] = []
-in_doubt m (event ∷ events) (answer ∷ answers) =
-    in_doubt_by m event answer ++ in_doubt (after m (acknowledged_by m event answer)) events answers
+-- the most that one event of a list has
+abbrev pub most_of_one : List Event → ℕ
+most_of_one [] = 0
+most_of_one (event ∷ events) = max (most_of event) (most_of_one events)
 
 -- the answer says that a call of the disk failed
 abbrev pub is_fault : Answer → Bool
-is_fault (Served (Ok outcome)) = false
-is_fault (Served (Err refusal)) = is_device refusal
+is_fault (Told (Ok outcome)) = false
+is_fault (Told (Err refusal)) = is_device refusal
+is_fault (Grouped room served) = has_device served.items
 is_fault (TookTurn (Ok done)) = false
 is_fault (TookTurn (Err refusal)) = is_device refusal
 
 -- the answer says that a call of the disk failed before
 abbrev pub IsFailed : Event → Answer → Type 0
-IsFailed (Serve command) (Served answer) = answer ≡ Err Failed
+IsFailed (Serve command) (Told answer) = answer ≡ Err Failed
+IsFailed (Serve command) (Grouped room served) = ⊥
 IsFailed (Serve command) (TookTurn answer) = ⊥
-IsFailed Turn (Served answer) = ⊥
+IsFailed (Together members) (Told answer) = ⊥
+IsFailed (Together members) (Grouped room served) = served.items ≡ all_refused Failed members
+IsFailed (Together members) (TookTurn answer) = ⊥
+IsFailed Turn (Told answer) = ⊥
+IsFailed Turn (Grouped room served) = ⊥
 IsFailed Turn (TookTurn answer) = answer ≡ Err Failed
 
--- a command is answered what it comes to on this memory, or that the journal is full or the disk failed where it would change the memory
-abbrev pub IsAnswer : Contents → Event → Answer → Type 0
-IsAnswer m (Serve command) (Served answer) =
+-- A command is answered what it comes to on this memory, or that the journal is full or the disk failed where it would change the
+-- memory. The members of a group are answered what they come to one after another, those that find no room that the journal is
+-- full; or all of them that the disk failed, where one would have been put on it.
+abbrev pub IsAnswer : Contents → ℕ → Event → Answer → Type 0
+IsAnswer m count (Serve command) (Told answer) =
     ((step m command).answer ≡ answer) ⊎ ((is_accepted m command ≡ true) × ((answer ≡ Err JournalFull) ⊎ (answer ≡ Err Device)))
-IsAnswer m (Serve command) (TookTurn answer) = ⊥
-IsAnswer m Turn (Served answer) = ⊥
-IsAnswer m Turn (TookTurn answer) = Unit {0}
+IsAnswer m count (Serve command) (Grouped room served) = ⊥
+IsAnswer m count (Serve command) (TookTurn answer) = ⊥
+IsAnswer m count (Together members) (Told answer) = ⊥
+IsAnswer m count (Together members) (Grouped room served) =
+    (served.items ≡ map as_served (answers_of (reached_at m count room) members))
+    ⊎ ((served.items ≡ all_refused Device members) × (0 < length (puts_of (reached_at m count room) members)))
+IsAnswer m count (Together members) (TookTurn answer) = ⊥
+IsAnswer m count Turn (Told answer) = ⊥
+IsAnswer m count Turn (Grouped room served) = ⊥
+IsAnswer m count Turn (TookTurn answer) = Unit {0}
 
--- Each event is answered in its turn, on the memory after the commands that were acknowledged before it; and all is answered
--- `Failed` once a call of the disk has failed.
-abbrev pub AreAnswers : Bool → Contents → List Event → List Answer → Type 0
-AreAnswers failed m [] [] = Unit {0}
-AreAnswers failed m [] (answer ∷ answers) = ⊥
-AreAnswers failed m (event ∷ events) [] = ⊥
-AreAnswers true m (event ∷ events) (answer ∷ answers) = IsFailed event answer × AreAnswers true m events answers
-AreAnswers false m (event ∷ events) (answer ∷ answers) =
-    IsAnswer m event answer × AreAnswers (is_fault answer) (after m (acknowledged_by m event answer)) events answers
+-- Each event is answered in its turn, on the memory and the count after the commands that were acknowledged before it; and all is
+-- answered `Failed` once a call of the disk has failed.
+abbrev pub AreAnswers : Bool → Contents → ℕ → List Event → List Answer → Type 0
+AreAnswers failed m count [] [] = Unit {0}
+AreAnswers failed m count [] (answer ∷ answers) = ⊥
+AreAnswers failed m count (event ∷ events) [] = ⊥
+AreAnswers true m count (event ∷ events) (answer ∷ answers) = IsFailed event answer × AreAnswers true m count events answers
+AreAnswers false m count (event ∷ events) (answer ∷ answers) = let sure = acknowledged_by m event answer in
+    IsAnswer m count event answer × AreAnswers (is_fault answer) (after m sure) (count + length sure) events answers

@@ -7,8 +7,11 @@ ghost use Rattle.im_engine.specs.State.{MeansState, IsFirstFault};
 ghost use Rattle.im_promise.specs.Recovery.{Recovers};
 
 use im_disk::{Crash, FuseDisk, MemDisk, Mode};
-use im_engine::{Answer, Engine, Event, files_mean_one_thing};
-use im_laws::{accepted_where_changed, refusals_are_of_numbers};
+use im_engine::{
+    Answer, Engine, Event, files_mean_one_thing, groups_acknowledge_what_they_put,
+    steps_tell_of_no_failure,
+};
+use im_laws::{accepted_where_changed, groups_are_runs};
 use im_types::{Limits, Refusal};
 use std::alloc::Global;
 
@@ -21,7 +24,8 @@ pub struct Recovered {
     pub engine: Engine<MemDisk>,
 }
 
-/// Runs commands and turns on an engine, whose disk may fail at any call; crashes the disk, and opens what is left.
+/// Runs commands, groups and turns on an engine, whose disk may fail at any call; crashes the disk, and opens what is
+/// left.
 ///
 /// `NoMemory` and `Device`, where `alloc` or the record of the disk in memory refused room; never a fault of the image.
 pub fn recover(
@@ -37,12 +41,14 @@ pub fn recover(
 {
     files_mean_one_thing();
     accepted_where_changed();
-    refusals_are_of_numbers();
+    groups_are_runs();
+    groups_acknowledge_what_they_put();
+    steps_tell_of_no_failure();
     let answers = match engine.run(alloc, events) {
         Ok(answers) => answers,
         Err(refusal) => return Err(refusal),
     };
-    // Whatever the crash leaves could be left, and means the memory after a beginning of the commands.
+    // Whatever the crash leaves could be left, and means the memory with those in doubt, all or none of them.
     match Engine::open(alloc, engine.close().into_inner().crash(crash)) {
         Ok(engine) => Ok(Recovered { answers, engine }),
         Err((refusal, _)) => Err(refusal),

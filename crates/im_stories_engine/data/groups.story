@@ -171,3 +171,46 @@ count = 16
 room = 0
 together 3.1 fetch 0 = refused 7 JournalFull
 cell 0 = full 5 in block 0 of 1 i
+
+# A run of a group, a command, a turn and a group, each of which tells the room that it found
+format 4096 16 16 = formatted
+plan together 0.1 alloc i 2 with 1.1 fetch 0 with 2.1 store 0 42 = 1 events
+plan 1.2 fetch 1 = 2 events
+plan turn = 3 events
+plan together 3.1 fetch 0 with 4.1 fetch 1 with 2.1 store 0 42 = 4 events
+run = 4 answers
+-- The last member was served before: it is told again, and takes no room.
+answers 0 to 3 = room 16 [base 0, waiting, stored], waiting, began, room 12 [value 42, waiting, stored]
+count = 6
+room = 10
+
+# A run that stops while a group's gate is written: a crash that loses it leaves nothing of the group
+fuse 11 stop = set
+format 4096 16 256 = formatted
+plan 0.1 alloc i 2 = 1 events
+plan together 1.1 fetch 0 with 2.1 store 0 42 = 2 events
+plan turn = 3 events
+plan together 3.1 fetch 0 with 4.1 fetch 1 = 4 events
+run = 4 answers
+answers 0 to 1 = base 0, room 255 [refused 8 Device, refused 8 Device]
+answers 2 to 3 = refused 9 Failed, room 255 [refused 9 Failed, refused 9 Failed]
+close = closed
+crash lost = crashed
+open = opened
+count = 1
+collect 1.1 = refused 1 Gap
+collect 2.1 = refused 1 Gap
+
+# The same, and a crash that leaves the gate's byte: all of the group is there
+fuse 11 stop = set
+format 4096 16 256 = formatted
+plan 0.1 alloc i 2 = 1 events
+plan together 1.1 fetch 0 with 2.1 store 0 42 = 2 events
+run = 2 answers
+answers 0 to 1 = base 0, room 255 [refused 8 Device, refused 8 Device]
+close = closed
+crash a5 = crashed
+open = opened
+count = 3
+collect 1.1 = value 42
+collect 2.1 = stored

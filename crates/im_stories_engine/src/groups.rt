@@ -7,8 +7,8 @@ use im_engine::are_apart;
 use im_story::{add_outcome, request};
 use im_types::{Outcome, Refusal, Request, Served};
 
-// The requests that the words name, with `with` between them.
-fn members(words: &[&str]) -> Result<ArrayVec<Request, 16>> {
+/// The requests that the words name, with `with` between them.
+pub fn members(words: &[&str]) -> Result<ArrayVec<Request, 16>> {
     let mut members = ArrayVec::new();
     for part in words.split(|word| *word == "with") {
         if members.try_push(request(part)?).is_err() {
@@ -27,6 +27,17 @@ fn said_of(served: Served) -> Result<Result<Outcome, Refusal>> {
     }
 }
 
+/// Adds what the members of a group were answered.
+pub fn add_served(said: &mut String, served: &[Served]) -> Result<()> {
+    for (at, answer) in served.iter().enumerate() {
+        if at > 0 {
+            said.push_str(", ")?;
+        }
+        add_outcome(said, said_of(*answer)?)?;
+    }
+    Ok(())
+}
+
 // Serves a group, and tells what its members were answered.
 fn serve_together(engines: &mut Engines, words: &[&str], said: &mut String) -> Result<()> {
     let Some(engine) = &mut engines.engine else {
@@ -38,13 +49,7 @@ fn serve_together(engines: &mut Engines, words: &[&str], said: &mut String) -> R
     }
     let mut served = ArrayVec::new();
     engine.serve_group(&members, &mut served);
-    for (at, answer) in served.as_slice().iter().enumerate() {
-        if at > 0 {
-            said.push_str(", ")?;
-        }
-        add_outcome(said, said_of(*answer)?)?;
-    }
-    Ok(())
+    add_served(said, served.as_slice())
 }
 
 /// Whether the words are `together`, and requests of different elements with `with` between them.

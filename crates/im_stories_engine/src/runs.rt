@@ -1,10 +1,11 @@
-//! Turns, and runs of commands and turns.
+//! Turns, and runs of commands, groups and turns.
 
 use crate::calls::later;
 use crate::engines::Engines;
+use crate::groups::members;
 use crate::texts::{add_answers, add_numbers, add_turn};
 use anyhow::{Result, anyhow};
-use im_engine::{Answer, Event};
+use im_engine::{Answer, Event, Group};
 use im_story::{command, number, place};
 use im_types::Command;
 use std::alloc::Global;
@@ -52,6 +53,14 @@ fn plan_turns(engines: &mut Engines, times: u64) -> Result<()> {
     Ok(())
 }
 
+// The next run serves requests of different elements as one group.
+fn plan_group(engines: &mut Engines, words: &[&str]) -> Result<()> {
+    match Group::new(members(words)?) {
+        Some(group) => Ok(engines.events.push(Event::Group(group))?),
+        None => Err(anyhow!("two requests of one element")),
+    }
+}
+
 // The next run serves the commands of the story so far.
 fn plan_as_told(engines: &mut Engines) -> Result<()> {
     let Some(script) = &engines.script else {
@@ -88,6 +97,7 @@ fn plan(engines: &mut Engines, words: &[&str], said: &mut String) -> Result<()> 
     match words {
         ["as", "told"] => plan_as_told(engines)?,
         ["turn"] => plan_turns(engines, 1)?,
+        ["together", rest @ ..] => plan_group(engines, rest)?,
         [times, "turns"] => plan_turns(engines, number(times)?)?,
         [times, "times", rest @ ..] => plan_commands(engines, number(times)?, command(rest)?)?,
         _ => plan_commands(engines, 1, command(words)?)?,

@@ -1,5 +1,6 @@
 //! The texts of cells, of turns, of runs of answers, and of bytes.
 
+use crate::groups::add_served;
 use anyhow::Result;
 use im_checkpoint::TurnDone;
 use im_engine::Answer;
@@ -40,20 +41,32 @@ pub fn add_turn(said: &mut String, turn: Result<TurnDone, Refusal>) -> Result<()
     }
 }
 
-fn add_answer(said: &mut String, answer: Answer) -> Result<(), AllocError> {
+fn add_answer(said: &mut String, answer: &Answer) -> Result<()> {
     match answer {
-        Answer::Served(outcome) => add_outcome(said, outcome),
-        Answer::Turned(turn) => add_turn(said, turn),
+        Answer::Served(outcome) => Ok(add_outcome(said, *outcome)?),
+        Answer::Grouped(room, served) => {
+            write!(said, "room {room} [")?;
+            add_served(said, served.as_slice())?;
+            Ok(said.push_str("]")?)
+        }
+        Answer::Turned(turn) => Ok(add_turn(said, *turn)?),
     }
 }
 
-// Whether an answer goes on from the one before it: the next page, or the same again.
-fn goes_on(last: Answer, next: Answer) -> bool {
+// Whether a turn goes on from the one before it: the next page, or the same again.
+fn turns_on(last: Result<TurnDone, Refusal>, next: Result<TurnDone, Refusal>) -> bool {
     match (last, next) {
-        (Answer::Turned(Ok(TurnDone::Page(one))), Answer::Turned(Ok(TurnDone::Page(other)))) => {
-            one < other && other - one == 1
-        }
+        (Ok(TurnDone::Page(one)), Ok(TurnDone::Page(other))) => one < other && other - one == 1,
         _ => last == next,
+    }
+}
+
+// Whether an answer goes on from the one before it: the next page, or the same again. That to a group stands alone.
+fn goes_on(last: &Answer, next: &Answer) -> bool {
+    match (last, next) {
+        (Answer::Served(one), Answer::Served(other)) => *one == *other,
+        (Answer::Turned(one), Answer::Turned(other)) => turns_on(*one, *other),
+        _ => false,
     }
 }
 
@@ -64,7 +77,7 @@ fn add_row(said: &mut String, row: &[Answer]) -> Result<()> {
     };
     let times = row.len();
     if let Some(Answer::Turned(Ok(TurnDone::Page(last)))) = row.last() {
-        add_answer(said, *first)?;
+        add_answer(said, first)?;
         if times > 1 {
             write!(said, " to {last}")?;
         }
@@ -73,21 +86,22 @@ fn add_row(said: &mut String, row: &[Answer]) -> Result<()> {
     if times > 1 {
         write!(said, "{times} ")?;
     }
-    Ok(add_answer(said, *first)?)
+    add_answer(said, first)
 }
 
 // How many answers from the first one on make a row.
 fn row_length(answers: &[Answer]) -> usize {
-    let mut length = 0;
-    let mut last = None;
-    for answer in answers {
-        if let Some(last) = last {
-            if !goes_on(last, *answer) {
-                return length;
-            }
-        }
-        last = Some(*answer);
+    let mut length: usize = 0;
+    let mut rest = answers;
+    while let Some((first, later)) = rest.split_first() {
         length = answers.len().min(length.saturating_add(1));
+        let Some(next) = later.first() else {
+            return length;
+        };
+        if !goes_on(first, next) {
+            return length;
+        }
+        rest = later;
     }
     length
 }

@@ -1,0 +1,47 @@
+//! Requests that may be served as a group.
+ghost use Rattle.std.specs.Prelude.{◌≡◌, IfSome, IsNone, IsTrue, ◌↔◌};
+ghost use Rattle.im_types.specs.Groups.{AreApart};
+
+use crate::groups::are_apart;
+use arrayvec::ArrayVec;
+use im_types::Request;
+use std::marker::Model;
+
+/// The requests of a group, 16 at most, of which no two are of one element. Contracts see their list.
+#[derive(Debug, Drop)]
+pub struct Group {
+    requests: ArrayVec<Request, 16>,
+}
+
+impl Model for Group {
+    ghost use Rattle.std.specs.Prelude.{List};
+    ghost use Rattle.im_types.specs.declared.commands.Request.{Request};
+    ghost use Rattle.im_types.specs.Groups.{AreApart};
+
+    ghost Value = { List Request };
+
+    ghost view = { λ g. g.requests.items };
+
+    ghost invariant = { λ g. AreApart g.requests.items };
+}
+
+impl Group {
+    /// These requests as a group, in their order. `None` exactly where two are of one element.
+    pub fn new(requests: ArrayVec<Request, 16>) -> Option<Group>
+        ensures found { IfSome result (λ g. g ≡ requests.items) }
+        ensures none { IsNone result ↔ (AreApart requests.items → ⊥) }
+    {
+        if !are_apart(requests.as_slice()) {
+            return None;
+        }
+        Some(Group { requests })
+    }
+
+    /// The requests, in their order.
+    pub fn requests(&self) -> &ArrayVec<Request, 16>
+        ensures found { result.now.items ≡ self.now }
+        ensures apart { AreApart self.now }
+    {
+        &self.requests
+    }
+}

@@ -1,0 +1,3 @@
+pub mod StepLemmas
+pub mod NumberLemmas
+pub mod ImageLemmas
