@@ -1,19 +1,21 @@
 -- Blocks stay whole.
-use Rattle.std.proofs.Common.{◌≡◌, inl, inr, ⊎_elim, ℕ, zero, suc, ◌+◌, ◌<◌, ◌≤◌, List, ◌∷◌, length, get_or, set, replicate, Some, None, refl, sym, ap, ◌∙◌, arith, length-set}
+use Rattle.std.proofs.Common.{◌≡◌, inl, inr, ⊎_elim, ℕ, zero, suc, ◌+◌, ◌<◌, ◌≤◌, List, [], ◌∷◌, ◌++◌, map, take, length, get_or, set, replicate, Some, None, refl, sym, ap, ◌∙◌, arith, length-set}
 use Rattle.std.specs.Prelude.{Option}
 use Rattle.std.proofs.lemmas.Bool.{cases_lt, cases_eq}
-use Rattle.std.proofs.lemmas.List.{get_or-set_same, get_or-set_other, get_or_past}
+use Rattle.std.proofs.lemmas.List.{get_or-set_same, get_or-set_other, get_or_past, take_more}
 use Rattle.im_types.specs.declared.operations.Block.{Block}
 use Rattle.im_types.specs.declared.operations.Kind.{Kind}
 use Rattle.im_types.specs.Place.{place, fill}
 use Rattle.im_laws.proofs.PlaceLemmas.{get_or-fill, place-free}
 use Rattle.im_laws.proofs.BlockLemmas.{get_or-fill_in, place-fits}
 use Rattle.im_types.specs.declared.cells.Cell.{Cell}
+use Rattle.im_types.specs.declared.records.CellRecord.{CellRecord}
 use Rattle.im_cell.specs.declared.slots.Slot.{Slot}
 use Rattle.im_cell.specs.declared.records.Record.{Record}
-use Rattle.im_cell.specs.declared.records.Record.TheVariants.{Free}
-use Rattle.im_cell.specs.Records.{slots_of}
-use Rattle.im_cell.specs.Slots.{slot_at, block_in, block_at, new_slot, empty_slot, HasBlocks}
+use Rattle.im_types.specs.declared.TheConstants.{NONE}
+use Rattle.im_cell.specs.declared.records.Record.TheVariants.{Empty as IsEmpty, Waiting as IsWaiting, Full as IsFull, Clashed as IsClashed, Free}
+use Rattle.im_cell.specs.Records.{slot_of, slots_of, record_shown}
+use Rattle.im_cell.specs.Slots.{slot_at, block_in, block_at, new_slot, empty_slot, shown_slot, HasBlocks}
 use Rattle.im_cell.proofs.Places.{length-fill}
 
 some_none : {X : Type 0} (x : X) → Some x ≡ None → ⊥
@@ -127,9 +129,29 @@ pub IsBlock-found : (slots value : List (Option Slot)) (a : ℕ) (found : Option
 IsBlock-found slots value a found slot same look is base blocks = IsBlock-base slots a slot (ap (λ s. slot_at s a) same ∙ sym look ∙ is) base blocks
 
 -- the slots of new records
-pub slots-new : (n : ℕ) → slots_of (replicate n Free) ≡ replicate n None
+pub slots-new : (n : ℕ) → slots_of (replicate n (Free 0 NONE)) ≡ replicate n None
 slots-new zero = refl
 slots-new (suc n) = ap (λ slots. None ∷ slots) (slots-new n)
+
+-- the slots of records are those that they show
+slot-shown : (kept : Record) → slot_of kept ≡ shown_slot (record_shown kept)
+slot-shown (IsEmpty block) = refl
+slot-shown (IsWaiting block first last) = refl
+slot-shown (IsFull block v) = refl
+slot-shown (IsClashed block v) = refl
+slot-shown (Free hole next) = refl
+
+pub slots-shown : (records : List Record) (row : List CellRecord) → map record_shown records ≡ row → slots_of records ≡ map shown_slot row
+slots-shown records row view = each records ∙ ap (map shown_slot) view
+  where
+    each : (records : List Record) → slots_of records ≡ map shown_slot (map record_shown records)
+    each [] = refl
+    each (kept ∷ records) = ap (λ slot. slot ∷ slots_of records) (slot-shown kept) ∙ ap (λ slots. shown_slot (record_shown kept) ∷ slots) (each records)
+
+-- one more of the cells that are put into a row
+pub row-more : (cells row new : List CellRecord) (i : ℕ) (d : CellRecord) → row ≡ take i cells → i < length cells → new ≡ row ++ get_or cells i d ∷ [] → new ≡ take (i + 1) cells
+row-more cells row new i d begun inside pushed =
+    pushed ∙ ap (λ (row : List CellRecord). row ++ get_or cells i d ∷ []) begun ∙ sym (take_more cells i d inside)
 
 -- a record set at an address, spelled otherwise
 pub set-same : (records : List Record) (at a : ℕ) (kept : Record) → at ≡ a → set records at kept ≡ set records a kept

@@ -5,13 +5,14 @@
 #![tactic(auto)]
 
 mod records;
-mod restoring;
 mod room;
+mod row;
 mod slots;
 mod summaries;
 mod table;
 mod tree;
 
 pub use room::TableRoom;
+pub use row::CellRow;
 pub use slots::Slot;
 pub use table::CellTable;

@@ -6,9 +6,9 @@ ghost use Rattle.im_types.specs.Place.{place, fill, IsLeastFree};
 ghost use Rattle.im_cell.specs.Slots.{slot_at, block_at, cell_at, with_cell, empty_slot, shown_slot};
 ghost use Rattle.im_cell.specs.Slots.{is_releasable, length_at, HasBlocks};
 
-use crate::records::Record;
-use crate::restoring::restore_cells;
+use crate::records::{FREE, Record};
 use crate::room::TableRoom;
+use crate::row::CellRow;
 use crate::slots::Slot;
 use crate::summaries::Summary;
 use crate::tree::{any_waiting, fill_cells, find, raise, tree_over};
@@ -44,7 +44,7 @@ impl CellTable {
         ensures free { IfOk result (λ table. table ≡ replicate cells None) }
         ensures err { IfErr result (λ refusal. refusal ≡ Refusal.NoMemory) }
     {
-        let Ok(records) = vec![in alloc; Record::Free; cells as usize] else {
+        let Ok(records) = vec![in alloc; FREE; cells as usize] else {
             return Err(Refusal::NoMemory);
         };
         let Ok(nodes) = tree_over(alloc, records.as_slice()) else {
@@ -61,28 +61,25 @@ impl CellTable {
         ensures shown { IfOk result (λ table. table ≡ map shown_slot records.now) }
         ensures err { IfErr result (λ refusal. refusal ≡ Refusal.NoMemory) }
     {
-        match TableRoom::new(alloc, records.len() as u32) {
-            Ok(room) => Ok(CellTable::in_room(room, records)),
+        let Ok(row) = CellRow::of(alloc, records) else {
+            return Err(Refusal::NoMemory);
+        };
+        match TableRoom::new(alloc, row.len() as u32) {
+            Ok(room) => Ok(CellTable::in_room(room, row)),
             Err(refusal) => Err(refusal),
         }
     }
 
-    /// The same in room that was taken before, so that it takes no memory.
-    pub fn in_room(room: TableRoom, records: &[CellRecord]) -> CellTable
-        requires count { length records.now ≡ room }
-        requires blocks { HasBlocks (map shown_slot records.now) }
-        ensures { result ≡ map shown_slot records.now }
+    /// The same of cells that were read, where they lie, with room that was taken before: it takes no memory.
+    pub fn in_room(room: TableRoom, row: CellRow) -> CellTable
+        requires count { length row ≡ room }
+        requires blocks { HasBlocks (map shown_slot row) }
+        ensures { result ≡ map shown_slot row }
     {
-        let TableRoom {
-            records: mut kept,
-            mut nodes,
-        } = room;
-        restore_cells(kept.as_mut_slice(), records);
-        raise(nodes.as_mut_slice(), kept.as_slice());
-        CellTable {
-            records: kept,
-            nodes,
-        }
+        let CellRow { records } = row;
+        let TableRoom { mut nodes, .. } = room;
+        raise(nodes.as_mut_slice(), records.as_slice());
+        CellTable { records, nodes }
     }
 
     /// How many cells the table has.
@@ -178,7 +175,7 @@ impl CellTable {
             self.nodes.as_mut_slice(),
             block.base,
             block.length,
-            Record::Free,
+            FREE,
         );
         true
     }

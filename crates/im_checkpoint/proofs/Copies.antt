@@ -18,6 +18,7 @@ use Rattle.im_pages.proofs.SetLemmas.{length-union, read-union, listed, lists-ea
 use Rattle.im_image.specs.Encoding.{IsAreaPage, SameOn}
 use Rattle.im_image.proofs.Encoding.{area-shows}
 use Rattle.im_meaning.specs.Images.{other}
+use Rattle.im_checkpoint.specs.Copied.{copy_of}
 use Rattle.im_checkpoint.specs.Step.{Step, NoCheckpoint, PagesLeft, PagesDone, Synced, left_in}
 use Rattle.im_checkpoint.specs.Turns.{next_header}
 use Rattle.im_checkpoint.specs.Keeping.{Paged, changed, changed_lately, own_page, other_area, other_page, Stand, IsTaken, IsWriting, IsResting, KeepsStep}
@@ -69,7 +70,7 @@ module _ (h : Header) (x : Paged) (c d : List ℕ) (own : area_of layout_in_use 
   step_moved shown commands (Synced count) place keeps it = (writing_moved shown commands count [] keeps it.0, ap is_open_header place ∙ it.1)
 
 -- a checkpoint begins: the pages that changed are left
-module _ (h : Header) (x : Paged) (copies : List ℕ) (file : List ℕ) (older_size : length x.older ≡ area_pages layout_in_use h.sizes) (recent_size : length x.recent ≡ area_pages layout_in_use h.sizes) where
+module _ (h : Header) (x : Paged) (copies : List (List ℕ)) (file : List ℕ) (older_size : length x.older ≡ area_pages layout_in_use h.sizes) (recent_size : length x.recent ≡ area_pages layout_in_use h.sizes) where
   abbrev begun : Paged
   begun = record { recent = replicate (length x.older) false; older = x.recent; copies = copies; records = x.records }
 
@@ -114,8 +115,8 @@ pub record IsPrepared (s : Sizes) (left : List ℕ) (x y : Paged) : Type 0 where
   pub older : y.older ≡ x.older
   pub kept : (p : ℕ) → p < area_pages layout_in_use s → has y.recent p ≡ false → has x.recent p ≡ false
   pub same : (p : ℕ) → p < area_pages layout_in_use s → has y.recent p ≡ false → SameOn s x.records y.records p
-  pub copied : (p : ℕ) → p < area_pages layout_in_use s → Contains left p → has x.recent p ≡ false → has y.recent p ≡ true → IsAreaPage s x.records p (record_at page_bytes y.copies p)
-  pub stay : (p : ℕ) → p < area_pages layout_in_use s → has x.recent p ≡ true → record_at page_bytes y.copies p ≡ record_at page_bytes x.copies p
+  pub copied : (p : ℕ) → p < area_pages layout_in_use s → Contains left p → has x.recent p ≡ false → has y.recent p ≡ true → IsAreaPage s x.records p (copy_of y.copies p)
+  pub stay : (p : ℕ) → p < area_pages layout_in_use s → has x.recent p ≡ true → copy_of y.copies p ≡ copy_of x.copies p
 
 module _ (h : Header) (x y : Paged) (file : List ℕ) (left : List ℕ) (prepared : IsPrepared h.sizes left x y) where
   unchanged : (p : ℕ) → p < area_pages layout_in_use h.sizes → changed y p ≡ false → changed x p ≡ false
@@ -143,7 +144,7 @@ module _ (h : Header) (x y : Paged) (file : List ℕ) (left : List ℕ) (prepare
       same = λ p lt out. SameOn-then h.sizes it.taken x.records y.records p (it.others.same p lt (prepared.kept p lt out)) (prepared.same p lt out);
       copied = λ p lt among in_it. ⊎_elim
           (λ before. subst (IsAreaPage h.sizes it.taken p) (sym (prepared.stay p lt before)) (it.others.copied p lt among before))
-          (λ fresh. (it.others.same p lt fresh).from (record_at page_bytes y.copies p) (prepared.copied p lt among fresh in_it))
+          (λ fresh. (it.others.same p lt fresh).from (copy_of y.copies p) (prepared.copied p lt among fresh in_it))
           (true_or_false (has x.recent p));
       written = it.others.written;
       inside = it.others.inside;
@@ -158,7 +159,7 @@ step_named h x y file shown commands (Synced count) prepared it = (writing_named
 
 -- the bytes of a page that is left: its copy where it has changed since, else what the memory's records spell
 pub record IsPageFor (s : Sizes) (x : Paged) (i : ℕ) (page : List ℕ) : Type 0 where
-  pub copy : changed_lately x i ≡ true → page ≡ record_at page_bytes x.copies i
+  pub copy : changed_lately x i ≡ true → page ≡ copy_of x.copies i
   pub fresh : changed_lately x i ≡ false → IsAreaPage s x.records i page
 
 -- the next page is written

@@ -4,7 +4,7 @@ use Rattle.std.specs.Prelude.{◌||◌}
 use Rattle.std.proofs.lemmas.Bool.{cases_lt, cases_eq}
 use Rattle.std.proofs.lemmas.List.{get_or_default, get_or_past}
 use Rattle.im_types.specs.declared.commands.Command.{Command}
-use Rattle.im_types.specs.Layout.{Sizes, layout_in_use, page_bytes, area_pages, record_at}
+use Rattle.im_types.specs.Layout.{Sizes, layout_in_use, area_pages}
 use Rattle.im_types.specs.Pages.{Records}
 use Rattle.im_laws.proofs.Tests.{or_right}
 use Rattle.im_memory.specs.State.{MemoryState}
@@ -16,20 +16,21 @@ use Rattle.im_image.specs.Encoding.{IsAreaPage}
 use Rattle.im_image.proofs.Outside.{outside-stays}
 use Rattle.im_checkpoint.specs.declared.checkpoint.Step.{Step as Mark}
 use Rattle.im_checkpoint.specs.declared.checkpoint.Step.TheVariants.{NoCheckpoint as None_yet, PagesLeft as Some_left, PagesDone as All_written, Synced as On_disk}
+use Rattle.im_checkpoint.specs.Copied.{copy_of}
 use Rattle.im_checkpoint.specs.Step.{PagedCheckpoint, step_of, left_in}
 use Rattle.im_checkpoint.specs.Keeping.{paged, Prepares}
 use Rattle.im_checkpoint.proofs.Copies.{IsPrepared}
 
 -- the named pages below one are copied
-pub record HasCopied (s : Sizes) (r : Records) (named left recent : List Bool) (from at : ℕ) (old new : List ℕ) : Type 0 where
+pub record HasCopied (s : Sizes) (r : Records) (named left recent : List Bool) (from at : ℕ) (old new : List (List ℕ)) : Type 0 where
   pub begun : from ≤ at
   pub space : length new ≡ length old
-  pub copied : (page : ℕ) → from ≤ page → page < at → page < area_pages layout_in_use s → has named page ≡ true → has left page ≡ true → has recent page ≡ false → IsAreaPage s r page (record_at page_bytes new page)
-  pub stay : (page : ℕ) → page < area_pages layout_in_use s → has recent page ≡ true → record_at page_bytes new page ≡ record_at page_bytes old page
+  pub copied : (page : ℕ) → from ≤ page → page < at → page < area_pages layout_in_use s → has named page ≡ true → has left page ≡ true → has recent page ≡ false → IsAreaPage s r page (copy_of new page)
+  pub stay : (page : ℕ) → page < area_pages layout_in_use s → has recent page ≡ true → copy_of new page ≡ copy_of old page
 
-module _ (s : Sizes) (r : Records) (named left recent : List Bool) (from at i : ℕ) (old mid new : List ℕ) (it : HasCopied s r named left recent from at old mid) (next : IsNext named at i) (space : length new ≡ length mid)
-    (copied : has left i ≡ true → has recent i ≡ false → IsAreaPage s r i (record_at page_bytes new i))
-    (stay : (page : ℕ) → page < area_pages layout_in_use s → (page ≡ i → has recent i ≡ true) → record_at page_bytes new page ≡ record_at page_bytes mid page) where
+module _ (s : Sizes) (r : Records) (named left recent : List Bool) (from at i : ℕ) (old mid new : List (List ℕ)) (it : HasCopied s r named left recent from at old mid) (next : IsNext named at i) (space : length new ≡ length mid)
+    (copied : has left i ≡ true → has recent i ≡ false → IsAreaPage s r i (copy_of new i))
+    (stay : (page : ℕ) → page < area_pages layout_in_use s → (page ≡ i → has recent i ≡ true) → copy_of new page ≡ copy_of mid page) where
   pub copied_more : HasCopied s r named left recent from (i + 1) old new
   copied_more = record {
     begun = omega (arith, it.begun, next.from);
@@ -37,7 +38,7 @@ module _ (s : Sizes) (r : Records) (named left recent : List Bool) (from at i : 
     copied = λ page low high lt there is_left fresh. ⊎_elim
         (λ (before : page < at). subst (IsAreaPage s r page) (sym (stay page lt (λ e. absurd (omega (arith, e, before, next.from))))) (it.copied page low before lt there is_left fresh))
         (λ (after : at ≤ page). ⊎_elim
-        (λ (same : page ≡ i). subst (λ (p : ℕ). IsAreaPage s r p (record_at page_bytes new p)) (sym same)
+        (λ (same : page ≡ i). subst (λ (p : ℕ). IsAreaPage s r p (copy_of new p)) (sym same)
         (copied (ap (has left) (sym same) ∙ is_left) (ap (has recent) (sym same) ∙ fresh)))
         (λ (other : page ≢ i). absurd (true≢false (sym there ∙ next.between page after (omega (arith, high, other)))))
         (cases_eq page i))
@@ -45,8 +46,8 @@ module _ (s : Sizes) (r : Records) (named left recent : List Bool) (from at i : 
     stay = λ page lt changed. stay page lt (λ e. ap (has recent) (sym e) ∙ changed) ∙ it.stay page lt changed;
   }
 
-pub copied_all : (s : Sizes) (r : Records) (named left recent : List Bool) (from at : ℕ) (old new : List ℕ) → HasCopied s r named left recent from at old new → HasNoneFrom named at → length named ≡ area_pages layout_in_use s
-    → (page : ℕ) → from ≤ page → page < area_pages layout_in_use s → has named page ≡ true → has left page ≡ true → has recent page ≡ false → IsAreaPage s r page (record_at page_bytes new page)
+pub copied_all : (s : Sizes) (r : Records) (named left recent : List Bool) (from at : ℕ) (old new : List (List ℕ)) → HasCopied s r named left recent from at old new → HasNoneFrom named at → length named ≡ area_pages layout_in_use s
+    → (page : ℕ) → from ≤ page → page < area_pages layout_in_use s → has named page ≡ true → has left page ≡ true → has recent page ≡ false → IsAreaPage s r page (copy_of new page)
 copied_all s r named left recent from at old new it none size page low lt there is_left fresh = ⊎_elim
     (λ (before : page < at). it.copied page low before lt there is_left fresh)
     (λ (after : at ≤ page). absurd (true≢false (sym there ∙ none page after (omega (arith, lt, size)))))

@@ -2,6 +2,7 @@ pub mod Bytes
 pub mod Headers
 pub mod Files
 pub mod Copies
+pub mod Copied
 pub mod Copying
 pub mod Pages
 pub mod Takeover

@@ -21,10 +21,10 @@ left_with count [] = refl
 left_with count (page ∷ left) = refl
 
 -- what a checkpoint's fields stand for
-abbrev pub view_of : Header → Mark → ℕ → List ℕ → List Bool → List Bool → List ℕ → PagedCheckpoint
+abbrev pub view_of : Header → Mark → ℕ → List ℕ → List Bool → List Bool → List (List ℕ) → PagedCheckpoint
 view_of h p count left recent older copies = record { state = record { header = h; step = step_of p count left }; recent = recent; older = older; copies = copies }
 
-module _ (s : PagedCheckpoint) (h : Header) (p : Mark) (count : ℕ) (left : List ℕ) (recent older : List Bool) (copies : List ℕ) (view : view_of h p count left recent older copies ≡ s) where
+module _ (s : PagedCheckpoint) (h : Header) (p : Mark) (count : ℕ) (left : List ℕ) (recent older : List Bool) (copies : List (List ℕ)) (view : view_of h p count left recent older copies ≡ s) where
   step_is : s.state.step ≡ step_of p count left
   step_is = sym (ap (λ (x : PagedCheckpoint). x.state.step) view)
 

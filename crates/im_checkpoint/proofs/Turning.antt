@@ -74,7 +74,7 @@ pub other_closed : (h : Header) (count : ℕ) (x : Paged) (m : Contents) (j : Jo
 other_closed h count x m j m0 kept = next_closed (record { header = h; step = Synced count }) x m j m0 kept count refl
 
 -- a checkpoint that begins
-pub begun_kept : (h : Header) (x : Paged) (copies : List ℕ) (m : Contents) (j : JournalState) (now : Moment) → IsKept (record { header = h; step = NoCheckpoint }) x m j now → j.count ≤ LAST → h.generation < LAST
+pub begun_kept : (h : Header) (x : Paged) (copies : List (List ℕ)) (m : Contents) (j : JournalState) (now : Moment) → IsKept (record { header = h; step = NoCheckpoint }) x m j now → j.count ≤ LAST → h.generation < LAST
     → AreCounted h.sizes x.records → ShowsRecords h.sizes x.records m → length x.older ≡ area_pages layout_in_use h.sizes → length x.recent ≡ area_pages layout_in_use h.sizes
     → IsKept (record { header = h; step = with_left j.count (pages_from 0 (union x.older x.recent)) }) (record { recent = replicate (length x.older) false; older = x.recent; copies = copies; records = x.records }) m j now
 begun_kept h x copies m j now kept to_last later counted shows older_size recent_size = record {

@@ -19,6 +19,7 @@ use Rattle.im_pages.specs.PageSets.{has, size_of, IsWithin}
 use Rattle.im_image.specs.Encoding.{IsAreaPage, AreCounted, SameOn}
 use Rattle.im_image.specs.Reading.{HasSizes}
 use Rattle.im_checkpoint.specs.declared.checkpoint.TurnDone.{TurnDone}
+use Rattle.im_checkpoint.specs.Copied.{copy_of}
 use Rattle.im_checkpoint.specs.Step.{Step, NoCheckpoint, PagesLeft, PagesDone, Synced, CheckpointState, PagedCheckpoint, IsUnderWay, IsPagesLeft, IsSynced, turns_left, left_in}
 use Rattle.im_checkpoint.specs.Turns.{Turned, Moved}
 
@@ -79,7 +80,7 @@ pub record ComesTo (old : PagedCheckpoint) (j : JournalState) (m : Contents) (an
 pub record Paged : Type 0 where
   pub recent : List Bool
   pub older : List Bool
-  pub copies : List ℕ
+  pub copies : List (List ℕ)
   pub records : Records
 
 -- a checkpoint's pages, and the records that a memory shows
@@ -115,7 +116,7 @@ pub record AreTaken (s : Sizes) (x : Paged) (taken : Records) (left : List ℕ) 
   -- a page that hasn't changed since is as it was taken
   pub same : (page : ℕ) → page < area_pages layout_in_use s → changed_lately x page ≡ false → SameOn s taken x.records page
   -- a page that is left and has changed since was copied before
-  pub copied : (page : ℕ) → page < area_pages layout_in_use s → Contains left page → changed_lately x page ≡ true → IsAreaPage s taken page (record_at page_bytes x.copies page)
+  pub copied : (page : ℕ) → page < area_pages layout_in_use s → Contains left page → changed_lately x page ≡ true → IsAreaPage s taken page (copy_of x.copies page)
   -- a page that isn't left stands in the other area as it was taken
   pub written : (page : ℕ) → page < area_pages layout_in_use s → (Contains left page → ⊥) → IsAreaPage s taken page (on page)
   -- they are pages of the area
@@ -204,6 +205,6 @@ pub record Prepares (old : PagedCheckpoint) (m : MemoryState) (command : Command
   pub others : KeepsOutside m command new.recent
   -- a page that is left and changes now for the first time is copied as it is
   pub copied : (page : ℕ) → page < area_pages layout_in_use old.state.header.sizes → Contains (left_in old.state.step) page → has old.recent page ≡ false → has new.recent page ≡ true
-      → IsAreaPage old.state.header.sizes m.records page (record_at page_bytes new.copies page)
+      → IsAreaPage old.state.header.sizes m.records page (copy_of new.copies page)
   -- and earlier copies stay
-  pub stay : (page : ℕ) → page < area_pages layout_in_use old.state.header.sizes → has old.recent page ≡ true → record_at page_bytes new.copies page ≡ record_at page_bytes old.copies page
+  pub stay : (page : ℕ) → page < area_pages layout_in_use old.state.header.sizes → has old.recent page ≡ true → copy_of new.copies page ≡ copy_of old.copies page

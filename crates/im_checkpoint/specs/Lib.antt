@@ -1,3 +1,4 @@
 pub mod Step
+pub mod Copied
 pub mod Turns
 pub mod Keeping

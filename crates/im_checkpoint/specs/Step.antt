@@ -1,7 +1,7 @@
 -- How far a checkpoint has come. (Own.)
 use Rattle.std.specs.Prelude.{◌≡◌, ℕ, ◌+◌, ◌<◌, ◌≤◌, Bool, true, List, [], ◌∷◌, length}
 use Rattle.im_types.specs.declared.TheConstants.{LAST}
-use Rattle.im_types.specs.Layout.{layout_in_use, area_pages, area_bytes}
+use Rattle.im_types.specs.Layout.{layout_in_use, area_pages}
 use Rattle.im_types.specs.Header.{Header}
 use Rattle.im_pages.specs.PageSets.{has}
 use Rattle.im_checkpoint.specs.declared.checkpoint.Step.{Step as Mark}
@@ -24,7 +24,7 @@ pub record PagedCheckpoint : Type 0 where
   pub state : CheckpointState
   pub recent : List Bool
   pub older : List Bool
-  pub copies : List ℕ
+  pub copies : List (List ℕ)
 
 -- the state once these pages are left
 abbrev pub with_left : ℕ → List ℕ → Step
@@ -87,8 +87,8 @@ HasNext h Some_left = h.generation < LAST
 HasNext h All_written = h.generation < LAST
 HasNext h On_disk = h.generation < LAST
 
--- the fields of a checkpoint: its area is one of two, each set is of an area's pages, the next page is one of those left where there are any, and the space is that of an area
-pub record IsCheckpoint (h : Header) (mark : Mark) (recent older left named : List Bool) (next : ℕ) (copies : List ℕ) : Type 0 where
+-- the fields of a checkpoint: its area is one of two, each set is of an area's pages, the next page is one of those left where there are any, and there is a place for a copy of each of them
+pub record IsCheckpoint (h : Header) (mark : Mark) (recent older left named : List Bool) (next : ℕ) (copies : List (List ℕ)) : Type 0 where
   pub number : h.area ≤ 1
   pub recent_size : length recent ≡ area_pages layout_in_use h.sizes
   pub older_size : length older ≡ area_pages layout_in_use h.sizes
@@ -96,5 +96,5 @@ pub record IsCheckpoint (h : Header) (mark : Mark) (recent older left named : Li
   pub named_size : length named ≡ area_pages layout_in_use h.sizes
   pub next_low : mark ≡ Some_left → next < length left
   pub next_left : mark ≡ Some_left → has left next ≡ true
-  pub space : length copies ≡ area_bytes layout_in_use h.sizes
+  pub space : length copies ≡ area_pages layout_in_use h.sizes
   pub later : HasNext h mark

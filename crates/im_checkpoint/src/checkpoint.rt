@@ -22,7 +22,7 @@ ghost use Rattle.std.specs.Prelude.{OnOk, OnErr, IfOk, IfErr};
 ghost use Rattle.im_types.specs.declared.refusals.Refusal.TheVariants.{NoMemory, Device};
 ghost use Rattle.im_types.specs.Contents.{Contents};
 ghost use Rattle.im_types.specs.Layout as layout;
-ghost use Rattle.im_types.specs.Layout.{layout_in_use, sizes_of, page_bytes, record_at};
+ghost use Rattle.im_types.specs.Layout.{layout_in_use, sizes_of};
 ghost use Rattle.im_disk.specs.Moment.{Moment, Faults};
 ghost use Rattle.im_disk.specs.Gate.{IsClosed};
 ghost use Rattle.im_disk.specs.Since.{CallsAtMost};
@@ -33,6 +33,7 @@ ghost use Rattle.im_pages.specs.PageSets.{has, union, pages_from, IsNext};
 ghost use Rattle.im_image.specs.Headers.{seen};
 ghost use Rattle.im_image.specs.Encoding.{IsAreaPage};
 ghost use Rattle.im_checkpoint.specs.Step.{NoCheckpoint, PagesLeft, CheckpointState, PagedCheckpoint};
+ghost use Rattle.im_checkpoint.specs.Copied.{copy_of};
 ghost use Rattle.im_checkpoint.specs.Step.{with_left, step_of};
 ghost use Rattle.im_checkpoint.specs.Step.{IsPagesLeft, IsPagesDone, IsSynced};
 ghost use Rattle.im_checkpoint.specs.Turns.{Turned, Moved, Begins, IsIdle, is_due, most_calls};
@@ -41,8 +42,9 @@ ghost use Rattle.im_checkpoint.specs.Keeping.{Paged, paged, Fits, IsKept, Prepar
 ghost use Rattle.im_checkpoint.specs.Keeping.{IsAtRest, HasPagesLeft, IsReady, ComesTo, KeepsMeaning};
 
 use crate::header::{close_other, next_header, open_next};
+use crate::page_copies::PageCopies;
 use im_disk::Disk;
-use im_image::{Header, encode_into, encode_page};
+use im_image::{Header, encode_page};
 use im_journal::Journal;
 use im_memory::Memory;
 use im_pages::PageSet;
@@ -80,7 +82,8 @@ enum Step {
 
 /// The header in force, how far the next area has come, and the pages that changed.
 ///
-/// The sets of pages, and the space for copies of all pages of an area, are taken once, by [`Checkpoint::idle`].
+/// The sets of pages, and the space for copies of all pages of an area, are taken once, by [`Checkpoint::idle`]; the
+/// space isn't filled.
 #[derive(Drop)]
 pub struct Checkpoint {
     header: Header,
@@ -95,8 +98,8 @@ pub struct Checkpoint {
     next: usize,
     // The pages that a command names.
     named: PageSet,
-    // Pages that are left and have changed, as they were, each in its place in an area.
-    copies: Vec<u8>,
+    // Pages that are left and have changed, as they were.
+    copies: PageCopies,
 }
 
 impl Model for Checkpoint {
@@ -110,11 +113,11 @@ impl Model for Checkpoint {
       state = record { header = seen c.header; step = step_of c.step c.count (pages_from c.next c.left) };
       recent = c.recent;
       older = c.older;
-      copies = c.copies.items;
+      copies = c.copies;
     } };
 
     ghost invariant = { λ c.
-        IsCheckpoint (seen c.header) c.step c.recent c.older c.left c.named c.next c.copies.items };
+        IsCheckpoint (seen c.header) c.step c.recent c.older c.left c.named c.next c.copies };
 }
 
 // All pages of an area, or none of them.
@@ -148,7 +151,7 @@ fn next_left(left: &PageSet, from: usize) -> (Step, usize)
 // The bytes of a page that is left: its copy where it has changed, else the page as it is.
 fn page_for(
     recent: &PageSet,
-    copies: &[u8],
+    copies: &PageCopies,
     memory: &Memory,
     limits: Limits,
     i: usize,
@@ -157,12 +160,12 @@ fn page_for(
     requires cells { length memory.now.contents.cells ≡ limits.cells }
     requires elements { length memory.now.contents.windows ≡ limits.elements }
     requires inside { i < layout.area_pages layout_in_use (sizes_of limits) }
-    requires space { length copies.now ≡ layout.area_bytes layout_in_use (sizes_of limits) }
-    ensures copy { has recent.now i ≡ true → page.new ≡ record_at page_bytes copies.now i }
+    requires space { length copies.now ≡ layout.area_pages layout_in_use (sizes_of limits) }
+    ensures copy { has recent.now i ≡ true → page.new ≡ copy_of copies.now i }
     ensures fresh { has recent.now i ≡ false → IsAreaPage (sizes_of limits) memory.now.records i page.new }
 {
     if recent.has(i) {
-        page.copy_from_slice(&copies[PAGE * i..PAGE * i + PAGE]);
+        *page = copies.copy(i);
         return;
     }
     encode_page(memory, limits, i, page);
@@ -175,17 +178,18 @@ fn copy_page(
     left: &PageSet,
     recent: &PageSet,
     i: usize,
-    copies: &mut [u8],
+    copies: &mut PageCopies,
 )
     requires cells { length memory.now.contents.cells ≡ limits.cells }
     requires elements { length memory.now.contents.windows ≡ limits.elements }
     requires inside { i < layout.area_pages layout_in_use (sizes_of limits) }
-    requires space { length copies.old ≡ layout.area_bytes layout_in_use (sizes_of limits) }
+    requires space { length copies.old ≡ layout.area_pages layout_in_use (sizes_of limits) }
+    ensures space { length copies.new ≡ length copies.old }
     ensures copied { has left.now i ≡ true → has recent.now i ≡ false
-        → IsAreaPage (sizes_of limits) memory.now.records i (record_at page_bytes copies.new i) }
+        → IsAreaPage (sizes_of limits) memory.now.records i (copy_of copies.new i) }
     ensures stay { (page : ℕ) → page < layout.area_pages layout_in_use (sizes_of limits)
         → (page ≡ i → has recent.now i ≡ true)
-        → record_at page_bytes copies.new page ≡ record_at page_bytes copies.old page }
+        → copy_of copies.new page ≡ copy_of copies.old page }
 {
     if !left.has(i) {
         return;
@@ -193,7 +197,9 @@ fn copy_page(
     if recent.has(i) {
         return;
     }
-    encode_into(memory, limits, i, copies);
+    let mut page = [0; PAGE];
+    encode_page(memory, limits, i, &mut page);
+    copies.put(i, &page);
 }
 
 // Copies each page from one on that a command names, is left, and hasn't changed since the checkpoint began.
@@ -204,17 +210,18 @@ fn copy_pages(
     left: &PageSet,
     recent: &PageSet,
     from: usize,
-    copies: &mut [u8],
+    copies: &mut PageCopies,
 )
     requires cells { length memory.now.contents.cells ≡ limits.cells }
     requires elements { length memory.now.contents.windows ≡ limits.elements }
     requires size { length named.now ≡ layout.area_pages layout_in_use (sizes_of limits) }
-    requires space { length copies.old ≡ layout.area_bytes layout_in_use (sizes_of limits) }
+    requires space { length copies.old ≡ layout.area_pages layout_in_use (sizes_of limits) }
+    ensures space { length copies.new ≡ length copies.old }
     ensures copied { (page : ℕ) → from ≤ page → page < layout.area_pages layout_in_use (sizes_of limits)
         → has named.now page ≡ true → has left.now page ≡ true → has recent.now page ≡ false
-        → IsAreaPage (sizes_of limits) memory.now.records page (record_at page_bytes copies.new page) }
+        → IsAreaPage (sizes_of limits) memory.now.records page (copy_of copies.new page) }
     ensures stay { (page : ℕ) → page < layout.area_pages layout_in_use (sizes_of limits) → has recent.now page ≡ true
-        → record_at page_bytes copies.new page ≡ record_at page_bytes copies.old page }
+        → copy_of copies.new page ≡ copy_of copies.old page }
 {
     let mut at = from;
     while let Some(page) = named.next_from(at) {
@@ -266,7 +273,7 @@ impl Checkpoint {
         let Ok(named) = PageSet::new(alloc, limits) else {
             return Err(Refusal::NoMemory);
         };
-        let Ok(copies) = vec![in alloc; 0; PAGE * area_pages(limits)] else {
+        let Ok(copies) = PageCopies::new(alloc, area_pages(limits)) else {
             return Err(Refusal::NoMemory);
         };
         Ok(Checkpoint {
@@ -299,7 +306,6 @@ impl Checkpoint {
         memory.touches(command, &mut self.named);
         let limits = self.header.limits;
         let from = self.next;
-        let copies = self.copies.as_mut_slice();
         copy_pages(
             memory,
             limits,
@@ -307,7 +313,7 @@ impl Checkpoint {
             &self.left,
             &self.recent,
             from,
-            copies,
+            &mut self.copies,
         );
         self.recent.union_with(&self.named);
     }
@@ -343,14 +349,7 @@ impl Checkpoint {
         let page = self.next;
         let limits = self.header.limits;
         let mut bytes = [0; PAGE];
-        page_for(
-            &self.recent,
-            self.copies.as_slice(),
-            memory,
-            limits,
-            page,
-            &mut bytes,
-        );
+        page_for(&self.recent, &self.copies, memory, limits, page, &mut bytes);
         let at = area_at(limits, 1 - self.header.area as usize) + PAGE * page;
         // Nobody reads the area that isn't in force: what a stop leaves of the page doesn't count.
         if let Err(_) = disk.write_at(at, &bytes) {

@@ -8,5 +8,6 @@
 
 mod checkpoint;
 mod header;
+mod page_copies;
 
 pub use checkpoint::{Checkpoint, TurnDone};

@@ -5,6 +5,7 @@ ghost use Rattle.im_types.specs.Contents.{HasBlocks};
 ghost use Rattle.im_types.specs.Pages.{cells_shown};
 ghost use Rattle.im_contents.specs.Local.{block_of, block_in, AreIn, IsBlockAt};
 
+use im_cell::CellRow;
 use im_types::{Block, CellRecord, Kind};
 
 // The block that a record's cell lies in.
@@ -18,11 +19,11 @@ fn block_of(cell: &CellRecord) -> Option<Block>
 }
 
 // The block that the cell at an address lies in.
-fn block_in(cells: &[CellRecord], at: usize) -> Option<Block>
+fn block_in(cells: &CellRow, at: usize) -> Option<Block>
     requires { at < length cells.now }
     ensures { result ≡ block_in cells.now at }
 {
-    block_of(&cells[at])
+    block_of(&cells.at(at))
 }
 
 fn is_same_kind(kind: Kind, other: Kind) -> bool
@@ -35,13 +36,13 @@ fn is_same_kind(kind: Kind, other: Kind) -> bool
 }
 
 // Whether a cell lies in this block.
-fn is_in(cells: &[CellRecord], cell: usize, block: &Block) -> bool
+fn is_in(cells: &CellRow, cell: usize, block: &Block) -> bool
     ensures { IsTrue result ↔ (block_in cells.now cell ≡ Some block.now) }
 {
     if cell >= cells.len() {
         return false;
     }
-    match block_of(&cells[cell]) {
+    match block_of(&cells.at(cell)) {
         Some(other) => {
             other.base == block.base
                 && other.length == block.length
@@ -52,7 +53,7 @@ fn is_in(cells: &[CellRecord], cell: usize, block: &Block) -> bool
 }
 
 // Whether the cells from one place up to another lie in this block.
-fn are_in(cells: &[CellRecord], from: usize, to: usize, block: &Block) -> bool
+fn are_in(cells: &CellRow, from: usize, to: usize, block: &Block) -> bool
     ensures { IsTrue result ↔ AreIn cells.now from to block.now }
 {
     for cell in from..to {
@@ -64,7 +65,7 @@ fn are_in(cells: &[CellRecord], from: usize, to: usize, block: &Block) -> bool
 }
 
 // Whether a block, in which the cell at an address lies, begins there, stands below the number of cells, and is whole.
-fn is_block_at(cells: &[CellRecord], at: usize, block: &Block) -> bool
+fn is_block_at(cells: &CellRow, at: usize, block: &Block) -> bool
     requires { block_in cells.now at ≡ Some block.now }
     ensures { IsTrue result ↔ IsBlockAt cells.now at block.now }
 {
@@ -75,7 +76,7 @@ fn is_block_at(cells: &[CellRecord], at: usize, block: &Block) -> bool
 
 /// Whether the cells lie in blocks: each block stands below the number of cells, and each of its cells says that it
 /// lies in it. This doesn't depend on who waits. It looks once at each cell.
-pub fn are_blocks(cells: &[CellRecord]) -> bool
+pub fn are_blocks(cells: &CellRow) -> bool
     ensures { (lists : List (List Waiter)) → (IsTrue result) ↔ (HasBlocks (cells_shown cells.now lists)) }
 {
     let mut at = 0;

@@ -12,8 +12,9 @@ use crate::blocks::are_blocks;
 use crate::lists::Lists;
 use crate::waiting::agree;
 use crate::walk::read_lists;
+use im_cell::CellRow;
 use im_records::WindowRecord;
-use im_types::{CellRecord, LAST, Limits, NodeRecord, Refusal};
+use im_types::{LAST, Limits, NodeRecord, Refusal};
 use std::alloc::Global;
 
 // Whether a window is within its bounds. It never has too many entries.
@@ -38,7 +39,7 @@ fn are_windows(windows: &[WindowRecord]) -> bool
 }
 
 // Whether there are as many cells and windows as there should be, whole blocks, and windows within their bounds.
-fn have_parts(limits: Limits, cells: &[CellRecord], windows: &[WindowRecord]) -> bool
+fn have_parts(limits: Limits, cells: &CellRow, windows: &[WindowRecord]) -> bool
     ensures { IsTrue result ↔ HaveParts limits.cells limits.elements cells.now windows.now }
 {
     if cells.len() != limits.cells as usize {
@@ -58,7 +59,7 @@ fn have_parts(limits: Limits, cells: &[CellRecord], windows: &[WindowRecord]) ->
 pub fn read_contents(
     alloc: Global,
     limits: Limits,
-    cells: &[CellRecord],
+    cells: &CellRow,
     nodes: &[NodeRecord],
     windows: &[WindowRecord],
 ) -> Result<Lists, Refusal>

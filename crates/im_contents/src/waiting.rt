@@ -9,6 +9,7 @@ ghost use Rattle.im_contents.specs.Marking.{place_in, AreFew, mark_one, mark_lis
 ghost use Rattle.im_contents.specs.Marking.{AreMarked};
 
 use crate::lists::Lists;
+use im_cell::CellRow;
 use im_records::WindowRecord;
 use im_types::{CellRecord, Entry, Kept, Kind, Op, PresenceTag, WINDOW, Waiter};
 use std::alloc::{AllocError, Global};
@@ -143,12 +144,7 @@ fn mark_cell(
 }
 
 // The same for all cells; where nobody waits at any, it takes one step.
-fn mark_all(
-    cells: &[CellRecord],
-    lists: &Lists,
-    windows: &[WindowRecord],
-    marks: &mut [bool],
-) -> bool
+fn mark_all(cells: &CellRow, lists: &Lists, windows: &[WindowRecord], marks: &mut [bool]) -> bool
     requires few { AreFew windows.now }
     requires places { length marks.old ≡ WINDOW * length windows.now }
     requires count { length lists.now ≡ length cells.now }
@@ -159,7 +155,7 @@ fn mark_all(
         return true;
     }
     for address in 0..cells.len() {
-        if !mark_cell(address, &cells[address], lists, windows, marks) {
+        if !mark_cell(address, &cells.at(address), lists, windows, marks) {
             return false;
         }
     }
@@ -196,7 +192,7 @@ fn are_marked(windows: &[WindowRecord], marks: &[bool]) -> bool
 // Whether each request in a list has a waiting entry for its cell, none stands twice, and each waiting entry is of one
 // of them. No entry is marked yet.
 fn agree_by_marks(
-    cells: &[CellRecord],
+    cells: &CellRow,
     lists: &Lists,
     windows: &[WindowRecord],
     marks: &mut [bool],
@@ -216,7 +212,7 @@ fn agree_by_marks(
 /// entry.
 pub fn agree(
     alloc: Global,
-    cells: &[CellRecord],
+    cells: &CellRow,
     lists: &Lists,
     windows: &[WindowRecord],
 ) -> Result<bool, AllocError>

@@ -8,6 +8,7 @@ ghost use Rattle.im_types.specs.Chains.{ShowLists, is_listed};
 ghost use Rattle.im_contents.specs.Walk.{fresh, behind, walk, walk_cell, are_reached, lists_in};
 
 use crate::lists::Lists;
+use im_cell::CellRow;
 use im_types::{CellRecord, NONE, NodeRecord, PresenceTag, Refusal, Waiter};
 use std::alloc::{AllocError, Global};
 
@@ -99,7 +100,7 @@ fn are_reached(marks: &[bool], nodes: &[NodeRecord]) -> bool
 fn find_lists(
     alloc: Global,
     nodes: &[NodeRecord],
-    cells: &[CellRecord],
+    cells: &CellRow,
     marks: &mut [bool],
 ) -> Result<Option<Lists>, AllocError>
     requires { marks.old ≡ replicate (length nodes.now) false }
@@ -107,8 +108,8 @@ fn find_lists(
 {
     let mut waiters = Vec::new(alloc);
     let mut ends = Vec::with_capacity(alloc, cells.len())?;
-    for cell in cells {
-        if !walk_cell(nodes, cell, marks, &mut waiters)? {
+    for cell in 0..cells.len() {
+        if !walk_cell(nodes, &cells.at(cell), marks, &mut waiters)? {
             return Ok(None);
         }
         ends.push(waiters.len())?;
@@ -124,11 +125,7 @@ fn find_lists(
 /// cell's presence tag says, and each node that is marked as one of a list stands once in one of them.
 ///
 /// `BadPage` where there are no such lists, `NoMemory` where there is no room for them. It ends whatever the links are.
-pub fn read_lists(
-    alloc: Global,
-    nodes: &[NodeRecord],
-    cells: &[CellRecord],
-) -> Result<Lists, Refusal>
+pub fn read_lists(alloc: Global, nodes: &[NodeRecord], cells: &CellRow) -> Result<Lists, Refusal>
     requires { length nodes.now ≤ NONE }
     ensures found { IfOk result (λ lists. ShowLists nodes.now cells.now lists) }
     ensures count { IfOk result (λ lists. length lists ≡ length cells.now) }

@@ -2,6 +2,7 @@
 //! is looked for afterwards, and no more than tested.
 
 use byteorder::{ByteOrder, LittleEndian};
+use im_cell::CellRow;
 use im_image::{PAGE, VERSION};
 use im_memory::Memory;
 use im_records::{read_cell, read_node, read_session};
@@ -365,14 +366,14 @@ fn is_within(block: Block, address: usize) -> bool {
 }
 
 /// The first cell that doesn't lie in the block that its record or its neighbour's says.
-pub fn bad_block(cells: &[CellRecord]) -> Option<usize> {
+pub fn bad_block(cells: &CellRow) -> Option<usize> {
     let mut current: Option<Block> = None;
-    for (address, cell) in cells.iter().enumerate() {
+    for address in 0..cells.len() {
         let wanted = match current {
             Some(block) if is_within(block, address) => Some(block),
             _ => None,
         };
-        let found = block_of(*cell);
+        let found = block_of(cells.at(address));
         let begins = match found {
             Some(block) => wanted.is_none() && block.base as usize == address && block.length > 0,
             None => false,
@@ -403,12 +404,12 @@ fn is_list(nodes: &[NodeRecord], first: u32, last: u32) -> bool {
 }
 
 /// The first cell whose list of those who wait leads astray.
-pub fn bad_list(cells: &[CellRecord], nodes: &[NodeRecord]) -> Option<usize> {
-    for (address, cell) in cells.iter().enumerate() {
+pub fn bad_list(cells: &CellRow, nodes: &[NodeRecord]) -> Option<usize> {
+    for address in 0..cells.len() {
         if let CellRecord::Held {
             tag: PresenceTag::Waiting { first, last },
             ..
-        } = *cell
+        } = cells.at(address)
         {
             if !is_list(nodes, first, last) {
                 return Some(address);

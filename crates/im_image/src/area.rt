@@ -18,7 +18,7 @@ use im_types::{Limits, Refusal};
 use std::alloc::Global;
 
 // Puts the lists of those who wait, one for each of so many cells. Where nobody waits at any, it takes one step.
-fn put_lists(restoring: &mut Restoring<'_>, cells: u32, lists: &Lists)
+fn put_lists(restoring: &mut Restoring, cells: u32, lists: &Lists)
     requires count { length lists.now ≡ cells }
     requires nobody { restoring.old.lists ≡ replicate cells [] }
     requires room { sum_by length lists.now ≤ WINDOW * length restoring.old.windows }
@@ -33,7 +33,7 @@ fn put_lists(restoring: &mut Restoring<'_>, cells: u32, lists: &Lists)
 }
 
 // Puts the windows of so many elements.
-fn put_windows(restoring: &mut Restoring<'_>, elements: u16, windows: &[WindowRecord])
+fn put_windows(restoring: &mut Restoring, elements: u16, windows: &[WindowRecord])
     requires count { length windows.now ≡ elements }
     requires places { length restoring.old.windows ≡ elements }
     requires within { (element : ℕ) (w : Window) → slice_get windows.now element ≡ Some w → IsWindow w }
@@ -49,35 +49,49 @@ fn put_windows(restoring: &mut Restoring<'_>, elements: u16, windows: &[WindowRe
 fn restore(
     alloc: Global,
     limits: Limits,
-    records: &AreaRecords,
+    records: AreaRecords,
     lists: &Lists,
 ) -> Result<Memory, Refusal>
-    requires chained { ShowLists records.now.nodes records.now.cells lists.now }
-    requires count { length lists.now ≡ length records.now.cells }
+    requires chained { ShowLists records.nodes records.cells lists.now }
+    requires count { length lists.now ≡ length records.cells }
     requires memory { IsMemory limits.cells limits.elements
-        (record { cells = cells_shown records.now.cells lists.now; windows = records.now.windows }) }
+        (record { cells = cells_shown records.cells lists.now; windows = records.windows }) }
     ensures memory { IfOk result
-        (λ m. m.contents ≡ record { cells = cells_shown records.now.cells lists.now; windows = records.now.windows }) }
+        (λ m. m.contents ≡ record { cells = cells_shown records.cells lists.now; windows = records.windows }) }
     ensures only { IfErr result (λ e. e ≡ Refusal.NoMemory) }
 {
-    let mut restoring = match Restoring::new(alloc, limits, records.cells()) {
+    let (cells, windows) = records.into_parts();
+    let mut restoring = match Restoring::new(alloc, limits, cells) {
         Ok(restoring) => restoring,
         Err(refusal) => return Err(refusal),
     };
     put_lists(&mut restoring, limits.cells, lists);
-    put_windows(&mut restoring, limits.elements, records.windows());
+    put_windows(&mut restoring, limits.elements, &windows);
     Ok(restoring.finish())
 }
 
-// The memory that records show.
-fn show(alloc: Global, limits: Limits, records: &AreaRecords) -> Result<Memory, Refusal>
+// The lists of those who wait of the memory that records show.
+fn lists_of(alloc: Global, limits: Limits, records: &AreaRecords) -> Result<Lists, Refusal>
     requires { length records.now.nodes ≤ NONE }
-    ensures found { IfOk result (λ m. ShowsRecords (sizes_of limits) records.now m.contents) }
+    ensures found { IfOk result (λ lists. ShowsRecords (sizes_of limits) records.now
+        (record { cells = cells_shown records.now.cells lists; windows = records.now.windows })) }
+    ensures chained { IfOk result (λ lists. ShowLists records.now.nodes records.now.cells lists) }
+    ensures count { IfOk result (λ lists. length lists ≡ length records.now.cells) }
     ensures bad { IsErrOf result Refusal.BadPage → (m : Contents) → ShowsRecords (sizes_of limits) records.now m → ⊥ }
     ensures only { IfErr result (λ e. (e ≡ Refusal.BadPage) ⊎ (e ≡ Refusal.NoMemory)) }
 {
     let (cells, nodes, windows) = (records.cells(), records.nodes(), records.windows());
-    match read_contents(alloc, limits, cells, nodes, windows) {
+    read_contents(alloc, limits, cells, nodes, windows)
+}
+
+// The memory that records show, in the room of its cells.
+fn show(alloc: Global, limits: Limits, records: AreaRecords) -> Result<Memory, Refusal>
+    requires { length records.nodes ≤ NONE }
+    ensures found { IfOk result (λ m. ShowsRecords (sizes_of limits) records m.contents) }
+    ensures bad { IsErrOf result Refusal.BadPage → (m : Contents) → ShowsRecords (sizes_of limits) records m → ⊥ }
+    ensures only { IfErr result (λ e. (e ≡ Refusal.BadPage) ⊎ (e ≡ Refusal.NoMemory)) }
+{
+    match lists_of(alloc, limits, &records) {
         Ok(lists) => restore(alloc, limits, records, &lists),
         Err(refusal) => Err(refusal),
     }
@@ -95,7 +109,7 @@ pub fn decode(alloc: Global, area: &[u8], limits: Limits) -> Result<Memory, Refu
     ensures only { IfErr result (λ e. (e ≡ Refusal.BadPage) ⊎ (e ≡ Refusal.NoMemory)) }
 {
     match read_area(alloc, area, limits) {
-        Ok(records) => show(alloc, limits, &records),
+        Ok(records) => show(alloc, limits, records),
         Err(refusal) => Err(refusal),
     }
 }
@@ -120,7 +134,7 @@ pub(crate) fn decode_own(alloc: Global, area: Vec<u8>, limits: Limits) -> Result
     ensures only { IfErr result (λ e. (e ≡ Refusal.BadPage) ⊎ (e ≡ Refusal.NoMemory)) }
 {
     match read_own(alloc, area, limits) {
-        Ok(records) => show(alloc, limits, &records),
+        Ok(records) => show(alloc, limits, records),
         Err(refusal) => Err(refusal),
     }
 }

@@ -10,30 +10,30 @@ ghost use Rattle.im_memory.specs.Restoring.{contents_shown, AreComplete};
 
 use crate::memory::Memory;
 use im_arena::Arena;
-use im_cell::{CellTable, TableRoom};
+use im_cell::{CellRow, CellTable, TableRoom};
 use im_sessions::Sessions;
-use im_types::{CellRecord, Kept, Limits, Refusal, WINDOW, Waiter};
+use im_types::{Kept, Limits, Refusal, WINDOW, Waiter};
 use std::alloc::Global;
 use std::marker::Model;
 
 /// A memory while it is put together: the records of its cells, then who waits at each, and each element's window.
 /// Contracts see these parts.
 #[derive(Drop)]
-pub struct Restoring<'a> {
-    cells: &'a [CellRecord],
+pub struct Restoring {
+    cells: CellRow,
     room: TableRoom,
     arena: Arena,
     sessions: Sessions,
 }
 
-impl<'a> Model for Restoring<'a> {
+impl Model for Restoring {
     ghost use Rattle.im_memory.specs.Restoring.{Parts, HaveRoom};
 
     ghost Value = { Parts };
 
-    ghost view = { λ r. record { cells = r.cells.now; lists = r.arena.held.lists; windows = r.sessions } };
+    ghost view = { λ r. record { cells = r.cells; lists = r.arena.held.lists; windows = r.sessions } };
 
-    ghost invariant = { λ r. HaveRoom r.cells.now r.room r.arena r.sessions };
+    ghost invariant = { λ r. HaveRoom r.cells r.room r.arena r.sessions };
 }
 
 // Puts these waiters on an empty list, in their order.
@@ -48,17 +48,13 @@ fn push_each(arena: &mut Arena, list: u32, waiters: &[Waiter])
     }
 }
 
-impl<'a> Restoring<'a> {
-    /// The parts of a memory of these sizes: these records of its cells, nobody who waits, and new windows. It takes
-    /// all room that the memory will need; `NoMemory` where that is refused.
-    pub fn new(
-        alloc: Global,
-        limits: Limits,
-        cells: &'a [CellRecord],
-    ) -> Result<Restoring<'a>, Refusal>
-        requires { length cells.now ≡ limits.cells }
+impl Restoring {
+    /// The parts of a memory of these sizes: these records of its cells, which stay where they lie, nobody who waits,
+    /// and new windows. It takes all other room that the memory will need; `NoMemory` where that is refused.
+    pub fn new(alloc: Global, limits: Limits, cells: CellRow) -> Result<Restoring, Refusal>
+        requires { length cells ≡ limits.cells }
         ensures parts { IfOk result (λ r. r ≡ record {
-          cells = cells.now;
+          cells = cells;
           lists = replicate limits.cells [];
           windows = replicate limits.elements new_window;
         }) }
@@ -107,7 +103,7 @@ impl<'a> Restoring<'a> {
     /// The memory that the parts stand for. It takes no memory.
     pub fn finish(self) -> Memory
         requires { AreComplete self }
-        ensures { result.contents ≡ contents_shown self.entry }
+        ensures { result.contents ≡ contents_shown self }
     {
         let Restoring {
             cells,

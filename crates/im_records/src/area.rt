@@ -11,16 +11,17 @@ ghost use Rattle.im_records.specs.Rows.{AreCells, AreNodes, AreSessions};
 use crate::rows::{read_cells, read_nodes};
 use crate::session::read_sessions;
 use crate::window::WindowRecord;
+use im_cell::CellRow;
 use im_types::layout::{cell_bytes, node_bytes, node_count};
-use im_types::{CellRecord, Limits, NodeRecord, Refusal};
+use im_types::{Limits, NodeRecord, Refusal};
 use std::alloc::Global;
 use std::marker::Model;
 
 /// The records of an area: of each cell by its address, of each waiter node by its number, and of each element's
-/// window.
+/// window. The cells lie in the room that a table of them takes.
 #[derive(Drop)]
 pub struct AreaRecords {
-    cells: Vec<CellRecord>,
+    cells: CellRow,
     nodes: Vec<NodeRecord>,
     windows: Vec<WindowRecord>,
 }
@@ -30,12 +31,12 @@ impl Model for AreaRecords {
 
     ghost Value = { Records };
 
-    ghost view = { λ a. record { cells = a.cells.items; nodes = a.nodes.items; windows = a.windows.items } };
+    ghost view = { λ a. record { cells = a.cells; nodes = a.nodes.items; windows = a.windows.items } };
 }
 
 impl AreaRecords {
     /// The cells, by their addresses.
-    pub fn cells(&self) -> &[CellRecord]
+    pub fn cells(&self) -> &CellRow
         ensures { result.now ≡ self.now.cells }
     {
         &self.cells
@@ -54,12 +55,21 @@ impl AreaRecords {
     {
         &self.windows
     }
+
+    /// The cells and the windows alone: the nodes are given back.
+    pub fn into_parts(self) -> (CellRow, Vec<WindowRecord>)
+        ensures cells { result.0 ≡ self.cells }
+        ensures windows { result.1.items ≡ self.windows }
+    {
+        let AreaRecords { cells, windows, .. } = self;
+        (cells, windows)
+    }
 }
 
-fn cells_of(alloc: Global, limits: Limits, part: &[u8]) -> Result<Vec<CellRecord>, Refusal>
+fn cells_of(alloc: Global, limits: Limits, part: &[u8]) -> Result<CellRow, Refusal>
     requires { length part.now ≡ layout.page_bytes * layout.cell_pages (sizes_of limits) }
     ensures found { IfOk result (λ row. AreCells limits.cells
-        (layout.node_count layout_in_use (sizes_of limits)) part.now row.items) }
+        (layout.node_count layout_in_use (sizes_of limits)) part.now row) }
     ensures bad { IsErrOf result Refusal.BadPage → (row : List CellRecordSpec)
         → AreCells limits.cells (layout.node_count layout_in_use (sizes_of limits)) part.now row → ⊥ }
     ensures only { IfErr result (λ e. (e ≡ Refusal.BadPage) ⊎ (e ≡ Refusal.NoMemory)) }

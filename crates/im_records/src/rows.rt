@@ -7,6 +7,7 @@ ghost use Rattle.im_records.specs.Rows.{Spells, BeginWithCells, BeginWithNodes, 
 
 use crate::bounds::{are_zero, fits_cell, fits_node};
 use crate::read::{read_cell, read_node};
+use im_cell::CellRow;
 use im_types::layout::{CELL_RECORD, NODE_RECORD};
 use im_types::{CellRecord, NodeRecord, Refusal};
 use std::alloc::Global;
@@ -25,19 +26,14 @@ fn cell_within(cells: u32, nodes: u32, bytes: &[u8]) -> Option<CellRecord>
     }
 }
 
-fn first_cells(
-    alloc: Global,
-    cells: u32,
-    nodes: u32,
-    bytes: &[u8],
-) -> Result<Vec<CellRecord>, Refusal>
+fn first_cells(alloc: Global, cells: u32, nodes: u32, bytes: &[u8]) -> Result<CellRow, Refusal>
     requires { CELL_RECORD * cells ≤ length bytes.now }
-    ensures found { IfOk result (λ row. BeginWithCells cells cells nodes bytes.now row.items) }
+    ensures found { IfOk result (λ row. BeginWithCells cells cells nodes bytes.now row) }
     ensures bad { IsErrOf result Refusal.BadPage → (row : List CellRecordSpec)
         → BeginWithCells cells cells nodes bytes.now row → ⊥ }
     ensures only { IfErr result (λ e. (e ≡ Refusal.BadPage) ⊎ (e ≡ Refusal.NoMemory)) }
 {
-    let Ok(mut row) = Vec::with_capacity(alloc, cells as usize) else {
+    let Ok(mut row) = CellRow::with_capacity(alloc, cells as usize) else {
         return Err(Refusal::NoMemory);
     };
     for i in 0..cells as usize {
@@ -62,9 +58,9 @@ pub(crate) fn read_cells(
     cells: u32,
     nodes: u32,
     part: &[u8],
-) -> Result<Vec<CellRecord>, Refusal>
+) -> Result<CellRow, Refusal>
     requires { CELL_RECORD * cells ≤ length part.now }
-    ensures found { IfOk result (λ row. AreCells cells nodes part.now row.items) }
+    ensures found { IfOk result (λ row. AreCells cells nodes part.now row) }
     ensures bad { IsErrOf result Refusal.BadPage → (row : List CellRecordSpec) → AreCells cells nodes part.now row → ⊥ }
     ensures only { IfErr result (λ e. (e ≡ Refusal.BadPage) ⊎ (e ≡ Refusal.NoMemory)) }
 {

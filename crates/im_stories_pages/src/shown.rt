@@ -10,6 +10,7 @@
 
 use crate::rows::Rows;
 use anyhow::{Result, anyhow};
+use im_cell::CellRow;
 use im_contents::{Lists, agree, are_blocks, read_contents, read_lists};
 use im_story::{add_refusal, place};
 use im_types::{Limits, NONE, Refusal};
@@ -46,7 +47,8 @@ fn lists_of(alloc: Global, rows: &Rows, said: &mut String) -> Result<Option<List
     if rows.nodes.len() > NONE as usize {
         return Err(anyhow!("too many nodes"));
     }
-    told(read_lists(alloc, &rows.nodes, &rows.cells), said)
+    let cells = CellRow::of(alloc, &rows.cells)?;
+    told(read_lists(alloc, &rows.nodes, &cells), said)
 }
 
 // The lists of waiters of a memory.
@@ -62,7 +64,8 @@ fn contents_of(
     if rows.nodes.len() > NONE as usize {
         return Err(anyhow!("too many nodes"));
     }
-    let read = read_contents(alloc, limits, &rows.cells, &rows.nodes, &rows.windows);
+    let cells = CellRow::of(alloc, &rows.cells)?;
+    let read = read_contents(alloc, limits, &cells, &rows.nodes, &rows.windows);
     told(read, said)
 }
 
@@ -99,7 +102,8 @@ impl Shown {
         if lists.len() != rows.cells.len() {
             return Err(anyhow!("the lists are those of other cells"));
         }
-        say(said, agree(alloc, &rows.cells, lists, &[])?)
+        let cells = CellRow::of(alloc, &rows.cells)?;
+        say(said, agree(alloc, &cells, lists, &[])?)
     }
 
     /// Tells what the records show.
@@ -112,7 +116,10 @@ impl Shown {
         said: &mut String,
     ) -> Result<()> {
         match words {
-            ["blocks"] => say(said, are_blocks(&rows.cells)),
+            ["blocks"] => {
+                let cells = CellRow::of(alloc, &rows.cells)?;
+                say(said, are_blocks(&cells))
+            }
             ["lists"] => {
                 self.lists = lists_of(alloc, rows, said)?;
                 Ok(())

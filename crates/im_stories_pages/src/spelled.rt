@@ -54,6 +54,16 @@ fn add_node_or(said: &mut String, node: Option<NodeRecord>, none: &str) -> Resul
     }
 }
 
+// The record of a cell, if there is such a cell.
+fn cell_of(area: &AreaRecords, at: usize) -> Option<CellRecord> {
+    let cells = area.cells();
+    if at < cells.len() {
+        Some(cells.at(at))
+    } else {
+        None
+    }
+}
+
 fn add_area(said: &mut String, area: &AreaRecords) -> Result<(), AllocError> {
     let (cells, nodes) = (area.cells().len(), area.nodes().len());
     let windows = area.windows().len();
@@ -284,7 +294,7 @@ impl Spelled {
             return Err(anyhow!("no area was read"));
         };
         let told = match of {
-            "cell" => add_cell_or(said, area.cells().get(at).copied(), "none"),
+            "cell" => add_cell_or(said, cell_of(area, at), "none"),
             "node" => add_node_or(said, area.nodes().get(at).copied(), "none"),
             _ => add_window_or(said, area.windows().get(at), "none"),
         };

@@ -5,7 +5,7 @@ use Rattle.im_checkpoint.proofs.checkpoint.copy_pages.Goals as goal
 pub loop-page-preserved : goal.loop-page-preserved
 loop-page-preserved c =
     copied_more (sizes_of c.args.limits) c.args.memory.now.records c.args.named.now c.args.left.now c.args.recent.now c.args.from c.loop-page.at c.in-Some.page c.args.copies.now c.loop-page.copies c.copy_page.new.copies
-    c.loop-page.invariant c.in-Some.ensures c.copy_page.auto.copies c.copy_page.ensures.copied c.copy_page.ensures.stay
+    c.loop-page.invariant c.in-Some.ensures c.copy_page.ensures.space c.copy_page.ensures.copied c.copy_page.ensures.stay
 
 pub returns-clause-copied : goal.returns-clause-copied
 returns-clause-copied c =

@@ -1,10 +1,13 @@
-use Rattle.std.proofs.Common.{length, sym, List, Option, Some, None, ap, ◌∙◌, arith}
+use Rattle.std.proofs.Common.{length, get_or, [], sym, List, Option, Some, None, ap, ◌∙◌, arith}
 use Rattle.std.specs.List.{sum_by}
 use Rattle.std.proofs.lemmas.Bool.{eqb-true}
 use Rattle.std.proofs.lemmas.List.{drop_all}
 use Rattle.im_types.specs.Contents.{Held, kept_for}
-use Rattle.im_types.specs.Pages.{cells_shown}
-use Rattle.im_contents.specs.Marking.{place_in, mark_all}
+use Rattle.im_types.specs.declared.TheConstants.{NONE}
+use Rattle.im_types.specs.declared.records.CellRecord.{CellRecord}
+use Rattle.im_types.specs.declared.records.CellRecord.TheVariants.{Free}
+use Rattle.im_types.specs.Pages.{cell_shown, cells_shown}
+use Rattle.im_contents.specs.Marking.{place_in, mark_held, mark_all}
 use Rattle.im_contents.proofs.BlockLemmas.{length-cells_shown}
 use Rattle.im_contents.proofs.PlaceLemmas.{held_at-shown, mark_all-step, mark_all-nobody}
 use Rattle.im_contents.proofs.waiting.mark_all.Goals as goal
@@ -17,16 +20,16 @@ returns-then-has_nobody c =
 pub returns-then-not-mark_cell : goal.returns-then-not-mark_cell
 returns-then-not-mark_cell c =
     let count = length-cells_shown c.args.cells.now c.args.lists.now in
-    mark_all-step (kept_for c.args.windows.now) (place_in c.args.windows.now) (cells_shown c.args.cells.now c.args.lists.now) c.loop-address.address c.loop-address.marks _ (omega (arith, c.loop-address-test.true)) c.loop-address.invariant
-    _ (held_at-shown c.args.cells.now c.args.lists.now c.loop-address.address _ c.requires.count c.loop-address-test.true)
-    None c.if-not-mark_cell.ensures
+    mark_all-step (kept_for c.args.windows.now) (place_in c.args.windows.now) (cells_shown c.args.cells.now c.args.lists.now) c.loop-address.address c.loop-address.marks _ (omega arith) c.loop-address.invariant
+    _ (held_at-shown c.args.cells.now c.args.lists.now c.loop-address.address (Free 0 NONE) c.requires.count (omega arith))
+    None (ap (λ (cell : CellRecord). mark_held (kept_for c.args.windows.now) (place_in c.args.windows.now) c.loop-address.address c.loop-address.marks (cell_shown cell (get_or c.args.lists.now c.loop-address.address []))) (sym c.at.ensures) ∙ c.if-not-mark_cell.ensures)
 
 pub loop-address-preserved : goal.loop-address-preserved
 loop-address-preserved c =
     let count = length-cells_shown c.args.cells.now c.args.lists.now in
-    mark_all-step (kept_for c.args.windows.now) (place_in c.args.windows.now) (cells_shown c.args.cells.now c.args.lists.now) c.loop-address.address c.loop-address.marks _ (omega (arith, c.loop-address-test.true)) c.loop-address.invariant
-    _ (held_at-shown c.args.cells.now c.args.lists.now c.loop-address.address _ c.requires.count c.loop-address-test.true)
-    (Some c.mark_cell.new.marks) c.if-not-mark_cell.ensures
+    mark_all-step (kept_for c.args.windows.now) (place_in c.args.windows.now) (cells_shown c.args.cells.now c.args.lists.now) c.loop-address.address c.loop-address.marks _ (omega arith) c.loop-address.invariant
+    _ (held_at-shown c.args.cells.now c.args.lists.now c.loop-address.address (Free 0 NONE) c.requires.count (omega arith))
+    (Some c.mark_cell.new.marks) (ap (λ (cell : CellRecord). mark_held (kept_for c.args.windows.now) (place_in c.args.windows.now) c.loop-address.address c.loop-address.marks (cell_shown cell (get_or c.args.lists.now c.loop-address.address []))) (sym c.at.ensures) ∙ c.if-not-mark_cell.ensures)
 
 pub returns : goal.returns
 returns c =

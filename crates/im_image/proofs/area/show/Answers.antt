@@ -1,11 +1,5 @@
-use Rattle.std.proofs.Common.{subst}
-use Rattle.im_types.specs.Layout.{sizes_of}
-use Rattle.im_types.specs.Pages.{Records, ShowsRecords}
-use Rattle.im_image.proofs.Restored.{records-same, refused-same}
+use Rattle.im_image.proofs.Restored.{refused-same}
 use Rattle.im_image.proofs.area.show.Goals as goal
 
 pub returns-in-Err-clause-bad : goal.returns-in-Err-clause-bad
-returns-in-Err-clause-bad c = λ e m shown.
-    c.in-Err.ensures.bad (refused-same c.in-Err.refusal _ e) m
-    (subst (λ (r : Records). ShowsRecords (sizes_of c.args.limits) r m)
-    (records-same c.args.records.now c.cells-cells.result.now c.nodes-nodes.result.now c.windows-windows.result.now c.cells-cells.ensures c.nodes-nodes.ensures c.windows-windows.ensures) shown)
+returns-in-Err-clause-bad c = λ e m shown. c.in-Err.ensures.bad (refused-same c.in-Err.refusal _ e) m shown

@@ -1,8 +1,8 @@
 use Rattle.std.proofs.Common.{◌≡◌, ◌≤◌, ◌+◌, ℕ, List, [], Bool, length, sym, ◌∙◌, ap, subst, arith}
 use Rattle.std.specs.List.{Contains}
-use Rattle.im_types.specs.Layout.{page_bytes, record_at}
 use Rattle.im_memory.specs.Covering.{most_pages}
 use Rattle.im_pages.specs.PageSets.{size_of, IsWithin, pages_from}
+use Rattle.im_checkpoint.specs.Copied.{copy_of}
 use Rattle.im_checkpoint.specs.Step.{PagedCheckpoint, left_in}
 use Rattle.im_checkpoint.proofs.Copying.{left_none}
 use Rattle.im_checkpoint.proofs.checkpoint.Checkpoint.before.Goals as goal
@@ -21,5 +21,5 @@ returns-in_default c =
       few = subst (λ (s : List Bool). size_of c.touches.new.pages ≤ size_of s + most_pages (length s) m.contents c.args.command.now) recent c.touches.ensures.few;
       others = c.touches.ensures.others;
       copied = λ page lt among fresh there. let it = subst (λ (l : List ℕ). Contains l page) none among in absurd (omega (arith, it.1));
-      stay = λ page lt there. ap (λ (s : PagedCheckpoint). record_at page_bytes s.copies page) c.self.view_is;
+      stay = λ page lt there. ap (λ (s : PagedCheckpoint). copy_of s.copies page) c.self.view_is;
     }

@@ -98,7 +98,7 @@ returns-clause-kept c = λ now kept.
     let step : step_of c.next_left-step.result.0 c.count-self-inside.result (pages_from c.next_left-step.result.1 c.union_with-2.new.self) ≡ with_left c.args.journal.now.count (pages_from 0 (union e.older e.recent)) =
     c.next_left-step.ensures.step c.count-self-inside.result ∙ (λ i. with_left (count i) (pages_from 0 (all i))) in
     let m = c.args.memory.now in
-    let x : Paged = record { recent = e.recent; older = e.older; copies = e.copies.items; records = m.records } in
+    let x : Paged = record { recent = e.recent; older = e.older; copies = e.copies; records = m.records } in
     let s : Sizes = (seen e.header).sizes in
     let header : seen e.header ≡ c.args.self.now.state.header = ap (λ (s : PagedCheckpoint). s.state.header) c.self.view_is in
     let cells : length m.contents.cells ≡ (seen e.header).sizes.cells = c.requires.sizes.cells ∙ sym (ap (λ (h : Header). h.sizes.cells) header) in
@@ -107,12 +107,12 @@ returns-clause-kept c = λ now kept.
     let r = c.records-records.ensures in
     let count_all : AreCounted (seen e.header).sizes m.records = subst (AreCounted (seen e.header).sizes) r.view (counted (seen e.header).sizes m.contents c.records-records.result cells elements r.cells r.nodes r.windows) in
     let shows : ShowsRecords (seen e.header).sizes m.records m.contents = subst (λ (q : Records). ShowsRecords (seen e.header).sizes q m.contents) r.view (r.shows (seen e.header).sizes (sym cells) (sym elements)) in
-    let before = kept_none c.args.self.now (seen e.header) e.step e.count (pages_from e.next e.left) e.recent e.older e.copies.items c.self.view_is m m.contents c.args.journal.now now kept c.requires.step in
-    let begun = begun_kept (seen e.header) x e.copies.items m.contents c.args.journal.now now before c.count-self-inside.ensures.known.to_last later count_all shows c.self.invariant.older_size c.self.invariant.recent_size in
+    let before = kept_none c.args.self.now (seen e.header) e.step e.count (pages_from e.next e.left) e.recent e.older e.copies c.self.view_is m m.contents c.args.journal.now now kept c.requires.step in
+    let begun = begun_kept (seen e.header) x e.copies m.contents c.args.journal.now now before c.count-self-inside.ensures.known.to_last later count_all shows c.self.invariant.older_size c.self.invariant.recent_size in
     let step_back : with_left c.args.journal.now.count (pages_from 0 (union e.older e.recent)) ≡ step_of c.next_left-step.result.0 c.count-self-inside.result (pages_from c.next_left-step.result.1 c.union_with-2.new.self) = sym step in
     let none_back : replicate (length e.older) false ≡ c.clear-2.new.self = sym none in
     let older_back : e.recent ≡ c.swap.new.x = sym c.swap.ensures.x_after in
-    let same : (let p : PagedCheckpoint = record { state = record { header = seen e.header; step = with_left c.args.journal.now.count (pages_from 0 (union e.older e.recent)) }; recent = replicate (length e.older) false; older = e.recent; copies = e.copies.items } in p)
-    ≡ record { state = record { header = seen e.header; step = step_of c.next_left-step.result.0 c.count-self-inside.result (pages_from c.next_left-step.result.1 c.union_with-2.new.self) }; recent = c.clear-2.new.self; older = c.swap.new.x; copies = e.copies.items } =
-    (λ i. record { state = record { header = seen e.header; step = step_back i }; recent = none_back i; older = older_back i; copies = e.copies.items }) in
+    let same : (let p : PagedCheckpoint = record { state = record { header = seen e.header; step = with_left c.args.journal.now.count (pages_from 0 (union e.older e.recent)) }; recent = replicate (length e.older) false; older = e.recent; copies = e.copies } in p)
+    ≡ record { state = record { header = seen e.header; step = step_of c.next_left-step.result.0 c.count-self-inside.result (pages_from c.next_left-step.result.1 c.union_with-2.new.self) }; recent = c.clear-2.new.self; older = c.swap.new.x; copies = e.copies } =
+    (λ i. record { state = record { header = seen e.header; step = step_back i }; recent = none_back i; older = older_back i; copies = e.copies }) in
     subst (λ (p : PagedCheckpoint). IsKept p.state (paged p m) m.contents c.args.journal.now now) same begun

@@ -1,14 +1,14 @@
 use Rattle.std.proofs.Common.{◌≡◌, ◌+◌, ◌<◌, ◌≤◌, ℕ, List, Bool, true, false, length, replicate, sym, ◌∙◌, ap, subst, arith}
 use Rattle.std.specs.List.{Contains}
-use Rattle.std.specs.Vec.{with_items}
-use Rattle.std.proofs.lemmas.List.{length-replicate, with_items_is}
-use Rattle.im_types.specs.Layout.{layout_in_use, page_bytes, area_pages, record_at}
+use Rattle.std.proofs.lemmas.List.{length-replicate}
+use Rattle.im_types.specs.Layout.{layout_in_use, area_pages}
 use Rattle.im_types.specs.Header.{Header}
 use Rattle.im_memory.specs.Covering.{most_pages}
 use Rattle.im_pages.specs.PageSets.{has, size_of, pages_from}
 use Rattle.im_pages.proofs.SetLemmas.{length-union, listed}
 use Rattle.im_image.specs.Headers.{seen}
 use Rattle.im_image.specs.Encoding.{IsAreaPage}
+use Rattle.im_checkpoint.specs.Copied.{copy_of}
 use Rattle.im_checkpoint.specs.Step.{PagedCheckpoint, left_in}
 use Rattle.im_checkpoint.proofs.Copying.{within_union, out_of_union, new_in_union, size_union, size_none}
 use Rattle.im_checkpoint.proofs.PageLists.{header_is, step_left}
@@ -21,8 +21,6 @@ invariant_of-self c =
     let named : List Bool = c.touches.new.pages in
     let named_size : length c.touches.new.pages ≡ area_pages layout_in_use (seen e.header).sizes = c.touches.ensures.length ∙ ap length c.clear.ensures ∙ length-replicate (length e.named) false ∙ c.self.invariant.named_size in
     let same : length e.recent ≡ length c.touches.new.pages = c.self.invariant.recent_size ∙ sym named_size in
-    let long : length c.copy_pages.new.copies ≡ e.copies.len = omega (arith, c.copy_pages.auto.copies, c.as_mut_slice-copies.ensures.len) in
-    let kept : (with_items e.copies c.copy_pages.new.copies).items ≡ c.copy_pages.new.copies = with_items_is e.copies c.copy_pages.new.copies long in
     record {
       number = c.self.invariant.number;
       recent_size = ap length c.union_with.ensures ∙ length-union e.recent named ∙ c.self.invariant.recent_size;
@@ -31,7 +29,7 @@ invariant_of-self c =
       named_size = named_size;
       next_low = c.self.invariant.next_low;
       next_left = c.self.invariant.next_left;
-      space = ap length kept ∙ c.copy_pages.auto.copies ∙ ap length c.as_mut_slice-copies.ensures.value ∙ c.self.invariant.space;
+      space = c.copy_pages.ensures.space ∙ c.self.invariant.space;
       later = c.self.invariant.later;
     }
 
@@ -42,16 +40,14 @@ returns c =
     let named : List Bool = c.touches.new.pages in
     let named_size : length c.touches.new.pages ≡ area_pages layout_in_use (seen e.header).sizes = c.touches.ensures.length ∙ ap length c.clear.ensures ∙ length-replicate (length e.named) false ∙ c.self.invariant.named_size in
     let same : length e.recent ≡ length c.touches.new.pages = c.self.invariant.recent_size ∙ sym named_size in
-    let long : length c.copy_pages.new.copies ≡ e.copies.len = omega (arith, c.copy_pages.auto.copies, c.as_mut_slice-copies.ensures.len) in
-    let kept : (with_items e.copies c.copy_pages.new.copies).items ≡ c.copy_pages.new.copies = with_items_is e.copies c.copy_pages.new.copies long in
-    let header : seen e.header ≡ c.args.self.now.state.header = header_is c.args.self.now (seen e.header) e.step e.count (pages_from e.next e.left) e.recent e.older e.copies.items c.self.view_is in
+    let header : seen e.header ≡ c.args.self.now.state.header = header_is c.args.self.now (seen e.header) e.step e.count (pages_from e.next e.left) e.recent e.older e.copies c.self.view_is in
     let recent : e.recent ≡ c.args.self.now.recent = ap (λ (s : PagedCheckpoint). s.recent) c.self.view_is in
     let few : size_of c.touches.new.pages ≤ 0 + most_pages (length c.args.self.now.recent) m.contents c.args.command.now =
     subst (λ (n : ℕ). size_of c.touches.new.pages ≤ 0 + most_pages n m.contents c.args.command.now) (c.self.invariant.named_size ∙ sym c.self.invariant.recent_size ∙ ap length recent)
     (subst (λ (n : ℕ). size_of c.touches.new.pages ≤ n + most_pages (length e.named) m.contents c.args.command.now) (size_none (length e.named))
     (subst (λ (n : ℕ). size_of c.touches.new.pages ≤ size_of (replicate (length e.named) false) + most_pages n m.contents c.args.command.now) (length-replicate (length e.named) false)
     (subst (λ (s : List Bool). size_of c.touches.new.pages ≤ size_of s + most_pages (length s) m.contents c.args.command.now) c.clear.ensures c.touches.ensures.few))) in
-    let left : left_in c.args.self.now.state.step ≡ pages_from e.next e.left = ap left_in (step_left c.args.self.now (seen e.header) e.step e.count (pages_from e.next e.left) e.recent e.older e.copies.items c.self.view_is c.requires.step) in
+    let left : left_in c.args.self.now.state.step ≡ pages_from e.next e.left = ap left_in (step_left c.args.self.now (seen e.header) e.step e.count (pages_from e.next e.left) e.recent e.older e.copies c.self.view_is c.requires.step) in
     record {
       state = ap (λ (s : PagedCheckpoint). s.state) c.self.view_is;
       older = ap (λ (s : PagedCheckpoint). s.older) c.self.view_is;
@@ -64,11 +60,10 @@ returns c =
           let unchanged : has e.recent page ≡ false = ap (λ (s : List Bool). has s page) recent ∙ fresh in
           let it = listed e.left e.next page (subst (λ (l : List ℕ). Contains l page) left among) in
           let is_named : has named page ≡ true = new_in_union e.recent named same page (omega (arith, low, c.self.invariant.recent_size)) unchanged (sym (ap (λ (s : List Bool). has s page) c.union_with.ensures) ∙ there) in
-          subst (λ (h : Header). IsAreaPage h.sizes m.records page (record_at page_bytes (with_items e.copies c.copy_pages.new.copies).items page)) header
-          (subst (λ (l : List ℕ). IsAreaPage (seen e.header).sizes m.records page (record_at page_bytes l page)) (sym kept) (c.copy_pages.ensures.copied page it.from low is_named it.there unchanged));
+          subst (λ (h : Header). IsAreaPage h.sizes m.records page (copy_of c.copy_pages.new.copies page)) header
+          (c.copy_pages.ensures.copied page it.from low is_named it.there unchanged);
       stay = λ page lt there.
           let low : page < area_pages layout_in_use (seen e.header).sizes = subst (λ (h : Header). page < area_pages layout_in_use h.sizes) (sym header) lt in
-          ap (λ (l : List ℕ). record_at page_bytes l page) kept
-          ∙ c.copy_pages.ensures.stay page low (ap (λ (s : List Bool). has s page) recent ∙ there)
-          ∙ ap (λ (l : List ℕ). record_at page_bytes l page) (c.as_mut_slice-copies.ensures.value ∙ ap (λ (s : PagedCheckpoint). s.copies) c.self.view_is);
+          c.copy_pages.ensures.stay page low (ap (λ (s : List Bool). has s page) recent ∙ there)
+          ∙ ap (λ (s : PagedCheckpoint). copy_of s.copies page) c.self.view_is;
     }

@@ -23,8 +23,8 @@ pub returns-in-PagesLeft-clause-turned : goal.returns-in-PagesLeft-clause-turned
 returns-in-PagesLeft-clause-turned g c =
     let e = c.self.inside in
     let is : IsPagesLeft c.args.self.now.state.step = search rules in
-    let mark = mark_left c.args.self.now (seen e.header) e.step e.count (pages_from e.next e.left) e.recent e.older e.copies.items c.self.view_is is in
-    let step = step_left c.args.self.now (seen e.header) e.step e.count (pages_from e.next e.left) e.recent e.older e.copies.items c.self.view_is is ∙ ap (PagesLeft e.count) (step_in e.left e.next (c.self.invariant.next_low mark) (c.self.invariant.next_left mark)) in
+    let mark = mark_left c.args.self.now (seen e.header) e.step e.count (pages_from e.next e.left) e.recent e.older e.copies c.self.view_is is in
+    let step = step_left c.args.self.now (seen e.header) e.step e.count (pages_from e.next e.left) e.recent e.older e.copies c.self.view_is is ∙ ap (PagesLeft e.count) (step_in e.left e.next (c.self.invariant.next_low mark) (c.self.invariant.next_left mark)) in
     once_more c.write_page.result c.write_page.ensures.turned (λ answer it.
     comes_page c.args.self.now c.args.journal.now c.args.memory.now.contents answer c.write_page.new.self c.args.journal.now (it.0 c.args.journal.now) it.1 c.requires.fits e.count e.next (pages_from (e.next + 1) e.left) step)
 
@@ -36,7 +36,7 @@ returns-in-PagesDone-clause-turned g c =
     let e = c.self.inside in
     let is : IsPagesDone c.args.self.now.state.step = search rules in
     once_more c.sync_pages.result c.sync_pages.ensures.turned (λ answer it.
-    comes_synced c.args.self.now c.args.journal.now c.args.memory.now.contents answer c.sync_pages.new.self c.args.journal.now (it.0 c.args.journal.now) it.1 c.requires.fits e.count (step_done c.args.self.now (seen e.header) e.step e.count (pages_from e.next e.left) e.recent e.older e.copies.items c.self.view_is is))
+    comes_synced c.args.self.now c.args.journal.now c.args.memory.now.contents answer c.sync_pages.new.self c.args.journal.now (it.0 c.args.journal.now) it.1 c.requires.fits e.count (step_done c.args.self.now (seen e.header) e.step e.count (pages_from e.next e.left) e.recent e.older e.copies c.self.view_is is))
 
 pub returns-in-PagesDone-clause-keeps : goal.returns-in-PagesDone-clause-keeps
 returns-in-PagesDone-clause-keeps g c = λ h. c.sync_pages.ensures.keeps h c.args.memory.now c.args.memory.now.contents c.args.journal.now (c.requires.kept (c.sync_pages.ensures.honest h))
@@ -45,16 +45,16 @@ pub put_in_force-requires-clause-closed : goal.put_in_force-requires-clause-clos
 put_in_force-requires-clause-closed g c = λ h.
     let e = c.self.inside in
     let is : IsSynced c.args.self.now.state.step = search rules in
-    subst (λ (y : Header). IsClosed (4096 * other y) 64 (g.D.Disk.now c.args.disk.now)) (header_is c.args.self.now (seen e.header) e.step e.count (pages_from e.next e.left) e.recent e.older e.copies.items c.self.view_is)
+    subst (λ (y : Header). IsClosed (4096 * other y) 64 (g.D.Disk.now c.args.disk.now)) (header_is c.args.self.now (seen e.header) e.step e.count (pages_from e.next e.left) e.recent e.older e.copies c.self.view_is)
     (other_closed (seen e.header) e.count _ c.args.memory.now.contents c.args.journal.now (g.D.Disk.now c.args.disk.now)
-    (kept_synced c.args.self.now (seen e.header) e.step e.count (pages_from e.next e.left) e.recent e.older e.copies.items c.self.view_is c.args.memory.now c.args.memory.now.contents c.args.journal.now (g.D.Disk.now c.args.disk.now) (c.requires.kept h) is))
+    (kept_synced c.args.self.now (seen e.header) e.step e.count (pages_from e.next e.left) e.recent e.older e.copies c.self.view_is c.args.memory.now c.args.memory.now.contents c.args.journal.now (g.D.Disk.now c.args.disk.now) (c.requires.kept h) is))
 
 pub returns-in-Synced-clause-turned : goal.returns-in-Synced-clause-turned
 returns-in-Synced-clause-turned g c =
     let e = c.self.inside in
     let is : IsSynced c.args.self.now.state.step = search rules in
     once_more c.put_in_force.result c.put_in_force.ensures.turned (λ answer it.
-    comes_in_force c.args.self.now c.args.journal.now c.args.memory.now.contents answer c.put_in_force.new.self c.put_in_force.new.journal it.0 it.1 c.requires.fits e.count (step_synced c.args.self.now (seen e.header) e.step e.count (pages_from e.next e.left) e.recent e.older e.copies.items c.self.view_is is))
+    comes_in_force c.args.self.now c.args.journal.now c.args.memory.now.contents answer c.put_in_force.new.self c.put_in_force.new.journal it.0 it.1 c.requires.fits e.count (step_synced c.args.self.now (seen e.header) e.step e.count (pages_from e.next e.left) e.recent e.older e.copies c.self.view_is is))
 
 pub returns-in-Synced-clause-keeps : goal.returns-in-Synced-clause-keeps
 returns-in-Synced-clause-keeps g c = λ h. c.put_in_force.ensures.keeps h c.args.memory.now c.args.memory.now.contents (c.requires.kept (c.put_in_force.ensures.honest h))

@@ -1,5 +1,4 @@
 use Rattle.std.proofs.Common.{◌+◌, ◌*◌, ◌∷◌, ℕ, List, ap, subst, sym, refl, ◌∙◌}
-use Rattle.im_types.specs.Layout.{page_bytes, record_at}
 use Rattle.im_pages.specs.PageSets.{pages_from}
 use Rattle.im_image.specs.Headers.{seen}
 use Rattle.im_checkpoint.specs.Step.{Step, PagesLeft, CheckpointState}
@@ -13,15 +12,15 @@ use Rattle.im_checkpoint.proofs.checkpoint.Checkpoint.write_page.Goals as goal
 pub returns-in-Err-clause-keeps : goal.returns-in-Err-clause-keeps
 returns-in-Err-clause-keeps g c = λ h m j kept.
     let e = c.self.inside in
-    let x : Paged = record { recent = e.recent; older = e.older; copies = e.copies.items; records = c.args.memory.now.records } in
-    let mark = mark_left c.args.self.now (seen e.header) e.step e.count (pages_from e.next e.left) e.recent e.older e.copies.items c.self.view_is c.requires.step.step in
+    let x : Paged = record { recent = e.recent; older = e.older; copies = e.copies; records = c.args.memory.now.records } in
+    let mark = mark_left c.args.self.now (seen e.header) e.step e.count (pages_from e.next e.left) e.recent e.older e.copies c.self.view_is c.requires.step.step in
     let rest : List ℕ = pages_from (e.next + 1) e.left in
     let at : CheckpointState = record { header = seen e.header; step = PagesLeft e.count (e.next ∷ pages_from (e.next + 1) e.left) } in
     let before : IsKept at x m j (g.D.Disk.now c.args.disk.now) =
     subst (λ (l : List ℕ). IsKept (record { header = seen e.header; step = PagesLeft e.count l }) x m j (g.D.Disk.now c.args.disk.now)) (step_in e.left e.next (c.self.invariant.next_low mark) (c.self.invariant.next_left mark))
-    (kept_left c.args.self.now (seen e.header) e.step e.count (pages_from e.next e.left) e.recent e.older e.copies.items c.self.view_is c.args.memory.now m j (g.D.Disk.now c.args.disk.now) kept c.requires.step.step) in
+    (kept_left c.args.self.now (seen e.header) e.step e.count (pages_from e.next e.left) e.recent e.older e.copies c.self.view_is c.args.memory.now m j (g.D.Disk.now c.args.disk.now) kept c.requires.step.step) in
     let page : IsPageFor (seen e.header).sizes x e.next c.page_for.new.page = record {
-      copy = λ yes. c.page_for.ensures.copy yes ∙ ap (λ (l : List ℕ). record_at page_bytes l e.next) c.as_slice.ensures.value;
+      copy = λ yes. c.page_for.ensures.copy yes;
       fresh = λ no. c.page_for.ensures.fresh no;
     } in
     let at_is = ap (λ (n : ℕ). n + 4096 * e.next) c.area_at.ensures.at in
@@ -36,15 +35,15 @@ returns-in-Err-clause-keeps g c = λ h m j kept.
 pub returns-clause-keeps : goal.returns-clause-keeps
 returns-clause-keeps g c = λ h m j kept.
     let e = c.self.inside in
-    let x : Paged = record { recent = e.recent; older = e.older; copies = e.copies.items; records = c.args.memory.now.records } in
-    let mark = mark_left c.args.self.now (seen e.header) e.step e.count (pages_from e.next e.left) e.recent e.older e.copies.items c.self.view_is c.requires.step.step in
+    let x : Paged = record { recent = e.recent; older = e.older; copies = e.copies; records = c.args.memory.now.records } in
+    let mark = mark_left c.args.self.now (seen e.header) e.step e.count (pages_from e.next e.left) e.recent e.older e.copies c.self.view_is c.requires.step.step in
     let rest : List ℕ = pages_from (e.next + 1) e.left in
     let at : CheckpointState = record { header = seen e.header; step = PagesLeft e.count (e.next ∷ pages_from (e.next + 1) e.left) } in
     let before : IsKept at x m j (g.D.Disk.now c.args.disk.now) =
     subst (λ (l : List ℕ). IsKept (record { header = seen e.header; step = PagesLeft e.count l }) x m j (g.D.Disk.now c.args.disk.now)) (step_in e.left e.next (c.self.invariant.next_low mark) (c.self.invariant.next_left mark))
-    (kept_left c.args.self.now (seen e.header) e.step e.count (pages_from e.next e.left) e.recent e.older e.copies.items c.self.view_is c.args.memory.now m j (g.D.Disk.now c.args.disk.now) kept c.requires.step.step) in
+    (kept_left c.args.self.now (seen e.header) e.step e.count (pages_from e.next e.left) e.recent e.older e.copies c.self.view_is c.args.memory.now m j (g.D.Disk.now c.args.disk.now) kept c.requires.step.step) in
     let page : IsPageFor (seen e.header).sizes x e.next c.page_for.new.page = record {
-      copy = λ yes. c.page_for.ensures.copy yes ∙ ap (λ (l : List ℕ). record_at page_bytes l e.next) c.as_slice.ensures.value;
+      copy = λ yes. c.page_for.ensures.copy yes;
       fresh = λ no. c.page_for.ensures.fresh no;
     } in
     let at_is = ap (λ (n : ℕ). n + 4096 * e.next) c.area_at.ensures.at in

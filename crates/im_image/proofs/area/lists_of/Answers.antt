@@ -1,0 +1,11 @@
+use Rattle.std.proofs.Common.{subst}
+use Rattle.im_types.specs.Layout.{sizes_of}
+use Rattle.im_types.specs.Pages.{Records, ShowsRecords}
+use Rattle.im_image.proofs.Restored.{records-same}
+use Rattle.im_image.proofs.area.lists_of.Goals as goal
+
+pub returns-clause-bad : goal.returns-clause-bad
+returns-clause-bad c = λ e m shown.
+    c.read_contents.ensures.bad e m
+    (subst (λ (r : Records). ShowsRecords (sizes_of c.args.limits) r m)
+    (records-same c.args.records.now c.cells-cells.result.now c.nodes-nodes.result.now c.windows-windows.result.now c.cells-cells.ensures c.nodes-nodes.ensures c.windows-windows.ensures) shown)
