@@ -59,6 +59,9 @@ module _ (K : RattleType) (n : name.Ghosts K.Denot) where
   pub Port-send : IsSend (Port.the_field K n).row
   Port-send = let t = Tally-send in search (sendable, crosses) depth 40 fits 30000
 
+  pub Glances-send : IsSend (Glances.the_field K n).row
+  Glances-send = search (sendable, crosses, glance_send) depth 40 fits 30000
+
 pub Served-send : IsSend Served.the_field.row
 Served-send = search (sendable, crosses) depth 40
 
@@ -89,6 +92,9 @@ module _ (D K : RattleType) (d : disk.Ghosts D.Denot) (n : name.Ghosts K.Denot) 
 module _ (K : RattleType) (n : name.Ghosts K.Denot) where
   pub Port-row-send : IsSend (Port.the_row K n)
   Port-row-send = let p = Port-send K n in search sendable depth 20
+
+  pub Glances-row-send : IsSend (Glances.the_row K n)
+  Glances-row-send = let s = Glances-send K n in search sendable depth 20
 
 pub Served-row-send : IsSend Served.the_row
 Served-row-send = let s = Served-send in search sendable depth 20
