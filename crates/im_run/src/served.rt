@@ -71,7 +71,10 @@ impl<K: Name> Notes<K> {
         behind: usize,
     ) -> Result<&'a [Glanced], AllocError> {
         let mut rest = made;
-        while let Some((glanced, later)) = rest.split_first() {
+        for _ in 0..made.len() {
+            let Some((glanced, later)) = rest.split_first() else {
+                return Ok(rest);
+            };
             if glanced.behind > behind {
                 return Ok(rest);
             }
