@@ -23,7 +23,7 @@ use im_engine::Engine;
 use im_image::image_length;
 use im_report::inspect_on;
 use im_run::{STALLED, run_on};
-use im_script::{Script, ScriptFault, read_script};
+use im_script::{Script, ScriptFault, read_script, read_script_with_glances};
 use im_serial::serial_on;
 use im_serving::Open;
 use im_text::{Observer, Reason, put_refusal};
@@ -179,15 +179,21 @@ fn read_file<R: Files<File = File> + AllocGlobal + Input, N: Observer>(
     }
 }
 
-// The script that a text is. `BadScript` where it isn't in the grammar.
+// The script that a text is, which may have glances or not. `BadScript` where it isn't in the grammar.
 fn script_in<'a, N: Observer>(
     alloc: Global,
     text: &'a [u8],
+    glances: bool,
     observer: &mut N,
 ) -> Result<Script<'a>, Refusal>
     ensures { IfErr result (λ refusal. (refusal ≡ BadScript) ⊎ (refusal ≡ NoMemory)) }
 {
-    match read_script(alloc, text) {
+    let read = if glances {
+        read_script_with_glances(alloc, text)
+    } else {
+        read_script(alloc, text)
+    };
+    match read {
         Ok(script) => Ok(script),
         Err(fault) => Err(refuse_script(Reason::Script(fault), observer)),
     }
@@ -224,7 +230,7 @@ pub fn serve_file<R: Files<File = File> + AllocGlobal + Input, S: Start, W: Writ
         Ok(text) => text,
         Err(refusal) => return Err(refusal),
     };
-    let script = match script_in(rt.alloc(), text.as_slice(), observer) {
+    let script = match script_in(rt.alloc(), text.as_slice(), false, observer) {
         Ok(script) => script,
         Err(refusal) => return Err(refusal),
     };
@@ -234,9 +240,9 @@ pub fn serve_file<R: Files<File = File> + AllocGlobal + Input, S: Start, W: Writ
     }
 }
 
-/// Runs the script of a file on the image of another, each element's requests by threads of its own, and gives the
-/// image's disk back, with the status and the lines of [`run_on`]. The script is read first; the path `-` is standard
-/// input.
+/// Runs the script of a file, which may have glances, on the image of another, each element's requests by threads of
+/// its own, and gives the image's disk back, with the status and the lines of [`run_on`]. The script is read first; the
+/// path `-` is standard input.
 ///
 /// Refused are, with nothing printed and the image as it was: `BadScript` for a script that can't be read or isn't in
 /// the grammar, and `NoMemory` for one that there is no room for; `Device` for an image that can't be opened: it is no
@@ -268,7 +274,7 @@ pub fn run_file<
         Ok(text) => text,
         Err(refusal) => return Err(refusal),
     };
-    let script = match script_in(rt.alloc(), text.as_slice(), observer) {
+    let script = match script_in(rt.alloc(), text.as_slice(), true, observer) {
         Ok(script) => script,
         Err(refusal) => return Err(refusal),
     };

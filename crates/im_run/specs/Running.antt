@@ -1,5 +1,5 @@
 -- What a run of element servers prints, and what it leaves on a disk. (Own.)
-use Rattle.std.specs.Prelude.{◌≡◌, ℕ, List, [], ◌++◌, length, Option, None, Some, Result, Ok, Err, slice_get}
+use Rattle.std.specs.Prelude.{◌≡◌, ℕ, List, [], ◌++◌, codes, decimal, length, Option, None, Some, Result, Ok, Err, slice_get}
 use Rattle.std.specs.Io.KnownBytes.{Appends}
 use Rattle.im_types.specs.declared.operations.Entry.{Entry}
 use Rattle.im_types.specs.declared.refusals.Refusal.{Refusal}
@@ -13,7 +13,9 @@ use Rattle.im_disk.specs.Since.{LeavesNow}
 use Rattle.im_text.specs.declared.lines.Lines.{Lines}
 use Rattle.im_text.specs.declared.replies.Waited.{Waited}
 use Rattle.im_text.specs.Printing.{Prints, told_line}
-use Rattle.im_text.specs.Texts.{texts_below}
+use Rattle.im_text.specs.Texts.{line_feed, texts_below}
+use Rattle.im_run.specs.declared.served.Did.{Did}
+use Rattle.im_run.specs.declared.served.Did.TheVariants.{Sent, Glanced}
 
 -- where some text was printed before, some text is printed now
 abbrev pub PrintsSome : Option (List ℕ) → Lines → Option (List ℕ) → Lines → Type 0
@@ -28,26 +30,36 @@ kept_or told (Err refusal) = told
 abbrev pub final : Contents → Waited → Entry
 final m w = kept_or w.entry (ask m.windows (record { element = w.element; number = w.number }))
 
--- the line of a request that was sent, with its final entry
-abbrev pub final_line : Contents → Option Waited → List ℕ
-final_line m None = []
-final_line m (Some w) = told_line w.element w.number (final m w)
+-- what was seen of a cell
+abbrev pub seen_text : Option ℕ → List ℕ
+seen_text None = codes "none"
+seen_text (Some v) = codes "value " ++ decimal v
 
--- the lines of the first of these requests
-abbrev pub finals : Contents → List Waited → ℕ → List ℕ
-finals m sent many = texts_below (λ i. final_line m (slice_get sent i)) many
+-- K glance A value V, or K glance A none
+abbrev pub glance_line : ℕ → ℕ → Option ℕ → List ℕ
+glance_line element address value = decimal element ++ codes " glance " ++ decimal address ++ codes " " ++ seen_text value ++ line_feed
+
+-- the line of what was done: of a request that was sent, with its final entry, or of a glance
+abbrev pub final_line : Contents → Option Did → List ℕ
+final_line m None = []
+final_line m (Some (Sent w)) = told_line w.element w.number (final m w)
+final_line m (Some (Glanced element address value)) = glance_line element address value
+
+-- the lines of the first of these
+abbrev pub finals : Contents → List Did → ℕ → List ℕ
+finals m did many = texts_below (λ i. final_line m (slice_get did i)) many
 
 -- the second memory is what a legal history of calls from the first comes to
 abbrev pub Follows : Contents → Contents → Type 0
 Follows m n = (trace : List Line) × IsLegal m trace × (end_of m trace ≡ n)
 
 -- At the end each file that a crash may leave means one memory. Where the status is 0, what was printed is the setup's lines,
--- then the lines of the requests that were sent, each with its final entry in that memory.
+-- then the lines of what was done: of the requests that were sent, each with its final entry in that memory, and of the glances.
 pub record Ran {D : Type 0} (now : D → Moment) (disk : D) (was is : Option (List ℕ)) (status : ℕ) : Type 0 where
   pub memory : Contents
   pub count : ℕ
   pub room : ℕ
   pub means : LeavesNow (now disk) (Means memory count room)
   pub setup : List ℕ
-  pub sent : List Waited
-  pub printed : status ≡ 0 → Appends was is (setup ++ finals memory sent (length sent))
+  pub did : List Did
+  pub printed : status ≡ 0 → Appends was is (setup ++ finals memory did (length did))

@@ -5,9 +5,10 @@ ghost use Rattle.im_run.specs.Running.{PrintsSome};
 use crate::setup::{Desk, make_block};
 use im_disk::Disk;
 use im_engine::Engine;
-use im_script::{Reader, Said, Script, ScriptLine, split_line};
+use im_script::{Heard, Place, Reader, Said, Script, ScriptLine, split_line};
+use im_serving::Intent;
 use im_text::{Observer, Reason};
-use im_types::{MAX_ELEMENTS, Op};
+use im_types::MAX_ELEMENTS;
 use std::alloc::{AllocError, Global};
 use std::io::Write;
 
@@ -20,8 +21,8 @@ pub struct Order {
     pub base: u64,
     /// The number of its next request.
     pub next: u64,
-    /// Its operations.
-    pub ops: Vec<Op>,
+    /// Its operations and glances.
+    pub intents: Vec<Intent>,
 }
 
 // An order of each element that a script can name, which asks for nothing yet.
@@ -32,41 +33,60 @@ fn no_orders(alloc: Global) -> Result<Vec<Order>, AllocError> {
             element,
             base: 0,
             next: 0,
-            ops: Vec::new(alloc),
+            intents: Vec::new(alloc),
         })?;
     }
     Ok(orders)
 }
 
-// Adds a request to its element's order.
-fn add_line(orders: &mut [Order], bases: &[u32], line: ScriptLine) -> Result<(), Reason> {
-    let Some(op) = line.action.op(bases) else {
-        return Err(Reason::Place(line.element));
-    };
-    match orders.get_mut(line.element as usize) {
-        Some(order) => match order.ops.push(op) {
+// Adds what an element asks for to its order.
+fn add_intent(orders: &mut [Order], element: u16, intent: Intent) -> Result<(), Reason> {
+    match orders.get_mut(element as usize) {
+        Some(order) => match order.intents.push(intent) {
             Ok(()) => Ok(()),
             Err(_) => Err(Reason::Memory),
         },
-        None => Err(Reason::Place(line.element)), // No script names such an element.
+        None => Err(Reason::Place(element)), // No script names such an element.
+    }
+}
+
+// Adds a request to its element's order.
+fn add_line(orders: &mut [Order], bases: &[u32], line: ScriptLine) -> Result<(), Reason> {
+    match line.action.op(bases) {
+        Some(op) => add_intent(orders, line.element, Intent::Request(op)),
+        None => Err(Reason::Place(line.element)),
+    }
+}
+
+// Adds a glance to its element's order.
+fn add_glance(
+    orders: &mut [Order],
+    bases: &[u32],
+    element: u16,
+    place: Place,
+) -> Result<(), Reason> {
+    match place.address(bases) {
+        Some(address) => add_intent(orders, element, Intent::Glance(address)),
+        None => Err(Reason::Place(element)),
     }
 }
 
 // Does what a line says.
-fn take_said<D: Disk, W: Write, N: Observer>(
+fn take_heard<D: Disk, W: Write, N: Observer>(
     engine: &mut Engine<D>,
     desk: &mut Desk,
     orders: &mut [Order],
-    said: Said,
+    heard: Heard,
     out: &mut W,
     observer: &mut N,
 ) -> Result<(), Reason>
     ensures some { PrintsSome (W.contents out.old) desk.old.lines (W.contents out.new) desk.new.lines }
 {
-    match said {
-        Said::Nothing | Said::Begins(_) => Ok(()),
-        Said::Block(block) => make_block(engine, desk, block, out, observer),
-        Said::Asks(line) => add_line(orders, desk.bases.as_slice(), line),
+    match heard {
+        Heard::Says(Said::Nothing | Said::Begins(_)) => Ok(()),
+        Heard::Says(Said::Block(block)) => make_block(engine, desk, block, out, observer),
+        Heard::Says(Said::Asks(line)) => add_line(orders, desk.bases.as_slice(), line),
+        Heard::Glances(element, place) => add_glance(orders, desk.bases.as_slice(), element, place),
     }
 }
 
@@ -90,11 +110,11 @@ fn take_lines<D: Disk, W: Write, N: Observer>(
         };
         let (line, behind) = split_line(text);
         rest = behind;
-        let said = match reader.read(alloc, number, line) {
-            Ok(said) => said,
+        let heard = match reader.read_with_glances(alloc, number, line) {
+            Ok(heard) => heard,
             Err(fault) => return Err(Reason::Script(fault)), // There was no memory for it.
         };
-        match take_said(engine, desk, orders, said, out, observer) {
+        match take_heard(engine, desk, orders, heard, out, observer) {
             Ok(()) => {}
             Err(reason) => return Err(reason),
         }
@@ -110,7 +130,7 @@ fn number_orders<D: Disk>(
 ) -> Result<Vec<Order>, AllocError> {
     let mut numbered = Vec::with_capacity(alloc, orders.len())?;
     for order in orders {
-        if order.ops.is_empty() {
+        if order.intents.is_empty() {
             continue;
         }
         let (base, next) = engine.memory().window(order.element).unwrap_or((0, 0));
@@ -118,7 +138,7 @@ fn number_orders<D: Disk>(
             element: order.element,
             base,
             next,
-            ops: order.ops,
+            intents: order.intents,
         })?;
     }
     Ok(numbered)

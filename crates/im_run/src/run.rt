@@ -7,7 +7,7 @@ ghost use Rattle.im_text.specs.Printing.{Prints};
 ghost use Rattle.im_run.specs.Running.{Ran, finals};
 
 use crate::orders::{Order, read_orders};
-use crate::served::{Outcome, serve_orders};
+use crate::served::{Did, Outcome, serve_orders};
 use crate::setup::Desk;
 use crate::telling::print_finals;
 use im_controller::start;
@@ -15,7 +15,7 @@ use im_disk::{Disk, OpenFault};
 use im_engine::Engine;
 use im_script::Script;
 use im_serving::Gate;
-use im_text::{Observer, Reason, Waited, diagnose, end, finish};
+use im_text::{Observer, Reason, diagnose, end, finish};
 use im_types::Refusal;
 use std::alloc::Global;
 use std::io::Write;
@@ -26,11 +26,12 @@ use std::thread::Threads;
 /// The status of a run in which servers waited for each other, and nothing else was refused.
 pub const STALLED: u8 = 3;
 
-// How many lines the trace has room for: five for each request, and 32 for each element.
+// How many lines the trace has room for: five for each request, and 32 for each element. Glances, which leave none, are
+// counted too.
 fn trace_room(orders: &[Order], elements: u16) -> usize {
     let mut room = (elements as usize).saturating_mul(32);
     for order in orders {
-        room = room.saturating_add(order.ops.len().saturating_mul(5));
+        room = room.saturating_add(order.intents.len().saturating_mul(5));
     }
     room
 }
@@ -85,11 +86,11 @@ fn status_of(failed: bool, stalled: bool, status: u8) -> u8
     }
 }
 
-// Prints the lines of the requests that were sent, and what was refused; and gives the engine's disk back.
+// Prints the lines of what was done, and what was refused; and gives the engine's disk back.
 fn close<D: Disk, W: Write, N: Observer>(
     alloc: Global,
     engine: Engine<D>,
-    sent: Vec<Waited>,
+    did: Vec<Did>,
     done: Result<(), Reason>,
     desk: Desk,
     out: &mut W,
@@ -100,7 +101,7 @@ fn close<D: Disk, W: Write, N: Observer>(
         → LeavesNow (D.now result.1) (MeansState engine) }
     ensures printed { result.0 ≡ 0 → (start : Option (List ℕ)) (text : List ℕ)
         → Prints start (W.contents out.old) desk.lines text
-        → Appends start (W.contents out.new) (text ++ finals engine.memory sent.items (length sent.items)) }
+        → Appends start (W.contents out.new) (text ++ finals engine.memory did.items (length did.items)) }
 {
     let Desk {
         bases: _,
@@ -110,7 +111,7 @@ fn close<D: Disk, W: Write, N: Observer>(
     } = desk;
     let failed = engine.failed();
     let done = with_disk(done, failed);
-    let told = print_finals(engine.memory(), sent.as_slice(), &mut line, &mut lines, out);
+    let told = print_finals(engine.memory(), did.as_slice(), &mut line, &mut lines, out);
     let stalled = is_stalled(&done);
     let status = finish(
         alloc,
@@ -157,10 +158,10 @@ fn run_engine<
         Ok(opening) => {
             let Outcome {
                 engine,
-                sent,
+                did,
                 refused,
             } = serve_orders::<D, Brand, G, R>(rt, alloc, opening, orders, gate);
-            close(alloc, engine, sent, reason_of(refused), desk, out, observer)
+            close(alloc, engine, did, reason_of(refused), desk, out, observer)
         }
         Err((_, engine)) => close(
             alloc,
@@ -174,10 +175,11 @@ fn run_engine<
     }
 }
 
-/// Serves a script on the image of a disk, each element's requests by a server of its own, all at once, and gives the
+/// Serves a script, which may have glances, on the image of a disk, each element's requests by a server of its own, all at once, and gives the
 /// disk back. What it prints goes to `out`: the lines `0.N REPLY` of the setup, which is served first; then for each
 /// element from the least its requests in order as `K.N REPLY`, K being its element and N its number, each with its
-/// final entry; and at last `refused N NAME` where something was refused. A request that wasn't sent has no line.
+/// final entry, and among them each glance in its place as `K glance A value V` or `K glance A none`; and at last
+/// `refused N NAME` where something was refused. A request that wasn't sent, or a glance not made, has no line.
 ///
 /// A server waits for what its element asked for, and confirms it as its window fills. The gate is called round each
 /// request. Where the journal is full servers make turns of a checkpoint, beside the thread that keeps them.
@@ -190,7 +192,7 @@ fn run_engine<
 ///
 /// Where the status is 0 or 3, each file that a crash may leave at the return means one memory; where it is 0, the
 /// lines of the elements are all written, and tell the entries that this memory keeps, or what a server was told of an
-/// entry that it confirmed.
+/// entry that it confirmed, and what was seen at glances.
 pub fn run_on<
     D: Disk + Drop + Send,
     W: Write,

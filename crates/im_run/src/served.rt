@@ -9,20 +9,29 @@ use crate::orders::Order;
 use im_controller::{Controller, Name, Opening, Port, finish};
 use im_disk::Disk;
 use im_engine::Engine;
-use im_serving::{Done, Gate, Part, Served, serve_elements};
+use im_serving::{Done, Gate, Glanced, Glances, Part, Served, serve_elements};
 use im_text::Waited;
 use im_types::Refusal;
 use std::alloc::{AllocError, Global};
 use std::sync::Wait;
 use std::thread::Threads;
 
+/// What was done for an element.
+#[derive(Clone, Copy, Debug, PartialEq, Eq)]
+pub enum Did {
+    /// A request was sent; its entry as its server was last told.
+    Sent(Waited),
+    /// The element glanced at the cell at an address; the value, where it was full.
+    Glanced(u16, u32, Option<u64>),
+}
+
 /// What the servers came to.
 #[derive(Drop)]
 pub struct Outcome<D: Disk> {
     /// The engine.
     pub engine: Engine<D>,
-    /// The requests that were sent, by elements and numbers, each with its entry as its server was last told.
-    pub sent: Vec<Waited>,
+    /// What was done, by elements and in the order of each.
+    pub did: Vec<Did>,
     /// The refusal of the least element that has one, `Stalled` only where there is no other.
     pub refused: Option<(u16, Refusal)>,
 }
@@ -31,7 +40,7 @@ pub struct Outcome<D: Disk> {
 #[derive(Drop)]
 struct Notes<K: Name> {
     ports: Vec<Port<K>>,
-    sent: Vec<Waited>,
+    did: Vec<Did>,
     refused: Option<(u16, Refusal)>,
 }
 
@@ -40,7 +49,7 @@ impl<K: Name> Notes<K> {
     fn new(alloc: Global) -> Notes<K> {
         Notes {
             ports: Vec::new(alloc),
-            sent: Vec::new(alloc),
+            did: Vec::new(alloc),
             refused: None,
         }
     }
@@ -55,25 +64,55 @@ impl<K: Name> Notes<K> {
         };
     }
 
-    // Notes the requests that an element's server sent.
-    fn send(&mut self, served: &Served) -> Result<(), AllocError> {
+    // Notes those of an element's glances that were made behind so many requests, and gives the later ones.
+    fn add_glances<'a>(
+        &mut self,
+        element: u16,
+        made: &'a [Glanced],
+        behind: usize,
+    ) -> Result<&'a [Glanced], AllocError> {
+        let mut rest = made;
+        for _ in 0..made.len() {
+            let Some((glanced, later)) = rest.split_first() else {
+                return Ok(rest);
+            };
+            if glanced.behind > behind {
+                return Ok(rest);
+            }
+            self.did
+                .push(Did::Glanced(element, glanced.address, glanced.value))?;
+            rest = later;
+        }
+        Ok(rest)
+    }
+
+    // Notes what was done for an element: its requests that were sent, and its glances in their place among them.
+    fn add(&mut self, served: &Served, made: &[Glanced]) -> Result<(), AllocError> {
         let mut number = served.first;
-        for entry in served.entries.iter() {
-            self.sent.push(Waited {
+        let mut rest = made;
+        for (at, entry) in served.entries.iter().enumerate() {
+            rest = self.add_glances(served.element, rest, at)?;
+            self.did.push(Did::Sent(Waited {
                 element: served.element,
                 number,
                 entry: *entry,
-            })?;
+            }))?;
             number = number.saturating_add(1);
         }
+        let _none = self.add_glances(served.element, rest, served.entries.len())?;
         Ok(())
     }
 
     // Notes what became of an element.
     fn take(&mut self, done: Done<K>) {
-        let Done { port, served, done } = done;
+        let Done {
+            port,
+            served,
+            glances,
+            done,
+        } = done;
         let element = served.element;
-        if self.send(&served).is_err() || self.ports.push(port).is_err() {
+        if self.add(&served, glances.made.as_slice()).is_err() || self.ports.push(port).is_err() {
             self.refuse(element, Refusal::NoMemory);
         }
         if let Err(refusal) = done {
@@ -82,7 +121,7 @@ impl<K: Name> Notes<K> {
     }
 }
 
-// A port for an element, which serves from its next number on.
+// A port for an element, which serves from its next number on, and its reader.
 fn make_part<D: Disk, K: Name, R: Wait>(
     rt: &R,
     alloc: Global,
@@ -93,8 +132,12 @@ fn make_part<D: Disk, K: Name, R: Wait>(
         element,
         base,
         next,
-        ops,
+        intents,
     } = order;
+    let glances = match Glances::new(rt, alloc, controller, element) {
+        Ok(glances) => glances,
+        Err(refusal) => return Err(refusal),
+    };
     let port = match controller.port(rt, element) {
         Ok(port) => port,
         Err(refusal) => return Err(refusal),
@@ -107,11 +150,13 @@ fn make_part<D: Disk, K: Name, R: Wait>(
             base,
             entries: Vec::new(alloc),
         },
-        ops,
+        glances,
+        intents,
     })
 }
 
-// A port for each element that asks for something. An element that isn't there is noted as refused.
+// A port for each element that asks for something. An element that isn't there is noted as refused, and so is one for
+// whose part there is no room: no port is made for it, as one that nobody serves would be waited for.
 fn make_parts<D: Disk, K: Name, R: Wait>(
     rt: &R,
     alloc: Global,
@@ -122,12 +167,12 @@ fn make_parts<D: Disk, K: Name, R: Wait>(
     let mut parts = Vec::new(alloc);
     for order in orders {
         let element = order.element;
+        if parts.reserve(1).is_err() {
+            notes.refuse(element, Refusal::NoMemory);
+            continue;
+        }
         match make_part(rt, alloc, controller, order) {
-            Ok(part) => {
-                if parts.push(part).is_err() {
-                    notes.refuse(element, Refusal::NoMemory);
-                }
-            }
+            Ok(part) => parts.push_reserved(part),
             Err(refusal) => notes.refuse(element, refusal),
         }
     }
@@ -166,12 +211,12 @@ pub fn serve_orders<
     }
     let Notes {
         ports,
-        sent,
+        did,
         refused,
     } = notes;
     Outcome {
         engine: finish(rt, controller, ports).engine,
-        sent,
+        did,
         refused,
     }
 }

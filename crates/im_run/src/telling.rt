@@ -1,8 +1,11 @@
-//! What is printed of the requests that were sent.
-ghost use Rattle.std.specs.Prelude.{◌≡◌, ℕ, OnOk, length, slice_get, string_bytes};
+//! What is printed of what was done.
+ghost use Rattle.std.specs.Prelude.{◌≡◌, ◌++◌, ℕ, OnOk, length, slice_get, string_bytes};
+ghost use Rattle.std.specs.Prelude.{Some};
 ghost use Rattle.im_text.specs.Printing.{PrintsMore};
-ghost use Rattle.im_run.specs.Running.{final, final_line, finals};
+ghost use Rattle.im_run.specs.declared.served.Did.TheVariants.{Sent};
+ghost use Rattle.im_run.specs.Running.{final, final_line, finals, glance_line, seen_text};
 
+use crate::served::Did;
 use im_memory::Memory;
 use im_text::{Lines, Reason, Waited, make_line};
 use im_types::Entry;
@@ -19,57 +22,90 @@ fn final_entry(memory: &Memory, sent: Waited) -> Entry
     }
 }
 
-// The request at a place.
-fn sent_at(sent: &[Waited], at: usize) -> Option<Waited>
-    ensures { result ≡ slice_get sent.now at }
+// What was done at a place.
+fn did_at(did: &[Did], at: usize) -> Option<Did>
+    ensures { result ≡ slice_get did.now at }
 {
-    sent.get(at).copied()
+    did.get(at).copied()
 }
 
-// Makes the line of a request with its final entry, if there is one.
-fn make_final(line: &mut String, memory: &Memory, sent: Option<Waited>) -> Result<(), AllocError>
-    ensures { OnOk result (string_bytes line.new ≡ final_line memory.now.contents sent) }
+// Adds what was seen of a cell.
+fn add_seen(line: &mut String, value: Option<u64>) -> Result<(), AllocError>
+    ensures { OnOk result (string_bytes line.new ≡ string_bytes line.old ++ seen_text value) }
 {
-    line.clear();
-    match sent {
-        Some(sent) => {
-            let entry = final_entry(memory, sent);
-            make_line(line, sent.element, sent.number, entry)
-        }
-        None => Ok(()),
+    match value {
+        Some(value) => write!(line, "value {value}"),
+        None => line.push_str("none"),
     }
 }
 
-// Prints the line of a request with its final entry.
+// Makes the line of a glance.
+fn make_glance(
+    line: &mut String,
+    element: u16,
+    address: u32,
+    value: Option<u64>,
+) -> Result<(), AllocError>
+    ensures { OnOk result (string_bytes line.new ≡ glance_line element address value) }
+{
+    line.clear();
+    write!(line, "{element} glance {address} ")?;
+    add_seen(line, value)?;
+    line.push_str("\n")
+}
+
+// Makes the line of a request with its final entry.
+fn make_sent(line: &mut String, memory: &Memory, sent: Waited) -> Result<(), AllocError>
+    ensures { OnOk result (string_bytes line.new ≡ final_line memory.now.contents (Some (Sent sent))) }
+{
+    let entry = final_entry(memory, sent);
+    make_line(line, sent.element, sent.number, entry)
+}
+
+// Makes the line of what was done, if there is something.
+fn make_final(line: &mut String, memory: &Memory, did: Option<Did>) -> Result<(), AllocError>
+    ensures { OnOk result (string_bytes line.new ≡ final_line memory.now.contents did) }
+{
+    match did {
+        Some(Did::Sent(sent)) => make_sent(line, memory, sent),
+        Some(Did::Glanced(element, address, value)) => make_glance(line, element, address, value),
+        None => {
+            line.clear();
+            Ok(())
+        }
+    }
+}
+
+// Prints the line of what was done, a request's with its final entry.
 fn print_final<W: Write>(
     memory: &Memory,
-    sent: Option<Waited>,
+    did: Option<Did>,
     line: &mut String,
     lines: &mut Lines,
     out: &mut W,
 ) -> Result<(), Reason>
     ensures more { OnOk result (PrintsMore (W.contents out.old) lines.old (W.contents out.new) lines.new
-        (final_line memory.now.contents sent)) }
+        (final_line memory.now.contents did)) }
 {
-    match make_final(line, memory, sent) {
+    match make_final(line, memory, did) {
         Ok(()) => lines.push(out, line.as_str()),
         Err(_) => Err(Reason::Memory),
     }
 }
 
-/// Prints the line of each request that was sent, with its final entry.
+/// Prints the line of each request that was sent, with its final entry, and of each glance.
 pub fn print_finals<W: Write>(
     memory: &Memory,
-    sent: &[Waited],
+    did: &[Did],
     line: &mut String,
     lines: &mut Lines,
     out: &mut W,
 ) -> Result<(), Reason>
     ensures all { OnOk result (PrintsMore (W.contents out.old) lines.old (W.contents out.new) lines.new
-        (finals memory.now.contents sent.now (length sent.now))) }
+        (finals memory.now.contents did.now (length did.now))) }
 {
-    for at in 0..sent.len() {
-        match print_final(memory, sent_at(sent, at), line, lines, out) {
+    for at in 0..did.len() {
+        match print_final(memory, did_at(did, at), line, lines, out) {
             Ok(()) => {}
             Err(reason) => return Err(reason),
         }

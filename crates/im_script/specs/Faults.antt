@@ -1,10 +1,10 @@
 -- Which line of a text isn't in the grammar. (Own.)
-use Rattle.std.specs.Prelude.{◌≡◌, ℕ, ◌+◌, List, ◌∷◌, ◌++◌, Option, Some, None, length}
+use Rattle.std.specs.Prelude.{◌≡◌, Bool, ℕ, ◌+◌, List, ◌∷◌, ◌++◌, Option, Some, None, length}
 use Rattle.im_types.specs.declared.refusals.Refusal.{Refusal}
 use Rattle.im_types.specs.declared.refusals.Refusal.TheVariants as refusal
 use Rattle.im_script.specs.declared.faults.ScriptFault.{ScriptFault}
 use Rattle.im_script.specs.declared.faults.ScriptFault.TheVariants.{NoMemory, BadLine}
-use Rattle.im_script.specs.Script.{Draft, counted, lines_after, lines_of, new_draft}
+use Rattle.im_script.specs.Script.{Draft, heard, lines_after, lines_of, new_draft}
 
 -- the number of the line that a fault tells, from 1
 abbrev pub line_of : ScriptFault → Option ℕ
@@ -16,13 +16,13 @@ abbrev pub refusal_of : ScriptFault → Refusal
 refusal_of NoMemory = refusal.NoMemory
 refusal_of (BadLine line fault) = refusal.BadScript
 
--- line n of a text, from 1, isn't in the grammar where it stands, and each line before it is
-pub record IsFirstFault (text : List ℕ) (n : ℕ) : Type 0 where
+-- line n of a text, from 1, isn't in the grammar where it stands, and each line before it is; with glances, or without
+pub record IsFirstFault (glances : Bool) (text : List ℕ) (n : ℕ) : Type 0 where
   pub before : List (List ℕ)
   pub line : List ℕ
   pub rest : List (List ℕ)
   pub lines : lines_of text ≡ before ++ line ∷ rest
   pub number : n ≡ length before + 1
   pub draft : Draft  -- what the lines before it say
-  pub read : lines_after new_draft before ≡ Some draft
-  pub bad : counted draft line ≡ None
+  pub read : lines_after glances new_draft before ≡ Some draft
+  pub bad : heard glances draft line ≡ None

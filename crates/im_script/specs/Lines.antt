@@ -36,6 +36,11 @@ action_of names (word ∷ place ∷ []) = option_and_then (plain_action word) (p
 action_of names (word ∷ first ∷ second ∷ []) = action_past names word first second
 action_of names _ = None
 
+-- glance PLACE, a line of a part where glances may stand: the place
+abbrev pub glanced : List (List ℕ) → List (List ℕ) → Option Place
+glanced names (word ∷ place ∷ []) = if bytes_eq word (codes "glance") then place_of names place else None
+glanced names _ = None
+
 -- alloc NAME KIND LEN, a line of the setup: the name, which was not given before, and the block
 abbrev pub named_block : List (List ℕ) → List (List ℕ) → Option (List ℕ × Allocation)
 named_block names (word ∷ name ∷ kind ∷ len ∷ []) =

@@ -1,17 +1,19 @@
 -- The grammar of scripts: what a text says, line by line. (Own.)
-use Rattle.std.specs.Prelude.{⊤, ◌≡◌, ℕ, ◌==◌, List, [], ◌∷◌, ◌++◌, Option, Some, None, Result, Ok, Err, if◌then◌else◌, slice_index_or}
+use Rattle.std.specs.Prelude.{⊤, ◌≡◌, ℕ, ◌==◌, ◌&&◌, Bool, List, [], ◌∷◌, ◌++◌, Option, Some, None, Result, Ok, Err, if◌then◌else◌, slice_index_or}
 use Rattle.std.specs.Char.{is_ascii}
 use Rattle.std.specs.List.{list_all, slice_split}
-use Rattle.std.specs.Option.{option_map, option_and_then, option_map_or}
+use Rattle.std.specs.Option.{option_map, option_and_then, option_map_or, option_or}
 use Rattle.im_types.specs.declared.refusals.Refusal.{Refusal}
 use Rattle.im_types.specs.declared.refusals.Refusal.TheVariants.{BadScript, NoMemory}
 use Rattle.im_script.specs.declared.script.Said.{Said}
 use Rattle.im_script.specs.declared.script.Said.TheVariants.{Nothing, Block, Begins, Asks}
+use Rattle.im_script.specs.declared.script.Heard.{Heard}
+use Rattle.im_script.specs.declared.script.Heard.TheVariants.{Says, Glances}
 use Rattle.im_script.specs.declared.script.Reader.{Reader}
 use Rattle.im_script.specs.declared.script.Stage.{Stage}
 use Rattle.im_script.specs.declared.script.Stage.TheVariants.{Start, Setup, Part}
 use Rattle.im_script.specs.Grammar.{texts, words_of, number_up_to}
-use Rattle.im_script.specs.Lines.{action_of, named_block, part_number, starts_setup}
+use Rattle.im_script.specs.Lines.{action_of, glanced, named_block, part_number, starts_setup}
 
 -- where the next line stands, and the names that the setup gave before it
 pub record Draft : Type 0 where
@@ -63,25 +65,40 @@ words_after d (word ∷ words) = if slice_index_or word 0 0 == 35 then Some (d, 
 abbrev pub counted : Draft → List ℕ → Option (Draft × Said)
 counted d line = if list_all is_ascii line then words_after d (words_of line) else None
 
+-- ---- one line of a script that may have glances
+
+-- a glance, which stands in a part
+abbrev pub glance_at : Draft → Stage → List (List ℕ) → Option Heard
+glance_at d (Part k) words = option_map (Glances k) (glanced d.names words)
+glance_at d _ words = None
+
+-- a line that glances, which has to be ASCII
+abbrev pub glance_of : Draft → List ℕ → Option Heard
+glance_of d line = if list_all is_ascii line then glance_at d d.stage (words_of line) else None
+
+-- a line: a glance, where there may be one, or what stands in any script
+abbrev pub heard : Bool → Draft → List ℕ → Option (Draft × Heard)
+heard glances d line = option_or (option_map (λ h. (d, h)) (if glances then glance_of d line else None)) (option_map (λ r. (r.0, Says r.1)) (counted d line))
+
 -- ---- all lines
 
--- what these lines say, one after another, if each is in the grammar where it stands
-abbrev pub lines_say : Draft → List (List ℕ) → Option (List Said)
-lines_say d [] = Some []
-lines_say d (line ∷ lines) = option_and_then (λ r. option_map (λ rest. r.1 ∷ rest) (lines_say r.0 lines)) (counted d line)
+-- what these lines say, one after another, if each is in the grammar where it stands; with glances, or without
+abbrev pub lines_say : Bool → Draft → List (List ℕ) → Option (List Heard)
+lines_say glances d [] = Some []
+lines_say glances d (line ∷ lines) = option_and_then (λ r. option_map (λ rest. r.1 ∷ rest) (lines_say glances r.0 lines)) (heard glances d line)
 
 -- and where the next line stands then
-abbrev pub lines_after : Draft → List (List ℕ) → Option Draft
-lines_after d [] = Some d
-lines_after d (line ∷ lines) = option_and_then (λ r. lines_after r.0 lines) (counted d line)
+abbrev pub lines_after : Bool → Draft → List (List ℕ) → Option Draft
+lines_after glances d [] = Some d
+lines_after glances d (line ∷ lines) = option_and_then (λ r. lines_after glances r.0 lines) (heard glances d line)
 
 -- the lines of a text, between line feeds
 abbrev pub lines_of : List ℕ → List (List ℕ)
 lines_of text = slice_split (λ byte. byte == 10) text
 
--- the script that a text is, by what each line says, if it is one
-abbrev pub script_of : List ℕ → Option (List Said)
-script_of text = lines_say new_draft (lines_of text)
+-- the script that a text is, by what each line says, if it is one; with glances, or without
+abbrev pub script_of : Bool → List ℕ → Option (List Heard)
+script_of glances text = lines_say glances new_draft (lines_of text)
 
 -- ---- what a reading function answers
 
@@ -91,3 +108,10 @@ Follows (Ok said) next new = next ≡ Some (new, said)
 Follows (Err BadScript) next new = next ≡ None
 Follows (Err NoMemory) next new = ⊤
 Follows (Err _) next new = ⊥
+
+-- the same of a script that may have glances
+abbrev pub Hears : Result Heard Refusal → Option (Draft × Heard) → Draft → Type 0
+Hears (Ok said) next new = next ≡ Some (new, said)
+Hears (Err BadScript) next new = next ≡ None
+Hears (Err NoMemory) next new = ⊤
+Hears (Err _) next new = ⊥

@@ -7,12 +7,18 @@ use crate::grammar::{
 use crate::script::{LAST_ELEMENT, Stage};
 use indexmap::IndexSet;
 
-/// What a line begins with, by where it stands.
-fn beginning(stage: Stage) -> Expected {
+/// What a line begins with, by where it stands and whether a glance may stand there.
+fn beginning(stage: Stage, glances: bool) -> Expected {
     match stage {
         Stage::Start => Expected::Start,
         Stage::Setup => Expected::Setup,
-        Stage::Part(_) => Expected::Request,
+        Stage::Part(_) => {
+            if glances {
+                Expected::RequestOrGlance
+            } else {
+                Expected::Request
+            }
+        }
     }
 }
 
@@ -32,8 +38,17 @@ fn behind_request(word: &[u8]) -> Option<&'static [Expected]> {
     }
 }
 
+/// What a line of a part has behind its first word. `None` where none begins with the word.
+fn behind_in_part(word: &[u8], glances: bool) -> Option<&'static [Expected]> {
+    if glances && word == b"glance".as_slice() {
+        Some(&[Expected::Place])
+    } else {
+        behind_request(word)
+    }
+}
+
 /// What a line has behind its first word. `None` where no line begins with the word where it stands.
-fn behind(stage: Stage, word: &[u8]) -> Option<&'static [Expected]> {
+fn behind(stage: Stage, word: &[u8], glances: bool) -> Option<&'static [Expected]> {
     if word == b"element".as_slice() {
         return Some(&[Expected::Element]);
     }
@@ -42,7 +57,7 @@ fn behind(stage: Stage, word: &[u8]) -> Option<&'static [Expected]> {
         Stage::Setup if word == b"alloc".as_slice() => {
             Some(&[Expected::Name, Expected::Kind, Expected::Length])
         }
-        Stage::Part(_) => behind_request(word),
+        Stage::Part(_) => behind_in_part(word, glances),
         _ => None,
     }
 }
@@ -99,18 +114,19 @@ fn rest_fault(names: &IndexSet<&[u8]>, words: &[&[u8]], expected: &[Expected]) -
     }
 }
 
-/// Where a line goes wrong that is refused where it stands, by its words and the names that were given before.
-pub fn explain(stage: Stage, names: &IndexSet<&[u8]>, words: &[&[u8]]) -> LineFault {
+/// Where a line goes wrong that is refused where it stands, by its words and the names that were given before, and by
+/// whether glances may stand in the script.
+pub fn explain(stage: Stage, names: &IndexSet<&[u8]>, words: &[&[u8]], glances: bool) -> LineFault {
     for word in words {
         if !is_plain(word) {
             return LineFault::Word(Quoted::of(word), Expected::Ascii);
         }
     }
     let Some((first, rest)) = words.split_first() else {
-        return LineFault::Ends(beginning(stage));
+        return LineFault::Ends(beginning(stage, glances));
     };
-    match behind(stage, first) {
+    match behind(stage, first, glances) {
         Some(expected) => rest_fault(names, rest, expected),
-        None => LineFault::Word(Quoted::of(first), beginning(stage)),
+        None => LineFault::Word(Quoted::of(first), beginning(stage, glances)),
     }
 }

@@ -18,6 +18,8 @@ pub enum Expected {
     Setup,
     /// The first word of a line of a part.
     Request,
+    /// The first word of a line of a part where glances may stand.
+    RequestOrGlance,
     /// The number of an element.
     Element,
     /// A name.
@@ -46,6 +48,9 @@ impl Expected {
             Expected::Start => "setup or element",
             Expected::Setup => "alloc or element",
             Expected::Request => "element, alloc, fetch, store, take, put or release",
+            Expected::RequestOrGlance => {
+                "element, alloc, fetch, store, take, put, release or glance"
+            }
             Expected::Element => "an element's number from 0 to 63",
             Expected::Name => "a name of 1 to 16 characters a to z and 0 to 9, the first a letter",
             Expected::NewName => "a name that is not given yet",

@@ -12,7 +12,10 @@ pub use faults::{Expected, LineFault, Quoted, ScriptFault};
 pub use grammar::{is_plain, read_number, read_u32, split_words};
 pub use lines::read_action;
 pub use places::{Action, Place};
-pub use script::{Allocation, Reader, Said, Script, ScriptLine, read_script, split_line};
+pub use script::{
+    Allocation, Heard, Reader, Said, Script, ScriptLine, read_script, read_script_with_glances,
+    split_line,
+};
 
 /// The most bytes of a name.
 pub const MAX_NAME: usize = 16;

@@ -4,8 +4,8 @@ ghost use Rattle.std.specs.List.{list_any};
 ghost use Rattle.std.specs.Option.{option_map};
 ghost use Rattle.std.specs.Str.{bytes_eq};
 ghost use Rattle.im_script.specs.Grammar.{texts};
-ghost use Rattle.im_script.specs.Lines.{action_of, action_past, block_of, named_block, part_number, plain_action};
-ghost use Rattle.im_script.specs.Lines.{starts_setup, valued_action};
+ghost use Rattle.im_script.specs.Lines.{action_of, action_past, block_of, glanced, named_block, part_number};
+ghost use Rattle.im_script.specs.Lines.{plain_action, starts_setup, valued_action};
 
 use crate::grammar::{can_name, find_name, read_kind, read_number, read_place, read_u32};
 use crate::places::{Action, Place};
@@ -69,6 +69,22 @@ pub fn read_action(names: &IndexSet<&[u8]>, words: &[&[u8]]) -> Option<Action>
     match words {
         [word, place] => read_plain(word, read_place(names, place)?),
         [word, first, second] => read_long(names, word, first, second),
+        _ => None,
+    }
+}
+
+/// The cell of a glance: a line of a part where glances may stand.
+pub fn read_glance(names: &IndexSet<&[u8]>, words: &[&[u8]]) -> Option<Place>
+    ensures { result ≡ glanced (texts names.now.keys) (texts words.now) }
+{
+    match words {
+        [word, place] => {
+            if *word == b"glance".as_slice() {
+                read_place(names, place)
+            } else {
+                None
+            }
+        }
         _ => None,
     }
 }

@@ -1,5 +1,6 @@
 //! Scripts, read line by line.
 ghost use Rattle.std.specs.Prelude.{◌≡◌, ◌⊎◌, ◌∷◌, [], ℕ, List, None, Some, IfOk, IfErr, IfSome, IsSome, OnOk};
+ghost use Rattle.std.specs.Prelude.{false, true};
 ghost use Rattle.im_script.specs.declared.faults.ScriptFault.TheVariants.{NoMemory};
 ghost use Rattle.im_script.specs.Faults.{IsFirstFault, line_of};
 ghost use Rattle.std.specs.Option.{option_map_or};
@@ -8,11 +9,11 @@ ghost use Rattle.im_script.specs.Script.{lines_of, script_of};
 use crate::explaining::explain;
 use crate::faults::ScriptFault;
 use crate::grammar::{is_plain, read_number, split_words};
-use crate::lines::{is_setup, read_action, read_named_block, read_part};
-use crate::places::Action;
+use crate::lines::{is_setup, read_action, read_glance, read_named_block, read_part};
+use crate::places::{Action, Place};
 use im_types::{Kind, Refusal};
 use indexmap::IndexSet;
-use std::alloc::Global;
+use std::alloc::{AllocError, Global};
 use std::marker::Model;
 
 /// The most that an element's number is in a script.
@@ -49,7 +50,16 @@ pub enum Said {
     Asks(ScriptLine),
 }
 
-/// A text that is a script: each of its lines is in the grammar where it stands. It borrows the text, and keeps nothing
+/// What a line says of a script that may have glances.
+#[derive(Clone, Copy, Debug, PartialEq, Eq)]
+pub enum Heard {
+    /// What a line of any script says.
+    Says(Said),
+    /// The element reads the cell at this place, and waits for nobody.
+    Glances(u16, Place),
+}
+
+/// A text that is a script, with glances or without: each of its lines is in the grammar where it stands. It borrows the text, and keeps nothing
 /// of it.
 #[derive(Debug, Drop)]
 pub struct Script<'a> {
@@ -93,8 +103,10 @@ pub struct Reader<'a> {
 
 impl<'a> Reader<'a> {
     ghost use Rattle.im_script.specs.Grammar.{texts};
-    ghost use Rattle.im_script.specs.Script.{Follows, asked, begun_part, begun_setup, counted, draft_of, line_after};
-    ghost use Rattle.im_script.specs.Script.{named, new_draft};
+    ghost use Rattle.im_script.specs.declared.script.Heard.TheVariants.{Says};
+    ghost use Rattle.std.specs.Option.{option_map};
+    ghost use Rattle.im_script.specs.Script.{Follows, Hears, asked, begun_part, begun_setup, counted, draft_of};
+    ghost use Rattle.im_script.specs.Script.{glance_at, glance_of, heard, line_after, named, new_draft};
 
     /// Nothing was read.
     pub fn new(alloc: Global) -> Reader<'a>
@@ -179,14 +191,14 @@ impl<'a> Reader<'a> {
         self.read_words(words.as_slice())
     }
 
-    /// The fault of the line with this number, which was refused.
-    fn fault(&self, alloc: Global, line: usize, text: &'a [u8]) -> ScriptFault
+    /// The fault of the line with this number, which was refused, in a script that may have glances or not.
+    fn fault(&self, alloc: Global, line: usize, text: &'a [u8], glances: bool) -> ScriptFault
         ensures { IfSome (line_of result) (λ number. number ≡ line) }
     {
         match split_words(alloc, text) {
             Ok(words) => ScriptFault::BadLine {
                 line,
-                fault: explain(self.stage, &self.names, words.as_slice()),
+                fault: explain(self.stage, &self.names, words.as_slice(), glances),
             },
             Err(_) => ScriptFault::NoMemory,
         }
@@ -207,9 +219,93 @@ impl<'a> Reader<'a> {
     {
         match self.read_line(alloc, line) {
             Ok(said) => Ok(said),
-            Err(Refusal::BadScript) => Err(self.fault(alloc, number, line)),
+            Err(Refusal::BadScript) => Err(self.fault(alloc, number, line, false)),
             Err(_) => Err(ScriptFault::NoMemory),
         }
+    }
+
+    /// The glance that words are, where they stand.
+    fn glance(&self, words: &[&'a [u8]]) -> Option<Heard>
+        ensures { result ≡ glance_at (draft_of self.now) self.now.stage (texts words.now) }
+    {
+        let Stage::Part(element) = self.stage else {
+            return None;
+        };
+        match read_glance(&self.names, words) {
+            Some(place) => Some(Heard::Glances(element, place)),
+            None => None,
+        }
+    }
+
+    /// The glance that a line is, where it stands.
+    fn find_glance(&self, alloc: Global, line: &'a [u8]) -> Result<Option<Heard>, AllocError>
+        ensures { IfOk result (λ found. found ≡ glance_of (draft_of self.now) line.entry.now) }
+    {
+        if !is_plain(line) {
+            return Ok(None);
+        }
+        let words = split_words(alloc, line)?;
+        Ok(self.glance(words.as_slice()))
+    }
+
+    /// Reads a line that isn't a glance.
+    fn hear_said(&mut self, alloc: Global, line: &'a [u8]) -> Result<Heard, Refusal>
+        ensures { Hears result (option_map (λ r. (r.0, Says r.1)) (counted (draft_of self.old) line.entry.now))
+            (draft_of self.new) }
+    {
+        match self.read_line(alloc, line) {
+            Ok(said) => Ok(Heard::Says(said)),
+            Err(refusal) => Err(refusal),
+        }
+    }
+
+    /// Reads a line of a script that may have glances or not.
+    fn hear_line(&mut self, alloc: Global, line: &'a [u8], glances: bool) -> Result<Heard, Refusal>
+        ensures { Hears result (heard glances (draft_of self.old) line.entry.now) (draft_of self.new) }
+    {
+        if !glances {
+            return self.hear_said(alloc, line);
+        }
+        match self.find_glance(alloc, line) {
+            Ok(Some(glance)) => Ok(glance),
+            Ok(None) => self.hear_said(alloc, line),
+            Err(_) => Err(Refusal::NoMemory),
+        }
+    }
+
+    /// Reads the line with this number of a script that may have glances or not.
+    fn hear(
+        &mut self,
+        alloc: Global,
+        number: usize,
+        line: &'a [u8],
+        glances: bool,
+    ) -> Result<Heard, ScriptFault>
+        ensures ok { IfOk result (λ said. heard glances (draft_of self.old) line.entry.now
+            ≡ Some (draft_of self.new, said)) }
+        ensures bad { IfErr result (λ fault. IfSome (line_of fault)
+            (λ at. (at ≡ number) × (heard glances (draft_of self.old) line.entry.now ≡ None))) }
+    {
+        match self.hear_line(alloc, line, glances) {
+            Ok(said) => Ok(said),
+            Err(Refusal::BadScript) => Err(self.fault(alloc, number, line, glances)),
+            Err(_) => Err(ScriptFault::NoMemory),
+        }
+    }
+
+    /// Reads the line with this number, from 1, of a script that may have glances, as [`Reader::read`] does.
+    pub fn read_with_glances(
+        &mut self,
+        alloc: Global,
+        number: usize,
+        line: &'a [u8],
+    ) -> Result<Heard, ScriptFault>
+        ensures ok { IfOk result (λ said. heard true (draft_of self.old) line.entry.now
+            ≡ Some (draft_of self.new, said)) }
+        ensures bad { IfErr result (λ fault. IfSome (line_of fault)
+            (λ at. (at ≡ number) × (heard true (draft_of self.old) line.entry.now ≡ None))) }
+    {
+        self.hear(alloc, number, line, true)
     }
 }
 
@@ -225,19 +321,41 @@ pub fn split_line(text: &[u8]) -> (&[u8], Option<&[u8]>)
     (text, None)
 }
 
-/// Reads a text, and answers that it is a script. The fault of a text that is none is its first line that isn't in the
-/// grammar where it stands; `NoMemory` comes where a growth was refused. Beside the setup's names no memory is kept.
-pub fn read_script(alloc: Global, text: &[u8]) -> Result<Script<'_>, ScriptFault>
+/// Reads a text that may have glances or not.
+fn read_lines(alloc: Global, text: &[u8], glances: bool) -> Result<Script<'_>, ScriptFault>
     ensures text { IfOk result (λ script. script ≡ text.now) }
-    ensures ok { OnOk result (IsSome (script_of text.now)) }
-    ensures bad { IfErr result (λ fault. (fault ≡ NoMemory) ⊎ (script_of text.now ≡ None)) }
-    ensures first { IfErr result (λ fault. IfSome (line_of fault) (IsFirstFault text.now)) }
+    ensures ok { OnOk result (IsSome (script_of glances text.now)) }
+    ensures bad { IfErr result (λ fault. (fault ≡ NoMemory) ⊎ (script_of glances text.now ≡ None)) }
+    ensures first { IfErr result (λ fault. IfSome (line_of fault) (IsFirstFault glances text.now)) }
 {
     let mut reader = Reader::new(alloc);
     let mut number = 0;
     for line in text.split(|byte| *byte == b'\n') {
         number += 1;
-        reader.read(alloc, number, line)?;
+        reader.hear(alloc, number, line, glances)?;
     }
     Ok(Script { text })
+}
+
+/// Reads a text, and answers that it is a script without glances. The fault of a text that is none is its first line
+/// that isn't in the grammar where it stands; `NoMemory` comes where a growth was refused. Beside the setup's names no
+/// memory is kept.
+pub fn read_script(alloc: Global, text: &[u8]) -> Result<Script<'_>, ScriptFault>
+    ensures text { IfOk result (λ script. script ≡ text.now) }
+    ensures ok { OnOk result (IsSome (script_of false text.now)) }
+    ensures bad { IfErr result (λ fault. (fault ≡ NoMemory) ⊎ (script_of false text.now ≡ None)) }
+    ensures first { IfErr result (λ fault. IfSome (line_of fault) (IsFirstFault false text.now)) }
+{
+    read_lines(alloc, text, false)
+}
+
+/// Reads a text, and answers that it is a script, which may have glances: the line `glance PLACE` may stand in a part.
+/// All else is as [`read_script`] has it.
+pub fn read_script_with_glances(alloc: Global, text: &[u8]) -> Result<Script<'_>, ScriptFault>
+    ensures text { IfOk result (λ script. script ≡ text.now) }
+    ensures ok { OnOk result (IsSome (script_of true text.now)) }
+    ensures bad { IfErr result (λ fault. (fault ≡ NoMemory) ⊎ (script_of true text.now ≡ None)) }
+    ensures first { IfErr result (λ fault. IfSome (line_of fault) (IsFirstFault true text.now)) }
+{
+    read_lines(alloc, text, true)
 }

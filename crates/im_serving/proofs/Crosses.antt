@@ -23,7 +23,9 @@ use Rattle.im_pipes.specs.contracts.ends.Inlet as Inlet
 use Rattle.im_pipes.specs.contracts.ends.Outlet as Outlet
 use Rattle.im_pipes.proofs.ends.Inlet.TheSendSync as inlet
 use Rattle.im_pipes.proofs.ends.Outlet.TheSendSync as outlet
-use Rattle.im_types.specs.contracts.operations.Op as Op
+use Rattle.im_serving.specs.contracts.intent.Intent as Intent
+use Rattle.im_serving.specs.contracts.glances.Glances as Glances
+use Rattle.im_glass.proofs.glance.Glance.TheSendSync.{the_send as glance_send}
 use Rattle.im_controller.specs.contracts.turns.Turns as Turns
 use Rattle.im_controller.specs.contracts.bell.Bell as Bell
 use Rattle.im_controller.specs.contracts.controller.Controller as Controller
@@ -57,6 +59,9 @@ module _ (K : RattleType) (n : name.Ghosts K.Denot) where
   pub Port-send : IsSend (Port.the_field K n).row
   Port-send = let t = Tally-send in search (sendable, crosses) depth 40 fits 30000
 
+  pub Glances-send : IsSend (Glances.the_field K n).row
+  Glances-send = search (sendable, crosses, glance_send) depth 40 fits 30000
+
 pub Served-send : IsSend Served.the_field.row
 Served-send = search (sendable, crosses) depth 40
 
@@ -88,14 +93,17 @@ module _ (K : RattleType) (n : name.Ghosts K.Denot) where
   pub Port-row-send : IsSend (Port.the_row K n)
   Port-row-send = let p = Port-send K n in search sendable depth 20
 
+  pub Glances-row-send : IsSend (Glances.the_row K n)
+  Glances-row-send = let s = Glances-send K n in search sendable depth 20
+
 pub Served-row-send : IsSend Served.the_row
 Served-row-send = let s = Served-send in search sendable depth 20
 
-pub Op-row-send : IsSend Op.the_row
-Op-row-send = search sendable depth 20
+pub Intent-row-send : IsSend Intent.the_row
+Intent-row-send = search sendable depth 20
 
-pub Outlet-row-send : IsSend (Outlet.the_row Op.the_row)
-Outlet-row-send = outlet.the_send Op.the_row Op-row-send
+pub Outlet-row-send : IsSend (Outlet.the_row Intent.the_row)
+Outlet-row-send = outlet.the_send Intent.the_row Intent-row-send
 
-pub Inlet-row-send : IsSend (Inlet.the_row Op.the_row)
-Inlet-row-send = inlet.the_send Op.the_row Op-row-send
+pub Inlet-row-send : IsSend (Inlet.the_row Intent.the_row)
+Inlet-row-send = inlet.the_send Intent.the_row Intent-row-send

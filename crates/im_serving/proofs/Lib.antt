@@ -1,2 +1,3 @@
 pub mod SendLemmas
 pub mod Crosses
+pub mod GlanceLemmas

@@ -2,8 +2,8 @@
 use Rattle.std.proofs.Common.{◌≡◌, ℕ, List, ◌++◌, ap, ◌∙◌}
 use Rattle.std.specs.Prelude.{take, drop}
 use Rattle.std.proofs.lemmas.List.{take-append-drop}
-use Rattle.im_types.specs.declared.operations.Op.{Op}
+use Rattle.im_serving.specs.declared.intent.Intent.{Intent}
 use mathlib.Core.List.{IsPrefix}
 
-pub is_beginning : (k : ℕ) (xs ys : List Op) → ys ≡ take k xs → IsPrefix ys xs
+pub is_beginning : (k : ℕ) (xs ys : List Intent) → ys ≡ take k xs → IsPrefix ys xs
 is_beginning k xs ys e = (drop k xs, ap (λ zs. zs ++ drop k xs) e ∙ take-append-drop k xs)

@@ -2,12 +2,14 @@
 ghost use Rattle.std.specs.Prelude.{◌≡◌, [], false};
 
 use crate::gate::Gate;
+use crate::glances::Glances;
+use crate::intent::Intent;
 use crate::sender::send_all;
 use crate::server::{Served, serve_element};
 use im_controller::{Controller, Name, Port};
 use im_disk::Disk;
 use im_pipes::{Inlet, Outlet, pipe};
-use im_types::{Op, Refusal};
+use im_types::Refusal;
 use std::alloc::{AllocError, Global};
 use std::sync::Wait;
 use std::thread;
@@ -16,15 +18,17 @@ use std::thread::{JoinHandle, Scope, Threads};
 /// How many messages a pipe holds.
 pub const PIPE: usize = 8;
 
-/// An element's port, what is known of its numbers, and what it is to serve.
+/// An element's port, what is known of its numbers, its reader, and what it is to serve.
 #[derive(Drop)]
 pub struct Part<K: Name> {
     /// The port.
     pub port: Port<K>,
     /// Its numbers.
     pub served: Served,
-    /// The operations, in their order.
-    pub ops: Vec<Op>,
+    /// Its reader.
+    pub glances: Glances<K>,
+    /// What it asks for, in its order.
+    pub intents: Vec<Intent>,
 }
 
 /// A port that has served, with what its requests came to, and what was refused, if anything was.
@@ -34,6 +38,8 @@ pub struct Done<K: Name> {
     pub port: Port<K>,
     /// Its numbers and entries.
     pub served: Served,
+    /// Its glances.
+    pub glances: Glances<K>,
     /// What ended it, if not the last of its operations.
     pub done: Result<(), Refusal>,
 }
@@ -52,23 +58,38 @@ fn serve_part<D: Disk, K: Name, G: Gate, R: Wait>(
     gate: &G,
     port: Port<K>,
     served: Served,
-    outlet: Outlet<Op>,
+    glances: Glances<K>,
+    outlet: Outlet<Intent>,
 ) -> Done<K>
     requires { outlet.ended ≡ false }
     ensures element { result.port.element ≡ port.element }
 {
     let mut port = port;
     let mut served = served;
+    let mut glances = glances;
     let mut outlet = outlet;
-    let done = serve_element(rt, controller, &mut port, &mut served, &mut outlet, gate);
-    Done { port, served, done }
+    let done = serve_element(
+        rt,
+        controller,
+        &mut port,
+        &mut served,
+        &mut glances,
+        &mut outlet,
+        gate,
+    );
+    Done {
+        port,
+        served,
+        glances,
+        done,
+    }
 }
 
-// Sends an element's operations.
-fn send_ops<R: Wait>(rt: &R, inlet: Inlet<Op>, ops: Vec<Op>)
+// Sends what an element asks for.
+fn send_intents<R: Wait>(rt: &R, inlet: Inlet<Intent>, intents: Vec<Intent>)
     requires { inlet.items ≡ [] }
 {
-    let _finished = send_all(rt, inlet, ops.as_slice());
+    let _finished = send_all(rt, inlet, intents.as_slice());
 }
 
 // The end of an element that wasn't served for want of memory or of a thread.
@@ -76,11 +97,13 @@ fn refuse<K: Name>(done: Done<K>) -> Done<K> {
     let Done {
         port,
         served,
+        glances,
         done: _,
     } = done;
     Done {
         port,
         served,
+        glances,
         done: Err(Refusal::NoMemory),
     }
 }
@@ -105,19 +128,23 @@ fn begin<
     let Part {
         mut port,
         served,
-        ops,
+        glances,
+        intents,
     } = part;
     let Ok((inlet, outlet)) = pipe(alloc, PIPE) else {
         port.retire(rt, controller);
         return Running::Ended(Done {
             port,
             served,
+            glances,
             done: Err(Refusal::NoMemory),
         });
     };
-    match scope.spawn(move || serve_part(rt, controller, gate, port, served, outlet)) {
+    match scope.spawn(move || serve_part(rt, controller, gate, port, served, glances, outlet)) {
         Ok(server) => {
-            let sends = scope.spawn(move || send_ops(rt, inlet, ops)).is_ok();
+            let sends = scope
+                .spawn(move || send_intents(rt, inlet, intents))
+                .is_ok();
             Running::Thread(server, sends)
         }
         Err(refused) => {
@@ -170,7 +197,7 @@ fn end<K: Name, R: Threads>(rt: &R, running: Running<K>) -> Done<K> {
     }
 }
 
-/// Serves all elements at once, each by a thread that sends its operations and one that serves them, beside the thread
+/// Serves all elements at once, each by a thread that sends what it asks for and one that serves it, beside the thread
 /// that keeps checkpoints. The ports come back in the order of the parts, each retired. An element one of whose threads
 /// can't be made is refused with `NoMemory`, and nothing of it is served. Without a thread that keeps checkpoints the
 /// servers make the turns that they need.

@@ -1,15 +1,19 @@
-//! Element threads: for each element one that sends its operations into a pipe, and one that takes them out and serves
-//! them through its port.
+//! Element threads: for each element one that sends what it asks for into a pipe, and one that takes it out and serves
+//! it: operations through its port, glances past the lock.
 //!
 //! Stands on `im_controller` and `im_pipes`.
 #![tactic(auto)]
 
 mod elements;
 mod gate;
+mod glances;
+mod intent;
 mod sender;
 mod server;
 
 pub use elements::{Done, PIPE, Part, serve_elements};
 pub use gate::{Gate, Open};
+pub use glances::{Glanced, Glances};
+pub use intent::Intent;
 pub use sender::send_all;
 pub use server::{Served, serve_element};

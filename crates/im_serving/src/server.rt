@@ -1,9 +1,16 @@
-//! The thread that serves an element's operations.
-ghost use Rattle.std.specs.Prelude.{◌≡◌, ◌≤◌, ◌+◌, ℕ, false, length, OnOk, OnErr, IfOk};
-ghost use Rattle.im_serving.specs.Serving.{IsAskedIn};
+//! The thread that serves what an element asks for.
+ghost use Rattle.std.specs.Prelude.{◌≡◌, ◌≤◌, ◌+◌, ◌++◌, ◌∷◌, [], Ok, ℕ, List, false, length};
+ghost use Rattle.std.specs.Prelude.{OnOk, OnErr, IfOk};
+ghost use Rattle.im_types.specs.Trace.{IsLegal};
+ghost use Rattle.im_types.specs.declared.commands.Call.TheVariants.{Command as Commands};
+ghost use Rattle.im_types.specs.declared.commands.Command.TheVariants.{Request as Asks};
+ghost use Rattle.im_controller.specs.Lines.{EndsIn, line_of};
+ghost use Rattle.im_serving.specs.Serving.{AreDone, AreGlanced, IsAskedIn};
 
 use crate::gate::Gate;
-use im_controller::{Controller, Name, Port};
+use crate::glances::Glances;
+use crate::intent::Intent;
+use im_controller::{Controller, Name, Port, Receipt};
 use im_disk::Disk;
 use im_pipes::{Outlet, Received};
 use im_types::{Entry, Op, Outcome, Refusal, WINDOW};
@@ -77,13 +84,16 @@ fn submit<D: Disk, K: Name, R: Wait>(
     port: &mut Port<K>,
     number: u64,
     op: Op,
-) -> Result<Entry, Refusal>
+) -> Result<Receipt<K>, Refusal>
     ensures element { port.new.element ≡ port.old.element }
-    ensures told { IfOk result (IsAskedIn K.memory port.old.element number op) }
+    ensures asked { IfOk result (λ r. r.command
+        ≡ Asks (record { element = port.old.element; number = number; op = op })) }
+    ensures legal { IfOk result (λ r. IsLegal K.memory r.history) }
+    ensures last { IfOk result (λ r. EndsIn r.history (line_of (Commands r.command) (Ok r.outcome))) }
 {
     for _ in rt.forever() {
         match port.submit(rt, controller, number, op) {
-            Ok(receipt) => return entry_of(receipt.outcome()),
+            Ok(receipt) => return Ok(receipt),
             Err(refusal) => match help(rt, controller, port, refusal) {
                 Ok(()) => {}
                 Err(refusal) => return Err(refusal),
@@ -93,18 +103,45 @@ fn submit<D: Disk, K: Name, R: Wait>(
     unreachable!()
 }
 
+// Asks for an operation, and learns what was shown when it was answered.
+fn ask<D: Disk, K: Name, R: Wait>(
+    rt: &R,
+    controller: &Controller<D, K>,
+    port: &mut Port<K>,
+    glances: &mut Glances<K>,
+    number: u64,
+    op: Op,
+) -> Result<Entry, Refusal>
+    ensures element { port.new.element ≡ port.old.element }
+    ensures told { IfOk result (IsAskedIn K.memory port.old.element number op) }
+    ensures seen { AreGlanced K.memory port.old.element glances.old.last glances.old.glance glances.old.made.items
+        → AreGlanced K.memory port.old.element glances.new.last glances.new.glance glances.new.made.items }
+    ensures made { glances.new.made ≡ glances.old.made }
+{
+    match submit(rt, controller, port, number, op) {
+        Ok(receipt) => match entry_of(glances.learn(&receipt)) {
+            Ok(entry) => {
+                glances.last = Some(number);
+                Ok(entry)
+            }
+            Err(refusal) => Err(refusal),
+        },
+        Err(refusal) => Err(refusal),
+    }
+}
+
 // Confirms all below a number, again after each turn that the full journal needed.
 fn confirm<D: Disk, K: Name, R: Wait>(
     rt: &R,
     controller: &Controller<D, K>,
     port: &mut Port<K>,
     upto: u64,
-) -> Result<(), Refusal>
+) -> Result<Receipt<K>, Refusal>
     ensures element { port.new.element ≡ port.old.element }
 {
     for _ in rt.forever() {
         match port.confirm(rt, controller, upto) {
-            Ok(_) => return Ok(()),
+            Ok(receipt) => return Ok(receipt),
             Err(refusal) => match help(rt, controller, port, refusal) {
                 Ok(()) => {}
                 Err(refusal) => return Err(refusal),
@@ -140,9 +177,13 @@ fn make_place<D: Disk, K: Name, R: Wait>(
     controller: &Controller<D, K>,
     port: &mut Port<K>,
     served: &mut Served,
+    glances: &mut Glances<K>,
 ) -> Result<(), Refusal>
     ensures element { port.new.element ≡ port.old.element }
     ensures count { length served.new.entries.items ≡ length served.old.entries.items }
+    ensures seen { AreGlanced K.memory port.old.element glances.old.last glances.old.glance glances.old.made.items
+        → AreGlanced K.memory port.old.element glances.new.last glances.new.glance glances.new.made.items }
+    ensures made { glances.new.made ≡ glances.old.made }
 {
     let base = served.base;
     if served.next().saturating_sub(base) < WINDOW {
@@ -154,7 +195,8 @@ fn make_place<D: Disk, K: Name, R: Wait>(
     }
     let upto = base.saturating_add(1);
     match confirm(rt, controller, port, upto) {
-        Ok(()) => {
+        Ok(receipt) => {
+            let _confirmed = glances.learn(&receipt);
             served.base = upto;
             Ok(())
         }
@@ -168,14 +210,18 @@ fn serve_one<D: Disk, K: Name, G: Gate, R: Wait>(
     controller: &Controller<D, K>,
     port: &mut Port<K>,
     served: &mut Served,
+    glances: &mut Glances<K>,
     op: Op,
     gate: &G,
 ) -> Result<(), Refusal>
     ensures element { port.new.element ≡ port.old.element }
     ensures count { OnOk result (length served.new.entries.items ≡ length served.old.entries.items + 1) }
     ensures few { length served.new.entries.items ≤ length served.old.entries.items + 1 }
+    ensures seen { AreGlanced K.memory port.old.element glances.old.last glances.old.glance glances.old.made.items
+        → AreGlanced K.memory port.old.element glances.new.last glances.new.glance glances.new.made.items }
+    ensures made { glances.new.made ≡ glances.old.made }
 {
-    match make_place(rt, controller, port, served) {
+    match make_place(rt, controller, port, served, glances) {
         Ok(()) => {}
         Err(refusal) => return Err(refusal),
     }
@@ -185,7 +231,7 @@ fn serve_one<D: Disk, K: Name, G: Gate, R: Wait>(
     let number = served.next();
     let element = served.element;
     gate.before(rt, element, number);
-    let answer = submit(rt, controller, port, number, op);
+    let answer = ask(rt, controller, port, glances, number, op);
     gate.after(rt, element, number);
     match answer {
         Ok(entry) => {
@@ -196,30 +242,65 @@ fn serve_one<D: Disk, K: Name, G: Gate, R: Wait>(
     }
 }
 
-// Serves what comes out of the pipe, to its end.
+// Does what a line of the element asks for.
+fn serve_intent<D: Disk, K: Name, G: Gate, R: Wait>(
+    rt: &R,
+    controller: &Controller<D, K>,
+    port: &mut Port<K>,
+    served: &mut Served,
+    glances: &mut Glances<K>,
+    intent: Intent,
+    gate: &G,
+) -> Result<(), Refusal>
+    ensures element { port.new.element ≡ port.old.element }
+    ensures done { OnOk result ((before : List Intent)
+        → AreDone served.old.entries.items glances.old.made.items before
+        → AreDone served.new.entries.items glances.new.made.items (before ++ intent ∷ [])) }
+    ensures count { OnOk result (length served.new.entries.items + length glances.new.made.items
+        ≡ length served.old.entries.items + length glances.old.made.items + 1) }
+    ensures few { length served.new.entries.items + length glances.new.made.items
+        ≤ length served.old.entries.items + length glances.old.made.items + 1 }
+    ensures seen { AreGlanced K.memory port.old.element glances.old.last glances.old.glance glances.old.made.items
+        → AreGlanced K.memory port.old.element glances.new.last glances.new.glance glances.new.made.items }
+{
+    match intent {
+        Intent::Request(op) => serve_one(rt, controller, port, served, glances, op, gate),
+        Intent::Glance(address) => glances.read(served.entries.len(), address),
+    }
+}
+
+// Does what comes out of the pipe, to its end.
 fn serve_all<D: Disk, K: Name, G: Gate, R: Wait>(
     rt: &R,
     controller: &Controller<D, K>,
     port: &mut Port<K>,
     served: &mut Served,
-    outlet: &mut Outlet<Op>,
+    glances: &mut Glances<K>,
+    outlet: &mut Outlet<Intent>,
     gate: &G,
 ) -> Result<(), Refusal>
     requires { outlet.old.ended ≡ false }
     ensures element { port.new.element ≡ port.old.element }
     ensures same { outlet.new.pipe ≡ outlet.old.pipe }
     ensures open { OnErr result (outlet.new.ended ≡ false) }
-    ensures count { OnOk result (length served.new.entries.items + length outlet.old.items
-        ≡ length served.old.entries.items + length outlet.new.items) }
-    ensures few { length served.new.entries.items + length outlet.old.items
-        ≤ length served.old.entries.items + length outlet.new.items }
+    ensures done { OnOk result (AreDone served.old.entries.items glances.old.made.items outlet.old.items
+        → AreDone served.new.entries.items glances.new.made.items outlet.new.items) }
+    ensures count { OnOk result (length served.new.entries.items + length glances.new.made.items
+        + length outlet.old.items
+        ≡ length served.old.entries.items + length glances.old.made.items + length outlet.new.items) }
+    ensures few { length served.new.entries.items + length glances.new.made.items + length outlet.old.items
+        ≤ length served.old.entries.items + length glances.old.made.items + length outlet.new.items }
+    ensures seen { AreGlanced K.memory port.old.element glances.old.last glances.old.glance glances.old.made.items
+        → AreGlanced K.memory port.old.element glances.new.last glances.new.glance glances.new.made.items }
 {
     for _ in rt.forever() {
         match outlet.receive(rt) {
-            Received::Item(op) => match serve_one(rt, controller, port, served, op, gate) {
-                Ok(()) => {}
-                Err(refusal) => return Err(refusal),
-            },
+            Received::Item(intent) => {
+                match serve_intent(rt, controller, port, served, glances, intent, gate) {
+                    Ok(()) => {}
+                    Err(refusal) => return Err(refusal),
+                }
+            }
             Received::End => return Ok(()),
             Received::Gone => return Ok(()),
         }
@@ -228,7 +309,7 @@ fn serve_all<D: Disk, K: Name, G: Gate, R: Wait>(
 }
 
 // Receives, without serving, to the pipe's end: so its sender returns.
-fn drain<R: Wait>(rt: &R, outlet: &mut Outlet<Op>)
+fn drain<R: Wait>(rt: &R, outlet: &mut Outlet<Intent>)
     requires { outlet.old.ended ≡ false }
     ensures same { outlet.new.pipe ≡ outlet.old.pipe }
     ensures more { length outlet.old.items ≤ length outlet.new.items }
@@ -262,30 +343,41 @@ fn await_rest<D: Disk, K: Name, R: Wait>(
     Ok(())
 }
 
-/// Serves an element's operations as they come out of a pipe, through its port, each under the next number; the gate is
-/// called round each. Before a request that finds its window full it waits for the oldest entry that is kept, and
-/// confirms it; where the journal is full it makes a turn of a checkpoint and asks again. After the last one it waits,
-/// in order, for each of its requests that is still kept. At the end its port is retired.
+/// Serves what an element asks for as it comes out of a pipe: its operations through its port, each under the next
+/// number, and its glances in their place among them. The gate is called round each operation. Before a request that
+/// finds its window full it waits for the oldest entry that is kept, and confirms it; where the journal is full it makes
+/// a turn of a checkpoint and asks again. After the last one it waits, in order, for each of its requests that is still
+/// kept. At the end its port is retired.
 ///
-/// Refused with what the port refuses, `JournalFull` where no turn makes room, and `NoMemory` where there is no room
-/// for one answer more: then it serves nothing more, but receives until the pipe ends, so that its sender returns.
+/// A glance waits for nobody. What it tells was so after all that was shown when the element's last request was answered,
+/// and maybe after more.
+///
+/// Refused with what the port refuses, `JournalFull` where no turn makes room, `PaneGone` where nothing is shown any
+/// more, and `NoMemory` where there is no room for one answer more: then it serves nothing more, but receives until the
+/// pipe ends, so that its sender returns.
 pub fn serve_element<D: Disk, K: Name, G: Gate, R: Wait>(
     rt: &R,
     controller: &Controller<D, K>,
     port: &mut Port<K>,
     served: &mut Served,
-    outlet: &mut Outlet<Op>,
+    glances: &mut Glances<K>,
+    outlet: &mut Outlet<Intent>,
     gate: &G,
 ) -> Result<(), Refusal>
     requires { outlet.old.ended ≡ false }
     ensures element { port.new.element ≡ port.old.element }
     ensures same { outlet.new.pipe ≡ outlet.old.pipe }
-    ensures count { OnOk result (length served.new.entries.items + length outlet.old.items
-        ≡ length served.old.entries.items + length outlet.new.items) }
-    ensures few { length served.new.entries.items + length outlet.old.items
-        ≤ length served.old.entries.items + length outlet.new.items }
+    ensures done { OnOk result (AreDone served.old.entries.items glances.old.made.items outlet.old.items
+        → AreDone served.new.entries.items glances.new.made.items outlet.new.items) }
+    ensures count { OnOk result (length served.new.entries.items + length glances.new.made.items
+        + length outlet.old.items
+        ≡ length served.old.entries.items + length glances.old.made.items + length outlet.new.items) }
+    ensures few { length served.new.entries.items + length glances.new.made.items + length outlet.old.items
+        ≤ length served.old.entries.items + length glances.old.made.items + length outlet.new.items }
+    ensures seen { AreGlanced K.memory port.old.element glances.old.last glances.old.glance glances.old.made.items
+        → AreGlanced K.memory port.old.element glances.new.last glances.new.glance glances.new.made.items }
 {
-    let done = match serve_all(rt, controller, port, served, outlet, gate) {
+    let done = match serve_all(rt, controller, port, served, glances, outlet, gate) {
         Ok(()) => await_rest(rt, controller, port, served),
         Err(refusal) => {
             drain(rt, outlet);

@@ -11,7 +11,7 @@ use im_disk::MemDisk;
 use im_engine::Engine;
 use im_report::inspect_on;
 use im_run::run_on;
-use im_script::read_script;
+use im_script::read_script_with_glances;
 use im_serving::{Gate, Open};
 use im_types::Limits;
 use im_types::layout::image_length;
@@ -41,6 +41,49 @@ element 2
 store x 5
 ";
 
+// A server that glances: at what it stored, at what nobody did, and at what it made clash.
+const GLANCES: &str = "setup
+alloc x i 2
+element 1
+store x 5
+glance x
+glance x+1
+store x 5
+glance x
+";
+
+// A reader whose window is full before its last request: the fetch before the store is awaited and confirmed, and what
+// was shown then has the store.
+const READS: &str = "setup
+alloc x i 1
+element 1
+glance x+1
+fetch x
+fetch x+1
+fetch x+1
+fetch x+1
+fetch x+1
+fetch x+1
+fetch x+1
+fetch x+1
+fetch x+1
+fetch x+1
+fetch x+1
+fetch x+1
+fetch x+1
+fetch x+1
+fetch x+1
+fetch x+1
+fetch x+1
+glance x
+element 2
+store x 5
+glance x
+element 3
+glance 4095
+glance 4294967295
+";
+
 // An image of the usual limits, with nothing in it.
 fn new_image(alloc: Global) -> Result<MemDisk> {
     let Some(limits) = Limits::new(4_096, 16, 256) else {
@@ -61,7 +104,7 @@ fn run<G: Gate + Sync, R: Threads + Wait + Sync>(
     gate: &G,
     said: &mut String,
 ) -> Result<MemDisk> {
-    let Ok(script) = read_script(alloc, text.as_bytes()) else {
+    let Ok(script) = read_script_with_glances(alloc, text.as_bytes()) else {
         return Err(anyhow!("this is no script"));
     };
     let mut out = Paper::new(alloc);
@@ -126,6 +169,19 @@ fn tell_held<R: Threads + Wait + Sync>(
     Ok(())
 }
 
+// Readings that wait for nobody, in their place among the element's requests.
+fn tell_glances<R: Threads + Wait + Sync>(rt: &R, alloc: Global, said: &mut String) -> Result<()> {
+    said.push_str(
+        "# glances of a cell that is full, of one that is empty, and of one that clashed\n",
+    )?;
+    let disk = new_image(alloc)?;
+    let _disk = run(rt, alloc, disk, GLANCES, &Open, said)?;
+    said.push_str("# a glance behind a confirmed fetch, beside the writer\n")?;
+    let disk = new_image(alloc)?;
+    let _disk = run(rt, alloc, disk, READS, &Open, said)?;
+    Ok(())
+}
+
 fn tell_all<R: Threads + Wait + Sync>(rt: &R, alloc: Global, said: &mut String) -> Result<()> {
     tell_stalled(rt, alloc, said)?;
     said.push_str("# a fetch and its store, by two servers in any order\n")?;
@@ -133,7 +189,8 @@ fn tell_all<R: Threads + Wait + Sync>(rt: &R, alloc: Global, said: &mut String) 
     said.push_str("# two_servers: the fetch is held until the store is answered\n")?;
     tell_held(rt, alloc, 2, 1, said)?;
     said.push_str("# the store is held until the fetch is answered, which waits\n")?;
-    tell_held(rt, alloc, 1, 2, said)
+    tell_held(rt, alloc, 1, 2, said)?;
+    tell_glances(rt, alloc, said)
 }
 
 fn main(rt: HostRuntime) -> Result<()> {

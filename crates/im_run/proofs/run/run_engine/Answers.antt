@@ -9,7 +9,7 @@ returns-in-Err-clause-ran g c = λ honest is.
 pub returns-in-Ok-start-clause-ran : goal.returns-in-Ok-start-clause-ran
 returns-in-Ok-start-clause-ran g c = λ honest is.
     ran g.D.Disk.now c.close-in-Ok-start.result.1 (g.W.Write.contents c.args.out.now) (g.W.Write.contents c.read_orders.new.out) (g.W.Write.contents c.close-in-Ok-start.new.out) c.args.desk.lines c.read_orders.new.desk.lines c.close-in-Ok-start.result.0
-    c.serve_orders-engine.result.engine c.serve_orders-engine.result.sent.items c.requires.pending c.read_orders.ensures.some (c.close-in-Ok-start.ensures.means honest is) c.close-in-Ok-start.ensures.printed
+    c.serve_orders-engine.result.engine c.serve_orders-engine.result.did.items c.requires.pending c.read_orders.ensures.some (c.close-in-Ok-start.ensures.means honest is) c.close-in-Ok-start.ensures.printed
 
 pub returns-in-Err-start-clause-ran : goal.returns-in-Err-start-clause-ran
 returns-in-Err-start-clause-ran g c = λ honest is.

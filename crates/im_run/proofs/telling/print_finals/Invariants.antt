@@ -3,4 +3,4 @@ use Rattle.im_run.specs.Running.{finals}
 use Rattle.im_run.proofs.telling.print_finals.Given as goal
 
 abbrev pub invariant-loop-at : goal.invariant-loop-at
-invariant-loop-at g l = PrintsMore (g.W.Write.contents l.fn.out) l.fn.lines (g.W.Write.contents l.out) l.lines (finals l.memory.contents l.sent l.at)
+invariant-loop-at g l = PrintsMore (g.W.Write.contents l.fn.out) l.fn.lines (g.W.Write.contents l.out) l.lines (finals l.memory.contents l.did l.at)

@@ -1,8 +1,13 @@
 use Rattle.std.proofs.Common.{◌≡◌, ◌+◌, false, length}
+use Rattle.im_serving.specs.Serving.{AreDone, AreGlanced}
 use Rattle.im_serving.proofs.server.serve_all.Given as goal
 
 abbrev pub invariant-loop : goal.invariant-loop
 invariant-loop g l =
     (goal.iterator-loop g).can_next l.iterator' × (goal.iterator-loop g).is_finite l.iterator'
     × (l.port.element ≡ l.fn.port.element) × (l.outlet.ended ≡ false) × (l.outlet.pipe ≡ l.fn.outlet.pipe)
-    × (length l.served.entries.items + length l.fn.outlet.items ≡ length l.fn.served.entries.items + length l.outlet.items)
+    × (AreDone l.fn.served.entries.items l.fn.glances.made.items l.fn.outlet.items → AreDone l.served.entries.items l.glances.made.items l.outlet.items)
+    × (length l.served.entries.items + length l.glances.made.items + length l.fn.outlet.items
+    ≡ length l.fn.served.entries.items + length l.fn.glances.made.items + length l.outlet.items)
+    × (AreGlanced g.K.Name.memory l.fn.port.element l.fn.glances.last l.fn.glances.glance l.fn.glances.made.items
+    → AreGlanced g.K.Name.memory l.fn.port.element l.glances.last l.glances.glance l.glances.made.items)
