@@ -1,0 +1,3 @@
+pub mod History
+pub mod Numbers
+pub mod Listing

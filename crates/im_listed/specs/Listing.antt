@@ -1,0 +1,76 @@
+-- A disk over a caller's bytes, and what the caller's file comes to by the list of its writes and syncs.
+use Rattle.std.specs.Prelude.{◌≡◌, ℕ, ◌≤◌, Bool, true, false, List, [], ◌∷◌, length, take, map, Result, MatchResult}
+use Rattle.im_disk.specs.Moment.{Moment, Left, LeftSince, written, synced}
+use Rattle.im_listed.specs.declared.step.Step.{Step}
+use Rattle.im_listed.specs.declared.step.Step.TheVariants.{Write, Sync}
+use Rattle.im_listed.specs.History.{History, given}
+
+-- a step on the file: these bytes at this place, or all that was written on the disk
+pub data Task : Type 0 where
+  Puts : ℕ → List ℕ → Task
+  Settles : Task
+
+-- the step that is spelled so
+abbrev pub task_of : Step → Task
+task_of (Write place bytes) = Puts place bytes.items
+task_of Sync = Settles
+
+-- what carrying out one step makes of a file
+abbrev pub stepped : Task → Moment → Moment
+stepped (Puts place bytes) m = written place bytes m
+stepped Settles m = synced m
+
+-- what carrying out steps makes of a file, the first one first
+abbrev pub carried : Moment → List Task → Moment
+carried m [] = m
+carried m (t ∷ ts) = carried (stepped t m) ts
+
+-- a disk over a caller's bytes, as contracts see it
+pub record Listing : Type 0 where
+  -- the file now, and the moments before it since the list was last emptied, the newest first
+  pub now : Moment
+  pub past : List Moment
+  -- the file as the list was last emptied
+  pub begun : Moment
+  -- the writes and syncs since, the oldest first
+  pub steps : List Task
+  -- a call has failed, since the list could not grow
+  pub failed : Bool
+
+-- what the disk shows, by the history of its calls
+abbrev pub shown : History → List Step → Bool → Listing
+shown h steps failed = record { now = h.now; past = h.past; begun = h.begun; steps = map task_of steps; failed = failed }
+
+-- a moment later, at which there are these steps
+abbrev pub later_with : Moment → List Task → Listing → Listing
+later_with m steps d = record { now = m; past = d.now ∷ d.past; begun = d.begun; steps = steps; failed = d.failed }
+
+-- with an empty list
+abbrev pub emptied : Listing → Listing
+emptied d = record { now = d.now; past = []; begun = d.now; steps = []; failed = d.failed }
+
+-- over these bytes, each of which may be in doubt in the caller's file
+abbrev pub over : List ℕ → Listing
+over bytes = record { now = given bytes; past = []; begun = given bytes; steps = []; failed = false }
+
+-- nothing happened but a failure
+abbrev pub broken : Listing → Listing
+broken d = record { now = d.now; past = d.past; begun = d.begun; steps = d.steps; failed = true }
+
+-- at `Ok` the disk is as told here; at `Err` the list could not grow
+abbrev pub Lists : {T E : Type 0} → Result T E → Listing → Listing → Listing → Type 0
+Lists result told old new = MatchResult result (λ _. new ≡ told) (λ _. new ≡ broken old)
+
+-- Each file that a crash leaves at a beginning of these steps, from this moment on, has P.
+abbrev pub LeftOnTheWay : Moment → List Task → (List ℕ → Type 0) → Type 0
+LeftOnTheWay m steps P = (many : ℕ) (file : List ℕ) → many ≤ length steps → Left (carried m (take many steps)) file → P file
+
+-- Carrying out the list leads from where it began to the file now, and a crash on the way leaves what the disk tells.
+pub record Accounts (d : Listing) : Type 0 where
+  pub ends : d.now ≡ carried d.begun d.steps
+  pub way : LeftOnTheWay d.begun d.steps (LeftSince (d.now ∷ d.past) 0)
+
+-- the bytes, the list and the history agree
+pub record Agrees (bytes : List ℕ) (steps : List Step) (h : History) : Type 0 where
+  pub same : bytes ≡ h.now.bytes
+  pub accounts : Accounts (shown h steps false)

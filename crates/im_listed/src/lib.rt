@@ -1,0 +1,10 @@
+//! An image in the hands of a caller that does its own writing: [`Listed`] is a disk over the caller's bytes, which lists
+//! what has to be written to the file and synced, in which order.
+#![tactic(auto)]
+
+mod account;
+mod listed;
+mod step;
+
+pub use listed::Listed;
+pub use step::Step;

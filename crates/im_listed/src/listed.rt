@@ -1,0 +1,169 @@
+//! A disk over bytes that a caller hands in. It lists what the caller has to do to its file.
+ghost use Rattle.std.specs.Prelude.{◌≡◌, ◌+◌, ◌≤◌, ◌∷◌, ◌++◌, [], false, true, map, length, take, drop, Ok, OnOk, OnErr};
+ghost use Rattle.im_disk.specs.Moment.{Counts, written, synced};
+ghost use Rattle.im_listed.specs.Listing.{Puts, Settles, task_of, over, emptied, later_with, Lists, Accounts};
+ghost use Rattle.im_listed.specs.Numbers.{told};
+
+use crate::account::Ledger;
+use crate::step::Step;
+use im_disk::{DeviceFault, Disk};
+use std::alloc::AllocError;
+use std::marker::Model;
+
+// How a call is noted.
+const EMPTIED: u64 = 0;
+
+const GIVEN: u64 = 1;
+
+const READ: u64 = 2;
+
+const WRITTEN: u64 = 3;
+
+const SYNCED: u64 = 4;
+
+/// A disk over bytes that a caller hands in, which are a copy of its file. It lists its writes and syncs, for the caller
+/// to carry out on the file in their order, and makes them on the copy at once. The list is emptied between calls.
+///
+/// What a crash leaves of the caller's file is what it leaves at a beginning of the list ([`Listed::steps`]). A call
+/// fails only where the list cannot grow.
+#[derive(Drop)]
+pub struct Listed {
+    bytes: Vec<u8>,
+    steps: Vec<Step>,
+    failed: bool,
+    ledger: Ledger,
+}
+
+impl Model for Listed {
+    ghost use Rattle.im_listed.specs.Listing.{Listing, shown, Agrees};
+    ghost use Rattle.im_listed.specs.History.{history_of};
+
+    ghost Value = { Listing };
+
+    ghost view = { λ d. shown (history_of d.ledger.events) d.steps.items d.failed };
+
+    ghost invariant = { λ d. Agrees d.bytes.items d.steps.items (history_of d.ledger.events) };
+}
+
+// Adds a step to the list, if it can grow.
+fn add(steps: &mut Vec<Step>, step: Step) -> Result<(), AllocError>
+    ensures ok { OnOk result (steps.new.items ≡ steps.old.items ++ step ∷ []) }
+    ensures err { OnErr result (steps.new.items ≡ steps.old.items) }
+{
+    steps.push(step)?;
+    Ok(())
+}
+
+// Adds a write to the list, if it can grow.
+fn add_write(steps: &mut Vec<Step>, place: usize, bytes: &[u8]) -> Result<(), AllocError>
+    ensures ok { OnOk result (map task_of steps.new.items ≡ map task_of steps.old.items ++ Puts place bytes.now ∷ []) }
+    ensures err { OnErr result (steps.new.items ≡ steps.old.items) }
+{
+    let copy = bytes.to_vec(*steps.allocator())?;
+    add(steps, Step::Write(place, copy))
+}
+
+// Puts the bytes there.
+fn put(bytes: &mut Vec<u8>, at: usize, part: &[u8])
+    requires { at + length part.now ≤ length bytes.old.items }
+    ensures { bytes.new.items ≡ take at bytes.old.items ++ part.now ++ drop (at + length part.now) bytes.old.items }
+{
+    bytes[at..at + part.len()].copy_from_slice(part);
+}
+
+impl Listed {
+    /// A disk over these bytes. The list is empty. Each byte counts as in doubt in the file until a sync.
+    pub fn new(bytes: Vec<u8>) -> Listed
+        ensures over { result ≡ over bytes.items }
+        ensures honest { ⟦<Listed as Disk>⟧.honest result }
+    {
+        let alloc = *bytes.allocator();
+        let mut ledger = Ledger::new();
+        ledger.note(&[GIVEN, 0], &bytes);
+        Listed {
+            bytes,
+            steps: Vec::new(alloc),
+            failed: false,
+            ledger,
+        }
+    }
+
+    /// The writes and syncs since the list was last emptied, the oldest first. Carrying them out leads the file from
+    /// where it was then to where the disk is now, and a crash on the way leaves what the disk tells.
+    pub fn steps(&self) -> &[Step]
+        ensures list { map task_of result.now ≡ self.now.steps }
+        ensures account { Accounts self.now }
+    {
+        &self.steps
+    }
+
+    /// Empties the list: the caller has it.
+    pub fn empty(&mut self)
+        ensures emptied { self.new ≡ emptied self.old }
+    {
+        self.ledger.note(&[EMPTIED, 0], &[]);
+        self.steps.clear();
+    }
+}
+
+impl Disk for Listed {
+    ghost now = { λ d. d.now };
+
+    ghost past = { λ d. d.past };
+
+    // It stays exactly while no call fails and the list begins where it began.
+    ghost failures = { λ d. told d.failed d.begun };
+
+    ghost honest = { λ _. Unit {0} };
+
+    fn len(&mut self) -> Result<usize, DeviceFault>
+        ensures length { result ≡ Ok (length self.old.now.bytes) }
+        ensures unchanged { self.new ≡ self.old }
+        ensures honest { ⟦<Listed as Disk>⟧.honest self.new }
+    {
+        Ok(self.bytes.len())
+    }
+
+    fn read(&mut self, at: usize, buf: &mut [u8]) -> Result<(), DeviceFault>
+        requires { at + length buf.old ≤ length self.old.now.bytes }
+        ensures ok { result ≡ Ok tt }
+        ensures bytes { buf.new ≡ take (length buf.old) (drop at self.old.now.bytes) }
+        ensures answer { self.new ≡ later_with self.old.now self.old.steps self.old }
+        ensures honest { ⟦<Listed as Disk>⟧.honest self.new }
+    {
+        buf.copy_from_slice(&self.bytes[at..at + buf.len()]);
+        self.ledger.note(&[READ, at as u64], &[]);
+        Ok(())
+    }
+
+    fn write_at(&mut self, at: usize, bytes: &[u8]) -> Result<(), DeviceFault>
+        requires { at + length bytes.now ≤ length self.old.now.bytes }
+        ensures answer { Lists result
+            (later_with (written at bytes.now self.old.now) (self.old.steps ++ Puts at bytes.now ∷ []) self.old)
+            self.old self.new }
+        ensures failures { Counts result (told self.old.failed self.old.begun) (told self.new.failed self.new.begun) }
+        ensures honest { ⟦<Listed as Disk>⟧.honest self.new }
+    {
+        if let Err(_) = add_write(&mut self.steps, at, bytes) {
+            self.failed = true;
+            return Err(DeviceFault);
+        }
+        put(&mut self.bytes, at, bytes);
+        self.ledger.note(&[WRITTEN, at as u64], bytes);
+        Ok(())
+    }
+
+    fn sync(&mut self) -> Result<(), DeviceFault>
+        ensures answer { Lists result
+            (later_with (synced self.old.now) (self.old.steps ++ Settles ∷ []) self.old) self.old self.new }
+        ensures failures { Counts result (told self.old.failed self.old.begun) (told self.new.failed self.new.begun) }
+        ensures honest { ⟦<Listed as Disk>⟧.honest self.new }
+    {
+        if let Err(_) = add(&mut self.steps, Step::Sync) {
+            self.failed = true;
+            return Err(DeviceFault);
+        }
+        self.ledger.note(&[SYNCED, 0], &[]);
+        Ok(())
+    }
+}
