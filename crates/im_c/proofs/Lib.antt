@@ -1,1 +1,2 @@
 mod AsMemory
+mod AsImage

@@ -1,3 +1,4 @@
 pub mod Held
 pub mod Plain
 pub mod Memory
+pub mod Image

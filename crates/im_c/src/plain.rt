@@ -45,6 +45,32 @@ pub struct LtOutcome {
     pub value: u64,
 }
 
+/// The base of an element's window, from which on its entries are kept, and the number of its next new request.
+/// `refusal` is 0, or the number of the refusal; then the rest is 0.
+#[repr(C)]
+#[derive(Clone, Copy)]
+pub struct LtWindow {
+    /// 0, or the number of the refusal.
+    pub refusal: u8,
+    /// The first number that is kept.
+    pub base: u64,
+    /// The number of the next new request.
+    pub next: u64,
+}
+
+/// A step on the caller's file. The kind is 1 for a write of `length` bytes at `place`, 2 for a sync, and 0 where there
+/// is no such step; then the rest is 0.
+#[repr(C)]
+#[derive(Clone, Copy)]
+pub struct LtStep {
+    /// What is to be done.
+    pub kind: u8,
+    /// The offset of the first byte.
+    pub place: u64,
+    /// How many bytes.
+    pub length: u64,
+}
+
 /// The command that is meant; `None` where the tag is none of a command.
 pub(crate) fn meant(command: &LtCommand) -> Option<Command>
     ensures { result ≡ meant command.now }

@@ -14,6 +14,7 @@ ghost use Rattle.im_engine.specs.Groups.{group_put, calls_for_group};
 ghost use Rattle.im_engine.specs.Run.{Answered, TurnAnswered, calls_for};
 ghost use Rattle.im_engine.specs.State.{MeansState, MeansEither, with_command};
 
+use crate::emptying::Empties;
 use crate::groups::{act_all, commands_of, places_in, put_on, refuse_all};
 use arrayvec::ArrayVec;
 use im_checkpoint::{Checkpoint, TurnDone};
@@ -300,11 +301,27 @@ impl<D: Disk> Engine<D> {
         &self.memory
     }
 
+    /// The disk.
+    pub fn disk(&self) -> &D
+        ensures { result.now ≡ self.now.disk }
+    {
+        &self.disk
+    }
+
     /// Gives the disk back. It makes no call of the disk: each file that a crash may leave means what it meant before.
     pub fn close(self) -> D
         ensures disk { result ≡ self.disk }
         ensures means { D.honest result → self.failed ≡ false → LeavesNow (D.now result) (MeansState self) }
     {
         self.disk
+    }
+}
+
+impl<D: Empties> Engine<D> {
+    /// Empties the list that the disk keeps for its owner. All else stays, and no call of the disk is made.
+    pub fn empty_list(&mut self)
+        ensures emptied { self.new ≡ record self.old { disk = D.emptied self.old.disk } }
+    {
+        self.disk.empty();
     }
 }

@@ -2,6 +2,7 @@
 //! a file that means the memory after a beginning of the accepted commands.
 #![tactic(auto)]
 
+mod emptying;
 mod engine;
 mod format;
 mod groups;
@@ -9,6 +10,7 @@ mod laws;
 mod open;
 mod run;
 
+pub use emptying::Empties;
 pub use engine::Engine;
 pub use groups::are_apart;
 pub use laws::{files_mean_one_thing, new_images_mean_the_empty_memory};

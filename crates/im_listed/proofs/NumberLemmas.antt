@@ -51,6 +51,11 @@ halves a b e = omega arith
 odd : (a b : ℕ) → a + a ≡ b + b + 18446744073709551617 → ⊥
 odd a b e = omega arith
 
-pub told_same : (m n : Moment) (b : Bool) → told false m ≡ told b n → (b ≡ false) × (m ≡ n)
-told_same m n false e = (refl, moment_same m n (halves (moment_number m) (moment_number n) e))
-told_same m n true e = absurd (odd (moment_number m) (moment_number n) e)
+above : (a b : ℕ) → a + a + 18446744073709551617 ≡ b + b + 18446744073709551617 → a ≡ b
+above a b e = omega arith
+
+pub told_same : (b c : Bool) (m n : Moment) → told b m ≡ told c n → m ≡ n
+told_same false false m n e = moment_same m n (halves (moment_number m) (moment_number n) e)
+told_same false true m n e = absurd (odd (moment_number m) (moment_number n) e)
+told_same true false m n e = absurd (odd (moment_number n) (moment_number m) (sym e))
+told_same true true m n e = moment_same m n (above (moment_number m) (moment_number n) e)

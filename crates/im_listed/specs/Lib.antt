@@ -1,3 +1,4 @@
 pub mod History
 pub mod Numbers
 pub mod Listing
+pub mod Image

@@ -46,8 +46,8 @@ abbrev pub later_with : Moment → List Task → Listing → Listing
 later_with m steps d = record { now = m; past = d.now ∷ d.past; begun = d.begun; steps = steps; failed = d.failed }
 
 -- with an empty list
-abbrev pub emptied : Listing → Listing
-emptied d = record { now = d.now; past = []; begun = d.now; steps = []; failed = d.failed }
+abbrev pub with_no_steps : Listing → Listing
+with_no_steps d = record { now = d.now; past = []; begun = d.now; steps = []; failed = d.failed }
 
 -- over these bytes, each of which may be in doubt in the caller's file
 abbrev pub over : List ℕ → Listing

@@ -3,8 +3,10 @@
 #![tactic(auto)]
 
 mod account;
+mod image;
 mod listed;
 mod step;
 
+pub use image::Image;
 pub use listed::Listed;
 pub use step::Step;

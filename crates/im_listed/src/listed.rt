@@ -1,12 +1,13 @@
 //! A disk over bytes that a caller hands in. It lists what the caller has to do to its file.
 ghost use Rattle.std.specs.Prelude.{◌≡◌, ◌+◌, ◌≤◌, ◌∷◌, ◌++◌, [], false, true, map, length, take, drop, Ok, OnOk, OnErr};
 ghost use Rattle.im_disk.specs.Moment.{Counts, written, synced};
-ghost use Rattle.im_listed.specs.Listing.{Puts, Settles, task_of, over, emptied, later_with, Lists, Accounts};
+ghost use Rattle.im_listed.specs.Listing.{Puts, Settles, task_of, over, with_no_steps, later_with, Lists, Accounts};
 ghost use Rattle.im_listed.specs.Numbers.{told};
 
 use crate::account::Ledger;
 use crate::step::Step;
 use im_disk::{DeviceFault, Disk};
+use im_engine::Empties;
 use std::alloc::AllocError;
 use std::marker::Model;
 
@@ -22,7 +23,8 @@ const WRITTEN: u64 = 3;
 const SYNCED: u64 = 4;
 
 /// A disk over bytes that a caller hands in, which are a copy of its file. It lists its writes and syncs, for the caller
-/// to carry out on the file in their order, and makes them on the copy at once. The list is emptied between calls.
+/// to carry out on the file in their order, and makes them on the copy at once. The list is emptied between calls
+/// ([`Empties`]).
 ///
 /// What a crash leaves of the caller's file is what it leaves at a beginning of the list ([`Listed::steps`]). A call
 /// fails only where the list cannot grow.
@@ -96,11 +98,12 @@ impl Listed {
     {
         &self.steps
     }
+}
 
-    /// Empties the list: the caller has it.
-    pub fn empty(&mut self)
-        ensures emptied { self.new ≡ emptied self.old }
-    {
+impl Empties for Listed {
+    ghost emptied = { with_no_steps };
+
+    fn empty(&mut self) {
         self.ledger.note(&[EMPTIED, 0], &[]);
         self.steps.clear();
     }

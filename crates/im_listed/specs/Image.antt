@@ -1,0 +1,36 @@
+-- An image in the hands of a caller that carries out the writes and syncs itself.
+use Rattle.std.specs.Prelude.{◌≡◌, ℕ, Bool, true, false, List, [], Result, Ok, Err, if◌then◌else◌}
+use Rattle.im_types.specs.declared.refusals.Refusal.{Refusal}
+use Rattle.im_types.specs.declared.refusals.Refusal.TheVariants.{Device}
+use Rattle.im_disk.specs.Moment.{Moment}
+use Rattle.im_disk.specs.Since.{LeavesNow}
+use Rattle.im_engine.specs.State.{EngineState, MeansState}
+use Rattle.im_engine.specs.Run.{is_device}
+use Rattle.im_listed.specs.Listing.{Task, Listing, carried, LeftOnTheWay, with_no_steps}
+
+-- an engine over a caller's bytes, and whether a call of the disk failed, here or at the caller
+pub record ImageState : Type 0 where
+  pub engine : EngineState Listing
+  pub lost : Bool
+
+-- the engine as a call finds it: nothing is left of the list of the call before
+abbrev pub begun_in : ImageState → EngineState Listing
+begun_in s = record s.engine { disk = with_no_steps s.engine.disk }
+
+-- what the caller has to carry out after a call: nothing, where that failed
+abbrev pub steps_of : ImageState → List Task
+steps_of s = if s.lost then [] else s.engine.disk.steps
+
+-- the answer says that a call of the disk failed
+abbrev pub tells_device : {T : Type 0} → Result T Refusal → Bool
+tells_device (Ok answer) = false
+tells_device (Err refusal) = is_device refusal
+
+-- What carrying out the steps of a call does to the caller's file, which is as the steps of the calls before left it.
+pub record Carries (old : Moment) (new : ImageState) (P : List ℕ → Type 0) : Type 0 where
+  -- they lead to the file that the engine knows
+  pub ends : new.lost ≡ false → new.engine.disk.now ≡ carried old (steps_of new)
+  -- a crash on the way leaves what has P
+  pub way : LeftOnTheWay old (steps_of new) P
+  -- and one at their end leaves what means the engine
+  pub means : new.lost ≡ false → LeavesNow new.engine.disk.now (MeansState new.engine)

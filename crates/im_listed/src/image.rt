@@ -1,0 +1,238 @@
+//! An image in the hands of a caller that carries out the writes and syncs itself.
+ghost use Rattle.std.specs.Prelude.{◌≡◌, ◌+◌, ◌⊎◌, Bool, true, false, List, [], map, replicate, length, Ok, Err};
+ghost use Rattle.std.specs.Prelude.{IfOk, IfErr, OnOk};
+ghost use Rattle.im_types.specs.Contents.{empty_contents};
+ghost use Rattle.im_types.specs.Groups.{AreApart};
+ghost use Rattle.im_types.specs.Layout.{image_length, layout_in_use, sizes_of};
+ghost use Rattle.im_types.specs.Window.{ask, bounds};
+ghost use Rattle.im_disk.specs.Since.{LeavesNow};
+ghost use Rattle.im_checkpoint.specs.Step.{NoCheckpoint};
+ghost use Rattle.im_engine.specs.State.{MeansState, MeansEither, IsFound};
+ghost use Rattle.im_engine.specs.Run.{Answered, TurnAnswered};
+ghost use Rattle.im_engine.specs.Groups.{GroupAnswered, MeansGroup, all_refused};
+ghost use Rattle.im_listed.specs.Listing.{Accounts, task_of, carried};
+ghost use Rattle.im_listed.specs.History.{given};
+ghost use Rattle.im_listed.specs.Image.{ImageState, Carries, begun_in, steps_of, tells_device};
+
+use crate::listed::Listed;
+use crate::step::Step;
+use arrayvec::ArrayVec;
+use im_checkpoint::TurnDone;
+use im_engine::Engine;
+use im_types::layout::image_length;
+use im_types::{Command, Entry, Limits, Outcome, Refusal, Request, Served};
+use std::alloc::Global;
+use std::marker::Model;
+
+/// An image in the hands of a caller that carries out the writes and syncs itself: an engine over [`Listed`].
+///
+/// After each call the caller carries out [`Image::steps`] on its file, in their order, before it gives the answer to
+/// anybody. The list begins where that of the call before ended. Where the caller can't carry out a step it says so
+/// ([`Image::lose`]), and opens the file anew.
+#[derive(Drop)]
+pub struct Image {
+    engine: Engine<Listed>,
+    lost: bool,
+}
+
+impl Model for Image {
+    ghost use Rattle.std.specs.Prelude.{◌≡◌, false};
+    ghost use Rattle.im_listed.specs.Image.{ImageState};
+
+    ghost Value = { ImageState };
+
+    ghost view = { λ i. record { engine = i.engine; lost = i.lost } };
+
+    ghost invariant = { λ i. i.lost ≡ false → i.engine.failed ≡ false };
+}
+
+// Whether the answer says that a call of the disk failed.
+fn tells_device<T>(answer: &Result<T, Refusal>) -> bool
+    ensures { result ≡ tells_device answer.now }
+{
+    matches!(answer, Err(Refusal::Device))
+}
+
+// What is known of an engine over a list.
+fn known(engine: &Engine<Listed>) -> bool
+    ensures failed { result ≡ engine.now.failed }
+    ensures account { Accounts engine.now.disk }
+    ensures means { engine.now.failed ≡ false → LeavesNow engine.now.disk.now (MeansState engine.now) }
+{
+    let _ = engine.disk().steps();
+    engine.failed()
+}
+
+impl Image {
+    /// Makes the image of an empty memory. The caller's file has its length, and each of its bytes is in doubt.
+    ///
+    /// `NoMemory` where there isn't room for the image, the memory and the pages of a checkpoint.
+    pub fn format(alloc: Global, limits: Limits) -> Result<Image, Refusal>
+        ensures empty { IfOk result (λ i. (i.engine.memory ≡ empty_contents limits.cells limits.elements)
+            × (i.engine.count ≡ 0) × (i.engine.room ≡ limits.slots)) }
+        ensures carried { IfOk result (λ i. i.engine.disk.now
+            ≡ carried (given (replicate (image_length layout_in_use (sizes_of limits)) 0)) (steps_of i)) }
+        ensures means { IfOk result (λ i. LeavesNow i.engine.disk.now (MeansState i.engine)) }
+        ensures works { IfOk result (λ i. i.lost ≡ false) }
+    {
+        let Ok(bytes) = vec![in alloc; 0; image_length(limits)] else {
+            return Err(Refusal::NoMemory);
+        };
+        match Engine::format(alloc, Listed::new(bytes), limits) {
+            Ok(engine) => Ok(Image {
+                engine,
+                lost: false,
+            }),
+            Err((refusal, _)) => Err(refusal),
+        }
+    }
+
+    /// Opens the image of these bytes, which are those of the caller's file, each of them in doubt.
+    ///
+    /// The first fault of the bytes, as [`Engine::open`] has it, or `NoMemory`, or `Device` where the list couldn't
+    /// grow.
+    pub fn open(alloc: Global, bytes: Vec<u8>) -> Result<Image, Refusal>
+        ensures carried { IfOk result (λ i. i.engine.disk.now ≡ carried (given bytes.items) (steps_of i)) }
+        ensures found { IfOk result (λ i. LeavesNow i.engine.disk.now (IsFound i.engine)) }
+        ensures means { IfOk result (λ i. LeavesNow i.engine.disk.now (MeansState i.engine)) }
+        ensures idle { IfOk result (λ i. i.engine.step ≡ NoCheckpoint) }
+        ensures works { IfOk result (λ i. i.lost ≡ false) }
+    {
+        match Engine::open(alloc, Listed::new(bytes)) {
+            Ok(engine) => Ok(Image {
+                engine,
+                lost: false,
+            }),
+            Err((refusal, _)) => Err(refusal),
+        }
+    }
+
+    /// What the caller has to do to its file after the last call, in this order, before anybody is told the answer:
+    /// nothing after a call that was answered with `Device`.
+    pub fn steps(&self) -> &[Step]
+        ensures { map task_of result.now ≡ steps_of self.now }
+    {
+        if self.lost {
+            &[]
+        } else {
+            self.engine.disk().steps()
+        }
+    }
+
+    /// Empties the list of steps, as each call of `serve`, `serve_group` and `turn` does before its own.
+    pub fn forget_steps(&mut self)
+        ensures { self.new ≡ record self.old { engine = begun_in self.old } }
+    {
+        self.engine.empty_list();
+    }
+
+    /// Says that the caller couldn't carry out a step. Each later call is answered with `Device`.
+    pub fn lose(&mut self)
+        ensures { self.new ≡ record self.old { lost = true } }
+    {
+        self.lost = true;
+    }
+
+    /// Serves one command, as [`Engine::serve`] does. `Device` where the list couldn't grow, or a step was lost.
+    pub fn serve(&mut self, command: &Command) -> Result<Outcome, Refusal>
+        ensures lost { self.old.lost ≡ true → (result ≡ Err Refusal.Device) × (self.new ≡ self.old) }
+        ensures answered { self.old.lost ≡ false → Answered (begun_in self.old) command.now result self.new.engine }
+        // On the way the file means the memory before the command or after it, and at the end what was answered.
+        ensures carried { self.old.lost ≡ false
+            → Carries self.old.engine.disk.now self.new (MeansEither (begun_in self.old) command.now) }
+    {
+        if self.lost {
+            return Err(Refusal::Device);
+        }
+        let _ = known(&self.engine);
+        self.engine.empty_list();
+        let answer = self.engine.serve(command);
+        let _ = known(&self.engine);
+        self.lost = tells_device(&answer);
+        answer
+    }
+
+    /// Serves the members of a group, as [`Engine::serve_group`] does. All are refused with `Device` where the list
+    /// couldn't grow. Where a step was lost nobody is answered.
+    pub fn serve_group(
+        &mut self,
+        members: &ArrayVec<Request, 16>,
+        served: &mut ArrayVec<Served, 16>,
+    )
+        // Each element asks once at most.
+        requires apart { AreApart members.now.items }
+        requires empty { served.old.items ≡ [] }
+        ensures lost { self.old.lost ≡ true
+            → (served.new.items ≡ []) × (self.new ≡ self.old) }
+        ensures answered { self.old.lost ≡ false
+            → GroupAnswered (begun_in self.old) members.now.items served.new.items self.new.engine }
+        // On the way the file means the memory before the group or after all of it.
+        ensures carried { self.old.lost ≡ false
+            → Carries self.old.engine.disk.now self.new (MeansGroup (begun_in self.old) members.now.items) }
+    {
+        if self.lost {
+            return;
+        }
+        let _ = known(&self.engine);
+        self.engine.empty_list();
+        self.engine.serve_group(members, served);
+        self.lost = known(&self.engine);
+    }
+
+    /// Makes one turn of a checkpoint, as [`Engine::turn`] does. `Device` where the list couldn't grow, or a step was
+    /// lost.
+    pub fn turn(&mut self) -> Result<TurnDone, Refusal>
+        ensures lost { self.old.lost ≡ true → (result ≡ Err Refusal.Device) × (self.new ≡ self.old) }
+        ensures answered { self.old.lost ≡ false → TurnAnswered (begun_in self.old) result self.new.engine }
+        // On the way the file means the same memory.
+        ensures carried { self.old.lost ≡ false
+            → Carries self.old.engine.disk.now self.new (MeansState (begun_in self.old)) }
+    {
+        if self.lost {
+            return Err(Refusal::Device);
+        }
+        let _ = known(&self.engine);
+        self.engine.empty_list();
+        let answer = self.engine.turn();
+        self.lost = known(&self.engine);
+        answer
+    }
+
+    /// The entry that is kept under an element's number, as [`Engine::collect`] has it. `Device` where a step was lost.
+    pub fn collect(&self, element: u16, number: u64) -> Result<Entry, Refusal>
+        ensures lost { self.now.lost ≡ true → result ≡ Err Refusal.Device }
+        ensures answer { self.now.lost ≡ false
+            → result ≡ ask self.now.engine.memory.windows (record { element = element; number = number }) }
+    {
+        if self.lost {
+            return Err(Refusal::Device);
+        }
+        self.engine.collect(element, number)
+    }
+
+    /// The base of an element's window and the number of its next new request, as [`Engine::window`] has them. `Device`
+    /// where a step was lost.
+    pub fn window(&self, element: u16) -> Result<(u64, u64), Refusal>
+        ensures lost { self.now.lost ≡ true → result ≡ Err Refusal.Device }
+        ensures answer { self.now.lost ≡ false → result ≡ bounds self.now.engine.memory.windows element }
+    {
+        if self.lost {
+            return Err(Refusal::Device);
+        }
+        self.engine.window(element)
+    }
+
+    /// How many more commands can be accepted.
+    pub fn room(&self) -> u32
+        ensures { result ≡ self.now.engine.room }
+    {
+        self.engine.room()
+    }
+
+    /// How many commands have been accepted since the image was formatted.
+    pub fn count(&self) -> u64
+        ensures { result ≡ self.now.engine.count }
+    {
+        self.engine.count()
+    }
+}
