@@ -1,0 +1,13 @@
+use Rattle.std.proofs.Common.{sym, subst}
+use Rattle.im_disk.specs.Moment.{Moment}
+use Rattle.im_checkpoint.specs.Keeping.{IsKept, paged}
+use Rattle.im_engine.proofs.engine.Engine.empty_list.Goals as goal
+
+pub invariant_of-self : goal.invariant_of-self
+invariant_of-self g c =
+    let e = c.self.inside in (
+      c.self.invariant.0,
+      λ honest alive.
+          subst (λ (m : Moment). IsKept e.checkpoint.state (paged e.checkpoint e.memory) e.memory.contents e.journal m)
+          (sym c.empty.ensures.now) (c.self.invariant.1 (c.empty.ensures.honest honest) alive),
+    )
