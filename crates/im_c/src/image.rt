@@ -38,7 +38,7 @@ impl Model for LtImage {
 }
 
 impl LtImage {
-    fn of_parts(parts: Parts<Image, Global>) -> LtImage
+    pub(crate) fn of_parts(parts: Parts<Image, Global>) -> LtImage
         ensures { result.value ≡ Some parts.value }
     {
         let Parts { ptr, alloc } = parts;
@@ -48,7 +48,7 @@ impl LtImage {
         }
     }
 
-    fn into_parts(self) -> Parts<Image, Global>
+    pub(crate) fn into_parts(self) -> Parts<Image, Global>
         requires { IsSome self.value }
         ensures { self.value ≡ Some result.value }
     {
@@ -366,12 +366,7 @@ pub extern "C" fn lt_collect(
 
 /// The window of an element, at `window`. Refused with `NoElement` and with `Device`. Nothing changes.
 #[unsafe(no_mangle)]
-pub extern "C" fn lt_window(
-    image: LtImage,
-    element: u16,
-    next: &mut LtImage,
-    window: &mut LtWindow,
-)
+pub extern "C" fn lt_window(image: LtImage, element: u16, next: &mut LtImage, window: &mut LtWindow)
     requires some { IsSome image.value }
     ensures same { next.new.value ≡ image.value }
     ensures answer { IfSome image.value (λ i. ShowsWindow i element window.new) }

@@ -2,12 +2,16 @@
 //! `include/luntrebis.h` declares it, and docs/EMBEDDING.md tells how it is used.
 #![tactic(auto)]
 
+mod group;
 mod image;
 mod memory;
 mod parts;
 mod plain;
 
-pub use image::{LtImage, lt_close, lt_collect, lt_count, lt_failed, lt_format, lt_image_length, lt_open, lt_room};
-pub use image::{lt_serve, lt_step, lt_step_bytes, lt_steps, lt_turn, lt_window};
+pub use group::lt_serve_group;
+pub use image::{
+    LtImage, lt_close, lt_collect, lt_count, lt_failed, lt_format, lt_image_length, lt_open,
+    lt_room, lt_serve, lt_step, lt_step_bytes, lt_steps, lt_turn, lt_window,
+};
 pub use memory::{LtMemory, lt_memory_collect, lt_memory_free, lt_memory_new, lt_memory_step};
 pub use plain::{LtCommand, LtOutcome, LtStep, LtWindow};

@@ -1,13 +1,20 @@
 -- What the list of a call does to a caller's file.
-use Rattle.std.proofs.Common.{◌≡◌, inl, inr, ⊎_elim, ℕ, zero, suc, ◌≤◌, Bool, true, false, List, [], ◌∷◌, length, take, refl, sym, ◌∙◌, ap, subst, arith, if◌then◌else◌}
+use Rattle.std.proofs.Common.{◌≡◌, inl, inr, ⊎_elim, ℕ, zero, suc, ◌≤◌, Bool, true, false, List, [], ◌∷◌, length, take, Result, Ok, Err, refl, sym, ◌∙◌, ap, subst, arith, if◌then◌else◌}
 use Rattle.std.proofs.lemmas.Bool.{false≢true}
-use Rattle.im_disk.specs.Moment.{Moment, Left, LeftSince}
+use Rattle.im_types.specs.declared.commands.Command.{Command}
+use Rattle.im_types.specs.declared.commands.Outcome.{Outcome}
+use Rattle.im_types.specs.declared.refusals.Refusal.{Refusal}
+use Rattle.im_types.specs.Step.{is_accepted}
+use Rattle.im_disk.specs.Moment.{Moment, Left, LeftSince, Faults}
 use Rattle.im_disk.specs.Since.{Leaves, LeavesNow}
 use Rattle.im_disk.proofs.SinceLemmas.{only_now}
+use Rattle.im_checkpoint.specs.declared.checkpoint.TurnDone.{TurnDone}
 use Rattle.im_engine.specs.State.{EngineState, MeansState}
+use Rattle.im_engine.specs.Run.{Answered, TurnAnswered, TurnTaken, is_device}
+use Rattle.im_listed.specs.History.{given}
 use Rattle.im_listed.specs.Numbers.{told}
-use Rattle.im_listed.specs.Listing.{Task, Listing, carried, LeftOnTheWay, Accounts}
-use Rattle.im_listed.specs.Image.{ImageState, Carries, begun_in, steps_of}
+use Rattle.im_listed.specs.Listing.{Task, Listing, carried, over, with_no_steps, LeftOnTheWay, Accounts}
+use Rattle.im_listed.specs.Image.{ImageState, Carries, begun_in, steps_of, tells_device}
 use Rattle.im_listed.proofs.NumberLemmas.{told_same}
 
 -- what is known after a call, of the engine as it began
@@ -49,3 +56,37 @@ carries old new P f =
 
 pub carries_on : (old new : ImageState) (P : EngineState Listing → List ℕ → Type 0) (s : EngineState Listing) → s ≡ begun_in old → Facts s new P → Carries old.engine.disk.now new (P (begun_in old))
 carries_on old new P s e f = carries old new P (subst (λ (t : EngineState Listing). Facts t new P) e f)
+
+pub begun_with : (bytes : List ℕ) (d start : Listing) → start ≡ over bytes → told d.failed d.begun ≡ told start.failed start.begun → Accounts d → d.now ≡ carried (given bytes) d.steps
+begun_with bytes d start e same account =
+    let there : told d.failed d.begun ≡ told false (given bytes) = same ∙ ap (λ (s : Listing). told s.failed s.begun) e in
+    account.ends ∙ ap (λ (b : Moment). carried b d.steps) (told_same d.failed false d.begun (given bytes) there)
+
+alive_by : (accepted : Bool) (room : ℕ) (s new : EngineState Listing) (command : Command) (answer : Result Outcome Refusal) → is_accepted s.memory command ≡ accepted → s.room ≡ room → Answered s command answer new → s.failed ≡ false → tells_device answer ≡ false → new.failed ≡ false
+alive_by false room s new command answer is e a f calm = ap (λ (t : EngineState Listing). t.failed) (a.unaccepted f is).1 ∙ f
+alive_by true zero s new command answer is e a f calm = ap (λ (t : EngineState Listing). t.failed) (a.full f is e).1 ∙ f
+alive_by true (suc n) s new command answer is e a f calm = ⊎_elim
+    (λ l. ap (λ (t : EngineState Listing). t.failed) l.1 ∙ f)
+    (λ r. absurd (false≢true (sym calm ∙ ap (λ (x : Result Outcome Refusal). tells_device x) r.0)))
+    (a.put f is (omega arith))
+
+pub alive_after : (s new : EngineState Listing) (command : Command) (answer : Result Outcome Refusal) → Answered s command answer new → s.failed ≡ false → tells_device answer ≡ false → new.failed ≡ false
+alive_after s new command answer a f calm = alive_by (is_accepted s.memory command) s.room s new command answer refl refl a f calm
+
+pub steady_after : (answer : Result Outcome Refusal) (old new : ℕ) → Faults (λ e. Unit {0}) answer old new → tells_device answer ≡ false → new ≡ old
+steady_after (Ok outcome) old new f calm = f
+steady_after (Err refusal) old new f calm = f.2 (λ e. false≢true (sym calm ∙ ap (λ (x : Refusal). is_device x) e))
+
+abbrev tells_ok : {A E : Type 0} → Result A E → Bool
+tells_ok (Ok a) = true
+tells_ok (Err e) = false
+
+pub steady_turn : (s new : EngineState Listing) (answer : Result TurnDone Refusal) (before after : ℕ) → TurnAnswered s answer new → Faults (λ e. Unit {0}) answer before after → s.failed ≡ false → new.failed ≡ false → after ≡ before
+steady_turn s new (Ok done) before after a f alive on = f
+steady_turn s new (Err refusal) before after a f alive on = ⊎_elim
+    (λ (l : (done : TurnDone) × (Err refusal ≡ Ok done) × TurnTaken s done new). absurd (false≢true (ap (λ (r : Result TurnDone Refusal). tells_ok r) l.1)))
+    (λ r. absurd (false≢true (sym on ∙ ap (λ (t : EngineState Listing). t.failed) r.1)))
+    (a.alive alive)
+
+pub start_of : (e s : EngineState Listing) → s ≡ record e { disk = with_no_steps e.disk } → LeavesNow e.disk.now (MeansState e) → LeavesNow s.disk.now (MeansState s)
+start_of e s is means = subst (λ (t : EngineState Listing). LeavesNow t.disk.now (MeansState t)) (sym is) means

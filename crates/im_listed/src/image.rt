@@ -79,10 +79,13 @@ impl Image {
             return Err(Refusal::NoMemory);
         };
         match Engine::format(alloc, Listed::new(bytes), limits) {
-            Ok(engine) => Ok(Image {
-                engine,
-                lost: false,
-            }),
+            Ok(engine) => {
+                let _ = known(&engine);
+                Ok(Image {
+                    engine,
+                    lost: false,
+                })
+            }
             Err((refusal, _)) => Err(refusal),
         }
     }
@@ -99,10 +102,13 @@ impl Image {
         ensures works { IfOk result (λ i. i.lost ≡ false) }
     {
         match Engine::open(alloc, Listed::new(bytes)) {
-            Ok(engine) => Ok(Image {
-                engine,
-                lost: false,
-            }),
+            Ok(engine) => {
+                let _ = known(&engine);
+                Ok(Image {
+                    engine,
+                    lost: false,
+                })
+            }
             Err((refusal, _)) => Err(refusal),
         }
     }
@@ -220,6 +226,13 @@ impl Image {
             return Err(Refusal::Device);
         }
         self.engine.window(element)
+    }
+
+    /// Whether a step was lost, here or at the caller.
+    pub fn is_lost(&self) -> bool
+        ensures { result ≡ self.now.lost }
+    {
+        self.lost
     }
 
     /// How many more commands can be accepted.
