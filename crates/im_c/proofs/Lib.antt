@@ -1,2 +1,3 @@
 mod AsMemory
 mod AsImage
+pub mod Boxes

@@ -2,4 +2,3 @@ pub mod Held
 pub mod Plain
 pub mod Memory
 pub mod Image
-pub mod Group

@@ -38,7 +38,7 @@ impl Model for LtImage {
 }
 
 impl LtImage {
-    pub(crate) fn of_parts(parts: Parts<Image, Global>) -> LtImage
+    fn of_parts(parts: Parts<Image, Global>) -> LtImage
         ensures { result.value ≡ Some parts.value }
     {
         let Parts { ptr, alloc } = parts;
@@ -48,7 +48,7 @@ impl LtImage {
         }
     }
 
-    pub(crate) fn into_parts(self) -> Parts<Image, Global>
+    fn into_parts(self) -> Parts<Image, Global>
         requires { IsSome self.value }
         ensures { self.value ≡ Some result.value }
     {

@@ -210,10 +210,10 @@ impl Image {
         ensures answer { self.now.lost ≡ false
             → result ≡ ask self.now.engine.memory.windows (record { element = element; number = number }) }
     {
-        if self.lost {
-            return Err(Refusal::Device);
+        match self.lost {
+            true => Err(Refusal::Device),
+            false => self.engine.collect(element, number),
         }
-        self.engine.collect(element, number)
     }
 
     /// The base of an element's window and the number of its next new request, as [`Engine::window`] has them. `Device`
@@ -222,10 +222,10 @@ impl Image {
         ensures lost { self.now.lost ≡ true → result ≡ Err Refusal.Device }
         ensures answer { self.now.lost ≡ false → result ≡ bounds self.now.engine.memory.windows element }
     {
-        if self.lost {
-            return Err(Refusal::Device);
+        match self.lost {
+            true => Err(Refusal::Device),
+            false => self.engine.window(element),
         }
-        self.engine.window(element)
     }
 
     /// Whether a step was lost, here or at the caller.

@@ -52,8 +52,10 @@ fn add(steps: &mut Vec<Step>, step: Step) -> Result<(), AllocError>
     ensures ok { OnOk result (steps.new.items ≡ steps.old.items ++ step ∷ []) }
     ensures err { OnErr result (steps.new.items ≡ steps.old.items) }
 {
-    steps.push(step)?;
-    Ok(())
+    match steps.push(step) {
+        Ok(()) => Ok(()),
+        Err(error) => Err(error.into()),
+    }
 }
 
 // Adds a write to the list, if it can grow.
