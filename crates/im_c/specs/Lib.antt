@@ -2,3 +2,4 @@ pub mod Held
 pub mod Plain
 pub mod Memory
 pub mod Image
+pub mod Group

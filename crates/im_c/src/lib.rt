@@ -2,11 +2,13 @@
 //! `include/luntrebis.h` declares it, and docs/EMBEDDING.md tells how it is used.
 #![tactic(auto)]
 
+mod group;
 mod image;
 mod memory;
 mod parts;
 mod plain;
 
+pub use group::lt_serve_group;
 pub use image::{
     LtImage, lt_close, lt_collect, lt_count, lt_failed, lt_format, lt_image_length, lt_open,
     lt_room, lt_serve, lt_step, lt_step_bytes, lt_steps, lt_turn, lt_window,
