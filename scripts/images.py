@@ -191,12 +191,13 @@ def spell_area(data, area, limits, memory, dice):
             PLACE.pack_into(data, at + 32 + 32 * (number % WINDOW), op[0], 0, code, 0, op[1], op[2], value, 0)
 
 
-def new_with_a_block(limits):
-    """A new image on which element 0 has made a block of all cells."""
+def new(limits, has_block=False):
+    """A new image, or one on which element 0 has made a block of all cells."""
     data, memory = bytearray(limits.length()), Memory(limits.cells, limits.elements)
-    memory.step(0, 1, (ALLOC_I, limits.cells, 0))
+    if has_block:
+        memory.step(0, 1, (ALLOC_I, limits.cells, 0))
     spell_area(data, 0, limits, memory, random.Random(1))
-    data[: HEADER.size] = spell_header(OPEN, 0, 1, 1, limits)
+    data[: HEADER.size] = spell_header(OPEN, 0, 1, int(has_block), limits)
     return bytes(data)
 
 
