@@ -23,7 +23,12 @@ fn stores(alloc: Global, element: u16, count: u32) -> Result<Vec<Op>, AllocError
 }
 
 // An element's port, and its stores.
-fn part<K: Name>(alloc: Global, port: Port<K>, element: u16, count: u32) -> Result<Part<K>, Refusal> {
+fn part<K: Name>(
+    alloc: Global,
+    port: Port<K>,
+    element: u16,
+    count: u32,
+) -> Result<Part<K>, Refusal> {
     let Ok(ops) = stores(alloc, element, count) else {
         return Err(Refusal::NoMemory);
     };

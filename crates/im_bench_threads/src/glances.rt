@@ -1,5 +1,6 @@
 //! Readings of a pane, alone and beside the thread that shows, and what a show costs beside readers.
 ghost use Rattle.std.specs.Prelude.{◌≡◌};
+ghost use Rattle.im_types.specs.Changes.{is_below};
 
 use im_glass::{Glance, Pane, PaneName, Unnamed, open};
 use im_types::{Change, Refusal};
@@ -30,11 +31,31 @@ fn change(index: u32) -> Change {
     }
 }
 
+// Whether a change is of so many cells alone.
+fn is_inside(change: Change, cells: usize) -> bool
+    ensures { result ≡ is_below cells change }
+{
+    match change {
+        Change::Same => true,
+        Change::Full(a, _) => (a as usize) < cells,
+        Change::Gone(base, count) => base as usize + count as usize <= cells,
+    }
+}
+
+// Puts the change at an index ahead. Whether there was room for it.
+fn put<J: PaneName>(pane: &mut Pane<J>, index: u32) -> bool {
+    let change = change(index);
+    if is_inside(change, pane.cell_count()) {
+        return pane.put_ahead(change).is_ok();
+    }
+    false
+}
+
 // Puts so many changes ahead, and shows each sixteen.
 fn show<J: PaneName, R: Wait>(rt: &R, pane: &mut Pane<J>, count: u32) -> u64 {
     let mut shown = 0u64;
     for index in 0..count {
-        if pane.put_ahead(change(index)).is_ok() {
+        if put(pane, index) {
             shown = shown.saturating_add(1);
         }
         if index % 16 == 15 {

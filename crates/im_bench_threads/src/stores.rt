@@ -45,7 +45,10 @@ pub fn serve<D: Disk>(engine: &mut Engine<D>, count: u32) -> u64 {
         if is_full(index) && !confirm(engine, 1, index) {
             return done;
         }
-        if engine.serve(&Command::Request(request(1, index, count))).is_ok() {
+        if engine
+            .serve(&Command::Request(request(1, index, count)))
+            .is_ok()
+        {
             done = done.saturating_add(1);
         }
     }
