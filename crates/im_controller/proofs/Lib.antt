@@ -10,3 +10,4 @@ pub mod GroupLemmas
 pub mod Choosing
 pub mod Lending
 pub mod KeptLemmas
+pub mod PlannedLemmas

@@ -52,11 +52,13 @@ pub record IsRoomless {D : Type 0} (s : SharedState D) (command : Command) (answ
   pub same : s' ≡ s
 
 -- A command that is lent to the engine, by its answer. Refused first where the engine has failed, and then where the trace is full.
-pub record Lends {D : Type 0} (marks : Line → Bool) (s : SharedState D) (t : Counts) (command : Command) (answer : Result ReceiptState Refusal) (s' : SharedState D) (t' : Counts) : Type 0 where
+pub record Lends {D : Type 0} (marks : Line → Bool) (plan : Option (List Request)) (s : SharedState D) (t : Counts) (command : Command) (answer : Result ReceiptState Refusal) (s' : SharedState D) (t' : Counts) : Type 0 where
   pub dead : s.engine.failed ≡ true → (answer ≡ Err Failed) × (s' ≡ s)
   pub full : s.engine.failed ≡ false → s.log.limit ≤ length s.log.trace → (answer ≡ Err TraceFull) × (s' ≡ s)
+  -- then where the plan doesn't have its operation under its number
+  pub off : s.engine.failed ≡ false → length s.log.trace < s.log.limit → has_command plan command ≡ false → (answer ≡ Err OffPlan) × (s' ≡ s)
   -- else the engine answers it, and its line is left where it has an outcome or a refusal of numbers; or the pane has no room for its change
-  pub served : s.engine.failed ≡ false → length s.log.trace < s.log.limit →
+  pub served : s.engine.failed ≡ false → length s.log.trace < s.log.limit → has_command plan command ≡ true →
       (Answered s.engine command (plain answer) s'.engine × Leaves s (Commands command) (plain answer) s') ⊎ IsRoomless s command answer s'
   -- its port has counted the line, if there is one, and an outcome has the trace that ends in it
   pub tally : t' ≡ counts_after marks t (lines_of (Commands command) (plain answer))

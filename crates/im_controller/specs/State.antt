@@ -19,6 +19,7 @@ pub record OpeningState (D : Type 0) : Type 0 where
   pub engine : EngineState D
   pub limit : ℕ
   pub ports : ℕ
+  pub plan : Option (List Request)
   pub lines_name : ℕ
   pub marked_name : ℕ
   pub book : Book

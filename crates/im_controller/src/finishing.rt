@@ -2,6 +2,7 @@
 ghost use Rattle.std.specs.Prelude.{◌≡◌, ◌≤◌, ◌+◌, false, IsTrue, length, sum_by, count_by};
 ghost use Rattle.im_types.specs.Trace.{IsLegal, end_of};
 ghost use Rattle.im_controller.specs.Kept.{HasKept, accepted_in};
+ghost use Rattle.im_controller.specs.Planned.{EndsBy};
 
 use crate::books::{Books, Reserve, Tally};
 use crate::controller::Controller;
@@ -46,6 +47,7 @@ pub fn finish<D: Disk, K: Name, R: Wait>(
     ensures kept { D.honest result.engine.disk → K.begun.failed ≡ false
         → HasKept D.now D.past D.failures K.begun K.memory (accepted_in K.memory result.trace.items) result.engine }
     ensures honest { D.honest result.engine.disk → K.honest }
+    ensures planned { EndsBy K.memory K.plan result.engine.memory }
     ensures whole { length ports.items ≡ K.ports → IsTrue result.came }
     ensures lines { IsTrue result.came → IsTrue result.claimed
         → length result.trace.items ≡ sum_by (λ p. p.told.lines) ports.items }
@@ -66,6 +68,7 @@ pub fn finish<D: Disk, K: Name, R: Wait>(
         pane,
         watched: _,
         servers: _,
+        plan: _,
         reserve,
         ended: _,
         idle: _,

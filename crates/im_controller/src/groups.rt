@@ -9,17 +9,21 @@ ghost use Rattle.im_engine.specs.Groups.{all_refused, group_put, calls_for_group
 ghost use Rattle.im_controller.specs.Groups.{answer_in, with_all_unclaimed, AreAnswersTo, memory_after_all, lines_left};
 ghost use Rattle.im_controller.specs.Groups.{AreFreeFor, MembersAnswered, LendsGroup, Holds, IsCut};
 ghost use Rattle.im_controller.specs.Groups.{those, spread, next_answer, answers_left};
+ghost use Rattle.im_controller.specs.Planned.{AreOnPlan};
+ghost use Rattle.im_controller.specs.Admitted.{has_each, lacks_each, all_off, admitted, with_refused_off};
 
 use crate::books::Tally;
 use crate::inbox::Inbox;
 use crate::log::Log;
 use crate::name::Name;
 use crate::panes::{choose, places_with, show_put};
+use crate::plans::has_request;
 use crate::receipts::Receipt;
 use crate::shared::Shared;
 use arrayvec::ArrayVec;
 use im_disk::Disk;
 use im_engine::Engine;
+use im_planning::Plan;
 use im_types::{Outcome, Refusal, Request, Served};
 use std::sync::{Mutex, Wait};
 
@@ -41,6 +45,7 @@ fn keep_all<K: Name>(log: &mut Log<K>, members: &[Request], served: &[Served])
     requires apart { AreApart members.now }
     requires free { AreFreeFor log.old.places members.now }
     requires room { length log.old.trace + lines_left (map answer_in served.now) ≤ log.old.limit }
+    requires planned { AreOnPlan K.plan members.now (map answer_in served.now) }
     ensures log { log.new ≡ with_all_unclaimed log.old members.now (map answer_in served.now) }
     ensures end { end_of K.memory log.new.trace
         ≡ memory_after_all (end_of K.memory log.old.trace) members.now (map answer_in served.now) }
@@ -129,15 +134,8 @@ fn spread(roomy: &[bool], served: &[Served], answers: &mut ArrayVec<Served, 16>)
     }
 }
 
-/// Lends the engine to the requests of a group: what [`lend`](crate::lend) of each would answer, one after another, but
-/// that the answers wait for their ports, and their lines are counted when the ports take them. What they change is
-/// shown once, after all of them were put on the disk. Tells of each member whether the pane has room for what it
-/// changes: else it isn't lent, and is refused with `NoMemory`.
-///
-/// `Failed` for all where the engine has failed, `TraceFull` for all where the trace has no room left, and then what
-/// [`Engine::serve_group`] answers each: a refusal of numbers; `JournalFull`; `Device` for all that are lent, with no
-/// line, after which the engine has failed, and nothing more is shown.
-pub fn lend_group<D: Disk, K: Name, R: Wait>(
+// The same for members that the plan has, where any of them is to be served.
+fn lend_members<D: Disk, K: Name, R: Wait>(
     rt: &R,
     shared: &mut Shared<D, K>,
     members: &ArrayVec<Request, 16>,
@@ -147,6 +145,8 @@ pub fn lend_group<D: Disk, K: Name, R: Wait>(
     requires free { AreFreeFor shared.old.log.places members.now.items }
     requires room { length shared.old.log.trace < shared.old.log.limit
         → length shared.old.log.trace + length members.now.items ≤ shared.old.log.limit }
+    requires planned { length shared.old.log.trace < shared.old.log.limit → shared.old.engine.failed ≡ false
+        → (answers : List (Result Outcome Refusal)) → AreOnPlan K.plan members.now.items answers }
     ensures lends { LendsGroup shared.old members.now.items result.items shared.new }
     // What the disk is left with, as by the engine alone.
     ensures few { D.honest shared.new.engine.disk → CallsAtMost D.past shared.old.engine.disk shared.new.engine.disk
@@ -182,6 +182,92 @@ pub fn lend_group<D: Disk, K: Name, R: Wait>(
     spread(roomy.as_slice(), served.as_slice(), &mut answers);
     keep_all(&mut shared.log, members.as_slice(), answers.as_slice());
     roomy
+}
+
+// Parts the members by the plan: those that it has, and the others with their refusals.
+fn part(
+    plan: &Option<Plan>,
+    members: &[Request],
+    lent: &mut ArrayVec<Request, 16>,
+    off: &mut ArrayVec<Request, 16>,
+    refused: &mut ArrayVec<Served, 16>,
+)
+    requires fits { length members.now ≤ 16 }
+    requires empty { (lent.old.items ≡ []) × (off.old.items ≡ []) × (refused.old.items ≡ []) }
+    ensures lent { lent.new.items ≡ those (has_each plan.now members.now) members.now }
+    ensures off { off.new.items ≡ those (lacks_each plan.now members.now) members.now }
+    ensures refused { map answer_in refused.new.items ≡ all_off off.new.items }
+{
+    for i in 0..members.len() {
+        if has_request(plan, &members[i]) {
+            lent.push(members[i]);
+        } else {
+            off.push(members[i]);
+            refused.push(Served::Refused(Refusal::OffPlan));
+        }
+    }
+}
+
+// Chooses the members that are lent: where the engine lives and the trace has room, those that the plan has. The refusals of the others wait for their
+// ports.
+fn admit<D: Disk, K: Name>(shared: &mut Shared<D, K>, members: &[Request], lent: &mut ArrayVec<Request, 16>)
+    requires fits { length members.now ≤ 16 }
+    requires empty { lent.old.items ≡ [] }
+    requires apart { AreApart members.now }
+    requires free { AreFreeFor shared.old.log.places members.now }
+    ensures lent { lent.new.items ≡ admitted K.plan shared.old members.now }
+    ensures shared { shared.new ≡ with_refused_off K.plan shared.old members.now }
+    ensures free { AreFreeFor shared.new.log.places lent.new.items }
+{
+    if shared.engine.failed() || shared.log.room() == 0 {
+        lent.extend_from_slice(members);
+        return;
+    }
+    let mut off = ArrayVec::new();
+    let mut refused = ArrayVec::new();
+    part(&shared.plan, members, lent, &mut off, &mut refused);
+    keep_all(&mut shared.log, off.as_slice(), refused.as_slice());
+}
+
+/// Lends the engine to the requests of a group: what [`lend`](crate::lend) of each would answer, one after another, but
+/// that the answers wait for their ports, and their lines are counted when the ports take them. What they change is
+/// shown once, after all of them were put on the disk. Tells of each member that the plan has whether the pane has room
+/// for what it changes: else it isn't lent, and is refused with `NoMemory`.
+///
+/// `Failed` for all where the engine has failed, `TraceFull` for all where the trace has no room left, `OffPlan` for those
+/// that the plan doesn't have, and then what
+/// [`Engine::serve_group`] answers each: a refusal of numbers; `JournalFull`; `Device` for all that are lent, with no
+/// line, after which the engine has failed, and nothing more is shown.
+pub fn lend_group<D: Disk, K: Name, R: Wait>(
+    rt: &R,
+    shared: &mut Shared<D, K>,
+    members: &ArrayVec<Request, 16>,
+) -> ArrayVec<bool, 16>
+    requires cut { IsCut members.now.items }
+    requires apart { AreApart members.now.items }
+    requires free { AreFreeFor shared.old.log.places members.now.items }
+    requires room { length shared.old.log.trace < shared.old.log.limit
+        → length shared.old.log.trace + length members.now.items ≤ shared.old.log.limit }
+    ensures lends { LendsGroup (with_refused_off K.plan shared.old members.now.items)
+        (admitted K.plan shared.old members.now.items) result.items shared.new }
+    // What the disk is left with, as by the engine alone.
+    ensures few { D.honest shared.new.engine.disk → CallsAtMost D.past shared.old.engine.disk shared.new.engine.disk
+        (calls_for_group (length (group_put shared.old.engine (those result.items (admitted K.plan shared.old members.now.items))))) }
+    ensures faults { GroupFaults shared.old.engine.failed shared.new.engine.failed
+        (D.failures shared.old.engine.disk) (D.failures shared.new.engine.disk) }
+    ensures leaves { D.honest shared.new.engine.disk → shared.old.engine.failed ≡ false
+        → LeavesWithin D.now D.past shared.old.engine.disk shared.new.engine.disk
+        (MeansGroup shared.old.engine (those result.items (admitted K.plan shared.old members.now.items))) }
+    ensures doubt { D.honest shared.new.engine.disk → shared.old.engine.failed ≡ false
+        → LeavesNow (D.now shared.new.engine.disk)
+        (MeansGroup shared.old.engine (those result.items (admitted K.plan shared.old members.now.items))) }
+    ensures means { D.honest shared.new.engine.disk → shared.new.engine.failed ≡ false
+        → LeavesNow (D.now shared.new.engine.disk) (MeansState shared.new.engine) }
+    ensures honest { D.honest shared.new.engine.disk → D.honest shared.old.engine.disk }
+{
+    let mut lent = ArrayVec::new();
+    admit(shared, members.as_slice(), &mut lent);
+    lend_members(rt, shared, &lent)
 }
 
 // Serves all that is asked and whose answer has a free place, group by group.

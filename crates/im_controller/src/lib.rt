@@ -15,6 +15,7 @@ mod log;
 mod name;
 mod opening;
 mod panes;
+mod plans;
 mod ports;
 mod receipts;
 mod servers;

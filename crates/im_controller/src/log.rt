@@ -9,6 +9,7 @@ ghost use Rattle.im_controller.specs.Lines.{leaves_line, lines_of, memory_after,
 ghost use Rattle.im_controller.specs.Lines.{EndsIn, EndsInAll, line_of};
 ghost use Rattle.im_controller.specs.Log.{with_line, with_unclaimed, Takes, Claims, IsProof, IsToldOf, AreFree};
 ghost use Rattle.im_controller.specs.Log.{receipt_for};
+ghost use Rattle.im_controller.specs.Planned.{IsOnPlan, KeepsTo, TellsBy};
 
 use crate::books::{Books, Tally};
 use crate::name::{Name, Shown};
@@ -48,6 +49,7 @@ pub(crate) struct Log<K: Name> {
 impl<K: Name> Model for Log<K> {
     ghost use Rattle.std.specs.Prelude.{◌≤◌, vec_capacity};
     ghost use Rattle.im_controller.specs.Log.{LogState, IsLog};
+    ghost use Rattle.im_controller.specs.Planned.{KeepsTo};
 
     ghost Value = { LogState };
 
@@ -55,7 +57,7 @@ impl<K: Name> Model for Log<K> {
 
     ghost invariant = { λ l.
         IsLog K.memory K.marks (record { trace = l.trace.items; limit = l.limit; places = l.places.items }) l.books
-        × (l.limit ≤ vec_capacity l.trace) };
+        × (l.limit ≤ vec_capacity l.trace) × KeepsTo K.memory K.plan l.trace.items };
 }
 
 // Whether an answer leaves a line.
@@ -101,6 +103,7 @@ impl<K: Name> Log<K> {
     )
         requires room { length self.old.trace < self.old.limit }
         requires is_so { leaves_line answer ≡ true → answer ≡ answer_to (end_of K.memory self.old.trace) call }
+        requires planned { leaves_line answer ≡ true → IsOnPlan K.plan call }
         ensures log { self.new ≡ with_line self.old call answer }
         ensures tally { tally.new ≡ counts_after K.marks tally.old (lines_of call answer) }
         ensures end { end_of K.memory self.new.trace ≡ memory_after (end_of K.memory self.old.trace) call answer }
@@ -148,6 +151,7 @@ impl<K: Name> Log<K> {
         requires room { leaves_line answer ≡ true → length self.old.trace < self.old.limit }
         requires is_so { leaves_line answer ≡ true
             → answer ≡ answer_to (end_of K.memory self.old.trace) (Commands (Asks request.now)) }
+        requires planned { leaves_line answer ≡ true → IsOnPlan K.plan (Commands (Asks request.now)) }
         ensures log { self.new ≡ with_unclaimed self.old request.now answer }
         ensures end { end_of K.memory self.new.trace
             ≡ memory_after (end_of K.memory self.old.trace) (Commands (Asks request.now)) answer }
@@ -222,6 +226,7 @@ fn receipt_of<K: Name>(
     answer: Result<Outcome, Refusal>,
 ) -> Result<Receipt<K>, Refusal>
     requires proof { IsProof K.memory (Commands command.now) answer history.value.items }
+    requires planned { KeepsTo K.memory K.plan history.value.items }
     requires told { IsToldOf K.memory history.value.items told }
     ensures { result ≡ receipt_for history.value.items told command.now answer }
 {

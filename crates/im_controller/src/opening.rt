@@ -31,6 +31,7 @@ pub struct Opening<D: Disk> {
     engine: Engine<D>,
     parts: Parts,
     pane: Unnamed,
+    plan: Option<Plan>,
     lines: Blank,
     marked: Blank,
 }
@@ -50,11 +51,13 @@ impl<D: Disk> Model for Opening<D> {
       lines_name = o.lines.name;
       marked_name = o.marked.name;
       book = o.pane.book;
+      plan = o.plan;
     } };
 
     ghost invariant = { λ o. (o.lines.parts ≡ o.parts.ports) × (o.marked.parts ≡ o.parts.ports)
         × (o.parts.trace.items ≡ []) × (o.parts.limit ≤ vec_capacity o.parts.trace) × AreFree o.parts.places.items
-        × (o.pane.shown ≡ opening o.engine.memory) × (o.pane.cells ≡ length o.engine.memory.cells) };
+        × (o.pane.shown ≡ opening o.engine.memory) × (o.pane.cells ≡ length o.engine.memory.cells)
+        × StartsBy o.engine.memory o.plan };
 }
 
 // What takes memory.
@@ -120,7 +123,7 @@ pub fn start<D: Disk + Drop, R: Wait>(
     engine: Engine<D>,
     trace_room: usize,
 ) -> Result<Opening<D>, (Refusal, Engine<D>)>
-    ensures found { IfOk result (λ o. (o.engine ≡ engine) × (o.limit ≡ trace_room)) }
+    ensures found { IfOk result (λ o. (o.engine ≡ engine) × (o.limit ≡ trace_room) × (o.plan ≡ None)) }
     ensures refused { IfErr result (λ e. (e.0 ≡ NoMemory) × (e.1 ≡ engine)) }
 {
     match make_parts(alloc, trace_room, engine.memory().elements()) {
@@ -141,7 +144,63 @@ pub fn start<D: Disk + Drop, R: Wait>(
     }
 }
 
+// Whether a plan fits a memory, of which it is known then that a run may start from it.
+fn may_start(plan: &Plan, memory: &Memory) -> bool
+    ensures starts { result ≡ true → Starts memory.now.contents plan.now }
+    ensures fits { IsTrue result ↔ FitsPlan memory.now.contents plan.now }
+{
+    let _requests = plan.requests(); // So that it is known to be a plan,
+    let _elements = memory.elements(); // and that the memory's waiters agree with its entries.
+    fits(plan, memory)
+}
+
+/// The same, under a plan: `OffPlan` is answered from then on to a request that the plan doesn't have with its operation
+/// under its number. `BadPlan`, with the engine as it was, where the plan doesn't fit its memory.
+pub fn start_planned<D: Disk + Drop, R: Wait>(
+    rt: &R,
+    alloc: Global,
+    engine: Engine<D>,
+    plan: Plan,
+    trace_room: usize,
+) -> Result<Opening<D>, (Refusal, Engine<D>)>
+    ensures found { IfOk result (λ o. (o.engine ≡ engine) × (o.limit ≡ trace_room) × (o.plan ≡ Some plan)) }
+    ensures fits { OnOk result (FitsPlan engine.memory plan) }
+    ensures bad { IfErr result (λ e. e.0 ≡ BadPlan → FitsPlan engine.memory plan → ⊥) }
+    ensures refused { IfErr result (λ e. ((e.0 ≡ NoMemory) ⊎ (e.0 ≡ BadPlan)) × (e.1 ≡ engine)) }
+{
+    if !may_start(&plan, engine.memory()) {
+        return Err((Refusal::BadPlan, engine));
+    }
+    match start(rt, alloc, engine, trace_room) {
+        Ok(opening) => Ok(opening.under(plan)),
+        Err(refused) => Err(refused),
+    }
+}
+
 impl<D: Disk> Opening<D> {
+    // The same under a plan.
+    fn under(self, plan: Plan) -> Opening<D>
+        requires starts { Starts self.engine.memory plan }
+        ensures { result ≡ record self { plan = Some plan } }
+    {
+        let Opening {
+            engine,
+            parts,
+            pane,
+            plan: _,
+            lines,
+            marked,
+        } = self;
+        Opening {
+            engine,
+            parts,
+            pane,
+            plan: Some(plan),
+            lines,
+            marked,
+        }
+    }
+
     /// The controller, under the name that its caller's functions have for it. It takes no memory.
     pub fn named<K: Name>(self) -> Controller<D, K>
         requires memory { self.engine.memory ≡ K.memory }
@@ -149,6 +208,7 @@ impl<D: Disk> Opening<D> {
         requires marked { self.marked_name ≡ K.marked_name }
         requires ports { self.ports ≡ K.ports }
         requires book { self.book ≡ K.book }
+        requires plan { self.plan ≡ K.plan }
         requires begun { begun_in D.now D.past D.failures self.engine ≡ K.begun }
         requires honest { D.honest self.engine.disk → K.honest }
     {

@@ -9,6 +9,7 @@ ghost use Rattle.im_controller.specs.Lines.{EndsIn, line_of, lines_of, counts_af
 ghost use Rattle.im_controller.specs.Log.{plain};
 ghost use Rattle.im_controller.specs.Lends.{IsTurnFault};
 ghost use Rattle.im_controller.specs.Waits.{entry_of, IsFoundOf, IsAwaited};
+ghost use Rattle.im_controller.specs.Planned.{TellsBy};
 
 use crate::books::Tally;
 use crate::controller::Controller;
@@ -49,6 +50,7 @@ impl<K: Name> Port<K> {
     ) -> Result<Receipt<K>, Refusal>
         ensures asked { IfOk result (λ r. r.command
             ≡ Asks (record { element = self.old.element; number = number; op = op })) }
+        ensures planned { IfOk result (λ r. TellsBy K.memory K.plan (Commands r.command) r.outcome) }
         ensures legal { IfOk result (λ r. IsLegal K.memory r.history) }
         ensures last { IfOk result (λ r. EndsIn r.history (line_of (Commands r.command) (Ok r.outcome))) }
         ensures counts { self.new.told ≡ counts_after K.marks self.old.told
@@ -105,6 +107,7 @@ impl<K: Name> Port<K> {
         number: u64,
     ) -> Result<Found<K>, Refusal>
         ensures asked { IsFoundOf self.old.element number result }
+        ensures planned { IfOk result (λ f. TellsBy K.memory K.plan (Collect f.element f.number) (Tells f.entry)) }
         ensures legal { IfOk result (λ f. IsLegal K.memory f.history) }
         ensures last { IfOk result (λ f. EndsIn f.history
             (line_of (Collect f.element f.number) (Ok (Tells f.entry)))) }
@@ -130,6 +133,7 @@ impl<K: Name> Port<K> {
         number: u64,
     ) -> Result<Found<K>, Refusal>
         ensures asked { IsFoundOf self.old.element number result }
+        ensures planned { IfOk result (λ f. TellsBy K.memory K.plan (Collect f.element f.number) (Tells f.entry)) }
         ensures answered { IsAwaited result }
         ensures legal { IfOk result (λ f. IsLegal K.memory f.history) }
         ensures last { IfOk result (λ f. EndsIn f.history

@@ -27,6 +27,7 @@ impl<K: Name> Model for Receipt<K> {
     ghost use Rattle.std.specs.Prelude.{Ok};
     ghost use Rattle.im_types.specs.declared.commands.Call.TheVariants.{Command as Commands};
     ghost use Rattle.im_controller.specs.Log.{ReceiptState, IsProof, IsToldOf};
+    ghost use Rattle.im_controller.specs.Planned.{TellsBy};
 
     ghost Value = { ReceiptState };
 
@@ -38,7 +39,8 @@ impl<K: Name> Model for Receipt<K> {
     } };
 
     ghost invariant = { λ r. IsProof K.memory (Commands r.command.value) (Ok r.outcome) r.history.value.items
-        × IsToldOf K.memory r.history.value.items r.told };
+        × IsToldOf K.memory r.history.value.items r.told
+        × TellsBy K.memory K.plan (Commands r.command.value) r.outcome };
 }
 
 impl<K: Name> Receipt<K> {
@@ -77,6 +79,7 @@ impl<K: Name> Model for Found<K> {
     ghost use Rattle.im_types.specs.declared.commands.Call.TheVariants.{Collect};
     ghost use Rattle.im_types.specs.declared.commands.Outcome.TheVariants.{Entry as Tells};
     ghost use Rattle.im_controller.specs.Log.{FoundState, IsProof};
+    ghost use Rattle.im_controller.specs.Planned.{TellsBy};
 
     ghost Value = { FoundState };
 
@@ -88,7 +91,8 @@ impl<K: Name> Model for Found<K> {
     } };
 
     ghost invariant = { λ f.
-        IsProof K.memory (Collect f.element f.number) (Ok (Tells f.entry)) f.history.value.items };
+        IsProof K.memory (Collect f.element f.number) (Ok (Tells f.entry)) f.history.value.items
+        × TellsBy K.memory K.plan (Collect f.element f.number) (Tells f.entry) };
 }
 
 impl<K: Name> Found<K> {

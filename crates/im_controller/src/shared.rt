@@ -18,6 +18,7 @@ use crate::books::{Reserve, Tally};
 use crate::log::Log;
 use crate::name::{Name, Shown};
 use crate::panes::{put_ahead, show_put};
+use crate::plans::has_command;
 use crate::receipts::{Found, Receipt};
 use crate::servers::{Ask, Server, Servers};
 use crate::tellers::Standing;
@@ -25,6 +26,7 @@ use im_checkpoint::TurnDone;
 use im_disk::Disk;
 use im_engine::Engine;
 use im_glass::{Glance, Pane};
+use im_planning::Plan;
 use im_types::{Call, Command, Entry, Outcome, Refusal};
 use std::marker::Model;
 use std::sync::Wait;
@@ -43,6 +45,7 @@ pub struct Shared<D: Disk, K: Name> {
     pub(crate) pane: Pane<Shown<K>>,
     pub(crate) watched: Vec<bool>,
     pub(crate) servers: Servers,
+    pub(crate) plan: Option<Plan>,
     pub(crate) reserve: Reserve<K>,
     pub(crate) ended: bool,
     pub(crate) idle: bool,
@@ -64,7 +67,7 @@ impl<D: Disk, K: Name> Model for Shared<D, K> {
       shown = s.pane.shown;
     } };
 
-    ghost invariant = { λ s. (end_of K.memory s.log.trace ≡ s.engine.memory)
+    ghost invariant = { λ s. (s.plan ≡ K.plan) × (end_of K.memory s.log.trace ≡ s.engine.memory)
         × (s.pane.shown ≡ shown_by K.memory s.log.trace)
         × (s.pane.cells ≡ length K.memory.cells)
         × (s.engine.failed ≡ false → s.pane.ahead ≡ [])
@@ -86,7 +89,7 @@ pub fn lend<D: Disk, K: Name, R: Wait>(
     tally: &mut Tally<K>,
     command: &Command,
 ) -> Result<Receipt<K>, Refusal>
-    ensures lends { Lends K.marks shared.old tally.old command.now result shared.new tally.new }
+    ensures lends { Lends K.marks K.plan shared.old tally.old command.now result shared.new tally.new }
     ensures legal { IfOk result (λ r. IsLegal K.memory r.history) }
     // What the disk is left with, as by the engine alone.
     ensures calls { D.honest shared.new.engine.disk
@@ -108,6 +111,9 @@ pub fn lend<D: Disk, K: Name, R: Wait>(
     }
     if shared.log.room() == 0 {
         return Err(Refusal::TraceFull);
+    }
+    if !has_command(&shared.plan, command) {
+        return Err(Refusal::OffPlan);
     }
     let places = u64::from(shared.engine.room());
     match put_ahead(&mut shared.pane, shared.engine.memory(), places, command) {
