@@ -93,7 +93,10 @@ fn add_row(said: &mut String, row: &[Answer]) -> Result<()> {
 fn row_length(answers: &[Answer]) -> usize {
     let mut length: usize = 0;
     let mut rest = answers;
-    while let Some((first, later)) = rest.split_first() {
+    for _ in 0..answers.len() {
+        let Some((first, later)) = rest.split_first() else {
+            return length;
+        };
         length = answers.len().min(length.saturating_add(1));
         let Some(next) = later.first() else {
             return length;
