@@ -1,5 +1,5 @@
 -- A group is told as many answers as it has requests.
-use Rattle.std.proofs.Common.{◌≡◌, ◌⊎◌, ⊎_elim, suc, ◌<◌, true, false, List, [], ◌∷◌, length, map, refl, ap, ◌∙◌, arith}
+use Rattle.std.proofs.Common.{◌≡◌, ◌⊎◌, ⊎_elim, suc, true, false, List, [], ◌∷◌, length, map, refl, ap, ◌∙◌, arith}
 use Rattle.im_types.specs.declared.commands.Request.{Request}
 use Rattle.im_types.specs.declared.commands.Command.{Command}
 use Rattle.im_types.specs.declared.groups.Served.{Served}

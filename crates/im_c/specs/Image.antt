@@ -1,5 +1,5 @@
 -- An image, as C spells what is asked of it.
-use Rattle.std.specs.Prelude.{◌≡◌, ℕ, Bool, true, false, List, [], ◌∷◌, length, replicate, Some, None, Option, Result, Ok, Err}
+use Rattle.std.specs.Prelude.{◌≡◌, ℕ, true, false, List, length, replicate, Some, None, Option, Result, Ok, Err}
 use Rattle.im_types.specs.declared.commands.Command.{Command}
 use Rattle.im_types.specs.declared.commands.Outcome.{Outcome}
 use Rattle.im_types.specs.declared.refusals.Refusal.{Refusal}
@@ -14,7 +14,7 @@ use Rattle.im_engine.specs.State.{MeansState, MeansEither}
 use Rattle.im_engine.specs.Run.{Answered, TurnAnswered}
 use Rattle.im_listed.specs.Listing.{Task, Puts, Settles}
 use Rattle.im_listed.specs.History.{given}
-use Rattle.im_listed.specs.Image.{ImageState, Carries, begun_in, steps_of}
+use Rattle.im_listed.specs.Image.{ImageState, Carries, begun_in}
 use Rattle.im_c.specs.declared.plain.LtCommand.{LtCommand}
 use Rattle.im_c.specs.declared.plain.LtOutcome.{LtOutcome}
 use Rattle.im_c.specs.declared.plain.LtWindow.{LtWindow}

@@ -1,5 +1,5 @@
 //! A group of requests on an image, as C spells it.
-ghost use Rattle.std.specs.Prelude.{◌≡◌, ◌↔◌, ◌<◌, ◌≤◌, ◌++◌, [], length, map, IsSome, IfSome, IsTrue};
+ghost use Rattle.std.specs.Prelude.{◌≡◌, ◌↔◌, ◌<◌, ◌≤◌, ◌++◌, [], length, map, IsSome, IsTrue};
 ghost use Rattle.im_c.specs.Handing.{Becomes};
 ghost use Rattle.im_c.specs.Group.{IsGroup, ServesGroup, outcome_served, request_in, requests_of};
 

@@ -1,5 +1,5 @@
 //! An image, as C holds it: C reads the file, and carries out the writes and syncs.
-ghost use Rattle.std.specs.Prelude.{◌≡◌, ◌↔◌, Bool, true, false, List, [], length, map, replicate};
+ghost use Rattle.std.specs.Prelude.{◌≡◌, true, false, length, map};
 ghost use Rattle.std.specs.Prelude.{Ok, Some, Err, IsSome, IfSome, IfOk, IfErr, slice_get};
 ghost use Rattle.std.specs.declared.option.Option.{Option};
 ghost use Rattle.im_types.specs.Contents.{empty_contents};

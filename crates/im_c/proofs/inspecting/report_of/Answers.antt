@@ -1,4 +1,4 @@
-use Rattle.std.proofs.Common.{rules, ◌≡◌, ℕ, List, ap, sym, subst, ◌∙◌}
+use Rattle.std.proofs.Common.{rules, ◌≡◌, ℕ, List, ap, subst, ◌∙◌}
 use Rattle.im_disk.specs.Moment.{Moment}
 use Rattle.im_listed.specs.Listing.{Listing}
 use Rattle.im_c.specs.Telling.{IsFault}
