@@ -64,6 +64,18 @@ fn show_named<K: Name + Send + Sync, R: Threads + Wait + Sync>(
     show(rt, alloc, scene, limits, opening.named::<K>(), said)
 }
 
+// Shows a scene by a controller with a name of its own.
+fn show_opened<R: Threads + Wait + Sync>(
+    rt: &R,
+    alloc: Global,
+    scene: Scene,
+    limits: Limits,
+    opening: Opening<FuseDisk>,
+    said: &mut String,
+) -> Result<()> {
+    show_named::<Brand, R>(rt, alloc, scene, limits, opening, said)
+}
+
 fn show_scene<R: Threads + Wait + Sync>(
     rt: &R,
     alloc: Global,
@@ -75,7 +87,7 @@ fn show_scene<R: Threads + Wait + Sync>(
     };
     writeln!(said, "{}", scene.head())?;
     let opening = opening(rt, alloc, scene, limits)?;
-    show_named::<Brand, R>(rt, alloc, scene, limits, opening, said)
+    show_opened(rt, alloc, scene, limits, opening, said)
 }
 
 // The disk of a new image.
@@ -100,8 +112,7 @@ fn stop_all<R: Threads + Wait + Sync>(
     for more in 0..MOST_PASSED.saturating_add(1) {
         for crash in CRASHES {
             let opening = opening_of(rt, alloc, &image, calls.saturating_add(more))?;
-            let scene = Scene::Stops(crash);
-            if let Err(error) = show_named::<Brand, R>(rt, alloc, scene, limits, opening, said) {
+            if let Err(error) = show_opened(rt, alloc, Scene::Stops(crash), limits, opening, said) {
                 return Err(anyhow!("stopped behind {more} calls: {error}"));
             }
             runs = runs.saturating_add(1);
