@@ -1,6 +1,6 @@
 //! Threads under one lock: what ports are answered beside each other, that the thread that keeps checkpoints works,
-//! that servers wait and are woken, that readers wait for nobody, that the plain memory serves a long trace again alike,
-//! and that each thread ends where the disk stops, with nothing lost that was answered.
+//! that servers wait and are woken, that readers wait for nobody, and that the plain memory serves a long trace again
+//! alike.
 #![tactic(auto)]
 
 ghost use Rattle.std.specs.Prelude.{◌≡◌};
@@ -10,14 +10,12 @@ mod crews;
 mod glances;
 mod parts;
 mod scenes;
-mod stops;
 mod traces;
 
 use crate::scenes::{Scene, show};
-use crate::stops::{CRASHES, MOST_PASSED, calls_of_opening, opening_of};
 use anyhow::{Result, anyhow};
 use im_controller::{Name, Opening, start};
-use im_disk::{Crash, Disk, FuseDisk, MemDisk, Mode};
+use im_disk::{Disk, FuseDisk, MemDisk, Mode};
 use im_engine::Engine;
 use im_types::layout::image_length;
 use im_types::{LAST, Limits};
@@ -64,18 +62,6 @@ fn show_named<K: Name + Send + Sync, R: Threads + Wait + Sync>(
     show(rt, alloc, scene, limits, opening.named::<K>(), said)
 }
 
-// Shows a scene by a controller with a name of its own.
-fn show_opened<R: Threads + Wait + Sync>(
-    rt: &R,
-    alloc: Global,
-    scene: Scene,
-    limits: Limits,
-    opening: Opening<FuseDisk>,
-    said: &mut String,
-) -> Result<()> {
-    show_named::<Brand, R>(rt, alloc, scene, limits, opening, said)
-}
-
 fn show_scene<R: Threads + Wait + Sync>(
     rt: &R,
     alloc: Global,
@@ -87,52 +73,7 @@ fn show_scene<R: Threads + Wait + Sync>(
     };
     writeln!(said, "{}", scene.head())?;
     let opening = opening(rt, alloc, scene, limits)?;
-    show_opened(rt, alloc, scene, limits, opening, said)
-}
-
-// The disk of a new image.
-fn new_image(alloc: Global, limits: Limits) -> Result<MemDisk> {
-    match Engine::format(alloc, MemDisk::new(alloc, image_length(limits))?, limits) {
-        Ok(engine) => Ok(engine.close()),
-        Err(_) => Err(anyhow!("no image was formatted")),
-    }
-}
-
-// Stops the disk behind so many calls past those of an opening, each time with each crash behind it. How many runs there
-// were.
-fn stop_all<R: Threads + Wait + Sync>(
-    rt: &R,
-    alloc: Global,
-    limits: Limits,
-    said: &mut String,
-) -> Result<u64> {
-    let image = new_image(alloc, limits)?;
-    let calls = calls_of_opening(alloc, &image)?;
-    let mut runs = 0u64;
-    for more in 0..MOST_PASSED.saturating_add(1) {
-        for crash in CRASHES {
-            let opening = opening_of(rt, alloc, &image, calls.saturating_add(more))?;
-            if let Err(error) = show_opened(rt, alloc, Scene::Stops(crash), limits, opening, said) {
-                return Err(anyhow!("stopped behind {more} calls: {error}"));
-            }
-            runs = runs.saturating_add(1);
-        }
-    }
-    Ok(runs)
-}
-
-fn show_stops<R: Threads + Wait + Sync>(rt: &R, alloc: Global, said: &mut String) -> Result<()> {
-    let scene = Scene::Stops(Crash::Kept);
-    let Some(limits) = scene.limits() else {
-        return Err(anyhow!("these are no sizes"));
-    };
-    writeln!(said, "{}", scene.head())?;
-    let runs = stop_all(rt, alloc, limits, said)?;
-    writeln!(
-        said,
-        "  {runs} runs: each thread ended, each refusal was of the disk, and each answer is kept"
-    )?;
-    Ok(())
+    show_named::<Brand, R>(rt, alloc, scene, limits, opening, said)
 }
 
 fn show_all<R: Threads + Wait + Sync>(rt: &R, alloc: Global, said: &mut String) -> Result<()> {
@@ -147,7 +88,7 @@ fn show_all<R: Threads + Wait + Sync>(rt: &R, alloc: Global, said: &mut String) 
     ] {
         show_scene(rt, alloc, scene, said)?;
     }
-    show_stops(rt, alloc, said)
+    Ok(())
 }
 
 fn main(rt: HostRuntime) -> Result<()> {

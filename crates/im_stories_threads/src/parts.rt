@@ -22,10 +22,6 @@ pub enum Part {
     Waits,
     /// Stores 7 at address 0, and then waits for a take of address 1, where nobody puts.
     StoresAndStalls,
-    /// Asks for this under number 1, and has ended.
-    Asks(Op),
-    /// Fetches address 0 under number 1, and waits for its answer.
-    FetchesAndWaits,
 }
 
 /// What came of it.
@@ -174,40 +170,6 @@ fn stores_and_stalls<D: Disk, K: Name, R: Wait>(
     }
 }
 
-// Asks for one thing, and has ended.
-fn asks<D: Disk, K: Name, R: Wait>(
-    rt: &R,
-    controller: &Controller<D, K>,
-    port: &mut Port<K>,
-    op: Op,
-) -> Told {
-    let last = entry_of(submit(rt, controller, port, 1, op));
-    port.retire(rt, controller);
-    Told {
-        accepted: u64::from(last.is_ok()),
-        last,
-    }
-}
-
-// Fetches, and waits for what was fetched.
-fn fetches_and_waits<D: Disk, K: Name, R: Wait>(
-    rt: &R,
-    controller: &Controller<D, K>,
-    port: &mut Port<K>,
-) -> Told {
-    if let Err(refusal) = submit(rt, controller, port, 1, Op::Fetch(0)) {
-        port.retire(rt, controller);
-        return Told {
-            accepted: 0,
-            last: Err(refusal),
-        };
-    }
-    Told {
-        accepted: 1,
-        last: await_answer(rt, controller, port, 1),
-    }
-}
-
 /// Does a part, and says what came of it.
 pub fn play<D: Disk, K: Name, R: Wait>(
     rt: &R,
@@ -223,7 +185,5 @@ pub fn play<D: Disk, K: Name, R: Wait>(
             last: await_answer(rt, controller, port, 1),
         },
         Part::StoresAndStalls => stores_and_stalls(rt, controller, port),
-        Part::Asks(op) => asks(rt, controller, port, op),
-        Part::FetchesAndWaits => fetches_and_waits(rt, controller, port),
     }
 }

@@ -3,11 +3,10 @@
 use crate::crews::{Done, Played, Task, play_all};
 use crate::glances::{CELLS, Looked, READERS, add_looked, ask_and_teach, glances, largest};
 use crate::parts::Part;
-use crate::stops::show_stop;
 use crate::traces::{alike, fetches_of};
 use anyhow::{Result, anyhow};
 use im_controller::{Controller, Finished, Name, Port, Receipt, Shown, finish};
-use im_disk::{Crash, FuseDisk};
+use im_disk::FuseDisk;
 use im_engine::Engine;
 use im_story::{add_entry, add_outcome, add_refusal};
 use im_types::{Kind, Limits, Op, Outcome, Refusal};
@@ -32,8 +31,6 @@ pub enum Scene {
     Largest,
     /// Readers that look again and again beside a writer.
     Readers,
-    /// A server that waits for what another one stores, over a disk that stops; and this crash behind that.
-    Stops(Crash),
 }
 
 impl Scene {
@@ -47,7 +44,6 @@ impl Scene {
             Scene::Sixteen => Limits::new(512, 17, 4096),
             Scene::Largest => Limits::new(65_536, 64, 4096),
             Scene::Readers => Limits::new(512, 9, 4096),
-            Scene::Stops(_) => Limits::new(64, 3, 16),
         }
     }
 
@@ -64,7 +60,7 @@ impl Scene {
     // How many elements have a thread: 1, 2 and so on.
     fn threads(self) -> u16 {
         match self {
-            Scene::Two | Scene::KeeperWorks | Scene::ServersWait | Scene::Stops(_) => 2,
+            Scene::Two | Scene::KeeperWorks | Scene::ServersWait => 2,
             Scene::OneLine | Scene::Readers => 1,
             Scene::Sixteen => 16,
             Scene::Largest => 0,
@@ -82,8 +78,6 @@ impl Scene {
             (Scene::ServersWait, _) => Part::StoresAndStalls,
             (Scene::Sixteen, _) => Part::Mixed(u32::from(element).saturating_sub(1), 1_002),
             (Scene::Largest, _) | (Scene::Readers, _) => Part::Stores(u64::from(CELLS)),
-            (Scene::Stops(_), 1) => Part::FetchesAndWaits,
-            (Scene::Stops(_), _) => Part::Asks(Op::Store(0, 5)),
         }
     }
 
@@ -135,8 +129,6 @@ impl Scene {
             Scene::Sixteen => "sixteen threads of 1,002 requests each",
             Scene::Largest => "the largest memory, and a glance at its last cell",
             Scene::Readers => "eight readers beside a writer",
-            Scene::Stops(_) =>
-                "a disk that stops behind 0 to 120 calls more than an opening makes, and three crashes",
         }
     }
 }
@@ -250,8 +242,7 @@ fn task<K: Name, R: Wait>(
     Ok(Task { port, part })
 }
 
-/// The ports of a scene's threads, each with its part.
-pub fn tasks<K: Name, R: Wait>(
+fn tasks<K: Name, R: Wait>(
     rt: &R,
     alloc: Global,
     controller: &Controller<FuseDisk, K>,
@@ -383,9 +374,6 @@ pub fn show<K: Name + Send + Sync, R: Threads + Wait + Sync>(
     controller: Controller<FuseDisk, K>,
     said: &mut String,
 ) -> Result<()> {
-    if let Scene::Stops(crash) = scene {
-        return show_stop(rt, alloc, crash, limits, controller);
-    }
     let (ports, acted) = match act(rt, alloc, &controller, scene, said) {
         Ok(ports) => (ports, Ok(())),
         Err(error) => (Vec::new(alloc), Err(error)),
