@@ -14,6 +14,10 @@ use Rattle.im_dialogue.specs.Talk.{put_of, texts_of, Talking, TalksOn, TalkEnds}
 use Rattle.im_dialogue.specs.Dialogue.{Closed, Talked}
 use Rattle.im_dialogue.proofs.TalkLemmas.{at_start, ended_at}
 
+-- what is left since a moment is left since the same moment
+pub same_start : (was is new : Moment) (past_was past_is past_new : List Moment) → is ≡ was → past_is ≡ past_was → Leaves is new past_is past_new (Left is) → Leaves was new past_was past_new (Left was)
+same_start was is new past_was past_is past_new now past it = subst (λ (m : Moment). Leaves m new past_was past_new (Left m)) now (subst (λ (p : List Moment). Leaves is new p past_new (Left is)) past it)
+
 module _ {D : Type 0} (watch : Bool) (now : D → Moment) (past : D → List Moment) where
   -- an opening leaves nothing new, and what it found was there
   pub talked : (old : D) (start : EngineState D) (new : D) (was is : Option (List ℕ)) (status : ℕ) → Leaves (now old) (now start.disk) (past old) (past start.disk) (Left (now old)) → LeavesNow (now start.disk) (MeansState start)

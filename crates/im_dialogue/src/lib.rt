@@ -4,6 +4,8 @@
 mod answers;
 mod asking;
 mod dialogue;
+mod listening;
+mod resting;
 mod serving;
 mod talk;
 mod together;
@@ -12,5 +14,6 @@ mod watching;
 pub use answers::{Answer, Expected, add_answer};
 pub use asking::{Asked, read_asked};
 pub use dialogue::dialogue_on;
+pub use listening::{Ear, Listener};
 pub use serving::serve_lines;
 pub use talk::{answer, make_room};

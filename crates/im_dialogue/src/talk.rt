@@ -6,6 +6,7 @@ ghost use Rattle.im_dialogue.specs.Talk.{GoesOn, Halts, Says, is_end};
 
 use crate::answers::{Answer, Expected};
 use crate::asking::Asked;
+use crate::listening::{Deaf, Ear};
 use im_checkpoint::TurnDone;
 use im_disk::Disk;
 use im_engine::Engine;
@@ -29,16 +30,20 @@ fn take_turn<D: Disk>(engine: &mut Engine<D>) -> Result<TurnDone, Refusal>
     }
 }
 
-/// Takes turns of a checkpoint while there is room for less than so many commands, and something is left to do.
-/// `Device`, where a call of the disk failed, or `Failed`, where one had failed before: what was said stays.
-pub fn make_room<D: Disk>(engine: &mut Engine<D>, least: u32) -> Result<(), Refusal>
+/// Takes turns of a checkpoint while nothing is heard, there is room for less than so many commands, and something is
+/// left to do. `Device`, where a call of the disk failed, or `Failed`, where one had failed before: what was said stays.
+pub(crate) fn turn_while_quiet<D: Disk, E: Ear>(
+    engine: &mut Engine<D>,
+    ear: &mut E,
+    least: u32,
+) -> Result<(), Refusal>
     ensures goes { MatchResult result
         (λ _. GoesOn D.now D.past D.honest engine.old engine.new)
         (λ _. Halts D.now D.past D.honest engine.old engine.new) }
     ensures honest { D.honest engine.new.disk → D.honest engine.old.disk }
 {
     for _turn in 0..MOST_TURNS {
-        if engine.room() >= least {
+        if engine.room() >= least || !ear.is_quiet() {
             return Ok(());
         }
         // A stop in it leaves the memory as it is.
@@ -51,6 +56,17 @@ pub fn make_room<D: Disk>(engine: &mut Engine<D>, least: u32) -> Result<(), Refu
         }
     }
     Ok(())
+}
+
+/// Takes turns of a checkpoint while there is room for less than so many commands, and something is left to do.
+/// `Device`, where a call of the disk failed, or `Failed`, where one had failed before: what was said stays.
+pub fn make_room<D: Disk>(engine: &mut Engine<D>, least: u32) -> Result<(), Refusal>
+    ensures goes { MatchResult result
+        (λ _. GoesOn D.now D.past D.honest engine.old engine.new)
+        (λ _. Halts D.now D.past D.honest engine.old engine.new) }
+    ensures honest { D.honest engine.new.disk → D.honest engine.old.disk }
+{
+    turn_while_quiet(engine, &mut Deaf, least)
 }
 
 // Whether a refusal ends the dialogue: a call of the disk has failed.

@@ -3,13 +3,14 @@
 
 ghost use Rattle.std.specs.Prelude.{◌≡◌, ◌≤◌};
 
+use im_dialogue::{Ear, Listener};
 use im_disk::Unknown;
 use im_program::{WordFault, act, read_words, refuse};
 use im_types::Refusal;
 use std::alloc::{AllocError, Global};
 use std::env::{self, Env};
 use std::fs::File;
-use std::io::{self, Eprint, Input, IsTerminal, Print, Write};
+use std::io::{self, BufRead, BufReader, Eprint, Input, IsTerminal, Print, Write};
 use std::process::ExitCode;
 use std::rt::Files;
 use std::sync::Wait;
@@ -29,13 +30,14 @@ fn status_after(printed: io::Result<()>, status: u8) -> u8
 /// Does what the words ask for.
 fn run<
     R: Files<File = File> + AllocGlobal + Input + Print + Eprint + Threads + Wait + Sync,
+    I: BufRead + Ear,
     W: Write,
->(rt: &R, words: &[&str], out: &mut W, is_watched: bool) -> u8
+>(rt: &R, words: &[&str], input: &mut I, out: &mut W, is_watched: bool) -> u8
     ensures { result ≤ 3 }
 {
     match read_words(rt.alloc(), words) {
         Ok(work) => {
-            let (status, _disk) = act(rt, &work, out, is_watched, Unknown);
+            let (status, _disk) = act(rt, &work, input, out, is_watched, Unknown);
             status
         }
         Err(WordFault::NoMemory) => refuse(rt.alloc(), Refusal::NoMemory, out),
@@ -69,8 +71,9 @@ fn no_words<R: AllocGlobal + Eprint, W: Write>(rt: &R, error: &io::Error, out: &
 /// Reads the command line, and does what it asks for.
 fn start<
     R: Env + Files<File = File> + AllocGlobal + Input + Print + Eprint + Threads + Wait + Sync,
+    I: BufRead + Ear,
     W: Write,
->(rt: &R, out: &mut W, is_watched: bool) -> u8
+>(rt: &R, input: &mut I, out: &mut W, is_watched: bool) -> u8
     ensures { result ≤ 3 }
 {
     let words = match env::args(rt) {
@@ -81,7 +84,7 @@ fn start<
         return refuse(rt.alloc(), Refusal::NoMemory, out);
     };
     match texts(rt.alloc(), words.as_slice()) {
-        Ok(texts) => run(rt, texts.as_slice(), out, is_watched),
+        Ok(texts) => run(rt, texts.as_slice(), input, out, is_watched),
         Err(_) => refuse(rt.alloc(), Refusal::NoMemory, out),
     }
 }
@@ -89,5 +92,10 @@ fn start<
 fn main(rt: HostRuntime) -> ExitCode {
     let mut out = io::writer(&rt);
     let is_watched = rt.stderr().is_terminal();
-    ExitCode::from(start(&rt, &mut out, is_watched))
+    let listener = Listener::new(&rt, rt.alloc(), rt.reader());
+    let status = match BufReader::new(rt.alloc(), listener) {
+        Ok(mut input) => start(&rt, &mut input, &mut out, is_watched),
+        Err(_) => refuse(rt.alloc(), Refusal::NoMemory, &mut out),
+    };
+    ExitCode::from(status)
 }
