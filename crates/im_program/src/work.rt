@@ -457,7 +457,7 @@ fn do_job<R: Files<File = File> + AllocGlobal + Input, S: Start, W: Write, N: Ob
             Ok((status, disk)) => Ok((status, Some(disk))),
             Err(refusal) => Err(refusal),
         },
-        Job::Serve { image } => match talk_file(rt, image, false, out, observer, start) {
+        Job::Serve { image, watch } => match talk_file(rt, image, watch, out, observer, start) {
             Ok((status, disk)) => Ok((status, Some(disk))),
             Err(refusal) => Err(refusal),
         },
