@@ -14,7 +14,7 @@ mod traces;
 
 use crate::scenes::{Scene, show};
 use anyhow::{Result, anyhow};
-use im_controller::{Name, Opening, start};
+use im_controller::{Name, Opening, start, start_planned};
 use im_disk::{Disk, FuseDisk, MemDisk, Mode};
 use im_engine::Engine;
 use im_types::layout::image_length;
@@ -31,11 +31,16 @@ fn opening<R: Wait>(
     scene: Scene,
     limits: Limits,
 ) -> Result<Opening<FuseDisk>> {
+    let plan = scene.plan(alloc)?;
     let disk = FuseDisk::new(MemDisk::new(alloc, image_length(limits))?, LAST, Mode::Stop);
     let Ok(engine) = Engine::format(alloc, disk, limits) else {
         return Err(anyhow!("no image was formatted"));
     };
-    match start(rt, alloc, engine, scene.room()) {
+    let begun = match plan {
+        Some(plan) => start_planned(rt, alloc, engine, plan, scene.room()),
+        None => start(rt, alloc, engine, scene.room()),
+    };
+    match begun {
         Ok(opening) => Ok(opening),
         Err(_) => Err(anyhow!("no room")),
     }
@@ -55,6 +60,7 @@ fn show_named<K: Name + Send + Sync, R: Threads + Wait + Sync>(
     requires marked { opening.marked_name ≡ K.marked_name }
     requires ports { opening.ports ≡ K.ports }
     requires book { opening.book ≡ K.book }
+    requires plan { opening.plan ≡ K.plan }
     requires begun { begun_in ⟦<FuseDisk as Disk>⟧.now ⟦<FuseDisk as Disk>⟧.past ⟦<FuseDisk as Disk>⟧.failures
         opening.engine ≡ K.begun }
     requires honest { ⟦<FuseDisk as Disk>⟧.honest opening.engine.disk → K.honest }
@@ -81,6 +87,7 @@ fn show_all<R: Threads + Wait + Sync>(rt: &R, alloc: Global, said: &mut String) 
         Scene::Two,
         Scene::KeeperWorks,
         Scene::OneLine,
+        Scene::Planned,
         Scene::ServersWait,
         Scene::Sixteen,
         Scene::Largest,

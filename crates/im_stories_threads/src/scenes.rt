@@ -8,8 +8,9 @@ use anyhow::{Result, anyhow};
 use im_controller::{Controller, Finished, Name, Port, Receipt, Shown, finish};
 use im_disk::FuseDisk;
 use im_engine::Engine;
+use im_planning::Plan;
 use im_story::{add_entry, add_outcome, add_refusal};
-use im_types::{Kind, Limits, Op, Outcome, Refusal};
+use im_types::{Kind, Limits, Op, Outcome, Refusal, Request};
 use std::alloc::Global;
 use std::sync::Wait;
 use std::thread::Threads;
@@ -23,6 +24,8 @@ pub enum Scene {
     KeeperWorks,
     /// A trace with room for one line.
     OneLine,
+    /// Two fetches, of which the plan has one.
+    Planned,
     /// A server that is woken, and one that waits for nobody.
     ServersWait,
     /// Sixteen threads of 1,002 requests each.
@@ -39,7 +42,7 @@ impl Scene {
         match self {
             Scene::Two => Limits::new(64, 3, 256),
             Scene::KeeperWorks => Limits::new(64, 3, 16),
-            Scene::OneLine => Limits::new(64, 2, 16),
+            Scene::OneLine | Scene::Planned => Limits::new(64, 2, 16),
             Scene::ServersWait => Limits::new(64, 3, 256),
             Scene::Sixteen => Limits::new(512, 17, 4096),
             Scene::Largest => Limits::new(65_536, 64, 4096),
@@ -57,11 +60,27 @@ impl Scene {
         }
     }
 
+    /// Its plan, if it has one.
+    pub fn plan(self, alloc: Global) -> Result<Option<Plan>> {
+        match self {
+            Scene::Planned => {
+                let mut requests = Vec::new(alloc);
+                requests.push(fetch_of(1, 0))?;
+                requests.push(fetch_of(2, 1))?;
+                match Plan::new(alloc, requests) {
+                    Ok(plan) => Ok(Some(plan)),
+                    Err(_) => Err(anyhow!("no plan")),
+                }
+            }
+            _ => Ok(None),
+        }
+    }
+
     // How many elements have a thread: 1, 2 and so on.
     fn threads(self) -> u16 {
         match self {
             Scene::Two | Scene::KeeperWorks | Scene::ServersWait => 2,
-            Scene::OneLine | Scene::Readers => 1,
+            Scene::OneLine | Scene::Planned | Scene::Readers => 1,
             Scene::Sixteen => 16,
             Scene::Largest => 0,
         }
@@ -73,7 +92,7 @@ impl Scene {
             (Scene::Two, _) => Part::Fetches(10),
             (Scene::KeeperWorks, 1) => Part::Fetches(16),
             (Scene::KeeperWorks, _) => Part::Fetches(1),
-            (Scene::OneLine, _) => Part::Fetches(2),
+            (Scene::OneLine, _) | (Scene::Planned, _) => Part::Fetches(2),
             (Scene::ServersWait, 1) => Part::Waits,
             (Scene::ServersWait, _) => Part::StoresAndStalls,
             (Scene::Sixteen, _) => Part::Mixed(u32::from(element).saturating_sub(1), 1_002),
@@ -100,7 +119,7 @@ impl Scene {
     fn asks(self) -> Option<u64> {
         match self {
             Scene::Two => Some(10),
-            Scene::OneLine => Some(1),
+            Scene::OneLine | Scene::Planned => Some(1),
             _ => None,
         }
     }
@@ -115,7 +134,10 @@ impl Scene {
 
     // Whether its trace is of fetches where no block is.
     fn is_of_fetches(self) -> bool {
-        matches!(self, Scene::Two | Scene::KeeperWorks | Scene::OneLine)
+        matches!(
+            self,
+            Scene::Two | Scene::KeeperWorks | Scene::OneLine | Scene::Planned
+        )
     }
 
     /// Its head.
@@ -125,11 +147,21 @@ impl Scene {
             Scene::KeeperWorks =>
                 "sixteen fetches and one more, a journal of sixteen slots, and nobody helps",
             Scene::OneLine => "a trace with room for one line",
+            Scene::Planned => "a plan of one fetch of address 0 and one of address 1",
             Scene::ServersWait => "one server is woken, and one waits for nobody",
             Scene::Sixteen => "sixteen threads of 1,002 requests each",
             Scene::Largest => "the largest memory, and a glance at its last cell",
             Scene::Readers => "eight readers beside a writer",
         }
+    }
+}
+
+// A fetch by element 1.
+fn fetch_of(number: u64, address: u32) -> Request {
+    Request {
+        element: 1,
+        number,
+        op: Op::Fetch(address),
     }
 }
 
