@@ -1,5 +1,5 @@
 // Reads an image and parses it: the header in force, and each cell, node, window and journal slot of its area into a struct,
-// with the checks of its spelling. It joins nothing.
+// with the checks of its spelling and that cells of a block stand together. It joins nothing.
 //
 // read_image IMAGE          prints how many there are
 // read_image IMAGE report   prints the blocks, the cells, the elements and the entries of the area, a line for each
@@ -57,6 +57,13 @@ struct command {
     uint8_t operation;
 };
 
+// The largest image's.
+static uint8_t headers[2][64], area[PAGES * PAGE], journal[SLOTS * 64];
+static struct cell cells[CELLS];
+static struct node nodes[WINDOW * ELEMENTS];
+static struct window windows[ELEMENTS];
+static struct command commands[SLOTS];
+
 static uint16_t two(const uint8_t *p) { uint16_t n; memcpy(&n, p, sizeof n); return n; }
 static uint32_t four(const uint8_t *p) { uint32_t n; memcpy(&n, p, sizeof n); return n; }
 static uint64_t eight(const uint8_t *p) { uint64_t n; memcpy(&n, p, sizeof n); return n; }
@@ -74,6 +81,14 @@ static bool read_cell(const uint8_t *p, uint32_t cells, struct cell *c) {
     if (c->tag == 0)
         return c->kind == 0 && c->base <= cells && (c->length == NONE || c->length < cells) && alone && c->value == 0;
     return c->tag <= 4 && (c->kind == 1 || c->kind == 2) && (c->tag == 2 || alone) && (c->tag > 2 || c->value == 0);
+}
+
+// Whether a cell is the first of its block, or goes on with the block of the cell before it.
+static bool goes_on(uint32_t a) {
+    const struct cell *c = &cells[a];
+    if (c->tag == 0)
+        return true;
+    return a - c->base < c->length && (c->base == a || (a > 0 && cells[a - 1].base == c->base && cells[a - 1].length == c->length));
 }
 
 static bool read_node(const uint8_t *p, uint32_t nodes, struct node *n) {
@@ -108,13 +123,6 @@ static void fail(const char *what) {
     fprintf(stderr, "read_image: %s\n", what);
     exit(1);
 }
-
-// The largest image's.
-static uint8_t headers[2][64], area[PAGES * PAGE], journal[SLOTS * 64];
-static struct cell cells[CELLS];
-static struct node nodes[WINDOW * ELEMENTS];
-static struct window windows[ELEMENTS];
-static struct command commands[SLOTS];
 
 static void read_bytes(int file, uint8_t *bytes, size_t most, off_t at, size_t length) {
     if (length > most || pread(file, bytes, length, at) != (ssize_t)length)
@@ -172,7 +180,7 @@ static uint32_t read_parts(int file, struct header *h) {
     read_bytes(file, area, sizeof area, 2 * PAGE + second * pages * PAGE, pages * PAGE);
     read_bytes(file, journal, sizeof journal, 2 * PAGE + 2 * pages * PAGE, 64 * (size_t)h->slots);
     for (uint32_t a = 0; a < h->cells; a++)
-        if (!read_cell(area + 32 * (size_t)a, h->cells, &cells[a]))
+        if (!read_cell(area + 32 * (size_t)a, h->cells, &cells[a]) || !goes_on(a))
             fail("bad cell");
     for (uint32_t n = 0; n < WINDOW * h->elements; n++)
         if (!read_node(area + cell_pages * PAGE + 16 * (size_t)n, WINDOW * h->elements, &nodes[n]))
