@@ -1,15 +1,19 @@
 -- What a recovery gives of a group, and what a group is told that is sent again. (Own.)
-use Rattle.std.specs.Prelude.{◌≡◌, ◌⊎◌, ◌+◌, ◌<◌, false, List, [], ◌∷◌, length, Ok}
+use Rattle.std.specs.Prelude.{◌≡◌, ◌⊎◌, ◌+◌, ◌<◌, false, List, [], ◌∷◌, length, Result, Ok}
 use Rattle.im_types.specs.declared.operations.Entry.{Entry}
 use Rattle.im_types.specs.declared.commands.Request.{Request}
 use Rattle.im_types.specs.declared.commands.Command.{Command}
+use Rattle.im_types.specs.declared.commands.Command.TheVariants.{Request as Asks}
+use Rattle.im_types.specs.declared.commands.Outcome.{Outcome}
 use Rattle.im_types.specs.declared.commands.Outcome.TheVariants.{Entry as Tells}
 use Rattle.im_types.specs.declared.groups.Served.{Served}
+use Rattle.im_types.specs.declared.refusals.Refusal.{Refusal}
 use Rattle.im_types.specs.declared.refusals.Refusal.TheVariants.{Device}
 use Rattle.im_types.specs.Run.{after}
 use Rattle.im_types.specs.Meaning.{Reached}
-use Rattle.im_types.specs.Groups.{is_put, answer_of, reached_by_one}
+use Rattle.im_types.specs.Groups.{as_served, is_put, answer_of, reached_by_one}
 use Rattle.im_engine.specs.State.{EngineState}
+use Rattle.im_engine.specs.Run.{Answered}
 use Rattle.im_engine.specs.Groups.{reached_in, group_put, all_refused, answers_in}
 use Rattle.im_promise.specs.Again.{IsSaidAgain}
 
@@ -47,3 +51,9 @@ pub record GroupSaidAgain {D : Type 0} (before : Reached) (old : EngineState D) 
   pub again : AreSaidAgain before (reached_in old) members
   -- where all were told one, nothing changes, and no call of the disk is made
   pub still : AreTold before members → (answers ≡ answers_in old members) × (new ≡ old)
+
+-- what a group of this one request is answered, and what it comes to: what the request by itself is, by `serve`
+pub record AnsweredAlone {D : Type 0} (old : EngineState D) (request : Request) (answers : List Served) (new : EngineState D) : Type 0 where
+  pub answer : Result Outcome Refusal
+  pub told : answers ≡ as_served answer ∷ []
+  pub answered : Answered old (Asks request) answer new

@@ -1,12 +1,16 @@
 //! What a crash leaves of a group, and a group that is sent again.
 ghost use Rattle.std.specs.Prelude.{◌≡◌, ◌⊎◌, ℕ, List, false, [], IfOk, IfErr};
 ghost use Rattle.im_types.specs.declared.commands.Command.{Command};
+ghost use Rattle.im_types.specs.declared.commands.Command.TheVariants.{Request as Asks};
 ghost use Rattle.im_types.specs.declared.refusals.Refusal.TheVariants.{NoMemory, Device};
 ghost use Rattle.im_types.specs.Contents.{empty_contents};
 ghost use Rattle.im_types.specs.Run.{after};
 ghost use Rattle.im_types.specs.Meaning.{Reached};
 ghost use Rattle.im_types.specs.Groups.{AreApart, puts_of};
-ghost use Rattle.im_promise.specs.Groups.{RecoversGroup, GroupSaidAgain};
+ghost use Rattle.im_disk.specs.Since.{LeavesWithin, LeavesNow, CallsAtMost};
+ghost use Rattle.im_engine.specs.State.{MeansEither};
+ghost use Rattle.im_engine.specs.Run.{calls_for};
+ghost use Rattle.im_promise.specs.Groups.{RecoversGroup, GroupSaidAgain, AnsweredAlone};
 
 use crate::recovery::open_crashed;
 use arrayvec::ArrayVec;
@@ -71,4 +75,27 @@ pub fn ask_group_again<D: Disk>(
     runs_join();
     // A stop in it leaves all of the new members on the disk, or none; the others make no call of it.
     engine.serve_group(members, served)
+}
+
+/// Serves a request as a group of one: it is answered, comes to, leaves and costs what [`Engine::serve`] of it does. The
+/// answer goes into `served`.
+pub fn serve_alone<D: Disk>(
+    engine: &mut Engine<D>,
+    request: Request,
+    served: &mut ArrayVec<Served, 16>,
+)
+    requires empty { served.old.items ≡ [] }
+    ensures answered { AnsweredAlone engine.old request served.new.items engine.new }
+    ensures few { D.honest engine.new.disk
+        → CallsAtMost D.past engine.old.disk engine.new.disk (calls_for engine.old.memory (Asks request)) }
+    // Each file that a crash may leave, from the start on, and now.
+    ensures leaves { D.honest engine.new.disk → engine.old.failed ≡ false
+        → LeavesWithin D.now D.past engine.old.disk engine.new.disk (MeansEither engine.old (Asks request)) }
+    ensures now { D.honest engine.new.disk → engine.old.failed ≡ false
+        → LeavesNow (D.now engine.new.disk) (MeansEither engine.old (Asks request)) }
+{
+    let mut members = ArrayVec::new();
+    members.push(request);
+    // A stop in it leaves the request on the disk, or not.
+    engine.serve_group(&members, served)
 }

@@ -11,5 +11,5 @@ mod groups;
 mod recovery;
 
 pub use again::{ask_again, send_twice};
-pub use groups::{ask_group_again, recover_group};
+pub use groups::{ask_group_again, recover_group, serve_alone};
 pub use recovery::{Recovered, recover, recover_again, recover_from_format, reopen};
