@@ -17,8 +17,10 @@ const CELLS: u32 = 65_536;
 // How many readers a pane has.
 const READERS: u16 = 16;
 
-// How many threads read beside the one that shows.
+// How many threads read beside the one that shows, and by how many readers in turn each of them does.
 const BESIDE: u16 = 3;
+
+const IN_TURN: u16 = 5;
 
 /// What is done on a pane.
 #[derive(Clone, Copy)]
@@ -91,25 +93,41 @@ fn read<J: PaneName>(glance: Glance<J>, count: u32) -> u64 {
     sum
 }
 
-// All cells are shown as full, and then one thread reads.
-fn read_alone<J: PaneName, R: Wait>(rt: &R, pane: &mut Pane<J>, count: u32) -> u64 {
-    let _shown = show(rt, pane, CELLS);
-    match pane.glance() {
-        Some(glance) => read(glance, count),
-        None => 0,
+// So many of the readers that are left.
+fn readers<J: PaneName>(alloc: Global, pane: &mut Pane<J>, count: u16) -> Vec<Glance<J>> {
+    let mut glances = Vec::new(alloc);
+    for _ in 0..count {
+        if let Some(glance) = pane.glance() {
+            let _kept = glances.push(glance);
+        }
     }
+    glances
 }
 
-// Begins a thread that reads, if there is a reader and a thread for it.
+// Reads so many cells by each of these readers in turn. What one takes may hang on where its words lie in the memory.
+fn read_in_turn<J: PaneName>(glances: Vec<Glance<J>>, count: u32) -> u64 {
+    let mut sum = 0u64;
+    for glance in glances {
+        sum = sum.wrapping_add(read(glance, count));
+    }
+    sum
+}
+
+// All cells are shown as full, and then this thread reads.
+fn read_alone<J: PaneName, R: Wait>(rt: &R, alloc: Global, pane: &mut Pane<J>, count: u32) -> u64 {
+    let _shown = show(rt, pane, CELLS);
+    read_in_turn(readers(alloc, pane, READERS), count / u32::from(READERS))
+}
+
+// Begins a thread that reads, if there is one.
 fn begin<'s, E, J: PaneName + Send + Sync + 's>(
+    alloc: Global,
     scope: &Scope<'s, E>,
     pane: &mut Pane<J>,
     count: u32,
 ) -> Option<JoinHandle<u64>> {
-    let Some(glance) = pane.glance() else {
-        return None;
-    };
-    match scope.spawn(move || read(glance, count)) {
+    let glances = readers(alloc, pane, IN_TURN);
+    match scope.spawn(move || read_in_turn(glances, count / u32::from(IN_TURN))) {
         Ok(thread) => Some(thread),
         Err(_) => None,
     }
@@ -117,13 +135,14 @@ fn begin<'s, E, J: PaneName + Send + Sync + 's>(
 
 // Begins all threads that read.
 fn begin_all<'s, E, J: PaneName + Send + Sync + 's>(
+    alloc: Global,
     scope: &Scope<'s, E>,
     pane: &mut Pane<J>,
     count: u32,
     threads: &mut Vec<Option<JoinHandle<u64>>>,
 ) {
     for _ in 0..BESIDE {
-        let _kept = threads.push(begin(scope, pane, count));
+        let _kept = threads.push(begin(alloc, scope, pane, count));
     }
 }
 
@@ -136,7 +155,7 @@ fn read_beside<J: PaneName + Send + Sync, R: Threads + Wait + Sync>(
 ) -> u64 {
     let mut threads = Vec::new(alloc);
     thread::scope(thread::scope_env(), rt, move |scope| {
-        begin_all(scope, pane, count, &mut threads);
+        begin_all(alloc, scope, pane, count, &mut threads);
         let _shown = show(rt, pane, count / 4);
         join_all(rt, threads)
     })
@@ -154,7 +173,7 @@ fn run_named<J: PaneName + Send + Sync, R: Threads + Wait + Sync>(
 {
     let mut pane = pane.named::<J>();
     let done = match reading {
-        Reading::Alone => read_alone(rt, &mut pane, count),
+        Reading::Alone => read_alone(rt, alloc, &mut pane, count),
         Reading::Beside => read_beside(rt, alloc, &mut pane, count),
         Reading::Shows => show(rt, &mut pane, count),
     };
