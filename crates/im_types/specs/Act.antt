@@ -4,11 +4,11 @@
 use Rattle.std.specs.Prelude.{ℕ, List, [], ◌∷◌, ◌++◌, map, Bool, true, false, Option, None, Some, slice_set, take, drop, if◌then◌else◌, ◌==◌}
 use Rattle.std.specs.List.{list_any}
 use Rattle.im_types.specs.declared.operations.Op.{Op}
-use Rattle.im_types.specs.declared.operations.Op.TheVariants.{Alloc, Release, Fetch, Store, Take, Put}
+use Rattle.im_types.specs.declared.operations.Op.TheVariants.{Alloc, Release, Reset, Fetch, Store, Take, Put}
 use Rattle.im_types.specs.declared.operations.Kind.{Kind}
 use Rattle.im_types.specs.declared.operations.Kind.TheVariants.{I, M}
 use Rattle.im_types.specs.declared.operations.Reply.{Reply}
-use Rattle.im_types.specs.declared.operations.Reply.TheVariants.{Base, NoSpace, BadLength, Value, Stored, Clash, NoCell, WrongKind, Released, NoBlock, StillWaiting}
+use Rattle.im_types.specs.declared.operations.Reply.TheVariants.{Base, NoSpace, BadLength, Value, Stored, Clash, NoCell, WrongKind, Released, NoBlock, StillWaiting, Cleared}
 use Rattle.im_types.specs.declared.operations.Entry.{Entry}
 use Rattle.im_types.specs.declared.operations.Entry.TheVariants.{Waiting, Answered}
 use Rattle.im_types.specs.declared.operations.Waiter.{Waiter}
@@ -123,10 +123,19 @@ release_block cells a (Some block) =
     then only_tells cells StillWaiting
     else record { cells = fill cells a block.length None; entry = Answered Released; resumed = [] }
 
+-- the block's cells empty, unless one of them is waited for
+abbrev pub reset_block : List (Option Held) → ℕ → Option Block → Acted
+reset_block cells a None = only_tells cells NoBlock
+reset_block cells a (Some block) =
+    if list_any is_waiting_cell (take block.length (drop a cells))
+    then only_tells cells StillWaiting
+    else record { cells = fill cells a block.length (Some (record { block = block; state = Empty [] })); entry = Answered Cleared; resumed = [] }
+
 -- an operation of an asker on the cells
 abbrev pub act : List (Option Held) → Waiter → Op → Acted
 act cells who (Alloc kind n) = allocate cells kind n
 act cells who (Release a) = release_block cells a (block_with_base a (held_at cells a))
+act cells who (Reset a) = reset_block cells a (block_with_base a (held_at cells a))
 act cells who (Fetch a) = at_cell I (fetch who) cells a (held_at cells a)
 act cells who (Store a v) = at_cell I (store v) cells a (held_at cells a)
 act cells who (Take a) = at_cell M (take_from who) cells a (held_at cells a)
