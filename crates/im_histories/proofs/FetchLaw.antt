@@ -6,7 +6,7 @@ use Rattle.std.proofs.lemmas.List.Elements.{filter_map-append}
 use Rattle.std.proofs.lemmas.Bool.Decides.{nat_tests}
 use Rattle.im_types.proofs.Tests.{false_true}
 use Rattle.im_types.specs.declared.operations.Op.{Op}
-use Rattle.im_types.specs.declared.operations.Op.TheVariants.{Alloc, Release, Fetch, Store, Take, Put}
+use Rattle.im_types.specs.declared.operations.Op.TheVariants.{Alloc, Release, Reset, Fetch, Store, Take, Put}
 use Rattle.im_types.specs.declared.operations.Kind.TheVariants.{I}
 use Rattle.im_types.specs.declared.operations.Reply.{Reply}
 use Rattle.im_types.specs.declared.operations.Reply.TheVariants.{Value, Clash}

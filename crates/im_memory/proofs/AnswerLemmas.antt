@@ -3,7 +3,7 @@ use Rattle.std.proofs.Common.{◌≡◌, ⊎_elim, ℕ, suc, ◌≤◌, List, []
 use Rattle.std.specs.Prelude.{Option, ◌==◌, map}
 use Rattle.std.specs.List.{list_any}
 use Rattle.im_types.specs.declared.operations.Op.{Op}
-use Rattle.im_types.specs.declared.operations.Op.TheVariants.{Alloc, Release, Fetch, Store, Take, Put}
+use Rattle.im_types.specs.declared.operations.Op.TheVariants.{Alloc, Release, Reset, Fetch, Store, Take, Put}
 use Rattle.im_types.specs.declared.operations.Kind.{Kind}
 use Rattle.im_types.specs.declared.operations.Kind.TheVariants.{I, M}
 use Rattle.im_types.specs.declared.operations.Block.{Block}

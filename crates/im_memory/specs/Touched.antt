@@ -4,7 +4,7 @@ use Rattle.im_types.specs.declared.TheConstants.{NONE}
 use Rattle.im_types.specs.declared.operations.Kind.{Kind}
 use Rattle.im_types.specs.declared.operations.Kind.TheVariants.{I, M}
 use Rattle.im_types.specs.declared.operations.Op.{Op}
-use Rattle.im_types.specs.declared.operations.Op.TheVariants.{Alloc, Release, Fetch, Store, Take, Put}
+use Rattle.im_types.specs.declared.operations.Op.TheVariants.{Alloc, Release, Reset, Fetch, Store, Take, Put}
 use Rattle.im_types.specs.declared.operations.Block.{Block}
 use Rattle.im_types.specs.declared.operations.Waiter.{Waiter}
 use Rattle.im_types.specs.declared.operations.Reply.{Reply}
