@@ -141,7 +141,7 @@ next_is_accepted : IsNextRequest waiting.windows (request 1 3 (Fetch 0))
 unfolding waiting request
 next_is_accepted = record { base = 1; are = refl; room = let h : 3 < 1 + WINDOW = omega arith in h; to_last = let h : 3 ≤ LAST = omega arith in h }
 
-full_has_no_room : bounds (end_of sixteen_cells (take 17 full_window)).windows 1 ≡ Ok (1, 1 + WINDOW)
+full_has_no_room : bounds (end_of sixteen_cells (take 65 full_window)).windows 1 ≡ Ok (1, 1 + WINDOW)
 unfolding empty_contents
 full_has_no_room = refl
 
