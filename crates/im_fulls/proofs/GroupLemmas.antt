@@ -80,6 +80,7 @@ module _ (cells : List (Option Held)) (a v : ℕ) where
   act-keeps : (who : Waiter) (op : Op) → LeavesStores a op → Keeps (act cells who op).cells
   act-keeps who (Alloc kind n) leaves = absurd leaves
   act-keeps who (Release b) leaves = absurd leaves
+  act-keeps who (Reset b) leaves = absurd leaves
   act-keeps who (Fetch b) leaves = by_place I (fetch who) (fetch-keeps who) b
   act-keeps who (Store b w) leaves = elsewhere I (store w) b leaves
   act-keeps who (Take b) leaves = by_place M (take_from who) (λ s. refl) b
@@ -90,6 +91,7 @@ change-kept : (cells : List (Option Held)) (who : Waiter) (earlier later : Op) �
     → change_of (act cells who earlier).cells later ≡ change_of cells later
 change-kept cells who earlier (Alloc kind n) before = refl
 change-kept cells who earlier (Release a) before = absurd before
+change-kept cells who earlier (Reset a) before = absurd before
 change-kept cells who earlier (Fetch a) before = refl
 change-kept cells who earlier (Store a v) before = act-keeps cells a v who earlier before
 change-kept cells who earlier (Take a) before = refl
