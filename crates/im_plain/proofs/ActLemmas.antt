@@ -27,7 +27,8 @@ use Rattle.im_plain.specs.declared.acts.Served.{Served}
 use Rattle.im_plain.specs.declared.acts.Acted.{Acted}
 use Rattle.im_plain.specs.Waiting.{waiting_at, without, parked, with_asker, replies_to}
 use Rattle.im_plain.specs.Joined.{state_of, emptied_slot, held_of, joined, is_open_state, is_open, Fits}
-use Rattle.im_plain.specs.Served.{AreWaiting, HasServed, HasActed, IsUnwaited, IsRefused}
+use Rattle.im_laws.specs.Blocks.{IsRefused}
+use Rattle.im_plain.specs.Served.{AreWaiting, HasServed, HasActed, IsUnwaited}
 use Rattle.im_plain.proofs.QueueLemmas.{waiting_at-without, waiting_at-without_other, waiting_at-parked, waiting_at-parked_other}
 use Rattle.im_plain.proofs.JoinedLemmas.{NobodyWaits, held_at-joined, held_at-None, held_at-Some, length-joined, place-joined, joined-fill, joined-emptied, joined-set}
 

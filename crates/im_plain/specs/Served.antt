@@ -57,8 +57,3 @@ pub record IsUnwaited (cells : List (Option Held)) (a n : ℕ) : Type 0 where
   pub found : block_with_base a (held_at cells a) ≡ Some block
   pub long : block.length ≡ n
   pub nobody : list_any is_waiting_cell (take n (drop a cells)) ≡ false
-
--- whatever was to become of its cells, this is told
-abbrev pub IsRefused : List (Option Held) → ℕ → Reply → Type 0
-IsRefused cells a reply =
-    (after : Block → List (Option Held)) (meant : Reply) → unless_waited_for after meant cells a (block_with_base a (held_at cells a)) ≡ only_tells cells reply

@@ -7,7 +7,8 @@ ghost use Rattle.im_types.specs.declared.operations.Waiter.{Waiter};
 ghost use Rattle.im_types.specs.Contents.{held_at, HasBlocks};
 ghost use Rattle.im_plain.specs.Waiting.{waiting_at};
 ghost use Rattle.im_plain.specs.Joined.{state_of, joined, Fits};
-ghost use Rattle.im_plain.specs.Served.{access_of, Serves, HasActed, IsUnwaited, IsRefused};
+ghost use Rattle.im_laws.specs.Blocks.{IsRefused};
+ghost use Rattle.im_plain.specs.Served.{access_of, Serves, HasActed, IsUnwaited};
 
 use crate::cells::{Slot, State, empty, fill, place, slot_at};
 use crate::queue::{Deferred, count_at, park};
