@@ -18,6 +18,7 @@ op_of-spelled : (op : Op) â†’ op_of (op_code op) (address_of op) (op_value op) â
 op_of-spelled (Alloc I n) = refl
 op_of-spelled (Alloc M n) = refl
 op_of-spelled (Release a) = refl
+op_of-spelled (Reset a) = refl
 op_of-spelled (Fetch a) = refl
 op_of-spelled (Store a v) = refl
 op_of-spelled (Take a) = refl
