@@ -7,14 +7,14 @@ use Rattle.im_types.specs.declared.operations.Op.TheVariants.{Alloc, Release, Re
 use Rattle.im_types.specs.declared.operations.Kind.{Kind}
 use Rattle.im_types.specs.declared.operations.Kind.TheVariants.{I, M}
 use Rattle.im_types.specs.declared.operations.Reply.{Reply}
-use Rattle.im_types.specs.declared.operations.Reply.TheVariants.{BadLength, WrongKind, Released, StillWaiting}
+use Rattle.im_types.specs.declared.operations.Reply.TheVariants.{BadLength, WrongKind, Released, Cleared, StillWaiting}
 use Rattle.im_types.specs.declared.operations.Entry.TheVariants.{Answered}
 use Rattle.im_types.specs.declared.operations.Waiter.{Waiter}
 use Rattle.im_types.specs.declared.operations.Block.{Block}
 use Rattle.im_types.specs.declared.commands.Outcome.{Outcome}
 use Rattle.im_types.specs.declared.refusals.Refusal.{Refusal}
 use Rattle.im_types.specs.Contents.{CellState, Empty, Full, Clashed, Held, Contents, held_at}
-use Rattle.im_types.specs.Place.{place, fill}
+use Rattle.im_types.specs.Place.{place, fill, change_each}
 use Rattle.im_types.specs.Act.{Served, act, at_cell, allocate_at, unless_waited_for, release_block, emptied, reset_block, block_with_base, is_waiting_cell, fetch, take_from, same_kind, serve_cell, only_tells}
 use Rattle.im_dialogue.specs.declared.asking.Asked.{Asked}
 use Rattle.im_dialogue.specs.declared.asking.Asked.TheVariants as asks

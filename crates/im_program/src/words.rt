@@ -225,7 +225,7 @@ fn format_command<'a>(alloc: Global) -> Result<Command<'a>, AllocError>
     let cells = number_option(
         alloc,
         "cells",
-        "How many cells, 1 to 65,536 [default: 4096]",
+        "How many cells, 1 to 1,048,576 [default: 4096]",
     );
     let elements = number_option(
         alloc,
