@@ -1,4 +1,5 @@
-/* Luntrebis for C: a memory of I- and M-structures, with no disk.
+/* Luntrebis for C: a memory of I- and M-structures, with no disk, or kept in an image file that the caller reads and
+ * writes.
  *
  * The life of a handle, threads, and what each call promises: docs/EMBEDDING.md.
  *
@@ -13,6 +14,7 @@
 #ifndef LUNTREBIS_H
 #define LUNTREBIS_H
 
+#include <stddef.h>
 #include <stdint.h>
 
 #ifdef __cplusplus
@@ -57,9 +59,17 @@ enum lt_refusal {
     LT_MISMATCH = 4,      /* a number that was used, for another request */
     LT_NO_ELEMENT = 5,
     LT_NOT_ANSWERED = 6,  /* a confirmation of an entry that waits */
-    LT_NO_MEMORY = 10,    /* of lt_memory_new alone */
-    LT_BAD_LIMITS = 17,   /* of lt_memory_new alone */
-    LT_NO_CALL = 255      /* an unknown tag */
+    LT_JOURNAL_FULL = 7,  /* the journal has no room: turns make some */
+    LT_DEVICE = 8,        /* the steps couldn't be listed, or the caller lost one: the image has to be opened again */
+    LT_FAILED = 9,        /* an earlier call failed */
+    LT_NO_MEMORY = 10,    /* of lt_memory_new, lt_format, lt_open and lt_inspect */
+    LT_WRONG_LENGTH = 12, /* of lt_open and lt_inspect, as the next four: the image's first fault */
+    LT_NO_HEADER = 13,
+    LT_BAD_HEADER = 14,
+    LT_BAD_PAGE = 15,
+    LT_BAD_RECORD = 16,
+    LT_BAD_LIMITS = 17,   /* of lt_memory_new and lt_format */
+    LT_NO_CALL = 255      /* an unknown tag, no such step, or no group */
 };
 
 /* A request of an element, under a number of its own: 1, 2, 3 and so on. Or a confirmation. */
@@ -98,21 +108,115 @@ void lt_memory_collect(struct lt_memory memory, uint16_t element, uint64_t numbe
 /* Frees it. */
 void lt_memory_free(struct lt_memory memory);
 
-/* The name of a refusal, by its number; "" for LT_OK and for a number that is none of these. */
-static inline const char *lt_refusal_name(uint8_t refusal) {
-    switch (refusal) {
-    case LT_GAP: return "Gap";
-    case LT_FORGOTTEN: return "Forgotten";
-    case LT_WINDOW_FULL: return "WindowFull";
-    case LT_MISMATCH: return "Mismatch";
-    case LT_NO_ELEMENT: return "NoElement";
-    case LT_NOT_ANSWERED: return "NotAnswered";
-    case LT_NO_MEMORY: return "NoMemory";
-    case LT_BAD_LIMITS: return "BadLimits";
-    case LT_NO_CALL: return "NoCall";
-    default: return "";
-    }
-}
+/* ---- An image
+ *
+ * The caller reads the file, hands its bytes to lt_open, and does all writing. Each of lt_format, lt_open, lt_serve,
+ * lt_serve_group and lt_turn leaves a list of steps (lt_steps, lt_step, lt_step_bytes). The caller carries them out on
+ * its file, all of them, in their order, before it tells anybody the answer and before the next such call: that begins
+ * a new list, where this one ended. Where it can't carry out a step it calls lt_failed, and opens the file anew. A crash
+ * at any moment on the way leaves a file that means the memory before the call or after it. */
+
+/* A handle. Zero bytes hold nothing. */
+struct lt_image {
+    void *block;
+};
+
+/* The entries of an element's window are kept from `base` on; `next` is the number of its next new request. Where
+ * `refusal` isn't 0, the rest is 0. */
+struct lt_window {
+    uint8_t refusal;
+    uint64_t base;
+    uint64_t next;
+};
+
+/* What is to be done on the file, by `kind`. */
+enum lt_kind {
+    LT_NO_STEP = 0, /* there is no such step */
+    LT_WRITE = 1,   /* `length` bytes from the offset `place` on */
+    LT_SYNC = 2     /* all that was written is put on the disk, as by fsync, before any later step */
+};
+
+struct lt_step {
+    uint8_t kind;
+    uint64_t place;
+    uint64_t length;
+};
+
+/* What a turn of a checkpoint did, by `tag` of its outcome. */
+enum lt_turn_tag {
+    LT_IDLE = 0,
+    LT_BEGAN = 1,
+    LT_PAGE = 2, /* the page with the number `value` was written */
+    LT_SYNCED = 3,
+    LT_IN_FORCE = 4,
+    LT_SWEPT = 5
+};
+
+/* The length of an image of 1 to 65,536 cells, 1 to 64 elements and 16 to 4,096 slots of its journal; 0 where a number
+ * is out of its range. */
+uint64_t lt_image_length(uint32_t cells, uint16_t elements, uint32_t slots);
+
+/* Makes the image of an empty memory: 0, and `next` holds it; else the refusal, and `next` is as it was. The caller's
+ * file has the length of lt_image_length. */
+uint8_t lt_format(uint32_t cells, uint16_t elements, uint32_t slots, struct lt_image *next);
+
+/* Opens the image of these bytes, which are all of the file: 0, and `next` holds it; else the refusal, and `next` is
+ * as it was. The bytes are copied. */
+uint8_t lt_open(const uint8_t *bytes, size_t length, struct lt_image *next);
+
+/* Each of these takes an image that is held. One command: what it comes to, at `outcome`. It returns how many steps it
+ * left. */
+size_t lt_serve(struct lt_image image, const struct lt_command *command, struct lt_image *next,
+                struct lt_outcome *outcome);
+
+/* 1 to 16 requests, each of another element, whose steps are put on the disk together: 0, and what each came to, at its
+ * place of `outcomes`. Else the outcomes are as they were: LT_DEVICE after a lost step, or LT_NO_CALL where these are no
+ * such requests, or there aren't as many places as requests. */
+uint8_t lt_serve_group(struct lt_image image, const struct lt_command *commands, size_t count, struct lt_image *next,
+                       struct lt_outcome *outcomes, size_t places);
+
+/* One turn of a checkpoint: what it did, at `outcome`. It returns how many steps it left. */
+size_t lt_turn(struct lt_image image, struct lt_image *next, struct lt_outcome *outcome);
+
+/* How many steps the last call left. */
+size_t lt_steps(struct lt_image image, struct lt_image *next);
+
+/* The step with this index, from 0, at `step`. */
+void lt_step(struct lt_image image, size_t index, struct lt_image *next, struct lt_step *step);
+
+/* The bytes of the write with this index, which has just `length` of them: 0. Else LT_NO_CALL, and the buffer is as it
+ * was. The buffer is initialized. */
+uint8_t lt_step_bytes(struct lt_image image, size_t index, struct lt_image *next, uint8_t *buffer, size_t length);
+
+/* Says that a step couldn't be carried out: from then on each call is answered with LT_DEVICE. */
+void lt_failed(struct lt_image image, struct lt_image *next);
+
+/* What is kept under an element's number, at `outcome`: LT_NO_ELEMENT, LT_FORGOTTEN, LT_GAP, or the entry. No steps
+ * are added. */
+void lt_collect(struct lt_image image, uint16_t element, uint64_t number, struct lt_image *next,
+                struct lt_outcome *outcome);
+
+/* The window of an element, at `window`. */
+void lt_window(struct lt_image image, uint16_t element, struct lt_image *next, struct lt_window *window);
+
+/* How many more commands there is room for. */
+uint32_t lt_room(struct lt_image image, struct lt_image *next);
+
+/* How many commands have been accepted since lt_format. */
+uint64_t lt_count(struct lt_image image, struct lt_image *next);
+
+/* Frees it. There is nothing more to carry out. */
+void lt_close(struct lt_image image);
+
+/* What the image of these bytes means, as `imem inspect` prints it: 0, the text's length, at `written`, and the text at
+ * the start of the buffer where it has room for it, of which the rest is as it was. Else the refusal, and nothing is
+ * changed. */
+uint8_t lt_inspect(const uint8_t *bytes, size_t length, char *buffer, size_t room, size_t *written);
+
+/* The name of the refusal with this number: its length, and the name at the start of the buffer where it has room for
+ * it, of which the rest is as it was. LT_OK, and a number that is none of these, have no letter, and none has more than
+ * 15. */
+size_t lt_refusal_name(uint8_t refusal, char *buffer, size_t room);
 
 #ifdef __cplusplus
 }

@@ -13,9 +13,15 @@ static struct lt_outcome step(uint8_t tag, uint16_t element, uint32_t address, u
     return outcome;
 }
 
+static void show_refusal(const char *what, uint8_t refusal) {
+    char name[16] = "";
+    lt_refusal_name(refusal, name, sizeof name - 1);
+    printf("%s: refused %d %s\n", what, refusal, name);
+}
+
 static void show(const char *what, struct lt_outcome outcome) {
     if (outcome.refusal)
-        printf("%s: refused %d %s\n", what, outcome.refusal, lt_refusal_name(outcome.refusal));
+        show_refusal(what, outcome.refusal);
     else
         printf("%s: tag %d value %" PRIu64 "\n", what, outcome.tag, outcome.value);
 }
@@ -23,8 +29,7 @@ static void show(const char *what, struct lt_outcome outcome) {
 int main(void) {
     struct lt_outcome outcome = {0, 0, 0};
     uint64_t sum = 0;
-    uint8_t refusal = lt_memory_new(0, 2, &memory);
-    printf("no cells: refused %d %s\n", refusal, lt_refusal_name(refusal));
+    show_refusal("no cells", lt_memory_new(0, 2, &memory));
     if (lt_memory_new(64, 2, &memory)) return 1;
     show("block", step(LT_ALLOC_M, 0, 8, 1, 0));
     show("take", step(LT_TAKE, 1, 3, 1, 0));

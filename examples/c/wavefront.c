@@ -1,15 +1,19 @@
-/* A wavefront over an I-structure array of six rows of six: each cell is the sum of the cell above and the cell to
- * the left, and 1 at the upper and left edges. Each row is an element that asks for the row above before it is there,
- * and goes on as its answer has come: one thread, split-phase fetches, no order of the rows but that of the data. */
+/* A wavefront over an I-structure array of six rows of six, in an image file: each cell is the sum of the cell above and
+ * the cell to the left, and 1 at the upper and left edges. Each row is an element that asks for the row above before it
+ * is there, and goes on as its answer has come: one thread, split-phase fetches, no order of the rows but that of the
+ * data. Each answer is printed as the file has it.
+ *
+ * usage: wavefront IMAGE      It makes the image where there is none. A run that was stopped is simply run again: what
+ * was asked before is answered as before, as each element asks the same under the same numbers, 16 at most. */
 #include <inttypes.h>
 #include <stdio.h>
-#include <stdlib.h>
+#include <unistd.h>
 
-#include "luntrebis.h"
+#include "image.h"
 
-enum { SIDE = 6 };
+enum { SIDE = 6, SLOTS = 16 };
 
-static struct lt_memory memory;
+static struct image image;
 
 static uint64_t grid[SIDE][SIDE];
 
@@ -20,32 +24,30 @@ static struct row {
     int waits;
 } rows[SIDE];
 
-static int waited, commands;
-
-static void stop(const char *what, uint8_t refusal) {
-    fprintf(stderr, "%s: refused %d %s\n", what, refusal, lt_refusal_name(refusal));
-    exit(1);
+static void tell(uint16_t element, uint64_t number, struct lt_outcome outcome) {
+    printf("%d.%" PRIu64, element, number);
+    if (outcome.tag == LT_BASE) printf(" base %" PRIu64 "\n", outcome.value);
+    if (outcome.tag == LT_VALUE) printf(" value %" PRIu64 "\n", outcome.value);
+    if (outcome.tag == LT_STORED) printf(" stored\n");
+    fflush(stdout);
 }
 
-static struct lt_outcome step(uint8_t tag, uint16_t element, uint32_t address, uint64_t number, uint64_t value) {
+static struct lt_outcome ask(uint8_t tag, uint16_t element, uint32_t address, uint64_t number, uint64_t value) {
     struct lt_command command = {tag, element, address, number, value};
-    struct lt_outcome outcome = {0, 0, 0};
-    lt_memory_step(memory, &command, &memory, &outcome);
-    if (outcome.refusal) stop("step", outcome.refusal);
-    commands++;
+    struct lt_outcome outcome = image_serve(&image, command);
+    if (outcome.tag != LT_WAITING) tell(element, number, outcome);
     return outcome;
 }
 
 /* The cell above, or -1 while it isn't there. */
 static int64_t above(uint16_t at) {
     struct row *row = &rows[at];
-    struct lt_outcome outcome = {0, 0, 0};
+    struct lt_outcome outcome;
     if (row->waits) {
-        lt_memory_collect(memory, at, row->number, &memory, &outcome);
-        if (outcome.refusal) stop("collect", outcome.refusal);
+        outcome = image_collect(&image, at, row->number);
+        if (outcome.tag != LT_WAITING) tell(at, row->number, outcome);
     } else {
-        outcome = step(LT_FETCH, at, (uint32_t)(at - 1) * SIDE + row->column, row->number, 0);
-        waited += outcome.tag == LT_WAITING;
+        outcome = ask(LT_FETCH, at, (uint32_t)(at - 1) * SIDE + row->column, row->number, 0);
     }
     row->waits = outcome.tag == LT_WAITING;
     if (row->waits) return -1;
@@ -63,18 +65,20 @@ static int go_on(uint16_t at) {
             if (value < 0) return 0;
             cell = grid[at][row->column - 1] + (uint64_t)value;
         }
-        step(LT_STORE, at, at * SIDE + row->column, row->number++, cell);
-        step(LT_CONFIRM, at, 0, row->number, 0);
+        ask(LT_STORE, at, at * SIDE + row->column, row->number++, cell);
         grid[at][row->column++] = cell;
     }
     return 1;
 }
 
-int main(void) {
+int main(int count, char **words) {
     int ended = 0;
-    uint8_t refusal = lt_memory_new(SIDE * SIDE, SIDE, &memory);
-    if (refusal) stop("new", refusal);
-    step(LT_ALLOC_I, 0, SIDE * SIDE, 1, 0);
+    if (count != 2) return 2;
+    if (access(words[1], F_OK) == 0)
+        image_open(&image, words[1]);
+    else
+        image_format(&image, words[1], SIDE * SIDE, SIDE, SLOTS);
+    ask(LT_ALLOC_I, 0, SIDE * SIDE, 1, 0);
     for (uint16_t at = 0; at < SIDE; at++) rows[at] = (struct row){0, at == 0 ? 2 : 1, 0};
     /* The last row first: each asks before there is an answer. */
     while (ended < SIDE) {
@@ -84,8 +88,6 @@ int main(void) {
     for (int at = 0; at < SIDE; at++)
         for (int column = 0; column < SIDE; column++)
             printf("%" PRIu64 "%s", grid[at][column], column < SIDE - 1 ? " " : "\n");
-    printf("%d fetches waited, %d commands\n", waited, commands);
-    printf("corner %" PRIu64 "\n", step(LT_FETCH, 0, SIDE * SIDE - 1, rows[0].number, 0).value);
-    lt_memory_free(memory);
+    image_close(&image);
     return 0;
 }

@@ -1,8 +1,12 @@
-"""How long requests take that are asked one at a time over pipes, beside the same requests by `imem serial`.
+"""How long requests take that are asked over pipes, beside the same requests by `imem serial`.
 
-usage: pipes.py IMEM      prints four numbers: the time over pipes, of that by the script (medians); the script's times, of the
-same made again: far from 1, the disk was too uneven to tell; and the microseconds of a request over pipes and by the script
+usage: pipes.py IMEM [FOLDER]      the images are made in FOLDER, else in a temporary one
+
+It prints two lines, for one request in flight and for 64: the time over pipes, of that by the script (medians); the script's
+times, of the same made again: far from 1, the disk was too uneven to tell; and the microseconds of a request over pipes and by
+the script. Of each time that of a single request is taken off, so that the program's start and end fall away.
 """
+import os
 import statistics
 import subprocess
 import sys
@@ -10,13 +14,13 @@ import tempfile
 import time
 from pathlib import Path
 
-STORES, ROUNDS, EACH = 150, 9, 15  # EACH: so many requests of an element, fewer than its window keeps
-SIZES = ["--cells", "1024", "--elements", "32", "--slots", "512"]
+STORES, ELEMENTS, ROUNDS = 480, 60, 7  # so an element has fewer requests than its window keeps
+SIZES = ["--cells", "1024", "--elements", "64", "--slots", "4096"]
 
 
 def requests(stores):
-    """The element, the number and the cell of each store."""
-    return [(1 + at // EACH, 1 + at % EACH, at) for at in range(stores)]
+    """The element, the number and the cell of each store: the elements take turns."""
+    return [(1 + at % ELEMENTS, 1 + at // ELEMENTS, at) for at in range(stores)]
 
 
 def by_script(imem, image, folder, stores):
@@ -34,35 +38,40 @@ def by_script(imem, image, folder, stores):
     return took
 
 
-def ask(program, line):
-    program.stdin.write(line)
-    program.stdin.flush()
-    answer = program.stdout.readline()
-    if not answer.endswith((b" stored\n", b" base 0\n")):
-        raise SystemExit(f"serve: {line} {answer}")
+def ask_all(to_program, from_program, lines, in_flight):
+    """Asks all lines, and so many at most that aren't answered: as soon as some are answered, as many more are sent."""
+    sent = answered = 0
+    while answered < len(lines):
+        more = min(len(lines), answered + in_flight)
+        if sent < more:
+            os.write(to_program, b"".join(lines[sent:more]))
+            sent = more
+        answers = os.read(from_program, 65536)
+        if not answers or b"refused" in answers or b"error" in answers:
+            raise SystemExit(f"serve: {answers}")
+        answered += answers.count(b"\n")
 
 
-def over_pipes(imem, image, stores):
-    """Seconds that the same requests take over pipes, each sent once the one before it is answered."""
+def over_pipes(imem, image, stores, in_flight):
+    """Seconds that the same requests take over pipes."""
     lines = [b"%d.%d store %d %d\n" % (element, number, cell, cell + 7) for element, number, cell in requests(stores)]
     start = time.perf_counter()
     with subprocess.Popen([imem, "serve", image], stdin=subprocess.PIPE, stdout=subprocess.PIPE) as program:
-        ask(program, b"0.1 alloc i %d\n" % STORES)
-        for line in lines:
-            ask(program, line)
+        pipes = program.stdin.fileno(), program.stdout.fileno()
+        ask_all(*pipes, [b"0.1 alloc i %d\n" % STORES], 1)
+        ask_all(*pipes, lines, in_flight)
         program.stdin.close()
         program.wait()
     return time.perf_counter() - start
 
 
-def measure(imem, folder):
-    """For each round the seconds of the stores alone, those of all of them less those of one: over pipes, by a script, and so
-    again."""
+def measure(imem, folder, in_flight):
+    """For each round the seconds of the stores past those of one: over pipes, by a script, and so again."""
     image = folder / "image"
+    script = lambda stores: by_script(imem, image, folder, stores)
     for _ in range(ROUNDS):
         times = []
-        script = lambda n: by_script(imem, image, folder, n)
-        for way in (lambda n: over_pipes(imem, image, n), script, script):
+        for way in (script, lambda stores: over_pipes(imem, image, stores, in_flight), script):
             each = []
             for stores in (1, STORES):
                 image.unlink(missing_ok=True)
@@ -72,13 +81,18 @@ def measure(imem, folder):
         yield times
 
 
-def main(imem):
-    with tempfile.TemporaryDirectory() as folder:
-        asked, first, second = zip(*measure(imem, Path(folder)))
-    asked, alone = statistics.median(asked), statistics.median(first + second)
-    uneven = statistics.median(first) / statistics.median(second)
-    each = [seconds / (STORES - 1) * 1e6 for seconds in (asked, alone)]
-    print(f"{asked / alone:.3f} {uneven:.3f} {each[0]:.1f} {each[1]:.1f}")
+def tell(imem, folder):
+    for in_flight in (1, 64):
+        first, asked, second = zip(*measure(imem, folder, in_flight))
+        asked, alone = statistics.median(asked), statistics.median(first + second)
+        uneven = statistics.median(first) / statistics.median(second)
+        each = [seconds / (STORES - 1) * 1e6 for seconds in (asked, alone)]
+        print(f"{asked / alone:.3f} {uneven:.3f} {each[0]:.1f} {each[1]:.1f}", flush=True)
+
+
+def main(imem, folder=None):
+    with tempfile.TemporaryDirectory(dir=folder) as room:
+        tell(imem, Path(room))
 
 
 if __name__ == "__main__":

@@ -1,8 +1,10 @@
 // Reads an image and parses it: the header in force, and each cell, node, window and journal slot of its area into a struct,
-// with the checks of its spelling. It joins nothing and replays nothing.
+// with the checks of its spelling and that cells of a block stand together. It joins nothing.
 //
 // read_image IMAGE          prints how many there are
 // read_image IMAGE report   prints the blocks, the cells, the elements and the entries of the area, a line for each
+// read_image IMAGE time     syncs the file, reads it, and replays its stores and confirmations, in memory that was touched before; prints
+//                           how many commands those are, and the nanoseconds
 #include <fcntl.h>
 #include <stdbool.h>
 #include <stdint.h>
@@ -10,9 +12,11 @@
 #include <stdlib.h>
 #include <string.h>
 #include <sys/stat.h>
+#include <time.h>
 #include <unistd.h>
 
-enum { PAGE = 4096, GATE = 0xA5, WINDOW = 16 };
+enum { PAGE = 4096, GATE = 0xA5, WINDOW = 16, STORE = 5, CONFIRM = 8, STORED = 5 };
+enum { CELLS = 65536, ELEMENTS = 64, SLOTS = 4096, PAGES = 532 };
 #define NONE 0xFFFFFFFFu
 
 struct header {
@@ -53,6 +57,13 @@ struct command {
     uint8_t operation;
 };
 
+// The largest image's.
+static uint8_t headers[2][64], area[PAGES * PAGE], journal[SLOTS * 64];
+static struct cell cells[CELLS];
+static struct node nodes[WINDOW * ELEMENTS];
+static struct window windows[ELEMENTS];
+static struct command commands[SLOTS];
+
 static uint16_t two(const uint8_t *p) { uint16_t n; memcpy(&n, p, sizeof n); return n; }
 static uint32_t four(const uint8_t *p) { uint32_t n; memcpy(&n, p, sizeof n); return n; }
 static uint64_t eight(const uint8_t *p) { uint64_t n; memcpy(&n, p, sizeof n); return n; }
@@ -70,6 +81,14 @@ static bool read_cell(const uint8_t *p, uint32_t cells, struct cell *c) {
     if (c->tag == 0)
         return c->kind == 0 && c->base <= cells && (c->length == NONE || c->length < cells) && alone && c->value == 0;
     return c->tag <= 4 && (c->kind == 1 || c->kind == 2) && (c->tag == 2 || alone) && (c->tag > 2 || c->value == 0);
+}
+
+// Whether a cell is the first of its block, or goes on with the block of the cell before it.
+static bool goes_on(uint32_t a) {
+    const struct cell *c = &cells[a];
+    if (c->tag == 0)
+        return true;
+    return a - c->base < c->length && (c->base == a || (a > 0 && cells[a - 1].base == c->base && cells[a - 1].length == c->length));
 }
 
 static bool read_node(const uint8_t *p, uint32_t nodes, struct node *n) {
@@ -105,18 +124,9 @@ static void fail(const char *what) {
     exit(1);
 }
 
-static void *room(size_t count, size_t size) {
-    void *p = malloc(count * size);
-    if (p == NULL)
-        fail("no memory");
-    return p;
-}
-
-static uint8_t *read_bytes(int file, off_t at, size_t length) {
-    uint8_t *bytes = room(length, 1);
-    if (pread(file, bytes, length, at) != (ssize_t)length)
-        fail("the file is too short");
-    return bytes;
+static void read_bytes(int file, uint8_t *bytes, size_t most, off_t at, size_t length) {
+    if (length > most || pread(file, bytes, length, at) != (ssize_t)length)
+        fail("the file is too short, or too long");
 }
 
 static const char *const OPERATIONS[] = {"", "alloc i", "alloc m", "release", "fetch", "store", "take", "put"};
@@ -144,7 +154,7 @@ static void print_entry(uint32_t element, uint64_t number, const struct entry *e
     printf("\n");
 }
 
-static void print_report(const struct header *h, const struct cell *cells, const struct node *nodes, const struct window *windows) {
+static void print_report(const struct header *h) {
     for (uint32_t a = 0; a < h->cells; a++)
         if (cells[a].kind != 0 && cells[a].base == a)
             printf("block %u %c %u\n", a, cells[a].kind == 1 ? 'i' : 'm', cells[a].length);
@@ -158,43 +168,88 @@ static void print_report(const struct header *h, const struct cell *cells, const
     }
 }
 
-int main(int argc, char **argv) {
-    int file = argc >= 2 ? open(argv[1], O_RDONLY) : -1;
-    if (file < 0)
-        fail("usage: read_image IMAGE [report]");
-    const uint8_t *zero = read_bytes(file, 0, 64), *one = read_bytes(file, PAGE, 64);
-    bool second = one[0] == GATE && (zero[0] != GATE || eight(zero + 8) < eight(one + 8));
-    struct header h;
-    if (!read_header(second ? one : zero, &h))
+// The header in force, and the records of its area. How many commands stand behind it.
+static uint32_t read_parts(int file, struct header *h) {
+    read_bytes(file, headers[0], 64, 0, 64);
+    read_bytes(file, headers[1], 64, PAGE, 64);
+    bool second = headers[1][0] == GATE && (headers[0][0] != GATE || eight(headers[0] + 8) < eight(headers[1] + 8));
+    if (!read_header(headers[second], h) || h->cells > CELLS || h->elements > ELEMENTS || h->slots > SLOTS)
         fail("bad header");
-    uint32_t nodes = WINDOW * h.elements;
-    size_t cell_pages = (h.cells + 127) / 128, node_pages = (h.elements + 15) / 16, window_pages = (h.elements + 3) / 4;
+    size_t cell_pages = (h->cells + 127) / 128, node_pages = (h->elements + 15) / 16, window_pages = (h->elements + 3) / 4;
     size_t pages = cell_pages + node_pages + window_pages;
-    const uint8_t *area = read_bytes(file, 2 * PAGE + second * pages * PAGE, pages * PAGE);
-    const uint8_t *journal = read_bytes(file, 2 * PAGE + 2 * pages * PAGE, 64 * (size_t)h.slots);
-    struct cell *cells = room(h.cells, sizeof *cells);
-    struct node *node = room(nodes, sizeof *node);
-    struct window *windows = room(h.elements, sizeof *windows);
-    struct command *commands = room(h.slots, sizeof *commands);
-    for (uint32_t a = 0; a < h.cells; a++)
-        if (!read_cell(area + 32 * (size_t)a, h.cells, &cells[a]))
+    read_bytes(file, area, sizeof area, 2 * PAGE + second * pages * PAGE, pages * PAGE);
+    read_bytes(file, journal, sizeof journal, 2 * PAGE + 2 * pages * PAGE, 64 * (size_t)h->slots);
+    for (uint32_t a = 0; a < h->cells; a++)
+        if (!read_cell(area + 32 * (size_t)a, h->cells, &cells[a]) || !goes_on(a))
             fail("bad cell");
-    for (uint32_t n = 0; n < nodes; n++)
-        if (!read_node(area + cell_pages * PAGE + 16 * (size_t)n, nodes, &node[n]))
+    for (uint32_t n = 0; n < WINDOW * h->elements; n++)
+        if (!read_node(area + cell_pages * PAGE + 16 * (size_t)n, WINDOW * h->elements, &nodes[n]))
             fail("bad node");
-    for (uint32_t e = 0; e < h.elements; e++)
+    for (uint32_t e = 0; e < h->elements; e++)
         if (!read_window(area + (cell_pages + node_pages) * PAGE + 1024 * (size_t)e, &windows[e]))
             fail("bad window");
     uint32_t run = 0;
-    while (run < h.slots && read_slot(journal + 64 * (size_t)((h.count + run) % h.slots), h.count + run, &commands[run]))
+    while (run < h->slots && read_slot(journal + 64 * (size_t)((h->count + run) % h->slots), h->count + run, &commands[run]))
         run++;
+    return run;
+}
+
+static void replay(const struct header *h, const struct command *c) {
+    struct window *w = &windows[c->element % ELEMENTS];
+    if (c->operation == CONFIRM && c->number > w->base && c->number <= w->base + w->kept) {
+        w->kept -= (uint8_t)(c->number - w->base);
+        w->base = c->number;
+    } else if (c->operation == STORE && c->number == w->base + w->kept && w->kept < WINDOW && c->address < h->cells
+               && cells[c->address].tag == 1) {
+        cells[c->address].tag = 3;
+        cells[c->address].value = c->value;
+        w->entries[c->number % WINDOW] = (struct entry){c->value, 0, c->address, STORE, STORED};
+        w->kept++;
+    } else {
+        fail("a command that is neither a store nor a confirmation, or isn't accepted");
+    }
+}
+
+static long long now(void) {
+    struct timespec time;
+    clock_gettime(CLOCK_MONOTONIC, &time);
+    return time.tv_sec * 1000000000LL + time.tv_nsec;
+}
+
+static int tell_time(int file) {
+    memset(area, 1, sizeof area);
+    memset(journal, 1, sizeof journal);
+    memset(cells, 1, sizeof cells);
+    memset(nodes, 1, sizeof nodes);
+    memset(windows, 1, sizeof windows);
+    memset(commands, 1, sizeof commands);
+    long long start = now();
+    if (fdatasync(file) != 0)
+        fail("no sync");
+    struct header h;
+    uint32_t run = read_parts(file, &h);
+    for (uint32_t i = 0; i < run; i++)
+        replay(&h, &commands[i]);
+    long long end = now();
+    printf("%u %lld\n", run, end - start);
+    return 0;
+}
+
+int main(int argc, char **argv) {
+    int file = argc >= 2 ? open(argv[1], O_RDWR) : -1;
+    if (file < 0)
+        fail("usage: read_image IMAGE [report|time]");
+    if (argc == 3 && strcmp(argv[2], "time") == 0)
+        return tell_time(file);
+    struct header h;
+    uint32_t run = read_parts(file, &h);
     if (argc == 3) {
-        print_report(&h, cells, node, windows);
+        print_report(&h);
         return 0;
     }
-    uint64_t sum = cells[h.cells - 1].base + node[nodes - 1].number + windows[h.elements - 1].base;
+    uint64_t sum = cells[h.cells - 1].base + nodes[WINDOW * h.elements - 1].number + windows[h.elements - 1].base;
     for (uint32_t i = 0; i < run; i++)
         sum += commands[i].address;
-    printf("%u cells, %u nodes, %u windows, %u commands, sum %llu\n", h.cells, nodes, h.elements, run, (unsigned long long)sum);
+    printf("%u cells, %u nodes, %u windows, %u commands, sum %llu\n", h.cells, WINDOW * h.elements, h.elements, run, (unsigned long long)sum);
     return 0;
 }

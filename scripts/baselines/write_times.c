@@ -35,3 +35,10 @@ __attribute__((destructor)) static void tell(void) {
     if (out)
         fclose(out);
 }
+
+// A program may end with no destructor called.
+void _exit(int status) {
+    tell();
+    for (;;)
+        syscall(SYS_exit_group, status);
+}

@@ -1,9 +1,7 @@
 -- A command on a memory, as C spells it.
-use Rattle.std.specs.Prelude.{◌≡◌, ℕ, Some, None, Ok, Err, MatchResult}
+use Rattle.std.specs.Prelude.{◌≡◌, Some, None}
 use Rattle.im_types.specs.declared.commands.Command.{Command}
-use Rattle.im_types.specs.declared.commands.Outcome.TheVariants.{Entry as Tells}
 use Rattle.im_types.specs.Step.{step}
-use Rattle.im_types.specs.Window.{ask}
 use Rattle.im_memory.specs.State.{MemoryState}
 use Rattle.im_c.specs.declared.plain.LtCommand.{LtCommand}
 use Rattle.im_c.specs.declared.plain.LtOutcome.{LtOutcome}
@@ -16,8 +14,3 @@ pub record Steps (old : MemoryState) (c : LtCommand) (out : LtOutcome) (new : Me
   -- a command is answered, and acts, as the definition says
   pub known : (command : Command) → meant c ≡ Some command
       → (out ≡ outcome_of (step old.contents command).answer) × (new.contents ≡ (step old.contents command).contents)
-
--- what is kept under an element's number
-abbrev pub Collects : MemoryState → ℕ → ℕ → LtOutcome → Type 0
-Collects m element number out = MatchResult (ask m.contents.windows (record { element = element; number = number }))
-    (λ entry. out ≡ outcome_of (Ok (Tells entry))) (λ refusal. out ≡ outcome_of (Err refusal))

@@ -4,6 +4,7 @@ use Rattle.im_types.specs.declared.commands.Command.{Command}
 use Rattle.im_types.specs.declared.commands.Outcome.{Outcome}
 use Rattle.im_types.specs.declared.commands.Outcome.TheVariants.{Entry as Tells, Confirmed}
 use Rattle.im_types.specs.declared.refusals.Refusal.{Refusal}
+use Rattle.im_types.specs.declared.operations.Entry.{Entry}
 use Rattle.im_types.specs.Bytes.{entry_code, entry_number}
 use Rattle.im_types.specs.Refusals.{number_of}
 use Rattle.im_types.specs.Slot.{op_of, command_of}
@@ -27,3 +28,8 @@ abbrev pub outcome_of : Result Outcome Refusal → LtOutcome
 outcome_of (Ok Confirmed) = record { refusal = 0; tag = 128; value = 0 }
 outcome_of (Ok (Tells entry)) = record { refusal = 0; tag = entry_code entry; value = entry_number entry }
 outcome_of (Err refusal) = refused (number_of refusal)
+
+-- what stands for an entry that is kept, or for why none is
+abbrev pub entry_outcome : Result Entry Refusal → LtOutcome
+entry_outcome (Ok entry) = outcome_of (Ok (Tells entry))
+entry_outcome (Err refusal) = outcome_of (Err refusal)

@@ -1,18 +1,19 @@
 //! A memory with no disk, as C holds it.
-ghost use Rattle.std.specs.Prelude.{◌≡◌, ◌↔◌, Some, Err, IsSome, IfSome, IfOk, IfErr, OnErr};
+ghost use Rattle.std.specs.Prelude.{◌≡◌, Some, IsSome, IfSome, IfOk, IfErr};
 ghost use Rattle.std.specs.declared.option.Option.{Option};
-ghost use Rattle.im_types.specs.declared.commands.Outcome.TheVariants.{Entry as Tells};
 ghost use Rattle.im_types.specs.Contents.{empty_contents};
 ghost use Rattle.im_types.specs.Window.{ask};
 ghost use Rattle.im_types.specs.Sizes.{AreLimits};
 ghost use Rattle.im_memory.specs.State.{MemoryState};
 ghost use Rattle.im_c.specs.Held.{holds_memory};
-ghost use Rattle.im_c.specs.Memory.{Steps, Collects};
+ghost use Rattle.im_c.specs.Handing.{Shows, Becomes};
+ghost use Rattle.im_c.specs.Memory.{Steps};
+ghost use Rattle.im_c.specs.Plain.{entry_outcome};
 
 use crate::parts::Parts;
-use crate::plain::{LtCommand, LtOutcome, NO_CALL, meant, outcome_of, refused};
+use crate::plain::{LtCommand, LtOutcome, NO_CALL, entry_outcome, meant, outcome_of, refused};
 use im_memory::Memory;
-use im_types::{Limits, Outcome, Refusal};
+use im_types::{Limits, Refusal};
 use std::alloc::Global;
 use std::marker::Model;
 
@@ -52,6 +53,19 @@ impl LtMemory {
             alloc,
         }
     }
+
+    pub(crate) fn into_box(self) -> Box<Memory>
+        requires { IsSome self.value }
+        ensures { self.value ≡ Some result.value }
+    {
+        self.into_parts().into_box()
+    }
+
+    pub(crate) fn of_box(held: Box<Memory>) -> LtMemory
+        ensures { result.value ≡ Some held.value }
+    {
+        LtMemory::of_parts(Parts::of(held))
+    }
 }
 
 // A memory of these sizes, in a block of its own.
@@ -76,21 +90,12 @@ fn step(memory: &mut Memory, command: &LtCommand) -> LtOutcome
     }
 }
 
-// What is kept under an element's number, as C spells it.
-fn collected(memory: &Memory, element: u16, number: u64) -> LtOutcome
-    ensures { Collects memory.now element number result }
-{
-    match memory.collect(element, number) {
-        Ok(entry) => outcome_of(Ok(Outcome::Entry(entry))),
-        Err(refusal) => outcome_of(Err(refusal)),
-    }
-}
-
 /// Makes a memory of so many cells, 1 to 65,536, and elements, 1 to 64, with no block and no entry: 0, and `next` holds
 /// it. Else the number of the refusal, and `next` is as it was: `BadLimits` where a number is out of its range,
 /// `NoMemory`. No later call on it takes memory.
 #[unsafe(no_mangle)]
 pub extern "C" fn lt_memory_new(alloc: Global, cells: u32, elements: u16, next: &mut LtMemory) -> u8
+    ensures bad { (AreLimits cells elements 16 → ⊥) → result ≡ 17 }
     ensures made { result ≡ 0 → IsSome next.new.value }
     ensures empty { result ≡ 0 → IfSome next.new.value (λ m. m.contents ≡ empty_contents cells elements) }
 {
@@ -99,7 +104,7 @@ pub extern "C" fn lt_memory_new(alloc: Global, cells: u32, elements: u16, next: 
     };
     match made(alloc, limits) {
         Ok(memory) => {
-            *next = LtMemory::of_parts(Parts::of(memory));
+            *next = LtMemory::of_box(memory);
             0
         }
         Err(refusal) => refusal.number(),
@@ -116,12 +121,11 @@ pub extern "C" fn lt_memory_step(
     outcome: &mut LtOutcome,
 )
     requires some { IsSome memory.value }
-    ensures some { IsSome next.new.value }
-    ensures stepped { IfSome memory.value (λ m. IfSome next.new.value (λ n. Steps m command.now outcome.new n)) }
+    ensures stepped { Becomes memory.value next.new.value (λ m n. Steps m command.now outcome.new n) }
 {
-    let mut held = memory.into_parts().into_box();
+    let mut held = memory.into_box();
     *outcome = step(&mut held, command);
-    *next = LtMemory::of_parts(Parts::of(held));
+    *next = LtMemory::of_box(held);
 }
 
 /// What is kept under an element's number, at `outcome`. Refused with `NoElement`, with `Forgotten` below the window,
@@ -135,12 +139,12 @@ pub extern "C" fn lt_memory_collect(
     outcome: &mut LtOutcome,
 )
     requires some { IsSome memory.value }
-    ensures same { next.new.value ≡ memory.value }
-    ensures answer { IfSome memory.value (λ m. Collects m element number outcome.new) }
+    ensures answer { Shows memory.value next.new.value (λ m. outcome.new
+        ≡ entry_outcome (ask m.contents.windows (record { element = element; number = number }))) }
 {
-    let held = memory.into_parts().into_box();
-    *outcome = collected(&held, element, number);
-    *next = LtMemory::of_parts(Parts::of(held));
+    let held = memory.into_box();
+    *outcome = entry_outcome(held.collect(element, number));
+    *next = LtMemory::of_box(held);
 }
 
 /// Frees the memory.
@@ -148,5 +152,5 @@ pub extern "C" fn lt_memory_collect(
 pub extern "C" fn lt_memory_free(memory: LtMemory)
     requires some { IsSome memory.value }
 {
-    drop(memory.into_parts().into_box());
+    drop(memory.into_box());
 }

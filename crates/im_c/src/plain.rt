@@ -1,7 +1,7 @@
 //! Commands and what they come to, as C spells them.
 ghost use Rattle.std.specs.Prelude.{◌≡◌};
 ghost use Rattle.im_types.specs.Bytes.{entry_code, entry_number};
-ghost use Rattle.im_c.specs.Plain.{meant, outcome_of, refused};
+ghost use Rattle.im_c.specs.Plain.{meant, outcome_of, entry_outcome, refused};
 
 use im_types::codes::op_of;
 use im_types::{Command, Entry, Outcome, Refusal, Reply, Request};
@@ -35,7 +35,7 @@ pub struct LtCommand {
 /// value in `value`, 5 stored, 6 clash, 7 no cell, 8 wrong kind, 9 released, 10 no block, 11 still waiting; or 128,
 /// confirmed.
 #[repr(C)]
-#[derive(Clone, Copy)]
+#[derive(Clone, Copy, Default)]
 pub struct LtOutcome {
     /// 0, or the number of the refusal.
     pub refusal: u8,
@@ -43,6 +43,32 @@ pub struct LtOutcome {
     pub tag: u8,
     /// The base or the value, else 0.
     pub value: u64,
+}
+
+/// The base of an element's window, from which on its entries are kept, and the number of its next new request.
+/// `refusal` is 0, or the number of the refusal; then the rest is 0.
+#[repr(C)]
+#[derive(Clone, Copy)]
+pub struct LtWindow {
+    /// 0, or the number of the refusal.
+    pub refusal: u8,
+    /// The first number that is kept.
+    pub base: u64,
+    /// The number of the next new request.
+    pub next: u64,
+}
+
+/// A step on the caller's file. The kind is 1 for a write of `length` bytes at `place`, 2 for a sync, and 0 where there
+/// is no such step; then the rest is 0.
+#[repr(C)]
+#[derive(Clone, Copy)]
+pub struct LtStep {
+    /// What is to be done.
+    pub kind: u8,
+    /// The offset of the first byte.
+    pub place: u64,
+    /// How many bytes.
+    pub length: u64,
 }
 
 /// The command that is meant; `None` where the tag is none of a command.
@@ -127,5 +153,15 @@ pub(crate) fn outcome_of(answer: Result<Outcome, Refusal>) -> LtOutcome
             value: entry_number(entry),
         },
         Err(refusal) => refused(refusal.number()),
+    }
+}
+
+/// What stands for an entry that is kept, or for why none is.
+pub(crate) fn entry_outcome(answer: Result<Entry, Refusal>) -> LtOutcome
+    ensures { result ≡ entry_outcome answer }
+{
+    match answer {
+        Ok(entry) => outcome_of(Ok(Outcome::Entry(entry))),
+        Err(refusal) => outcome_of(Err(refusal)),
     }
 }

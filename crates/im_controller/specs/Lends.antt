@@ -1,5 +1,5 @@
 -- What is done under the lock. (Own.)
-use Rattle.std.specs.Prelude.{◌≡◌, ◌⊎◌, ℕ, ◌<◌, ◌≤◌, ◌++◌, ◌&&◌, Bool, true, false, List, [], ◌∷◌, Result, Ok, Err, length, count_by, nat_lt, if◌then◌else◌, ◌==◌}
+use Rattle.std.specs.Prelude.{◌≡◌, ◌≢◌, ◌⊎◌, ℕ, ◌<◌, ◌≤◌, ◌++◌, ◌&&◌, Bool, true, false, List, [], ◌∷◌, Some, Result, Ok, Err, length, count_by, nat_lt, slice_get, slice_set, if◌then◌else◌, ◌==◌}
 use Rattle.im_types.specs.declared.operations.Entry.{Entry}
 use Rattle.im_types.specs.declared.operations.Entry.TheVariants.{Waiting}
 use Rattle.im_types.specs.declared.commands.Command.{Command}
@@ -8,7 +8,7 @@ use Rattle.im_types.specs.declared.commands.Call.{Call}
 use Rattle.im_types.specs.declared.commands.Call.TheVariants.{Command as Commands, Collect}
 use Rattle.im_types.specs.declared.commands.Line.{Line}
 use Rattle.im_types.specs.declared.refusals.Refusal.{Refusal}
-use Rattle.im_types.specs.declared.refusals.Refusal.TheVariants.{JournalFull, Device, Failed, NoMemory, TraceFull, Stalled}
+use Rattle.im_types.specs.declared.refusals.Refusal.TheVariants.{NoElement, JournalFull, Device, Failed, NoMemory, TraceFull, Stalled}
 use Rattle.im_types.specs.declared.changes.Change.{Change}
 use Rattle.im_types.specs.Contents.{Contents}
 use Rattle.im_types.specs.Step.{is_accepted}
@@ -20,12 +20,12 @@ use Rattle.im_engine.specs.Run.{Answered, TurnAnswered}
 use Rattle.im_controller.specs.declared.servers.Ask.{Ask}
 use Rattle.im_controller.specs.declared.servers.Ask.TheVariants.{Go, Wait}
 use Rattle.im_controller.specs.declared.servers.Server.{Server}
-use Rattle.im_controller.specs.declared.servers.Server.TheVariants.{Active, Waits}
+use Rattle.im_controller.specs.declared.servers.Server.TheVariants.{Unmade, Active, Waits}
 use Rattle.im_controller.specs.declared.tellers.Standing.{Standing}
 use Rattle.im_controller.specs.Lines.{Counts, lines_of, counts_after}
 use Rattle.im_controller.specs.Log.{ReceiptState, plain, receipt_for, with_line}
 use Rattle.im_controller.specs.Servers.{entry_at, is_answered, is_waiting, are_stuck, with_server}
-use Rattle.im_controller.specs.State.{SharedState}
+use Rattle.im_controller.specs.State.{SharedState, PortState}
 
 -- the line of a call, if it leaves one, stands in the log; the servers stay
 pub record Leaves {D : Type 0} (s : SharedState D) (call : Call) (answer : Result Outcome Refusal) (s' : SharedState D) : Type 0 where
@@ -98,6 +98,13 @@ standing_in s = record { waits = count_by is_waiting s.servers; room = s.engine.
 -- what lies under the lock, and an element's server, if it is active, does something else
 abbrev pub with_server_at : {D : Type 0} → SharedState D → ℕ → Server → SharedState D
 with_server_at s element server = record { engine = s.engine; log = s.log; servers = with_server s.servers element server; shown = s.shown }
+
+-- An element's port is made exactly where its server had none yet: it was told no line, and the server is active. Else all is as it was.
+pub record MakesPort {D : Type 0} (s : SharedState D) (element : ℕ) (answer : Result PortState Refusal) (s' : SharedState D) : Type 0 where
+  pub made : slice_get s.servers element ≡ Some Unmade → answer ≡ Ok (record { element = element; told = record { lines = 0; marked = 0 } })
+  pub active : slice_get s.servers element ≡ Some Unmade → s' ≡ record { engine = s.engine; log = s.log; servers = slice_set s.servers element Active; shown = s.shown }
+  pub none : slice_get s.servers element ≢ Some Unmade → answer ≡ Err NoElement
+  pub same : slice_get s.servers element ≢ Some Unmade → s' ≡ s
 
 -- A server asks whether it may wait for an entry: it waits from then on exactly where it is told to.
 pub record BeginsWait {D : Type 0} (s : SharedState D) (element number : ℕ) (answer : Result Ask Refusal) (s' : SharedState D) : Type 0 where

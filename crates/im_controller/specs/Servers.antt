@@ -34,6 +34,13 @@ is_waiting Active = false
 is_waiting (Waits number) = true
 is_waiting Retired = false
 
+-- whether a server has no port yet
+abbrev pub is_unmade : Server → Bool
+is_unmade Unmade = true
+is_unmade Active = false
+is_unmade (Waits number) = false
+is_unmade Retired = false
+
 -- whether a server, if it is active, waits for an entry that isn't answered
 abbrev pub is_stuck : Contents → ℕ → Server → Bool
 is_stuck m element Unmade = true
@@ -61,7 +68,7 @@ AllStuckBut m caller servers = (element : ℕ) (server : Server) → slice_get s
 abbrev pub with_server : List Server → ℕ → Server → List Server
 with_server servers element server = if is_active (slice_get servers element) then slice_set servers element server else servers
 
--- the servers after an element's server is made, if it wasn't before
+-- the servers after an element's server is made, where there is one that wasn't made before
 abbrev pub Makes : List Server → ℕ → Bool → List Server → Type 0
 Makes servers element true servers' = (slice_get servers element ≡ Some Unmade) × (servers' ≡ slice_set servers element Active)
-Makes servers element false servers' = servers' ≡ servers
+Makes servers element false servers' = (slice_get servers element ≢ Some Unmade) × (servers' ≡ servers)

@@ -1,5 +1,5 @@
 //! The books that count the lines of a trace, and the ports' shares in them.
-ghost use Rattle.std.specs.Prelude.{◌≡◌, ◌+◌, ◌<◌, [], ◌∷◌, ℕ, IfSome, count_by};
+ghost use Rattle.std.specs.Prelude.{◌≡◌, ◌+◌, ◌<◌, [], ◌∷◌, ℕ, count_by};
 ghost use Rattle.im_controller.specs.Lines.{counts_after};
 
 use crate::name::{Lines, Marked, Name};
@@ -62,13 +62,12 @@ impl<K: Name> Model for Reserve<K> {
 }
 
 impl<K: Name> Reserve<K> {
-    // A tally for one more port, if one is left.
-    pub(crate) fn take(&mut self) -> Option<Tally<K>>
-        ensures { IfSome result (λ t. (t.lines ≡ 0) × (t.marked ≡ 0)) }
+    // A tally for one more port: one has to be left.
+    pub(crate) fn take(&mut self) -> Tally<K>
+        requires some { 0 < self.old }
+        ensures none { result ≡ record { lines = 0; marked = 0 } }
+        ensures left { self.new + 1 ≡ self.old }
     {
-        if self.left == 0 {
-            return None;
-        }
         let Reserve {
             lines,
             marked,
@@ -78,7 +77,7 @@ impl<K: Name> Reserve<K> {
         let lines = lines.split_off(1, 0);
         let marked = marked.split_off(1, 0);
         *left -= 1;
-        Some(Tally { lines, marked })
+        Tally { lines, marked }
     }
 }
 

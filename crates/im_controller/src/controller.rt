@@ -18,7 +18,7 @@ use crate::name::{Name, Shown};
 use crate::ports::Port;
 use crate::receipts::Receipt;
 use crate::shared::{
-    Kept, Shared, Sleepers, keep_once, lend, make_glance, make_server, mark_ended, stands_for,
+    Kept, Shared, Sleepers, keep_once, lend, make_glance, make_port, mark_ended, stands_for,
     who_sleeps,
 };
 use crate::tellers::{Silent, Teller};
@@ -62,19 +62,16 @@ impl<D: Disk, K: Name> Controller<D, K> {
         }
     }
 
-    /// An element's port, which was told no line yet; its server is active from now on. `NoElement` where there is no
-    /// such element, and where it has its port.
+    /// An element's port, which was told no line yet; its server is active from now on. `NoElement` as by
+    /// [`make_port`](crate::make_port): exactly where there is no such element, and where it has its port.
     pub fn port<R: Wait>(&self, rt: &R, element: u16) -> Result<Port<K>, Refusal>
         ensures found { IfOk result (λ p. (p.element ≡ element) × (p.told ≡ record { lines = 0; marked = 0 })) }
         ensures refused { IfErr result (λ e. e ≡ NoElement) }
     {
         let mut guard = self.shared.lock(rt);
-        let tally = make_server(&mut *guard, element);
+        let port = make_port(&mut *guard, element);
         let _lock = MutexGuard::unlock(guard);
-        match tally {
-            Some(tally) => Ok(Port { element, tally }),
-            None => Err(Refusal::NoElement),
-        }
+        port
     }
 
     /// An element's glance, which has seen the full cells of the memory that was opened. It reads the full cells, and

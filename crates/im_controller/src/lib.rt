@@ -31,5 +31,5 @@ pub use opening::{Opening, start};
 pub use ports::Port;
 pub use receipts::{Found, Receipt};
 pub use servers::{Ask, Server, stuck_is_each};
-pub use shared::{Shared, begin_wait, lend, lend_turn, look, stands};
+pub use shared::{Shared, begin_wait, lend, lend_turn, look, make_port, stands};
 pub use tellers::{Silent, Standing, Teller};

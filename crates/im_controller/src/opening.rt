@@ -1,9 +1,10 @@
 //! An engine with room for a trace, before it has a name.
-ghost use Rattle.std.specs.Prelude.{◌≡◌, ◌≤◌, ◌<◌, [], IfOk, IfErr, length, vec_capacity};
+ghost use Rattle.std.specs.Prelude.{◌≡◌, ◌≤◌, ◌<◌, [], IfOk, IfErr, length, count_by, vec_capacity};
 ghost use Rattle.im_types.specs.declared.refusals.Refusal.TheVariants.{NoMemory};
 ghost use Rattle.im_types.specs.Changes.{opening};
 ghost use Rattle.im_controller.specs.Log.{AreFree};
 ghost use Rattle.im_controller.specs.Kept.{begun_in};
+ghost use Rattle.im_controller.specs.Servers.{is_unmade};
 
 use crate::books::{Books, Reserve};
 use crate::controller::Controller;
@@ -36,9 +37,10 @@ pub struct Opening<D: Disk> {
 }
 
 impl<D: Disk> Model for Opening<D> {
-    ghost use Rattle.std.specs.Prelude.{◌≡◌, ◌≤◌, [], length, vec_capacity};
+    ghost use Rattle.std.specs.Prelude.{◌≡◌, ◌≤◌, [], length, count_by, vec_capacity};
     ghost use Rattle.im_types.specs.Changes.{opening};
     ghost use Rattle.im_controller.specs.Log.{AreFree};
+    ghost use Rattle.im_controller.specs.Servers.{is_unmade};
     ghost use Rattle.im_controller.specs.State.{OpeningState};
 
     ghost Value = { OpeningState D };
@@ -54,7 +56,8 @@ impl<D: Disk> Model for Opening<D> {
 
     ghost invariant = { λ o. (o.lines.parts ≡ o.parts.ports) × (o.marked.parts ≡ o.parts.ports)
         × (o.parts.trace.items ≡ []) × (o.parts.limit ≤ vec_capacity o.parts.trace) × AreFree o.parts.places.items
-        × (o.pane.shown ≡ opening o.engine.memory) × (o.pane.cells ≡ length o.engine.memory.cells) };
+        × (o.pane.shown ≡ opening o.engine.memory) × (o.pane.cells ≡ length o.engine.memory.cells)
+        × (o.parts.ports ≡ count_by is_unmade o.parts.servers) };
 }
 
 // What takes memory.
@@ -73,6 +76,7 @@ struct Parts {
 // Room for so many lines, and for so many elements.
 fn make_parts(alloc: Global, trace_room: usize, elements: u16) -> Result<Parts, AllocError>
     ensures numbers { IfOk result (λ p. (p.limit ≡ trace_room) × (p.ports ≡ elements)) }
+    ensures unmade { IfOk result (λ p. p.ports ≡ count_by is_unmade p.servers) }
     ensures empty { IfOk result (λ p. (p.trace.items ≡ []) × AreFree p.places.items) }
     ensures room { IfOk result (λ p. p.limit ≤ vec_capacity p.trace) }
 {

@@ -1,7 +1,7 @@
 //! The servers of the elements, and which of them wait.
-ghost use Rattle.std.specs.Prelude.{◌≡◌, ◌↔◌, ◌≤◌, ◌||◌, ◌==◌, ℕ, List, true, length, count_by, if◌then◌else◌, IfOk};
+ghost use Rattle.std.specs.Prelude.{◌≡◌, ◌↔◌, ◌≤◌, ◌+◌, ◌||◌, ◌==◌, ℕ, List, true, false, length, count_by, if◌then◌else◌, IfOk};
 ghost use Rattle.im_types.specs.Contents.{Contents};
-ghost use Rattle.im_controller.specs.Servers.{is_waiting, is_stuck, are_stuck, with_server, Makes, AllStuckBut};
+ghost use Rattle.im_controller.specs.Servers.{is_waiting, is_unmade, is_stuck, are_stuck, with_server, Makes, AllStuckBut};
 
 use im_memory::Memory;
 use im_types::Entry;
@@ -110,7 +110,8 @@ fn are_stuck(memory: &Memory, caller: u16, servers: &[Server]) -> bool
 impl Servers {
     // So many, none of which is made yet.
     pub(crate) fn new(alloc: Global, elements: u16) -> Result<Servers, AllocError>
-        ensures { IfOk result (λ s. length s ≡ elements) }
+        ensures count { IfOk result (λ s. length s ≡ elements) }
+        ensures unmade { IfOk result (λ s. count_by is_unmade s ≡ elements) }
     {
         let mut all = Vec::with_capacity(alloc, elements as usize)?;
         for _ in 0..elements {
@@ -119,9 +120,11 @@ impl Servers {
         Ok(Servers { all })
     }
 
-    // Makes a server, and says whether it wasn't made before.
+    // Makes a server, and says whether there is one that wasn't made before.
     pub(crate) fn make(&mut self, element: u16) -> bool
-        ensures { Makes self.old element result self.new }
+        ensures makes { Makes self.old element result self.new }
+        ensures unmade { result ≡ true
+            → count_by is_unmade self.new + 1 ≡ count_by is_unmade self.old }
     {
         let i = element as usize;
         if i >= self.all.len() {
@@ -130,15 +133,19 @@ impl Servers {
         match self.all[i] {
             Server::Unmade => {
                 self.all[i] = Server::Active;
-                true
+                true // Its port is made now.
             }
-            _ => false,
+            Server::Active => false,
+            Server::Waits(_) => false,
+            Server::Retired => false,
         }
     }
 
     // What a server does from now on, if it is active.
     pub(crate) fn change(&mut self, element: u16, server: Server)
-        ensures { self.new ≡ with_server self.old element server }
+        ensures state { self.new ≡ with_server self.old element server }
+        ensures unmade { is_unmade server ≡ false
+            → count_by is_unmade self.new ≡ count_by is_unmade self.old }
     {
         let i = element as usize;
         if i >= self.all.len() {

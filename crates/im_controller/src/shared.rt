@@ -5,19 +5,21 @@ ghost use Rattle.im_types.specs.Trace.{IsLegal, told};
 ghost use Rattle.im_types.specs.Changes.{opening};
 ghost use Rattle.im_types.specs.declared.commands.Call.TheVariants.{Collect};
 ghost use Rattle.im_types.specs.declared.commands.Outcome.TheVariants.{Entry as Tells};
-ghost use Rattle.im_types.specs.declared.refusals.Refusal.TheVariants.{JournalFull};
+ghost use Rattle.im_types.specs.declared.refusals.Refusal.TheVariants.{NoElement, JournalFull};
 ghost use Rattle.im_disk.specs.Moment.{Faults};
 ghost use Rattle.im_disk.specs.Since.{LeavesWithin, LeavesNow, CallsAtMost, CallsBy};
 ghost use Rattle.im_engine.specs.Run.{calls_for};
 ghost use Rattle.im_engine.specs.State.{MeansState, MeansEither};
 ghost use Rattle.im_controller.specs.Lines.{EndsIn, line_of};
 ghost use Rattle.im_controller.specs.Lends.{Lends, Looks, LendsTurn, IsTurnFault, BeginsWait, told_turn, standing_in, with_server_at};
+ghost use Rattle.im_controller.specs.Lends.{MakesPort};
 ghost use Rattle.im_controller.specs.Waits.{Awaits, IsTold, IsFoundOf, entry_of};
 
 use crate::books::{Reserve, Tally};
 use crate::log::Log;
 use crate::name::{Name, Shown};
 use crate::panes::{put_ahead, show_put};
+use crate::ports::Port;
 use crate::receipts::{Found, Receipt};
 use crate::servers::{Ask, Server, Servers};
 use crate::tellers::Standing;
@@ -49,11 +51,12 @@ pub struct Shared<D: Disk, K: Name> {
 }
 
 impl<D: Disk, K: Name> Model for Shared<D, K> {
-    ghost use Rattle.std.specs.Prelude.{◌≡◌, [], false, length};
+    ghost use Rattle.std.specs.Prelude.{◌≡◌, [], false, length, count_by};
     ghost use Rattle.im_types.specs.Trace.{end_of};
     ghost use Rattle.im_types.specs.Changes.{shown_by};
     ghost use Rattle.im_controller.specs.State.{SharedState};
     ghost use Rattle.im_controller.specs.Kept.{HasKept, accepted_in};
+    ghost use Rattle.im_controller.specs.Servers.{is_unmade};
 
     ghost Value = { SharedState D };
 
@@ -70,7 +73,8 @@ impl<D: Disk, K: Name> Model for Shared<D, K> {
         × (s.engine.failed ≡ false → s.pane.ahead ≡ [])
         × (D.honest s.engine.disk → K.honest)
         × (D.honest s.engine.disk → K.begun.failed ≡ false
-        → HasKept D.now D.past D.failures K.begun K.memory (accepted_in K.memory s.log.trace) s.engine) };
+        → HasKept D.now D.past D.failures K.begun K.memory (accepted_in K.memory s.log.trace) s.engine)
+        × (s.reserve ≡ count_by is_unmade s.servers) };
 }
 
 /// Lends the engine to a command, for the port whose tally this is: its line is left in the trace and counted where it
@@ -357,17 +361,23 @@ pub(crate) fn who_sleeps<D: Disk, K: Name>(shared: &mut Shared<D, K>) -> Sleeper
     }
 }
 
-// Makes a server and its tally, where it has none and a tally is left.
-pub(crate) fn make_server<D: Disk, K: Name>(
+/// Makes an element's port, which was told no line yet; its server is active from now on. `NoElement`, with all as it
+/// was, exactly where there is no such element, and where it has its port. It takes no memory.
+pub fn make_port<D: Disk, K: Name>(
     shared: &mut Shared<D, K>,
     element: u16,
-) -> Option<Tally<K>>
-    ensures { IfSome result (λ t. (t.lines ≡ 0) × (t.marked ≡ 0)) }
+) -> Result<Port<K>, Refusal>
+    ensures makes { MakesPort shared.old element result shared.new }
+    ensures found { IfOk result (λ p. (p.element ≡ element) × (p.told ≡ record { lines = 0; marked = 0 })) }
+    ensures refused { IfErr result (λ e. e ≡ NoElement) }
 {
-    if shared.reserve.left == 0 || !shared.servers.make(element) {
-        return None;
+    if !shared.servers.make(element) {
+        return Err(Refusal::NoElement);
     }
-    shared.reserve.take()
+    Ok(Port {
+        element,
+        tally: shared.reserve.take(),
+    })
 }
 
 // Gives out an element's glance, where it has none yet.

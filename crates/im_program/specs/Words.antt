@@ -1,7 +1,8 @@
 -- What the words of the command line ask for. (Own.)
-use Rattle.std.specs.Prelude.{ℕ, List, [], Option, Some, None, if◌then◌else◌, codes, true, unwrap_or}
+use Rattle.std.specs.Prelude.{ℕ, Bool, List, [], Option, Some, None, if◌then◌else◌, codes, true, unwrap_or}
 use Rattle.std.specs.Option.{option_map, option_and_then, option_map_or}
 use Rattle.std.specs.Str.{bytes_eq}
+use Rattle.clap.specs.declared.builder.action.ArgAction.TheVariants.{SetTrue}
 use Rattle.clap.specs.Words.{App, Row, Rule, Text, first_of, new_app, new_rule, subcommand_of, with_rule, with_subcommand}
 use Rattle.im_program.specs.declared.words.Work.{Work}
 use Rattle.im_program.specs.declared.words.Work.TheVariants.{Alone, Run}
@@ -15,6 +16,10 @@ use Rattle.im_script.specs.Grammar.{number_up_to}
 abbrev pub option_rule : Text → Rule
 option_rule id = record (new_rule id) { long = Some id; value_names = 1 }
 
+-- an option that is given or not
+abbrev pub flag_rule : Text → Rule
+flag_rule id = record (new_rule id) { long = Some id; action = Some SetTrue }
+
 -- a path that has to be given
 abbrev pub path_rule : Text → Rule
 path_rule id = record (new_rule id) { required = true }
@@ -27,9 +32,9 @@ format_app = with_rule (with_rule (with_rule (with_rule (new_app (codes "format"
 abbrev pub script_app : Text → App
 script_app name = with_rule (with_rule (new_app name) (path_rule (codes "IMAGE"))) (path_rule (codes "SCRIPT"))
 
--- serve IMAGE
+-- serve IMAGE [--watch]
 abbrev pub serve_app : App
-serve_app = with_rule (new_app (codes "serve")) (path_rule (codes "IMAGE"))
+serve_app = with_rule (with_rule (new_app (codes "serve")) (path_rule (codes "IMAGE"))) (flag_rule (codes "watch"))
 
 -- inspect IMAGE
 abbrev pub inspect_app : App
@@ -55,7 +60,7 @@ pub data Task : Type 0 where
   format : (image : List ℕ) (cells elements slots : ℕ) → Task
   serial : (image script : List ℕ) → Task
   run : (image script : List ℕ) → Task
-  serve : (image : List ℕ) → Task
+  serve : (image : List ℕ) (watch : Bool) → Task
   inspect : (image : List ℕ) → Task
 
 -- the task that a Job is
@@ -63,7 +68,7 @@ abbrev pub task_of_job : Job → Task
 task_of_job Demonstration = demonstration
 task_of_job (Format image cells elements slots) = format image.now cells elements slots
 task_of_job (Serial image script) = serial image.now script.now
-task_of_job (Serve image) = serve image.now
+task_of_job (Serve image watch) = serve image.now watch
 task_of_job (Inspect image) = inspect image.now
 
 -- the task that a Work is
@@ -79,6 +84,10 @@ number_in rows id fallback = option_map_or (number_up_to 4294967295) (first_of i
 abbrev pub path_in : List Row → Text → Text
 path_in rows id = unwrap_or (first_of id rows) []
 
+-- whether an option is given: its text is then `true`
+abbrev pub is_given : List Row → Text → Bool
+is_given rows id = bytes_eq (path_in rows id) (codes "true")
+
 -- the task of format, where each number that is given is one
 abbrev pub format_task : List Row → Option Task
 format_task rows =
@@ -93,9 +102,9 @@ serial_task rows = serial (path_in rows (codes "IMAGE")) (path_in rows (codes "S
 abbrev pub run_task : List Row → Task
 run_task rows = run (path_in rows (codes "IMAGE")) (path_in rows (codes "SCRIPT"))
 
--- the task of serve, by its path
+-- the task of serve, by its path and whether it is watched
 abbrev pub serve_task : List Row → Task
-serve_task rows = serve (path_in rows (codes "IMAGE"))
+serve_task rows = serve (path_in rows (codes "IMAGE")) (is_given rows (codes "watch"))
 
 -- the task of inspect, by its path
 abbrev pub inspect_task : List Row → Task

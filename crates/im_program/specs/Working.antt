@@ -1,5 +1,5 @@
 -- What the work comes to that the program is asked for. (Own.)
-use Rattle.std.specs.Prelude.{◌≡◌, ◌⊎◌, ℕ, false, List, [], Option}
+use Rattle.std.specs.Prelude.{◌≡◌, ℕ, List, [], Option}
 use Rattle.im_types.specs.Sizes.{AreLimits}
 use Rattle.im_disk.specs.Moment.{Moment}
 use Rattle.im_disk.specs.Since.{LeavesNow, ReadsOnly}
@@ -7,8 +7,7 @@ use Rattle.im_image.specs.Fresh.{new_image}
 use Rattle.im_report.specs.Inspecting.{Tells}
 use Rattle.im_serial.specs.Serving.{ServedFrom}
 use Rattle.im_dialogue.specs.Dialogue.{TalkedFrom}
-use Rattle.im_run.specs.declared.run.TheConstants.{STALLED}
-use Rattle.im_run.specs.Running.{Ran}
+use Rattle.im_run.specs.Running.{RanFrom}
 use Rattle.im_program.specs.Words.{Task, demonstration, format, serial, run, serve, inspect}
 
 -- A task was done on this disk, with this status: its file held the first moment when it was opened, and the writer held
@@ -18,6 +17,6 @@ DoneOn now past failures first demonstration was is status disk = ⊥
 DoneOn now past failures first (format image cells elements slots) was is status disk =
     (status ≡ 0) × AreLimits cells elements slots × LeavesNow (now disk) (λ file. file ≡ new_image 0xA5 (record { cells = cells; elements = elements; slots = slots }))
 DoneOn now past failures first (serial image script) was is status disk = ServedFrom now past failures first disk was is status
-DoneOn now past failures first (run image script) was is status disk = (status ≡ 0) ⊎ (status ≡ STALLED) → Ran now disk was is status
-DoneOn now past failures first (serve image) was is status disk = TalkedFrom false now past first disk was is status
+DoneOn now past failures first (run image script) was is status disk = RanFrom now past failures first disk was is status
+DoneOn now past failures first (serve image watch) was is status disk = TalkedFrom watch now past first disk was is status
 DoneOn now past failures first (inspect image) was is status disk = (status ≡ 0 → Tells first.bytes was is) × ReadsOnly first (now disk) [] (past disk)

@@ -38,7 +38,7 @@ impl<'a, R: Eprint + AllocGlobal> Console<'a, R> {
             Job::Demonstration => ("", ""),
             Job::Format { image, .. } | Job::Inspect { image } => (image, ""),
             Job::Serial { image, script } => (image, script),
-            Job::Serve { image } => (image, "-"),
+            Job::Serve { image, .. } => (image, "-"),
         };
         Console::of(rt, image, script, is_watched)
     }

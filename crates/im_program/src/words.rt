@@ -4,12 +4,12 @@ ghost use Rattle.std.specs.Option.{option_map};
 ghost use Rattle.clap.specs.Words.{app_of, fault_of, found_of, kind_of, rows_of, rule_of, subcommand_rows_of, takes};
 ghost use Rattle.clap.specs.declared.builder.command.Command.TheViews.{out-Command};
 ghost use Rattle.im_script.specs.Grammar.{texts};
-ghost use Rattle.im_program.specs.Words.{asked, format_app, format_task, imem_app, inspect_app, inspect_task};
-ghost use Rattle.im_program.specs.Words.{number_in, option_rule, path_in, path_rule, run_task, script_app};
+ghost use Rattle.im_program.specs.Words.{asked, flag_rule, format_app, format_task, imem_app, inspect_app, inspect_task};
+ghost use Rattle.im_program.specs.Words.{is_given, number_in, option_rule, path_in, path_rule, run_task, script_app};
 ghost use Rattle.im_program.specs.Words.{serial_task, serve_app, serve_task, task_in, task_of, top_app};
 
 use clap::error::ErrorKind;
-use clap::{Arg, ArgMatches, Command, Error};
+use clap::{Arg, ArgAction, ArgMatches, Command, Error};
 use im_script::read_u32;
 use std::alloc::{AllocError, Global};
 
@@ -63,6 +63,8 @@ pub enum Job<'a> {
     Serve {
         /// The image's path.
         image: &'a str,
+        /// Whether requests that waited are told their answers.
+        watch: bool,
     },
     /// Tell what an image means.
     Inspect {
@@ -168,7 +170,8 @@ Requests have their numbers, and one that is sent again acts once:
   window E              'E window BASE NEXT': the first number that is kept, and the next new one
   room, turn, count     room for so many commands; a turn of a checkpoint; so many commands so far
   quit                  the end
-Any other line is answered 'error LINE: ' and what was expected, and changes nothing.
+Any other line is answered 'error LINE: ' and what was expected, and changes nothing. With --watch a
+request that waited is told again, 'E.N now REPLY', right after the line that brought its answer.
 
 Example: the lines '1.1 alloc i 1', '1.2 fetch 0' and '2.1 store 0 5' in the file ask.txt
   imem serve a.img < ask.txt
@@ -203,6 +206,17 @@ fn number_option<'a>(alloc: Global, id: &'a str, help: &'a str) -> Arg<'a>
     ensures local { result.global ≡ false }
 {
     Arg::new(alloc, id).long(id).value_name("N").help(help)
+}
+
+/// An option that is given or not.
+fn flag_option<'a>(alloc: Global, id: &'a str, help: &'a str) -> Arg<'a>
+    ensures rule { rule_of result ≡ flag_rule id.entry.now }
+    ensures local { result.global ≡ false }
+{
+    Arg::new(alloc, id)
+        .long(id)
+        .action(ArgAction::SetTrue)
+        .help(help)
 }
 
 /// A path that has to be given.
@@ -275,8 +289,14 @@ fn serve_command<'a>(alloc: Global) -> Result<Command<'a>, AllocError>
         .about(SERVE)
         .after_help(SERVE_EXAMPLES);
     let image = path_argument(alloc, "IMAGE", "The image, made by 'imem format'");
+    let watch = flag_option(
+        alloc,
+        "watch",
+        "Print 'E.N now REPLY' when the answer to a request that waited comes",
+    );
     let one = empty.arg(image)?;
-    Ok(one)
+    let two = one.arg(watch)?;
+    Ok(two)
 }
 
 /// The subcommand `inspect`.
@@ -340,6 +360,13 @@ fn path_of<'a>(found: &ArgMatches<'a>, id: &str) -> &'a str
     }
 }
 
+/// Whether an option is given.
+fn is_given(found: &ArgMatches, id: &str) -> bool
+    ensures { result ≡ is_given (rows_of (found_of found.now)) id.now }
+{
+    path_of(found, id) == "true"
+}
+
 /// What `format` is asked for. `None` where a number is no decimal number of a u32.
 fn format_work<'a>(found: &ArgMatches<'a>) -> Option<Work<'a>>
     ensures { option_map task_of result ≡ format_task (rows_of (found_of found.now)) }
@@ -385,7 +412,8 @@ fn serve_work<'a>(found: &ArgMatches<'a>) -> Work<'a>
     ensures { task_of result ≡ serve_task (rows_of (found_of found.now)) }
 {
     let image = path_of(found, "IMAGE");
-    Work::Alone(Job::Serve { image })
+    let watch = is_given(found, "watch");
+    Work::Alone(Job::Serve { image, watch })
 }
 
 /// What `inspect` is asked for.

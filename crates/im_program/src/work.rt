@@ -10,7 +10,7 @@ ghost use Rattle.im_report.specs.Inspecting.{Tells};
 ghost use Rattle.im_text.specs.Printing.{Begins, IsLast};
 ghost use Rattle.im_serial.specs.Serving.{ServedFrom};
 ghost use Rattle.im_dialogue.specs.Dialogue.{NotOpened, Talked, TalkedFrom};
-ghost use Rattle.im_run.specs.Running.{Ran};
+ghost use Rattle.im_run.specs.Running.{RanFrom};
 ghost use Rattle.im_program.specs.Words.{demonstration, task_of, task_of_job};
 ghost use Rattle.im_program.specs.Working.{DoneOn};
 
@@ -244,6 +244,9 @@ pub fn serve_file<R: Files<File = File> + AllocGlobal + Input, S: Start, W: Writ
 /// its own, and gives the image's disk back, with the status and the lines of [`run_on`]. The script is read first; the
 /// path `-` is standard input.
 ///
+/// Whatever the image held when it was opened (`S`): as long as the file was honest, a crash at any moment since then
+/// leaves what [`run_on`] says.
+///
 /// Refused are, with nothing printed and the image as it was: `BadScript` for a script that can't be read or isn't in
 /// the grammar, and `NoMemory` for one that there is no room for; `Device` for an image that can't be opened: it is no
 /// regular file, another opening has its lock, or a call of the system fails. The observer is told why. What
@@ -265,8 +268,8 @@ pub fn run_file<
 ) -> Result<(u8, FileDisk<S>), Refusal>
     ensures status { IfOk result (λ r. (r.0 ≤ 1) ⊎ (r.0 ≡ STALLED)) }
     ensures ran { IfOk result (λ r. ⟦<FileDisk<S> as Disk>⟧.honest r.1 →
-        (r.0 ≡ 0) ⊎ (r.0 ≡ STALLED)
-        → Ran ⟦<FileDisk<S> as Disk>⟧.now r.1 (W.contents out.old) (W.contents out.new) r.0) }
+        RanFrom ⟦<FileDisk<S> as Disk>⟧.now ⟦<FileDisk<S> as Disk>⟧.past ⟦<FileDisk<S> as Disk>⟧.failures
+        S.first r.1 (W.contents out.old) (W.contents out.new) r.0) }
     ensures refused { IfErr result (λ refusal. (refusal ≡ BadScript) ⊎ (refusal ≡ NoMemory) ⊎ (refusal ≡ Device)) }
     ensures same { OnErr result (Keeps (W.contents out.old) (W.contents out.new)) }
 {
@@ -457,7 +460,7 @@ fn do_job<R: Files<File = File> + AllocGlobal + Input, S: Start, W: Write, N: Ob
             Ok((status, disk)) => Ok((status, Some(disk))),
             Err(refusal) => Err(refusal),
         },
-        Job::Serve { image } => match talk_file(rt, image, false, out, observer, start) {
+        Job::Serve { image, watch } => match talk_file(rt, image, watch, out, observer, start) {
             Ok((status, disk)) => Ok((status, Some(disk))),
             Err(refusal) => Err(refusal),
         },
@@ -515,8 +518,8 @@ fn act_at_once<
 ) -> (u8, Option<FileDisk<S>>)
     ensures status { (result.0 ≤ 1) ⊎ (result.0 ≡ STALLED) }
     ensures ran { IfSome result.1 (λ disk. ⟦<FileDisk<S> as Disk>⟧.honest disk →
-        (result.0 ≡ 0) ⊎ (result.0 ≡ STALLED)
-        → Ran ⟦<FileDisk<S> as Disk>⟧.now disk (W.contents out.old) (W.contents out.new) result.0) }
+        RanFrom ⟦<FileDisk<S> as Disk>⟧.now ⟦<FileDisk<S> as Disk>⟧.past ⟦<FileDisk<S> as Disk>⟧.failures
+        S.first disk (W.contents out.old) (W.contents out.new) result.0) }
     ensures none { IfNone result.1 (result.0 ≡ 1) }
 {
     let mut console = Console::of(rt, image, script, is_watched);

@@ -1,27 +1,319 @@
--- Lines that a run prints. (Own.)
-use Rattle.std.proofs.Common.{◌≡◌, ℕ, List, [], ◌++◌, length}
-use Rattle.std.specs.Prelude.{MatchResult, Option, Result, Ok, Err}
+-- What a run puts on a disk, and what it prints. (Own.)
+use Rattle.std.proofs.Common.{◌≡◌, ◌∙◌, ◌-◌, ◌+◌, ◌≤◌, inl, inr, ⊎_elim, ℕ, zero, suc, Bool, true, false, List, [], ◌++◌, length, refl, sym, ap, subst, take, drop, length-append, append_assoc, arith}
+use Rattle.std.specs.Prelude.{Option, Some, ◌⊎◌, slice_get}
 use Rattle.std.specs.Io.KnownBytes.{Appends}
-use Rattle.im_disk.specs.Moment.{Moment}
-use Rattle.im_disk.specs.Since.{LeavesNow}
+use Rattle.std.proofs.lemmas.List.{append-nil, take_all, take-append-le, take-append-drop, length-take-le}
+use Rattle.im_types.specs.declared.commands.Command.{Command}
+use Rattle.im_types.specs.declared.operations.Waiter.{Waiter}
+use Rattle.im_types.specs.Contents.{Contents}
+use Rattle.im_types.specs.Meaning.{Means, accept_each}
+use Rattle.im_types.specs.Run.{after}
+use Rattle.im_laws.proofs.RunLemmas.{after-append}
+use Rattle.im_laws.proofs.Tests.{true_false, true_or_false}
+use Rattle.im_disk.specs.Moment.{Moment, Left, Rises}
+use Rattle.im_disk.specs.Since.{Leaves, LeavesNow}
+use Rattle.im_disk.proofs.SinceLemmas.{left_now, leaves_then, leaves_now}
 use Rattle.im_engine.specs.State.{EngineState, MeansState}
+use Rattle.im_engine.specs.Run.{MeansAll, MeansAfter, MeansBeginning, MeansAllOrInDoubt, MeansWithOrWithout}
+use Rattle.im_engine.proofs.Keeping.{accept_both}
+use Rattle.im_controller.specs.Kept.{MeansSome, begun_in, accepted_in}
+use Rattle.im_controller.proofs.KeptLemmas.{accepted-after, kept_start}
 use Rattle.im_text.specs.declared.lines.Lines.{Lines}
+use Rattle.im_text.specs.Printing.{Begins, IsLast, Prints, PrintsMore, replies}
+use Rattle.im_text.proofs.PrintingLemmas.{prints_begins, take-prefix}
+use Rattle.im_text.proofs.TextLemmas.{written_none}
+use Rattle.im_serial.specs.Serving.{GoesWith, HaltsWith, HasPut, MeansAtLeast, NotOpened}
+use Rattle.im_run.specs.declared.run.TheConstants.{STALLED}
 use Rattle.im_run.specs.declared.served.Did.{Did}
-use Rattle.im_text.specs.Printing.{Prints, PrintsMore, PrintsOn}
-use Rattle.im_text.proofs.PrintingLemmas.{prints_none}
-use Rattle.im_run.specs.Running.{PrintsSome, Ran, finals}
+use Rattle.im_run.specs.Running.{BeginsFinals, Closes, EndedOn, PrintsFinals, Puts, Ran, RanOn, RunOn, ServedOn, Settles, final_line, finals}
 
--- a line more, or none
-pub some_by : {T E : Type 0} (r : Result T E) (was is : Option (List ℕ)) (before after : Lines) (line : List ℕ)
-    → MatchResult r (λ _. PrintsMore was before is after line) (λ _. PrintsOn was before is after) → PrintsSome was before is after
-some_by (Ok x) was is before after line more = λ start p. (p.0 ++ line, more start p.0 p.1)
-some_by (Err e) was is before after line on = λ start p. (p.0, on start p.0 p.1)
+-- ---- beginnings of lists
 
--- a run that was closed
-pub ran : {D : Type 0} (now : D → Moment) (disk : D) (was mid is : Option (List ℕ)) (before lines : Lines) (status : ℕ) (engine : EngineState D) (did : List Did) → before.pending.items ≡ [] → PrintsSome was before mid lines
-    → LeavesNow (now disk) (MeansState engine)
-    → (status ≡ 0 → (start : Option (List ℕ)) (text : List ℕ) → Prints start mid lines text → Appends start is (text ++ finals engine.memory did (length did)))
-    → Ran now disk was is status
-ran now disk was mid is before lines status engine did none some means printed =
-    let p = some was ([], prints_none was before none) in
-    record { memory = engine.memory; count = engine.count; room = engine.room; means = means; setup = p.0; did = did; printed = λ zero. printed zero was p.0 p.1 }
+take-over : (xs ys : List Command) (k : ℕ) → k ≤ length ys → take (length xs + k) (xs ++ ys) ≡ xs ++ take k ys
+take-over xs ys k within =
+    let front : List Command = xs ++ take k ys in
+    let long : length front ≡ length xs + k = omega (arith, length-append xs (take k ys), length-take-le k ys within) in
+    subst (λ (n : ℕ). take n (xs ++ ys) ≡ front) long
+    (subst (λ (l : List Command). take (length front) l ≡ front) (append_assoc xs (take k ys) (drop k ys) ∙ ap (λ (l : List Command). xs ++ l) (take-append-drop k ys)) (take-prefix front (drop k ys)))
+
+module _ {D : Type 0} (start : EngineState D) where
+  -- the file means what the engine is after these commands
+  after_is : (m n : Contents) (count many : ℕ) (file : List ℕ) → m ≡ n → count ≡ many → Means m count 0 file → Means n many 0 file
+  after_is m n count many file same counts means = subst (λ (x : Contents). Means x many 0 file) same (subst (λ (k : ℕ). Means m k 0 file) counts means)
+
+  all_of : (put : List Command) (many : ℕ) (file : List ℕ) → many ≡ length put → MeansAfter start put many file → MeansAll start put file
+  all_of put many file is means =
+      after_is (after start.memory (take many put)) (after start.memory put) (start.count + many) (start.count + length put) file
+      (ap (after start.memory) (take_all many put (omega (arith, is)))) (omega (arith, is)) means
+
+  -- after a beginning of more commands
+  longer : (put more : List Command) (file : List ℕ) → MeansBeginning start put file → MeansBeginning start (put ++ more) file
+  longer put more file it = let within : it.0 ≤ length put = it.1 in (
+    it.0,
+    omega (arith, within, length-append put more),
+    subst (λ (l : List Command). Means (after start.memory l) (start.count + it.0) 0 file) (sym (take-append-le it.0 put more within)) it.2,
+  )
+
+  -- after all of them, of which so many are among it
+  at_least : (told more : List Command) (least : ℕ) (file : List ℕ) → least ≤ length told → MeansAll start told file → MeansAtLeast start (told ++ more) least file
+  at_least told more least file within means = (
+    length told,
+    within,
+    omega (arith, length-append told more),
+    subst (λ (l : List Command). Means (after start.memory l) (start.count + length told) 0 file) (sym (take-prefix told more)) means,
+  )
+
+  with_or_without : (told doubt : List Command) (least : ℕ) (file : List ℕ) → least ≤ length told → MeansWithOrWithout start told doubt file → MeansAtLeast start (told ++ doubt) least file
+  with_or_without told doubt least file within (inl without) = at_least told doubt least file within without
+  with_or_without told doubt least file within (inr all) =
+      subst (λ (l : List Command). MeansAtLeast start l least file) (append-nil (told ++ doubt)) (at_least (told ++ doubt) [] least file (omega (arith, within, length-append told doubt)) all)
+
+-- ---- what was put
+
+-- what was put by the setup, and by others behind it, apart from what is in doubt
+pub record PutOn {D : Type 0} (now : D → Moment) (past : D → List Moment) (failures : D → ℕ) (start engine : EngineState D) (setup others : List Command) : Type 0 where
+  pub told : List Command
+  pub doubt : List Command
+  pub whole : told ++ doubt ≡ setup ++ others
+  pub puts : Puts now past failures start start.disk engine.disk setup told doubt
+  pub calm : engine.failed ≡ false → (doubt ≡ []) × (engine.memory ≡ after start.memory told) × (engine.count ≡ start.count + length told)
+
+module _ {D : Type 0} (now : D → Moment) (past : D → List Moment) (failures : D → ℕ) where
+  -- by the setup alone
+  module _ (start engine : EngineState D) (put : List Command) (it : HasPut now past failures start engine put) where
+    abbrev least : ℕ
+    least = length put - 1
+
+    or_last : (file : List ℕ) → MeansAllOrInDoubt (engine.failed ≡ true) start put file → MeansWithOrWithout start (take least put) (drop least put) file
+    or_last file (many, inl all, means) = inr (subst (λ (l : List Command). MeansAll start l file) (sym (take-append-drop least put)) (all_of start put many file all means))
+    or_last file (many, inr (dead, one), means) = inl
+        (after_is start (after start.memory (take many put)) (after start.memory (take least put)) (start.count + many) (start.count + length (take least put)) file
+        (ap (λ n. after start.memory (take n put)) (omega (arith, one))) (omega (arith, one, length-take-le least put (omega arith))) means)
+
+    or_none : engine.failed ≡ false → (file : List ℕ) → MeansAllOrInDoubt (engine.failed ≡ true) start put file → MeansWithOrWithout start put [] file
+    or_none works file (many, inl all, means) = inl (all_of start put many file all means)
+    or_none works file (many, inr (dead, one), means) = absurd (true_false (sym dead ∙ works))
+
+    put_on : PutOn now past failures start engine put []
+    put_on = ⊎_elim
+        (λ dead. let same = take-append-drop least put in record {
+          told = take least put;
+          doubt = drop least put;
+          whole = same ∙ sym (append-nil put);
+          puts = record {
+            first = ([], same ∙ sym (append-nil put));
+            accepted = subst (λ (l : List Command). accept_each start.memory l ≡ Some (after start.memory l)) (sym same) it.accepted;
+            leaves = subst (λ (l : List Command). Leaves (now start.disk) (now engine.disk) (past start.disk) (past engine.disk) (MeansBeginning start l)) (sym same) it.leaves;
+            last = λ file left. or_last file (it.doubt file left);
+            sure = inr (it.rose dead);
+          };
+          calm = λ works. absurd (true_false (sym dead ∙ works));
+        })
+        (λ works. record {
+          told = put;
+          doubt = [];
+          whole = refl;
+          puts = record {
+            first = ([], refl);
+            accepted = subst (λ (l : List Command). accept_each start.memory l ≡ Some (after start.memory l)) (sym (append-nil put)) it.accepted;
+            leaves = subst (λ (l : List Command). Leaves (now start.disk) (now engine.disk) (past start.disk) (past engine.disk) (MeansBeginning start l)) (sym (append-nil put)) it.leaves;
+            last = λ file left. or_none works file (it.doubt file left);
+            sure = inl refl;
+          };
+          calm = λ alive. (refl, it.memory alive, it.count alive);
+        })
+        (true_or_false engine.failed)
+
+  -- and then by the elements' servers
+  module _ (start mid engine : EngineState D) (setup : List Command) (it : HasPut now past failures start mid setup) (alive : mid.failed ≡ false) (on : ServedOn now past failures (begun_in now past failures mid) mid.memory engine) where
+    abbrev served : List Command
+    served = accepted_in mid.memory on.trace
+
+    abbrev doubt : List Command
+    doubt = on.kept.doubt
+
+    abbrev both : List Command
+    both = served ++ doubt
+
+    same : (setup ++ served) ++ doubt ≡ setup ++ both
+    same = append_assoc setup served doubt
+
+    goes_on : (cs : List Command) → after mid.memory cs ≡ after start.memory (setup ++ cs)
+    goes_on cs = ap (λ (m : Contents). after m cs) (it.memory alive) ∙ sym (after-append start.memory setup cs)
+
+    accepted : accept_each start.memory (setup ++ both) ≡ Some (after start.memory (setup ++ both))
+    accepted = accept_both start.memory mid.memory (after mid.memory both) setup both (it.accepted ∙ ap Some (sym (it.memory alive))) on.kept.accepts ∙ ap Some (goes_on both)
+
+    some : (file : List ℕ) → MeansSome mid.memory mid.count both file → MeansBeginning start (setup ++ both) file
+    some file means = let counts = it.count alive in (
+      length setup + means.0,
+      omega (arith, means.1, length-append setup both),
+      after_is start (after mid.memory (take means.0 both)) (after start.memory (take (length setup + means.0) (setup ++ both))) (mid.count + means.0) (start.count + (length setup + means.0)) file
+          (goes_on (take means.0 both) ∙ sym (ap (after start.memory) (take-over setup both means.0 means.1))) (omega (arith, counts)) means.2,
+    )
+
+    all_told : (cs : List Command) (file : List ℕ) → Means (after mid.memory (take (length cs) cs)) (mid.count + length cs) 0 file → MeansAll start (setup ++ cs) file
+    all_told cs file means = let counts = it.count alive in
+        after_is start (after mid.memory (take (length cs) cs)) (after start.memory (setup ++ cs)) (mid.count + length cs) (start.count + length (setup ++ cs)) file
+        (ap (after mid.memory) (take_all (length cs) cs (omega arith)) ∙ goes_on cs) (omega (arith, counts, length-append setup cs)) means
+
+    rose : (b : Bool) → engine.failed ≡ b → (doubt ≡ []) ⊎ Rises (failures start.disk) (failures engine.disk)
+    rose true dead = inr (subst (λ (n : ℕ). Rises n (failures engine.disk)) (it.stayed alive) (on.kept.rose dead))
+    rose false works = inl (on.kept.sure works)
+
+    puts_on : PutOn now past failures start engine setup both
+    puts_on = record {
+      told = setup ++ served;
+      doubt = doubt;
+      whole = same;
+      puts = record {
+        first = (both, same);
+        accepted = subst (λ (l : List Command). accept_each start.memory l ≡ Some (after start.memory l)) (sym same) accepted;
+        leaves = subst (λ (l : List Command). Leaves (now start.disk) (now engine.disk) (past start.disk) (past engine.disk) (MeansBeginning start l)) (sym same)
+            (leaves_then (now start.disk) (now mid.disk) (now engine.disk) (past start.disk) (past mid.disk) (past engine.disk) (MeansBeginning start setup) (MeansSome mid.memory mid.count both) (MeansBeginning start (setup ++ both))
+            it.leaves on.kept.leaves (longer start setup both) some);
+        last = λ file left. ⊎_elim (λ without. inl (all_told served file without)) (λ all. inr (subst (λ (l : List Command). MeansAll start l file) (sym same) (all_told both file all))) (on.kept.last file left);
+        sure = rose engine.failed refl;
+      };
+      calm = λ works. let counts = it.count alive in (
+        on.kept.sure works,
+        sym on.ends ∙ sym (accepted-after mid.memory on.trace) ∙ goes_on served,
+        omega (arith, on.kept.count works, counts, length-append setup served),
+      );
+    }
+
+-- no servers began
+pub none_served : {D : Type 0} (now : D → Moment) (past : D → List Moment) (failures : D → ℕ) (begun engine : EngineState D) → engine ≡ begun → engine.failed ≡ false → LeavesNow (now engine.disk) (MeansState engine)
+    → ServedOn now past failures (begun_in now past failures begun) begun.memory engine
+none_served {D} now past failures begun engine same alive means =
+    subst (λ (b : EngineState D). ServedOn now past failures (begun_in now past failures b) b.memory engine) same
+    (record { trace = []; ends = refl; kept = kept_start now past failures (begun_in now past failures engine) engine.memory engine refl refl alive means })
+
+-- ---- what was printed
+
+-- the lines of what was done, and then of a refusal
+pub closed_by : (was mid is : Option (List ℕ)) (before after final : Lines) (m : Contents) (did : List Did) (status : ℕ) → PrintsFinals was before mid after m did
+    → (status ≡ 0 → PrintsMore was before mid after (finals m did (length did)))
+    → ((start : Option (List ℕ)) (text : List ℕ) → Prints start mid after text → (last : List ℕ) × (IsLast last × Prints start is final (text ++ last)))
+    → (status ≡ 0 → (start : Option (List ℕ)) (text : List ℕ) → Prints start mid after text → Appends start is text) → Closes was before is m did status
+closed_by was mid is before after final m did status some all last whole = λ start text it.
+    let end = last start (text ++ finals m did some.0) (some.2 start text it) in (
+      (some.0, (some.1, (end.0, (end.1.0, prints_begins start is final ((text ++ finals m did some.0) ++ end.0) end.1.1)))),
+      (λ zero. whole zero start (text ++ finals m did (length did)) (all zero start text it)),
+    )
+
+-- ---- the end of a run
+
+module _ {D : Type 0} (now : D → Moment) (past : D → List Moment) (failures : D → ℕ) where
+  settled : (start engine : EngineState D) (setup others : List Command) (disk : D) (status : ℕ) (it : PutOn now past failures start engine setup others)
+      → ((status ≡ 0) ⊎ (status ≡ STALLED) → engine.failed ≡ false) → (engine.failed ≡ false → LeavesNow (now disk) (MeansState engine)) → Settles now start disk it.told it.doubt status
+  settled start engine setup others disk status it works means = λ is. let alive = works is in let c = it.calm alive in (
+    c.0,
+    (engine.room, subst (λ (m : Contents). LeavesNow (now disk) (Means m (start.count + length it.told) engine.room)) c.1 (subst (λ (n : ℕ). LeavesNow (now disk) (Means engine.memory n engine.room)) c.2 (means alive))),
+  )
+
+  -- nothing was done, so that it is told of any memory
+  none_done : (start is : Option (List ℕ)) (text : List ℕ) (m n : Contents) (did : List Did) → did ≡ [] → BeginsFinals start is text m did → BeginsFinals start is text n did
+  none_done start is text m n did none begins =
+      let few : begins.0 ≤ 0 = subst (λ (l : List Did). begins.0 ≤ length l) none begins.1.0 in
+      (begins.0, (begins.1.0, (begins.1.1.0, (begins.1.1.1.0, subst (λ (t : List ℕ). Begins start is ((text ++ t) ++ begins.1.1.0)) (no_finals begins.0 few) begins.1.1.1.1))))
+    where
+      no_finals : (many : ℕ) → many ≤ 0 → finals m did many ≡ finals n did many
+      no_finals zero few = sym (written_none (λ i. final_line m (slice_get did i)) []) ∙ written_none (λ i. final_line n (slice_get did i)) []
+      no_finals (suc many) few = absurd (omega arith)
+
+  -- the setup was ended
+  pub halted_run : (start engine : EngineState D) (put : List Command) (text : List ℕ) (names : List Waiter) (was mid is : Option (List ℕ)) (lines : Lines) (did : List Did) (disk : D) (status : ℕ) → HaltsWith now past failures start engine put text names
+      → Prints was mid lines text → did ≡ [] → disk ≡ engine.disk → ((status ≡ 0) ⊎ (status ≡ STALLED) → engine.failed ≡ false) → (engine.failed ≡ false → LeavesNow (now disk) (MeansState engine)) → (status ≡ 0 → ⊥)
+      → Closes mid lines is engine.memory did status → RunOn now past failures start disk was is status
+  halted_run start engine put text names was mid is lines did disk status it prints none at_end works means never closes =
+      let on = put_on now past failures start engine put it.has in
+      let whole = on.whole ∙ append-nil put in
+      record {
+        setup = put;
+        told = on.told;
+        doubt = on.doubt;
+        puts = subst (λ (d : D). Puts now past failures start start.disk d put on.told on.doubt) (sym at_end) on.puts;
+        settles = settled start engine put [] disk status on works means;
+        printed = record {
+          said = it.told;
+          others = it.others;
+          split = it.split;
+          kept = subst (λ (d : D). LeavesNow (now d) (MeansAtLeast start (on.told ++ on.doubt) (length it.told))) (sym at_end)
+              (subst (λ (l : List Command). LeavesNow (now engine.disk) (MeansAtLeast start l (length it.told))) (sym whole) it.kept);
+          did = did;
+          begins = subst (λ (t : List ℕ). BeginsFinals was is t (after start.memory on.told) did) it.lines (none_done was is text engine.memory (after start.memory on.told) did none (closes was text prints).0);
+          whole = λ zero. absurd (never zero);
+        };
+      }
+
+  -- the elements' servers ended
+  pub ended_run : (start mid : EngineState D) (setup : List Command) (text : List ℕ) (names : List Waiter) (was held is : Option (List ℕ)) (lines : Lines) (disk : D) (status : ℕ) → GoesWith now past failures start mid setup text names
+      → Prints was held lines text → EndedOn now past failures mid disk held lines is status → RunOn now past failures start disk was is status
+  unfolding puts_on
+  ended_run start mid setup text names was held is lines disk status it prints ended =
+      let served = ended.served in
+      let on = puts_on now past failures start mid ended.engine setup it.has it.works served in
+      let closes = ended.printed was text prints in
+      let told_is : ended.engine.memory ≡ after start.memory on.told = sym served.ends ∙ sym (accepted-after mid.memory served.trace) ∙ goes_on now past failures start mid ended.engine setup it.has it.works served (accepted_in mid.memory served.trace) in
+      record {
+        setup = setup;
+        told = on.told;
+        doubt = on.doubt;
+        puts = subst (λ (d : D). Puts now past failures start start.disk d setup on.told on.doubt) (sym ended.disk_is) on.puts;
+        settles = settled start ended.engine setup (accepted_in mid.memory served.trace ++ served.kept.doubt) disk status on ended.works ended.means;
+        printed = record {
+          said = setup;
+          others = [];
+          split = sym (append-nil setup);
+          kept = subst (λ (d : D). LeavesNow (now d) (MeansAtLeast start (on.told ++ on.doubt) (length setup))) (sym ended.disk_is)
+              (λ file left. with_or_without start on.told on.doubt (length setup) file (omega (arith, length-append setup (accepted_in mid.memory served.trace))) (on.puts.last file left));
+          did = ended.did;
+          begins = subst (λ (m : Contents). BeginsFinals was is (replies start.memory setup) m ended.did) told_is (subst (λ (t : List ℕ). BeginsFinals was is t ended.engine.memory ended.did) it.lines closes.0);
+          whole = λ zero. subst (λ (m : Contents). Appends was is (replies start.memory setup ++ finals m ended.did (length ended.did))) told_is
+              (subst (λ (t : List ℕ). Appends was is (t ++ finals ended.engine.memory ended.did (length ended.did))) it.lines (closes.1 zero));
+        };
+      }
+
+  -- an opening leaves nothing new, and what it found was there
+  pub ran_on : (old : D) (start : EngineState D) (new : D) (was is : Option (List ℕ)) (status : ℕ) → Leaves (now old) (now start.disk) (past old) (past start.disk) (Left (now old)) → LeavesNow (now start.disk) (MeansState start) → failures start.disk ≡ failures old
+      → RunOn now past failures start new was is status → RanOn now past failures old new was is status
+  ran_on old start new was is status opened means same it =
+      let file = (now start.disk).bytes in
+      let here = left_now (now start.disk) in
+      record {
+        start = start;
+        found = (file, ⊎_elim (λ left. left) (λ left. left) (leaves_now (now old) (now start.disk) (past old) (past start.disk) (Left (now old)) opened file here), means file here);
+        setup = it.setup;
+        told = it.told;
+        doubt = it.doubt;
+        puts = record {
+          first = it.puts.first;
+          accepted = it.puts.accepted;
+          leaves = leaves_then (now old) (now start.disk) (now new) (past old) (past start.disk) (past new) (λ file. ⊥) (MeansBeginning start (it.told ++ it.doubt)) (MeansBeginning start (it.told ++ it.doubt))
+              (record { later = opened.later; each = λ t c le left. ⊎_elim (λ before. inl before) (λ now. inl (inl (le, now))) (opened.each t c le left) }) it.puts.leaves (λ file no. absurd no) (λ file is. is);
+          last = it.puts.last;
+          sure = ⊎_elim (λ none. inl none) (λ rose. inr (subst (λ (n : ℕ). Rises n (failures new)) same rose)) it.puts.sure;
+        };
+        settles = it.settles;
+        printed = it.printed;
+      }
+
+  -- a run by what is known at its end
+  pub ran : (old new : D) (was is : Option (List ℕ)) (status : ℕ) → (status ≡ 0) ⊎ (status ≡ STALLED) → NotOpened now past old new was is status ⊎ RanOn now past failures old new was is status → Ran now new was is status
+  ran old new was is status ends (inl none) = absurd (no_end status none.status_is ends)
+    where
+      no_end : (n : ℕ) → n ≡ 1 → (n ≡ 0) ⊎ (n ≡ STALLED) → ⊥
+      no_end n is (inl none) = omega (arith, is, none)
+      no_end n is (inr stalled) = omega (arith, is, stalled)
+  ran old new was is status ends (inr it) =
+      let settled = it.settles ends in
+      record {
+        memory = after it.start.memory it.told;
+        count = it.start.count + length it.told;
+        room = settled.1.0;
+        means = settled.1.1;
+        setup = replies it.start.memory it.setup;
+        did = it.printed.did;
+        printed = λ zero. it.printed.whole zero;
+      }

@@ -1,25 +1,28 @@
 -- What a run of element servers prints, and what it leaves on a disk. (Own.)
-use Rattle.std.specs.Prelude.{◌≡◌, ℕ, List, [], ◌++◌, codes, decimal, length, Option, None, Some, Result, Ok, Err, slice_get}
+use Rattle.std.specs.Prelude.{◌≡◌, ◌⊎◌, ℕ, ◌+◌, ◌≤◌, List, [], ◌++◌, codes, decimal, false, length, Option, None, Some, Result, Ok, Err, slice_get}
 use Rattle.std.specs.Io.KnownBytes.{Appends}
 use Rattle.im_types.specs.declared.operations.Entry.{Entry}
 use Rattle.im_types.specs.declared.refusals.Refusal.{Refusal}
 use Rattle.im_types.specs.Contents.{Contents}
 use Rattle.im_types.specs.Trace.{IsLegal, end_of}
+use Rattle.im_types.specs.declared.commands.Command.{Command}
 use Rattle.im_types.specs.declared.commands.Line.{Line}
 use Rattle.im_types.specs.Window.{ask}
-use Rattle.im_types.specs.Meaning.{Means}
-use Rattle.im_disk.specs.Moment.{Moment}
-use Rattle.im_disk.specs.Since.{LeavesNow}
+use Rattle.im_types.specs.Meaning.{Means, accept_each}
+use Rattle.im_types.specs.Run.{after}
+use Rattle.im_disk.specs.Moment.{Moment, Left, Rises}
+use Rattle.im_disk.specs.Since.{Leaves, LeavesNow}
+use Rattle.im_engine.specs.State.{EngineState, MeansState}
+use Rattle.im_engine.specs.Run.{MeansBeginning, MeansWithOrWithout}
+use Rattle.im_controller.specs.Kept.{Begun, HasKept, accepted_in, begun_in}
+use Rattle.im_serial.specs.Serving.{MeansAtLeast, NotOpened}
 use Rattle.im_text.specs.declared.lines.Lines.{Lines}
 use Rattle.im_text.specs.declared.replies.Waited.{Waited}
-use Rattle.im_text.specs.Printing.{Prints, told_line}
+use Rattle.im_text.specs.Printing.{Begins, IsLast, Prints, PrintsMore, replies, told_line}
 use Rattle.im_text.specs.Texts.{line_feed, texts_below}
+use Rattle.im_run.specs.declared.run.TheConstants.{STALLED}
 use Rattle.im_run.specs.declared.served.Did.{Did}
 use Rattle.im_run.specs.declared.served.Did.TheVariants.{Sent, Glanced}
-
--- where some text was printed before, some text is printed now
-abbrev pub PrintsSome : Option (List ℕ) → Lines → Option (List ℕ) → Lines → Type 0
-PrintsSome was before is after = (start : Option (List ℕ)) → ((text : List ℕ) × Prints start was before text) → (text : List ℕ) × Prints start is after text
 
 -- what is kept for a request, or what it was told once it is forgotten
 abbrev pub kept_or : Entry → Result Entry Refusal → Entry
@@ -49,9 +52,93 @@ final_line m (Some (Glanced element address value)) = glance_line element addres
 abbrev pub finals : Contents → List Did → ℕ → List ℕ
 finals m did many = texts_below (λ i. final_line m (slice_get did i)) many
 
+-- the lines of some of these more
+abbrev pub PrintsFinals : Option (List ℕ) → Lines → Option (List ℕ) → Lines → Contents → List Did → Type 0
+PrintsFinals was before is after m did = (many : ℕ) × (many ≤ length did) × PrintsMore was before is after (finals m did many)
+
+-- a beginning of this text was written: what was printed before, the lines of the first of these, and of a refusal
+abbrev pub BeginsFinals : Option (List ℕ) → Option (List ℕ) → List ℕ → Contents → List Did → Type 0
+BeginsFinals start is text m did = (many : ℕ) × ((many ≤ length did) × ((last : List ℕ) × (IsLast last × Begins start is (text ++ finals m did many ++ last))))
+
+-- Behind what was printed before, the lines of the first of these and of a refusal are written, as far as the writer took
+-- them; and where the status is 0, the lines of all of these.
+abbrev pub Closes : Option (List ℕ) → Lines → Option (List ℕ) → Contents → List Did → ℕ → Type 0
+Closes was before is m did status = (start : Option (List ℕ)) (text : List ℕ) → Prints start was before text
+    → BeginsFinals start is text m did × (status ≡ 0 → Appends start is (text ++ finals m did (length did)))
+
 -- the second memory is what a legal history of calls from the first comes to
 abbrev pub Follows : Contents → Contents → Type 0
 Follows m n = (trace : List Line) × IsLegal m trace × (end_of m trace ≡ n)
+
+-- what elements' servers left since they began: their trace leads to the engine's memory, and a crash left a beginning of it
+pub record ServedOn {D : Type 0} (now : D → Moment) (past : D → List Moment) (failures : D → ℕ) (b : Begun) (m : Contents) (engine : EngineState D) : Type 0 where
+  pub trace : List Line
+  pub ends : end_of m trace ≡ engine.memory
+  pub kept : HasKept now past failures b m (accepted_in m trace) engine
+
+-- an engine's servers ended, the engine was closed, and the status given
+pub record EndedOn {D : Type 0} (now : D → Moment) (past : D → List Moment) (failures : D → ℕ) (begun : EngineState D) (disk : D) (was : Option (List ℕ)) (before : Lines) (is : Option (List ℕ)) (status : ℕ) : Type 0 where
+  pub engine : EngineState D
+  pub disk_is : disk ≡ engine.disk
+  pub served : ServedOn now past failures (begun_in now past failures begun) begun.memory engine
+  pub works : (status ≡ 0) ⊎ (status ≡ STALLED) → engine.failed ≡ false
+  pub means : engine.failed ≡ false → LeavesNow (now disk) (MeansState engine)
+  pub did : List Did
+  pub printed : Closes was before is engine.memory did status
+
+-- Since the image was opened these commands were put on it: those of the setup, then those of the elements' servers, each
+-- accepted in its turn. All were acknowledged but those in doubt, of which there are some only where a call of the disk failed.
+-- A crash leaves the memory after a beginning of them; and now it has all that were acknowledged, and those in doubt all or none.
+pub record Puts {D : Type 0} (now : D → Moment) (past : D → List Moment) (failures : D → ℕ) (start : EngineState D) (old new : D) (setup told doubt : List Command) : Type 0 where
+  pub first : (others : List Command) × (told ++ doubt ≡ setup ++ others)
+  pub accepted : accept_each start.memory (told ++ doubt) ≡ Some (after start.memory (told ++ doubt))
+  pub leaves : Leaves (now old) (now new) (past old) (past new) (MeansBeginning start (told ++ doubt))
+  pub last : LeavesNow (now new) (MeansWithOrWithout start told doubt)
+  pub sure : (doubt ≡ []) ⊎ Rises (failures old) (failures new)
+
+-- where the status says that no call of the disk failed, nothing is in doubt, and each file means one memory
+abbrev pub Settles : {D : Type 0} → (D → Moment) → EngineState D → D → List Command → List Command → ℕ → Type 0
+Settles now start new told doubt status = (status ≡ 0) ⊎ (status ≡ STALLED)
+    → (doubt ≡ []) × ((room : ℕ) × LeavesNow (now new) (Means (after start.memory told) (start.count + length told) room))
+
+-- What was printed, at the end: a beginning of this text, and where the status is 0 all of it. It is the lines of the first
+-- commands of the setup, each of which is in every file that a crash leaves; then of what was done: of the requests that were
+-- sent, each with its final entry in the memory after all acknowledged commands, and of the glances; then of a refusal.
+pub record Says {D : Type 0} (now : D → Moment) (start : EngineState D) (new : D) (setup told doubt : List Command) (was is : Option (List ℕ)) (status : ℕ) : Type 0 where
+  pub said : List Command
+  pub others : List Command
+  pub split : setup ≡ said ++ others
+  pub kept : LeavesNow (now new) (MeansAtLeast start (told ++ doubt) (length said))
+  pub did : List Did
+  pub begins : BeginsFinals was is (replies start.memory said) (after start.memory told) did
+  pub whole : status ≡ 0 → Appends was is (replies start.memory setup ++ finals (after start.memory told) did (length did))
+
+-- An engine was closed, and the status given, after a run on it.
+pub record RunOn {D : Type 0} (now : D → Moment) (past : D → List Moment) (failures : D → ℕ) (start : EngineState D) (disk : D) (was is : Option (List ℕ)) (status : ℕ) : Type 0 where
+  pub setup : List Command
+  pub told : List Command
+  pub doubt : List Command
+  pub puts : Puts now past failures start start.disk disk setup told doubt
+  pub settles : Settles now start disk told doubt status
+  pub printed : Says now start disk setup told doubt was is status
+
+-- The image was opened, with the meaning of a file that a crash could leave then, and a script was run on it.
+pub record RanOn {D : Type 0} (now : D → Moment) (past : D → List Moment) (failures : D → ℕ) (old new : D) (was is : Option (List ℕ)) (status : ℕ) : Type 0 where
+  pub start : EngineState D
+  pub found : (file : List ℕ) × Left (now old) file × MeansState start file
+  pub setup : List Command
+  pub told : List Command
+  pub doubt : List Command
+  pub puts : Puts now past failures start old new setup told doubt
+  pub settles : Settles now start new told doubt status
+  pub printed : Says now start new setup told doubt was is status
+
+-- The same of a disk that was opened at this moment, before which there was none; or the image was not opened.
+pub record RanFrom {D : Type 0} (now : D → Moment) (past : D → List Moment) (failures : D → ℕ) (first : Moment) (new : D) (was is : Option (List ℕ)) (status : ℕ) : Type 0 where
+  pub old : D
+  pub begins : now old ≡ first
+  pub none : past old ≡ []
+  pub run : NotOpened now past old new was is status ⊎ RanOn now past failures old new was is status
 
 -- At the end each file that a crash may leave means one memory. Where the status is 0, what was printed is the setup's lines,
 -- then the lines of what was done: of the requests that were sent, each with its final entry in that memory, and of the glances.

@@ -6,7 +6,6 @@
 mod orders;
 mod run;
 mod served;
-mod setup;
 mod telling;
 
 pub use run::{STALLED, run_on};

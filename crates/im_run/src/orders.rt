@@ -1,11 +1,11 @@
 //! What each element asks for in a script.
-ghost use Rattle.std.specs.Prelude.{◌≡◌};
-ghost use Rattle.im_run.specs.Running.{PrintsSome};
+ghost use Rattle.std.specs.Prelude.{MatchResult};
+ghost use Rattle.im_serial.specs.Serving.{Ends, Serves, at};
 
-use crate::setup::{Desk, make_block};
 use im_disk::Disk;
-use im_engine::Engine;
+use im_memory::Memory;
 use im_script::{Heard, Place, Reader, Said, Script, ScriptLine, split_line};
+use im_serial::Server;
 use im_serving::Intent;
 use im_text::{Observer, Reason};
 use im_types::MAX_ELEMENTS;
@@ -73,34 +73,46 @@ fn add_glance(
 
 // Does what a line says.
 fn take_heard<D: Disk, W: Write, N: Observer>(
-    engine: &mut Engine<D>,
-    desk: &mut Desk,
+    server: &mut Server<D>,
     orders: &mut [Order],
     heard: Heard,
     out: &mut W,
     observer: &mut N,
 ) -> Result<(), Reason>
-    ensures some { PrintsSome (W.contents out.old) desk.old.lines (W.contents out.new) desk.new.lines }
+    ensures serves { MatchResult result
+        (λ _. Serves D.now D.past D.failures D.honest
+        (at server.old.engine (W.contents out.old) server.old.lines server.old.waited.items)
+        (at server.new.engine (W.contents out.new) server.new.lines server.new.waited.items))
+        (λ _. Ends D.now D.past D.failures D.honest
+        (at server.old.engine (W.contents out.old) server.old.lines server.old.waited.items)
+        (at server.new.engine (W.contents out.new) server.new.lines server.new.waited.items)) }
 {
     match heard {
         Heard::Says(Said::Nothing | Said::Begins(_)) => Ok(()),
-        Heard::Says(Said::Block(block)) => make_block(engine, desk, block, out, observer),
-        Heard::Says(Said::Asks(line)) => add_line(orders, desk.bases.as_slice(), line),
-        Heard::Glances(element, place) => add_glance(orders, desk.bases.as_slice(), element, place),
+        Heard::Says(Said::Block(block)) => server.make_block(block, out, observer),
+        Heard::Says(Said::Asks(line)) => add_line(orders, server.bases.as_slice(), line),
+        Heard::Glances(element, place) => {
+            add_glance(orders, server.bases.as_slice(), element, place)
+        }
     }
 }
 
 // Does what each line says, one after another.
 fn take_lines<D: Disk, W: Write, N: Observer>(
     alloc: Global,
-    engine: &mut Engine<D>,
-    desk: &mut Desk,
+    server: &mut Server<D>,
     orders: &mut [Order],
     script: &Script<'_>,
     out: &mut W,
     observer: &mut N,
 ) -> Result<(), Reason>
-    ensures some { PrintsSome (W.contents out.old) desk.old.lines (W.contents out.new) desk.new.lines }
+    ensures serves { MatchResult result
+        (λ _. Serves D.now D.past D.failures D.honest
+        (at server.old.engine (W.contents out.old) server.old.lines server.old.waited.items)
+        (at server.new.engine (W.contents out.new) server.new.lines server.new.waited.items))
+        (λ _. Ends D.now D.past D.failures D.honest
+        (at server.old.engine (W.contents out.old) server.old.lines server.old.waited.items)
+        (at server.new.engine (W.contents out.new) server.new.lines server.new.waited.items)) }
 {
     let mut reader = Reader::new(alloc);
     let mut rest = Some(script.text());
@@ -114,7 +126,7 @@ fn take_lines<D: Disk, W: Write, N: Observer>(
             Ok(heard) => heard,
             Err(fault) => return Err(Reason::Script(fault)), // There was no memory for it.
         };
-        match take_heard(engine, desk, orders, heard, out, observer) {
+        match take_heard(server, orders, heard, out, observer) {
             Ok(()) => {}
             Err(reason) => return Err(reason),
         }
@@ -122,24 +134,48 @@ fn take_lines<D: Disk, W: Write, N: Observer>(
     Ok(())
 }
 
-// The orders that ask for something, with their elements' numbers. An element that isn't there has none.
-fn number_orders<D: Disk>(
+// Does what each line says, and writes the setup's lines.
+fn set_up<D: Disk, W: Write, N: Observer>(
     alloc: Global,
-    engine: &Engine<D>,
-    orders: Vec<Order>,
-) -> Result<Vec<Order>, AllocError> {
-    let mut numbered = Vec::with_capacity(alloc, orders.len())?;
+    server: &mut Server<D>,
+    orders: &mut [Order],
+    script: &Script<'_>,
+    out: &mut W,
+    observer: &mut N,
+) -> Result<(), Reason>
+    ensures serves { MatchResult result
+        (λ _. Serves D.now D.past D.failures D.honest
+        (at server.old.engine (W.contents out.old) server.old.lines server.old.waited.items)
+        (at server.new.engine (W.contents out.new) server.new.lines server.new.waited.items))
+        (λ _. Ends D.now D.past D.failures D.honest
+        (at server.old.engine (W.contents out.old) server.old.lines server.old.waited.items)
+        (at server.new.engine (W.contents out.new) server.new.lines server.new.waited.items)) }
+{
+    match take_lines(alloc, server, orders, script, out, observer) {
+        Ok(()) => server.lines.flush(out),
+        Err(reason) => Err(reason),
+    }
+}
+
+// The orders that ask for something, with their elements' numbers. An element that isn't there has none.
+fn number_orders(alloc: Global, memory: &Memory, orders: Vec<Order>) -> Result<Vec<Order>, Reason> {
+    let Ok(mut numbered) = Vec::with_capacity(alloc, orders.len()) else {
+        return Err(Reason::Memory);
+    };
     for order in orders {
         if order.intents.is_empty() {
             continue;
         }
-        let (base, next) = engine.memory().window(order.element).unwrap_or((0, 0));
-        numbered.push(Order {
+        let (base, next) = memory.window(order.element).unwrap_or((0, 0));
+        let order = Order {
             element: order.element,
             base,
             next,
             intents: order.intents,
-        })?;
+        };
+        if numbered.push(order).is_err() {
+            return Err(Reason::Memory);
+        }
     }
     Ok(numbered)
 }
@@ -151,30 +187,24 @@ fn number_orders<D: Disk>(
 /// `Memory`.
 pub fn read_orders<D: Disk, W: Write, N: Observer>(
     alloc: Global,
-    engine: &mut Engine<D>,
-    desk: &mut Desk,
+    server: &mut Server<D>,
     script: &Script<'_>,
     out: &mut W,
     observer: &mut N,
 ) -> Result<Vec<Order>, Reason>
-    ensures some { PrintsSome (W.contents out.old) desk.old.lines (W.contents out.new) desk.new.lines }
+    ensures serves { MatchResult result
+        (λ _. Serves D.now D.past D.failures D.honest
+        (at server.old.engine (W.contents out.old) server.old.lines server.old.waited.items)
+        (at server.new.engine (W.contents out.new) server.new.lines server.new.waited.items))
+        (λ _. Ends D.now D.past D.failures D.honest
+        (at server.old.engine (W.contents out.old) server.old.lines server.old.waited.items)
+        (at server.new.engine (W.contents out.new) server.new.lines server.new.waited.items)) }
 {
     let Ok(mut orders) = no_orders(alloc) else {
         return Err(Reason::Memory);
     };
-    match take_lines(
-        alloc,
-        engine,
-        desk,
-        orders.as_mut_slice(),
-        script,
-        out,
-        observer,
-    ) {
-        Ok(()) => match desk.lines.flush(out) {
-            Ok(()) => number_orders(alloc, engine, orders).map_err(|_| Reason::Memory),
-            Err(reason) => Err(reason),
-        },
+    match set_up(alloc, server, orders.as_mut_slice(), script, out, observer) {
+        Ok(()) => number_orders(alloc, server.engine.memory(), orders),
         Err(reason) => Err(reason),
     }
 }

@@ -1,19 +1,18 @@
 //! A script on the image of a disk, from its opening to its end.
-ghost use Rattle.std.specs.Prelude.{◌≡◌, ◌⊎◌, ◌≤◌, ◌++◌, ℕ, List, Option, [], false, length, IsOk};
-ghost use Rattle.std.specs.Io.KnownBytes.{Appends};
+ghost use Rattle.std.specs.Prelude.{◌≡◌, ◌⊎◌, ◌≤◌, [], false, IsOk};
 ghost use Rattle.im_disk.specs.Since.{LeavesNow};
 ghost use Rattle.im_engine.specs.State.{MeansState};
-ghost use Rattle.im_text.specs.Printing.{Prints};
-ghost use Rattle.im_run.specs.Running.{Ran, finals};
+ghost use Rattle.im_serial.specs.Serving.{NotOpened};
+ghost use Rattle.im_run.specs.Running.{Closes, EndedOn, Ran, RanOn, RunOn};
 
 use crate::orders::{Order, read_orders};
 use crate::served::{Did, Outcome, serve_orders};
-use crate::setup::Desk;
 use crate::telling::print_finals;
 use im_controller::start;
 use im_disk::{Disk, OpenFault};
 use im_engine::Engine;
 use im_script::Script;
+use im_serial::{Desk, Paper, Server};
 use im_serving::Gate;
 use im_text::{Observer, Reason, diagnose, end, finish};
 use im_types::Refusal;
@@ -92,36 +91,75 @@ fn close<D: Disk, W: Write, N: Observer>(
     engine: Engine<D>,
     did: Vec<Did>,
     done: Result<(), Reason>,
-    desk: Desk,
+    mut paper: Paper,
     out: &mut W,
     observer: &mut N,
 ) -> (u8, D)
     ensures status { (result.0 ≤ 1) ⊎ (result.0 ≡ STALLED) }
-    ensures means { D.honest result.1 → (result.0 ≡ 0) ⊎ (result.0 ≡ STALLED)
-        → LeavesNow (D.now result.1) (MeansState engine) }
-    ensures printed { result.0 ≡ 0 → (start : Option (List ℕ)) (text : List ℕ)
-        → Prints start (W.contents out.old) desk.lines text
-        → Appends start (W.contents out.new) (text ++ finals engine.memory did.items (length did.items)) }
+    ensures disk { result.1 ≡ engine.disk }
+    ensures works { (result.0 ≡ 0) ⊎ (result.0 ≡ STALLED) → engine.failed ≡ false }
+    ensures means { D.honest result.1 → engine.failed ≡ false → LeavesNow (D.now result.1) (MeansState engine) }
+    ensures done { result.0 ≡ 0 → IsOk done }
+    ensures printed { Closes (W.contents out.old) paper.lines (W.contents out.new) engine.memory did.items result.0 }
 {
-    let Desk {
-        bases: _,
-        mut lines,
-        mut line,
-        progress: _,
-    } = desk;
     let failed = engine.failed();
-    let done = with_disk(done, failed);
-    let told = print_finals(engine.memory(), did.as_slice(), &mut line, &mut lines, out);
-    let stalled = is_stalled(&done);
+    let ended = with_disk(done, failed);
+    let told = print_finals(
+        engine.memory(),
+        did.as_slice(),
+        &mut paper.line,
+        &mut paper.lines,
+        out,
+    );
+    let stalled = is_stalled(&ended);
     let status = finish(
         alloc,
-        both(done, told),
-        &mut lines,
-        &mut line,
+        both(ended, told),
+        &mut paper.lines,
+        &mut paper.line,
         out,
         observer,
     );
     (status_of(failed, stalled, status), engine.close())
+}
+
+// Serves what each element asks for on an engine, and gives its disk back.
+fn serve_on<D: Disk + Drop + Send, W: Write, N: Observer, G: Gate + Sync, R: Threads + Wait + Sync>(
+    rt: &R,
+    alloc: Global,
+    engine: Engine<D>,
+    orders: Vec<Order>,
+    paper: Paper,
+    gate: &G,
+    out: &mut W,
+    observer: &mut N,
+) -> (u8, D)
+    ensures status { (result.0 ≤ 1) ⊎ (result.0 ≡ STALLED) }
+    ensures ended { D.honest result.1 → engine.failed ≡ false
+        → EndedOn D.now D.past D.failures engine result.1 (W.contents out.old) paper.lines (W.contents out.new) result.0 }
+    ensures honest { D.honest result.1 → D.honest engine.disk }
+{
+    let none = Vec::new(alloc);
+    let room = trace_room(orders.as_slice(), engine.memory().elements());
+    match start(rt, alloc, engine, room) {
+        Ok(opening) => {
+            let Outcome {
+                engine,
+                did,
+                refused,
+            } = serve_orders::<D, Brand, G, R>(rt, alloc, opening, orders, gate);
+            close(alloc, engine, did, reason_of(refused), paper, out, observer)
+        }
+        Err((_, engine)) => close(
+            alloc,
+            engine,
+            none,
+            Err(Reason::Memory),
+            paper,
+            out,
+            observer,
+        ),
+    }
 }
 
 // Serves a script on an engine, and gives its disk back.
@@ -141,37 +179,21 @@ fn run_engine<
     out: &mut W,
     observer: &mut N,
 ) -> (u8, D)
+    requires works { engine.failed ≡ false }
+    requires means { D.honest engine.disk → LeavesNow (D.now engine.disk) (MeansState engine) }
     requires pending { desk.lines.pending.items ≡ [] }
     ensures status { (result.0 ≤ 1) ⊎ (result.0 ≡ STALLED) }
-    ensures ran { D.honest result.1 → (result.0 ≡ 0) ⊎ (result.0 ≡ STALLED)
-        → Ran D.now result.1 (W.contents out.old) (W.contents out.new) result.0 }
+    ensures run { D.honest result.1
+        → RunOn D.now D.past D.failures engine result.1 (W.contents out.old) (W.contents out.new) result.0 }
+    ensures honest { D.honest result.1 → D.honest engine.disk }
 {
-    let mut engine = engine;
-    let mut desk = desk;
     let none = Vec::new(alloc);
-    let orders = match read_orders(alloc, &mut engine, &mut desk, script, out, observer) {
-        Ok(orders) => orders,
-        Err(reason) => return close(alloc, engine, none, Err(reason), desk, out, observer),
-    };
-    let room = trace_room(orders.as_slice(), engine.memory().elements());
-    match start(rt, alloc, engine, room) {
-        Ok(opening) => {
-            let Outcome {
-                engine,
-                did,
-                refused,
-            } = serve_orders::<D, Brand, G, R>(rt, alloc, opening, orders, gate);
-            close(alloc, engine, did, reason_of(refused), desk, out, observer)
-        }
-        Err((_, engine)) => close(
-            alloc,
-            engine,
-            none,
-            Err(Reason::Memory),
-            desk,
-            out,
-            observer,
-        ),
+    let mut server = Server::new(alloc, engine, desk);
+    let read = read_orders(alloc, &mut server, script, out, observer);
+    let (engine, paper) = server.leave();
+    match read {
+        Ok(orders) => serve_on(rt, alloc, engine, orders, paper, gate, out, observer),
+        Err(reason) => close(alloc, engine, none, Err(reason), paper, out, observer),
     }
 }
 
@@ -190,9 +212,16 @@ fn run_engine<
 /// failed; or a server was refused something else than `Stalled`: the least such element's refusal is printed, and the
 /// others went on. The observer is told why.
 ///
-/// Where the status is 0 or 3, each file that a crash may leave at the return means one memory; where it is 0, the
-/// lines of the elements are all written, and tell the entries that this memory keeps, or what a server was told of an
-/// entry that it confirmed, and what was seen at glances.
+/// Where the image isn't opened, a crash leaves nothing that it couldn't leave before. From the opening on, a crash at
+/// any moment leaves the memory after a beginning of the accepted commands that were put on the image, those of the setup
+/// first, then those of all servers in the order of the lock; and at the end after all that were acknowledged, and where
+/// a call of the disk failed those too that it left in doubt, all of them or none. What was written is at each return a
+/// beginning of the lines: each line of the setup is of a command, and each entry of an element's is in a memory, that
+/// every file has which a crash leaves, or was told to a server that confirmed it.
+///
+/// Where the status is 0 or 3, each file that a crash may leave at the return means one memory; where it is 0, all lines
+/// are written, and the elements' tell the entries that this memory keeps, or what a server was told of an entry that it
+/// confirmed, and what was seen at glances.
 pub fn run_on<
     D: Disk + Drop + Send,
     W: Write,
@@ -211,6 +240,10 @@ pub fn run_on<
     ensures status { (result.0 ≤ 1) ⊎ (result.0 ≡ STALLED) }
     ensures ran { D.honest result.1 → (result.0 ≡ 0) ⊎ (result.0 ≡ STALLED)
         → Ran D.now result.1 (W.contents out.old) (W.contents out.new) result.0 }
+    ensures run { D.honest result.1
+        → NotOpened D.now D.past disk result.1 (W.contents out.old) (W.contents out.new) result.0
+        ⊎ RanOn D.now D.past D.failures disk result.1 (W.contents out.old) (W.contents out.new) result.0 }
+    ensures honest { D.honest result.1 → D.honest disk }
 {
     let desk = match Desk::new(alloc) {
         Ok(desk) => desk,

@@ -1,9 +1,9 @@
 //! All elements served through one controller.
-ghost use Rattle.std.specs.Prelude.{◌≡◌};
+ghost use Rattle.std.specs.Prelude.{◌≡◌, false};
 ghost use Rattle.im_types.specs.Trace.{IsLegal, end_of};
 ghost use Rattle.im_types.specs.declared.commands.Line.{Line};
 ghost use Rattle.im_controller.specs.Kept.{begun_in};
-ghost use Rattle.im_run.specs.Running.{Follows};
+ghost use Rattle.im_run.specs.Running.{Follows, ServedOn};
 
 use crate::orders::Order;
 use im_controller::{Controller, Name, Opening, Port, finish};
@@ -197,6 +197,9 @@ pub fn serve_orders<
     requires begun { begun_in D.now D.past D.failures opening.engine ≡ K.begun }
     requires honest { D.honest opening.engine.disk → K.honest }
     ensures follows { Follows K.memory result.engine.memory }
+    ensures kept { D.honest result.engine.disk → K.begun.failed ≡ false
+        → ServedOn D.now D.past D.failures K.begun K.memory result.engine }
+    ensures honest { D.honest result.engine.disk → K.honest }
 {
     let controller = opening.named::<K>();
     let mut notes = Notes::new(alloc);

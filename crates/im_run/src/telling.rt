@@ -1,9 +1,9 @@
 //! What is printed of what was done.
-ghost use Rattle.std.specs.Prelude.{◌≡◌, ◌++◌, ℕ, OnOk, length, slice_get, string_bytes};
+ghost use Rattle.std.specs.Prelude.{◌≡◌, ◌++◌, ℕ, OnOk, MatchResult, length, slice_get, string_bytes};
 ghost use Rattle.std.specs.Prelude.{Some};
-ghost use Rattle.im_text.specs.Printing.{PrintsMore};
+ghost use Rattle.im_text.specs.Printing.{PrintsMore, PrintsOn};
 ghost use Rattle.im_run.specs.declared.served.Did.TheVariants.{Sent};
-ghost use Rattle.im_run.specs.Running.{final, final_line, finals, glance_line, seen_text};
+ghost use Rattle.im_run.specs.Running.{PrintsFinals, final, final_line, finals, glance_line, seen_text};
 
 use crate::served::Did;
 use im_memory::Memory;
@@ -84,8 +84,10 @@ fn print_final<W: Write>(
     lines: &mut Lines,
     out: &mut W,
 ) -> Result<(), Reason>
-    ensures more { OnOk result (PrintsMore (W.contents out.old) lines.old (W.contents out.new) lines.new
-        (final_line memory.now.contents did)) }
+    ensures more { MatchResult result
+        (λ _. PrintsMore (W.contents out.old) lines.old (W.contents out.new) lines.new
+        (final_line memory.now.contents did))
+        (λ _. PrintsOn (W.contents out.old) lines.old (W.contents out.new) lines.new) }
 {
     match make_final(line, memory, did) {
         Ok(()) => lines.push(out, line.as_str()),
@@ -103,6 +105,7 @@ pub fn print_finals<W: Write>(
 ) -> Result<(), Reason>
     ensures all { OnOk result (PrintsMore (W.contents out.old) lines.old (W.contents out.new) lines.new
         (finals memory.now.contents did.now (length did.now))) }
+    ensures some { PrintsFinals (W.contents out.old) lines.old (W.contents out.new) lines.new memory.now.contents did.now }
 {
     for at in 0..did.len() {
         match print_final(memory, did_at(did, at), line, lines, out) {

@@ -445,6 +445,16 @@ module _ {D : Type 0} (now : D → Moment) (past : D → List Moment) (failures 
     then_serves (Ok x) old mid new first later = serves_then old mid new first later
     then_serves (Err e) old mid new first later = serves_end old mid new first later
 
+    -- whatever was answered, nothing was served
+    pub rests : {T E : Type 0} (r : Result T E) (old new : Server D) → Serves now past failures honest old new → MatchResult r (λ x. Serves now past failures honest old new) (λ e. Ends now past failures honest old new)
+    rests (Ok x) old new it = it
+    rests (Err e) old new it = end_here old new it
+
+    -- what is kept back is written
+    pub serves_on : (old : Server D) (engine : EngineState D) (held later : Option (List ℕ)) (before after : Lines) (waited : List Waited) → Serves now past failures honest old (at engine held before waited) → PrintsOn held before later after
+        → Serves now past failures honest old (at engine later after waited)
+    serves_on old engine held later before after waited it prints = λ start from going. let next = it start from going in (next.0, (next.1.0, prints from next.0 next.1.1))
+
     pub match_ends : {T E : Type 0} (r : Result T E) (old new : Server D) → MatchResult r (λ x. Serves now past failures honest old new) (λ e. Ends now past failures honest old new) → Ends now past failures honest old new
     match_ends (Ok x) old new it = end_here old new it
     match_ends (Err e) old new it = it
@@ -474,10 +484,15 @@ module _ {D : Type 0} (now : D → Moment) (past : D → List Moment) (failures 
         subst (λ (e : EngineState D). Ends now past failures honest old (at e held kept waited)) (sym engines) (subst (λ (l : Lines). Ends now past failures honest old (at engine held l waited)) (sym line) it)
 
     -- nothing is served yet
-    pub going_none : (start : EngineState D) (held : Option (List ℕ)) (lines : Lines) (waited : List Waited) → start.failed ≡ false → (honest start.disk → LeavesNow (now start.disk) (MeansState start)) → lines.pending.items ≡ [] → waited ≡ []
+    going_none : (start : EngineState D) (held : Option (List ℕ)) (lines : Lines) (waited : List Waited) → start.failed ≡ false → (honest start.disk → LeavesNow (now start.disk) (MeansState start)) → lines.pending.items ≡ [] → waited ≡ []
         → Going now past failures honest start held (at start held lines waited)
     going_none start held lines waited works means pending none =
         ([], (subst (λ (l : List Waited). Goes now past failures honest start start [] (map who_of l)) (sym none) (λ h. (h, ([], goes_none start works (means h)))), prints_none held lines pending))
+
+    -- the same of a server that was made of it
+    pub going_new : (start engine : EngineState D) (held : Option (List ℕ)) (before lines : Lines) (waited : List Waited) → start.failed ≡ false → (honest start.disk → LeavesNow (now start.disk) (MeansState start)) → before.pending.items ≡ [] → waited ≡ [] → engine ≡ start → lines ≡ before
+        → Going now past failures honest start held (at engine held lines waited)
+    going_new start engine held before lines waited works means pending none engines line = going_as start held held start engine before lines waited engines line (going_none start held before waited works means pending none)
 
     -- the engine goes on, and nothing is printed
     pub engine_goes : (old new : EngineState D) (held : Option (List ℕ)) (before after : Lines) (waited learned : List Waited) → GoesOn now past failures honest old new → after ≡ before → map who_of learned ≡ map who_of waited

@@ -3,7 +3,8 @@
 
 mod room;
 mod serial;
+mod server;
 mod waits;
 
-pub use room::{confirm, make_room};
 pub use serial::serial_on;
+pub use server::{Desk, Paper, Server};

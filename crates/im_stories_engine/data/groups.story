@@ -214,3 +214,53 @@ open = opened
 count = 3
 collect 1.1 = value 42
 collect 2.1 = stored
+
+# A group of three is stopped at each of its six calls, or fails there once
+-- Three bodies, a sync, the gate, a sync. Told is how many of the three are found where each call is the one that fails. Each member is refused,
+-- and each of the same group again; then all three are sent again one by one, and all is as here.
+format 3 6 32 = formatted
+0.1 alloc i 2 = base 0
+1.1 fetch 0 = waiting
+2.1 store 0 42 = stored
+1.1 fetch 0 = value 42
+count = 3
+room = 29
+in each group stop kept = 5x0 3
+in each group stop lost = 6x0
+in each group stop a5 = 4x0 2x3
+in each group stop 00 = 6x0
+-- One fault, with no crash: the same disk is opened again.
+in each group once = 5x0 3
+in each group scar:00 = 5x0 3
+in each group scar:a5 = 4x0 2x3
+
+# A group of sixteen that fills the journal is stopped at each of its nineteen calls, or fails there once
+format 4 16 16 = formatted
+0.1 alloc i 4 = base 0
+1.1 fetch 0 = waiting
+2.1 fetch 0 = waiting
+3.1 store 0 7 = stored
+4.1 take 0 = wrongkind
+5.1 fetch 0 = value 7
+6.1 alloc i 1 = nospace
+7.1 store 1 1 = stored
+8.1 store 1 2 = clash
+9.1 fetch 2 = waiting
+10.1 release 0 = stillwaiting
+11.1 store 2 5 = stored
+12.1 release 0 = released
+13.1 fetch 0 = nocell
+14.1 alloc m 4 = base 0
+15.1 put 3 9 = stored
+1.1 fetch 0 = value 7
+2.1 fetch 0 = value 7
+9.1 fetch 2 = value 5
+count = 16
+room = 0
+in each group stop kept = 18x0 16
+in each group stop lost = 19x0
+in each group stop a5 = 17x0 2x16
+in each group stop 00 = 19x0
+in each group once = 18x0 16
+in each group scar:00 = 18x0 16
+in each group scar:a5 = 17x0 2x16

@@ -7,7 +7,7 @@ use im_disk::MemDisk;
 use im_engine::Engine;
 use im_image::{PAGE, area_pages, encode};
 use im_story::{add_refusal, place};
-use im_types::Limits;
+use im_types::{Limits, Refusal};
 use std::alloc::Global;
 
 // Adds what an opening comes to: its count and its room, or why it was refused.
@@ -17,6 +17,47 @@ fn add_opening(alloc: Global, disk: MemDisk, said: &mut String) -> Result<()> {
         Err((refusal, _disk)) => add_refusal(said, refusal)?,
     }
     Ok(())
+}
+
+// Why an opening was refused, if it was.
+fn refusal_of(alloc: Global, disk: MemDisk) -> Option<Refusal> {
+    match Engine::open(alloc, disk) {
+        Ok(_) => None,
+        Err((refusal, _disk)) => Some(refusal),
+    }
+}
+
+// Openings of which those in a row that come to the same are told once, from the first of them on.
+#[derive(Drop)]
+struct Rows {
+    said: String,
+    last: Option<Option<Refusal>>,
+}
+
+impl Rows {
+    fn none(alloc: Global) -> Rows {
+        Rows {
+            said: String::new(alloc),
+            last: None,
+        }
+    }
+
+    // The next opening, and what it is of.
+    fn add(&mut self, of: usize, refusal: Option<Refusal>) -> Result<()> {
+        if self.last == Some(refusal) {
+            return Ok(());
+        }
+        if self.last.is_some() {
+            self.said.push_str(", ")?;
+        }
+        match refusal {
+            Some(refusal) => add_refusal(&mut self.said, refusal)?,
+            None => self.said.push_str("opened")?,
+        }
+        write!(self.said, " from {of}")?;
+        self.last = Some(refusal);
+        Ok(())
+    }
 }
 
 // Puts bytes at their places, each as PLACE:BYTE.
@@ -71,6 +112,44 @@ fn tell_places(
     Ok(said.push_str(first.as_str())?)
 }
 
+// What copies of each length come to, longer ones by zeros.
+fn tell_lengths(engines: &Engines, alloc: Global, upto: usize, said: &mut String) -> Result<()> {
+    let disk = engines.disk()?;
+    let mut rows = Rows::none(alloc);
+    for length in 0..upto.saturating_add(1) {
+        rows.add(length, refusal_of(alloc, copy(alloc, disk, length)?))?;
+    }
+    Ok(said.push_str(rows.said.as_str())?)
+}
+
+// What copies with each value of the byte at a place come to.
+fn told_of_values(alloc: Global, disk: &MemDisk, at: usize) -> Result<String> {
+    let mut rows = Rows::none(alloc);
+    for value in 0..=255u8 {
+        let mut other = copy(alloc, disk, disk.bytes().len())?;
+        put(&mut other, at, &[value])?;
+        rows.add(value as usize, refusal_of(alloc, other))?;
+    }
+    Ok(rows.said)
+}
+
+// Tells what they come to, the same at each place from one to another.
+fn tell_values(
+    engines: &Engines,
+    alloc: Global,
+    (from, to): (usize, usize),
+    said: &mut String,
+) -> Result<()> {
+    let first = told_of_values(alloc, engines.disk()?, from)?;
+    for before in from..to {
+        let at = before.saturating_add(1);
+        if told_of_values(alloc, engines.disk()?, at)?.as_str() != first.as_str() {
+            return Err(anyhow!("not the same at {at}"));
+        }
+    }
+    Ok(said.push_str(first.as_str())?)
+}
+
 // What a file of so many zeros comes to.
 fn told_of_zeros(alloc: Global, length: usize) -> Result<String> {
     let mut said = String::new(alloc);
@@ -117,7 +196,7 @@ fn damage(engines: &mut Engines, words: &[&str]) -> Result<()> {
     }
 }
 
-/// Whether the words are `damage`, `pages`, `with`, `each`, `zeros` or `length`.
+/// Whether the words are `damage`, `pages`, `with`, `each`, `zeros`, `length`, `in each length` or `in each value`.
 pub fn tell(
     engines: &mut Engines,
     alloc: Global,
@@ -133,6 +212,10 @@ pub fn tell(
         ["with", rest @ ..] => open_with(engines, alloc, rest, said)?,
         ["each", from, "to", to, "as", bytes @ ..] => {
             tell_places(engines, alloc, (place(from)?, place(to)?), bytes, said)?;
+        }
+        ["in", "each", "length", "to", upto] => tell_lengths(engines, alloc, place(upto)?, said)?,
+        ["in", "each", "value", "of", from, "to", to] => {
+            tell_values(engines, alloc, (place(from)?, place(to)?), said)?;
         }
         ["zeros", from, "to", to] => tell_zeros(alloc, place(from)?, place(to)?, said)?,
         ["length", length] => {

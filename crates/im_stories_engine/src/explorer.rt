@@ -2,6 +2,7 @@
 //! call of the disk, and what an opening finds then.
 
 use crate::alike::are_alike;
+use crate::groups::are_refused;
 use crate::walks::Walk;
 use anyhow::{Result, anyhow};
 use arrayvec::ArrayVec;
@@ -109,15 +110,6 @@ fn is_answer(served: Served, answer: Result<Outcome, Refusal>) -> bool {
     }
 }
 
-// Whether all members were answered `Device`.
-fn are_in_doubt(served: &ArrayVec<Served, 16>) -> bool {
-    let mut all = true;
-    for answer in served.as_slice() {
-        all = all && is_answer(*answer, Err(Refusal::Device));
-    }
-    all
-}
-
 // Serves a group, whose members are answered as the plain memory answers them one after another. Whether the disk still
 // works.
 fn serves_group(
@@ -132,7 +124,7 @@ fn serves_group(
     let commands = accepted(&known.plain, members, room);
     let mut served = ArrayVec::new();
     engine.serve_group(members, &mut served);
-    if !commands.is_empty() && are_in_doubt(&served) {
+    if !commands.is_empty() && are_refused(&served, Refusal::Device) {
         known.doubt = commands;
         return Ok(false);
     }

@@ -1,11 +1,12 @@
 //! Requests that are served together.
 
 use crate::engines::Engines;
+use crate::scripts::Script;
 use anyhow::{Result, anyhow};
 use arrayvec::ArrayVec;
 use im_engine::are_apart;
 use im_story::{add_outcome, request};
-use im_types::{Outcome, Refusal, Request, Served};
+use im_types::{Command, Outcome, Refusal, Request, Served};
 
 /// The requests that the words name, with `with` between them.
 pub fn members(words: &[&str]) -> Result<ArrayVec<Request, 16>> {
@@ -18,8 +19,31 @@ pub fn members(words: &[&str]) -> Result<ArrayVec<Request, 16>> {
     Ok(members)
 }
 
-// What a member was answered, as `serve` would say it.
-fn said_of(served: Served) -> Result<Result<Outcome, Refusal>> {
+/// The requests that a script has, as one group.
+pub fn all_of(script: &Script) -> Result<ArrayVec<Request, 16>> {
+    let mut members = ArrayVec::new();
+    for told in script.accepted.iter() {
+        let Command::Request(request) = told.command else {
+            return Err(anyhow!("a confirmation is in no group"));
+        };
+        if members.try_push(request).is_err() {
+            return Err(anyhow!("more than sixteen requests"));
+        }
+    }
+    Ok(members)
+}
+
+/// Whether each member was refused so.
+pub fn are_refused(served: &ArrayVec<Served, 16>, refusal: Refusal) -> bool {
+    let mut all = true;
+    for answer in served.as_slice() {
+        all = all && matches!(answer, Served::Refused(found) if *found == refusal);
+    }
+    all
+}
+
+/// What a member was answered, as `serve` would say it.
+pub fn said_of(served: Served) -> Result<Result<Outcome, Refusal>> {
     match served {
         Served::Done(outcome) => Ok(Ok(outcome)),
         Served::Refused(refusal) => Ok(Err(refusal)),

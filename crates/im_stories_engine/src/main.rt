@@ -21,6 +21,8 @@
 //! open = opened
 //! with 16:05 = count 5 room 256   what the opening of a copy comes to in which this byte stands
 //! each 0 to 3 as 00 ff = ..       the same for each of these bytes at each of these places
+//! in each length to 9 = ..        what the opening of a copy of each length comes to, those in a row that are alike once
+//! in each value of 0 to 3 = ..    the same for each value of each of these bytes
 //! in each serve stop kept = ..    a stop in each call of each serve, a crash, and all is sent again; `stops` has the
 //!                                 others
 //! ```

@@ -1,10 +1,11 @@
 //! What a story has told so far of an image: the commands that were accepted, and what each was answered, at first and
 //! later.
 
+use crate::groups::said_of;
 use anyhow::{Result, anyhow};
 use im_disk::Disk;
 use im_engine::Engine;
-use im_types::{Command, Limits, Op, Outcome, Refusal, Request};
+use im_types::{Command, Limits, Op, Outcome, Refusal, Request, Served};
 use std::alloc::Global;
 
 /// What a command is answered.
@@ -148,6 +149,19 @@ impl Script {
         if engine.room() != self.room {
             let room = engine.room();
             return Err(anyhow!("the room is {room}"));
+        }
+        Ok(())
+    }
+
+    /// Sees that these are the first answers of the script.
+    pub fn is_served(&self, served: &[Served]) -> Result<()> {
+        if served.len() != self.accepted.len() {
+            return Err(anyhow!("there are {} answers", served.len()));
+        }
+        for (first, answer) in self.accepted.iter().zip(served) {
+            if said_of(*answer)? != first.answer {
+                return Err(anyhow!("member {} is answered otherwise", first.count));
+            }
         }
         Ok(())
     }

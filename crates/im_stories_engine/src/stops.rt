@@ -6,15 +6,26 @@
 use crate::alike::are_alike;
 use crate::disks::{copy, crash, formatted, mode, opened, steady};
 use crate::engines::Engines;
+use crate::groups::{all_of, are_refused};
 use crate::scripts::Script;
 use crate::texts::add_numbers;
 use anyhow::{Result, anyhow};
+use arrayvec::ArrayVec;
 use im_checkpoint::TurnDone;
 use im_disk::{Crash, Disk, FuseDisk, MemDisk, Mode};
-use im_engine::Engine;
+use im_engine::{Engine, are_apart};
 use im_plain::PlainMemory;
 use im_types::{LAST, Refusal};
 use std::alloc::Global;
+
+// What is stopped: an opening of what has the whole script, or of what was stopped in its last command; or the script as
+// one group.
+#[derive(Clone, Copy)]
+enum Act {
+    Opening,
+    Reopening,
+    Group,
+}
 
 // How a disk fails, the crash behind that, and one more behind an opening. With no crash the same disk is opened.
 #[derive(Clone, Copy)]
@@ -155,12 +166,43 @@ impl Sweep<'_> {
         Ok(engine.close().into_inner())
     }
 
-    // Stops at each call of an opening, with a crash behind it, and tells how many commands the next opening finds.
-    fn tell_openings(&self, is_whole: bool, way: Way, said: &mut String) -> Result<()> {
+    // Serves the script as one group on a new image, which has to be stopped: each member is answered `Device`, and then
+    // `Failed`. The disk, or none where the group has passed.
+    fn stopped_group(&self, passes: u64, mode: Mode) -> Result<Option<FuseDisk>> {
+        let members = all_of(self.script)?;
+        if !are_apart(members.as_slice()) {
+            return Err(anyhow!("two requests of one element"));
+        }
+        let past_format = passes.saturating_add(4);
+        let mut engine = formatted(self.alloc, self.script.limits, past_format, mode)?;
+        let mut served = ArrayVec::new();
+        engine.serve_group(&members, &mut served);
+        if !engine.failed() {
+            self.script.is_served(served.as_slice())?;
+            return Ok(None);
+        }
+        let mut later = ArrayVec::new();
+        engine.serve_group(&members, &mut later);
+        if !are_refused(&served, Refusal::Device) || !are_refused(&later, Refusal::Failed) {
+            return Err(anyhow!("a member isn't refused"));
+        }
+        Ok(Some(engine.close()))
+    }
+
+    // The disk of what was stopped, or none where it has passed.
+    fn stopped_act(&self, act: Act, passes: u64, mode: Mode) -> Result<Option<FuseDisk>> {
+        match act {
+            Act::Opening => stopped(self.alloc, self.closed(true)?, passes, mode),
+            Act::Reopening => stopped(self.alloc, self.closed(false)?, passes, mode),
+            Act::Group => self.stopped_group(passes, mode),
+        }
+    }
+
+    // Stops at each call of an act, with a crash behind it, and tells how many commands the next opening finds.
+    fn tell_acts(&self, act: Act, way: Way, said: &mut String) -> Result<()> {
         let mut found = Vec::new(self.alloc);
         for passes in 0..1_000 {
-            let disk = self.closed(is_whole)?;
-            let Some(disk) = stopped(self.alloc, disk, passes, way.mode)? else {
+            let Some(disk) = self.stopped_act(act, passes, way.mode)? else {
                 return Ok(add_numbers(said, found.as_slice())?);
             };
             let mut engine = after_crash(self.alloc, disk, way.crash)?;
@@ -276,17 +318,18 @@ fn tell_each(
     let sweep = of_script(engines, alloc, script, &plain)?;
     match of {
         "serve" => sweep.tell_serves(way, said),
-        "opening" => sweep.tell_openings(true, way, said),
-        "reopening" => sweep.tell_openings(false, way, said),
+        "opening" => sweep.tell_acts(Act::Opening, way, said),
+        "reopening" => sweep.tell_acts(Act::Reopening, way, said),
+        "group" => sweep.tell_acts(Act::Group, way, said),
         "turn" => sweep.tell_turns(way, said),
         "call" => sweep.tell_file(engines.disk()?, way, said),
         _ => Err(anyhow!("nothing is made of {of}")),
     }
 }
 
-/// Whether the words are `in each serve`, `opening`, `reopening`, `turn` or `call`, how the disk fails at each call of
-/// that, and what the crashes behind it leave. All but `call` is of an image that the commands of the story so far are
-/// put to; `call` is of the closed file.
+/// Whether the words are `in each serve`, `opening`, `reopening`, `group`, `turn` or `call`, how the disk fails at each
+/// call of that, and what the crashes behind it leave. All but `call` is of an image that the commands of the story so
+/// far are put to, one by one or as one group; `call` is of the closed file.
 pub fn tell(engines: &Engines, alloc: Global, words: &[&str], said: &mut String) -> Result<bool> {
     let ["in", "each", of, how, crashes @ ..] = words else {
         return Ok(false);

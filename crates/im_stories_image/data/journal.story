@@ -201,6 +201,26 @@ room = 16
 -- Sixteen appends of four calls, five turns of four, and one of two.
 calls = 86
 
+# Behind the last damage that has a name the sweeps make room again
+-- The pages have 21 commands, and only slot 5 has an open gate, over command 5: so no slot is room, and all are swept.
+disk 33792 = blank
+journal 1 1 16 = fresh
+write 33088 a5 = ok
+write 33096 05 = ok
+tail 21 = 0 commands, room 0
+to sweep = 16
+sweep = 3 gates
+room = 3
+sweep = 3 gates
+sweep = 3 gates
+sweep = 3 gates
+sweep = 3 gates
+sweep = 1 gates
+to sweep = 0
+room = 16
+-- With a slot among them that isn't stale.
+with 33088:a5 33224:c8 tail 21 = refused 16 BadRecord
+
 # What was swept is room for the next command
 disk 33792 = blank
 journal 1 1 16 = fresh

@@ -9,7 +9,9 @@ imem format a.img --cells 0004294967295 = make a.img of 4294967295 cells, 16 ele
 imem serial a.img s = serve s on a.img
 imem serial a.img - = serve - on a.img
 imem run a.img s = run s on a.img
-imem serve a.img = talk on a.img
+imem serve a.img = talk on a.img, unwatched
+imem serve a.img --watch = talk on a.img, watched
+imem serve --watch a.img = talk on a.img, watched
 imem inspect a.img = tell of a.img
 
 # Bad words are refused with status 2, and what is said names them
@@ -29,7 +31,7 @@ imem serve = status 2
 says IMAGE = yes
 imem serve a.img s = status 2
 says 's' = yes
-says Usage: imem serve <IMAGE> = yes
+says Usage: imem serve [OPTIONS] <IMAGE> = yes
 imem inspect = status 2
 -- The usage is that of the subcommand.
 says Usage: imem inspect <IMAGE> = yes

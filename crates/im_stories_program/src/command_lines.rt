@@ -24,7 +24,10 @@ fn add_job(said: &mut String, job: &Job) -> Result<(), AllocError> {
             "make {image} of {cells} cells, {elements} elements, {slots} slots"
         ),
         Job::Serial { image, script } => write!(said, "serve {script} on {image}"),
-        Job::Serve { image } => write!(said, "talk on {image}"),
+        Job::Serve { image, watch } => {
+            let how = if watch { "watched" } else { "unwatched" };
+            write!(said, "talk on {image}, {how}")
+        }
         Job::Inspect { image } => write!(said, "tell of {image}"),
     }
 }

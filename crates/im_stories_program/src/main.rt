@@ -1,8 +1,9 @@
-//! Stories of the program: scripts, what is printed when they are served on an image, what is told of an image, command
-//! lines, and work on files.
+//! Stories of the program: scripts, what is printed when they are served on an image, dialogues, what is told of an
+//! image, command lines, and work on files.
 #![tactic(auto)]
 
 mod command_lines;
+mod dialogues;
 mod files;
 mod images;
 mod printed;
@@ -53,6 +54,7 @@ impl<'a> Scene for Desk<'a> {
             || self.printed.tell(alloc, words, said)?
             || self.command_line.tell(alloc, words, said)?
             || serving::tell(alloc, self, words, said)?
+            || dialogues::tell(alloc, self, words, said)?
             || files::tell(self, words, said)?;
         if is_told {
             Ok(())

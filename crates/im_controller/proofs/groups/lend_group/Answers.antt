@@ -80,6 +80,7 @@ invariant_of-shared g c =
           (kept_members g.D.Disk.now g.D.Disk.past g.D.Disk.failures g.K.Name.begun m e f (accepted_in m trace) (c.shared.invariant.5 (c.serve_members.ensures.honest honest) began)
           (sym (accepted-after m trace ∙ c.shared.invariant.0)) lent ss c.serve_members.ensures.faults (c.serve_members.ensures.leaves honest) (c.serve_members.ensures.doubt honest) (c.serve_members.ensures.means honest)
           c.room-room.result c.serve_members.ensures.answered)),
+      c.shared.invariant.6,
     )
 
 pub returns-clause-lends : goal.returns-clause-lends

@@ -67,6 +67,7 @@ invariant_of-shared g c =
           (c.shared.invariant.5 (c.serve-answer.ensures.honest honest) began) (sym (accepted-after m trace ∙ c.shared.invariant.0))
           c.args.command.now c.serve-answer.result c.serve-answer.ensures.answered c.serve-answer.ensures.faults
           (c.serve-answer.ensures.leaves honest alive) (c.serve-answer.ensures.doubt honest alive) (c.serve-answer.ensures.means honest))),
+      c.shared.invariant.6,
     )
 
 pub returns-in-Ok-clause-lends : goal.returns-in-Ok-clause-lends

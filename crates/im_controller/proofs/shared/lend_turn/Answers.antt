@@ -27,6 +27,7 @@ invariant_of-shared g c =
           kept_turn g.D.Disk.now g.D.Disk.past g.D.Disk.failures g.K.Name.begun m e f (accepted_in m trace) (c.shared.invariant.5 (c.turn-done.ensures.honest honest) began)
           (sym (accepted-after m trace ∙ c.shared.invariant.0)) c.turn-done.result c.turn-done.ensures.answered c.turn-done.ensures.faults
           (c.turn-done.ensures.leaves honest) (c.turn-done.ensures.now honest) (c.turn-done.ensures.means honest)),
+      c.shared.invariant.6,
     )
 
 pub returns-clause-only : goal.returns-clause-only

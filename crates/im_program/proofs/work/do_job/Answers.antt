@@ -4,3 +4,6 @@ use Rattle.im_program.proofs.work.do_job.Goals as goal
 pub returns-in-Ok-format_image-clause-done : goal.returns-in-Ok-format_image-clause-done
 returns-in-Ok-format_image-clause-done g c = λ honest.
     rw c.in-Format.is (refl, c.in-Ok-format_image.ensures.limits, c.in-Ok-format_image.ensures.made honest)
+
+pub returns-in-Ok-talk_file-clause-done : goal.returns-in-Ok-talk_file-clause-done
+returns-in-Ok-talk_file-clause-done g c = λ honest. rw c.in-Serve.is (c.in-Ok-talk_file.ensures.talked honest)

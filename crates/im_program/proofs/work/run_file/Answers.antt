@@ -8,3 +8,11 @@ pub run_on-requires-send-D : goal.run_on-requires-send-D
 run_on-requires-send-D g c κs within =
     let disk = FileDisk-row-send (param 1 g.row.S) g.S.Start c.type_bounds.send-S in
     search (sendable, crosses) depth 40 fits 30000
+
+pub returns-in-Ok-open-clause-ran : goal.returns-in-Ok-open-clause-ran
+returns-in-Ok-open-clause-ran g c = λ honest. record {
+  old = c.in-Ok-open.disk;
+  begins = c.in-Ok-open.ensures.now;
+  none = c.in-Ok-open.ensures.past;
+  run = c.run_on.ensures.run honest;
+}

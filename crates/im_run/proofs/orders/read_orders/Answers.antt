@@ -1,7 +1,8 @@
+use Rattle.im_serial.proofs.ServingLemmas.{end_here, rests, serves_refl}
 use Rattle.im_run.proofs.orders.read_orders.Goals as goal
 
-pub returns-in-Ok-flush : goal.returns-in-Ok-flush
-returns-in-Ok-flush g c = record { some = λ start p. let q = c.take_lines.ensures.some start p in (q.0, c.flush.ensures.on start q.0 q.1) }
+pub returns-in_default : goal.returns-in_default
+returns-in_default g c = record { serves = end_here g.D.Disk.now g.D.Disk.past g.D.Disk.failures g.D.Disk.honest _ _ (serves_refl g.D.Disk.now g.D.Disk.past g.D.Disk.failures g.D.Disk.honest _) }
 
-pub returns-in-Err-flush : goal.returns-in-Err-flush
-returns-in-Err-flush g c = record { some = λ start p. let q = c.take_lines.ensures.some start p in (q.0, c.flush.ensures.on start q.0 q.1) }
+pub returns-in-Ok-set_up : goal.returns-in-Ok-set_up
+returns-in-Ok-set_up g c = record { serves = rests g.D.Disk.now g.D.Disk.past g.D.Disk.failures g.D.Disk.honest c.number_orders.result _ _ c.in-Ok-set_up.ensures.serves }

@@ -1,5 +1,24 @@
-use Rattle.std.proofs.Common.{◌∙◌, sym}
+use Rattle.std.proofs.Common.{List, subst}
+use Rattle.im_types.specs.Contents.{Contents}
+use Rattle.im_text.proofs.PrintingLemmas.{on_ok_by}
+use Rattle.im_run.specs.declared.served.Did.{Did}
+use Rattle.im_run.specs.Running.{Closes}
+use Rattle.im_run.proofs.RunningLemmas.{closed_by}
 use Rattle.im_run.proofs.run.close.Goals as goal
 
 pub returns-clause-means : goal.returns-clause-means
-returns-clause-means g c = λ honest is. c.close.ensures.means honest (sym c.failed-failed.ensures.failed ∙ c.status_of.ensures.works is)
+returns-clause-means g c = λ honest works. c.close.ensures.means honest works
+
+pub returns-clause-printed : goal.returns-clause-printed
+returns-clause-printed g c =
+    let t = c.print_finals-told in
+    let f = c.finish-status in
+    let m = c.memory.result.now.contents in
+    let was = g.W.Write.contents c.args.out.now in
+    let is = g.W.Write.contents f.new.out in
+    let before = c.args.paper.lines in
+    subst (λ (x : Contents). Closes was before is x c.args.did.items c.status_of.result) c.memory.ensures
+    (subst (λ (d : List Did). Closes was before is m d c.status_of.result) c.as_slice.ensures.value
+    (closed_by was (g.W.Write.contents t.new.out) is before t.new.lines f.new.lines m c.as_slice.result.now c.status_of.result t.ensures.some
+    (λ zero. on_ok_by t.result _ t.ensures.all (c.both.ensures.told (f.ensures.whole (c.status_of.ensures.done zero)).0))
+    f.ensures.last (λ zero. (f.ensures.whole (c.status_of.ensures.done zero)).1)))

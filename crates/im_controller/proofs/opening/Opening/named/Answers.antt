@@ -25,4 +25,5 @@ invariant_of-shared g c =
           let alive = ap (λ (b : Begun). b.failed) begun ∙ began in
           subst (λ (ls : List Line). HasKept g.D.Disk.now g.D.Disk.past g.D.Disk.failures g.K.Name.begun m (accepted_in m ls) e) (sym i.2)
           (kept_start g.D.Disk.now g.D.Disk.past g.D.Disk.failures g.K.Name.begun m e begun memory alive (c.failed-failed.ensures.means honest alive))),
+      i.7,
     )

@@ -1,0 +1,137 @@
+//! Workloads of threads, to count groups and to take times: `im_bench_threads WORKLOAD COUNT` passes COUNT items through
+//! a pipe, or reads or shows as many cells on a pane; `im_bench_threads WORKLOAD COUNT IMAGE` does COUNT stores for one
+//! element or for each of sixteen on the image in a file, whose memory is new. It prints a line with what that came to.
+#![tactic(auto)]
+
+mod items;
+mod joining;
+mod ports;
+mod readings;
+mod stores;
+
+use crate::readings::Reading;
+use im_disk::{Disk, FileDisk, Start, Unknown};
+use im_engine::Engine;
+use im_types::{Command, Kind, Op, Refusal, Request};
+use std::alloc::Global;
+use std::env::{self, Env};
+use std::fs::File;
+use std::io::{self, Eprint, Print};
+use std::process::ExitCode;
+use std::rt::Files;
+use std::sync::Wait;
+use std::thread::Threads;
+
+fn usage<R: Eprint>(rt: &R) -> io::Result<u8> {
+    rt.eprintln("usage: im_bench_threads WORKLOAD COUNT [IMAGE]")?;
+    Ok(2)
+}
+
+// Prints what a workload came to, and returns the status to end with.
+fn tell<R: Print + Eprint>(
+    rt: &R,
+    workload: &str,
+    count: u32,
+    done: Result<Option<u64>, Refusal>,
+) -> io::Result<u8> {
+    let status = match done {
+        Ok(None) => return usage(rt),
+        Ok(Some(sum)) => {
+            println!(rt; "{workload} {count} {sum}")?;
+            0
+        }
+        Err(refusal) => {
+            println!(rt; "refused {refusal}")?;
+            1
+        }
+    };
+    Ok(status)
+}
+
+// What a workload with no image came to; `None` where none has this name.
+fn with_no_image<R: Threads + Wait + Sync>(
+    rt: &R,
+    alloc: Global,
+    workload: &str,
+    count: u32,
+) -> Result<Option<u64>, Refusal> {
+    let done = match workload {
+        "items" => items::pass(rt, alloc, count)?,
+        "readings" => readings::run(rt, alloc, Reading::Alone, count)?,
+        "readings_beside" => readings::run(rt, alloc, Reading::Beside, count)?,
+        "shows" => readings::run(rt, alloc, Reading::Shows, count)?,
+        _ => return Ok(None),
+    };
+    Ok(Some(done))
+}
+
+// Makes the block whose cells are stored into.
+fn make_block<D: Disk>(engine: &mut Engine<D>) -> Result<(), Refusal> {
+    let op = Op::Alloc(Kind::I, engine.memory().cells());
+    let _base = engine.serve(&Command::Request(Request {
+        element: 0,
+        number: 1,
+        op,
+    }))?;
+    Ok(())
+}
+
+// What a workload on an image came to; `None` where none has this name.
+fn on_engine<D: Disk + Drop + Send, R: Threads + Wait + Sync>(
+    rt: &R,
+    alloc: Global,
+    engine: Engine<D>,
+    workload: &str,
+    count: u32,
+) -> Result<Option<u64>, Refusal> {
+    let mut engine = engine;
+    make_block(&mut engine)?;
+    let done = match workload {
+        "serve" => stores::serve(&mut engine, count),
+        "port" => ports::stores(rt, alloc, engine, true, count)?,
+        "ports" => ports::stores(rt, alloc, engine, false, count)?,
+        _ => return Ok(None),
+    };
+    Ok(Some(done))
+}
+
+// Opens the image at a path, and does a workload on it; `None` where none has this name.
+fn on_file<R: Files<File = File> + AllocGlobal + Threads + Wait + Sync, S: Start + Send>(
+    rt: &R,
+    workload: &str,
+    path: &str,
+    count: u32,
+    start: S,
+) -> Result<Option<u64>, Refusal> {
+    let Ok(disk) = FileDisk::open(rt, path, start) else {
+        return Err(Refusal::Device);
+    };
+    match Engine::open(rt.alloc(), disk) {
+        Ok(engine) => on_engine(rt, rt.alloc(), engine, workload, count),
+        Err((refusal, _)) => Err(refusal),
+    }
+}
+
+// Does what the words of the command line ask for, and returns the status to end with.
+fn start<R: Env + Files<File = File> + AllocGlobal + Print + Eprint + Threads + Wait + Sync>(
+    rt: &R,
+) -> io::Result<u8> {
+    let words = env::args(rt)?.collect::<Vec<String>>(rt.alloc())?;
+    let [_, workload, count, rest @ ..] = words.as_slice() else {
+        return usage(rt);
+    };
+    let Ok(count) = count.parse::<u32>() else {
+        return usage(rt);
+    };
+    let workload = workload.as_str();
+    let done = match rest {
+        [] => with_no_image(rt, rt.alloc(), workload, count),
+        [image] => on_file(rt, workload, image.as_str(), count, Unknown),
+        _ => Ok(None),
+    };
+    tell(rt, workload, count, done)
+}
+
+fn main(rt: HostRuntime) -> ExitCode {
+    ExitCode::from(start(&rt).unwrap_or(1))
+}

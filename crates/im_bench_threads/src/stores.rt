@@ -1,0 +1,50 @@
+//! The stores of elements, each into cells of its own, with a confirmation behind each sixteen; and the engine alone
+//! that serves them.
+
+use im_disk::Disk;
+use im_engine::Engine;
+use im_types::{Command, Op, Refusal, Request};
+
+/// The store with an index of an element, of so many.
+pub fn store(element: u16, index: u32, count: u32) -> Op {
+    let first = u32::from(element.saturating_sub(1)).saturating_mul(count);
+    let a = first.saturating_add(index);
+    Op::Store(a, u64::from(a).saturating_add(7))
+}
+
+/// The number of the request with an index.
+pub fn number(index: u32) -> u64 {
+    u64::from(index).saturating_add(1)
+}
+
+/// Whether the window is full before the store with an index.
+pub fn is_full(index: u32) -> bool {
+    index > 0 && index % 16 == 0
+}
+
+// Serves a store of element 1, and before it the confirmation that it needs.
+fn serve_one<D: Disk>(engine: &mut Engine<D>, index: u32, count: u32) -> Result<(), Refusal> {
+    let number = number(index);
+    if is_full(index) {
+        let _confirmed = engine.serve(&Command::Confirm {
+            element: 1,
+            upto: number,
+        })?;
+    }
+    let _entry = engine.serve(&Command::Request(Request {
+        element: 1,
+        number,
+        op: store(1, index, count),
+    }))?;
+    Ok(())
+}
+
+/// Serves the stores of element 1, each by itself, up to the first that is refused. How many were answered.
+pub fn serve<D: Disk>(engine: &mut Engine<D>, count: u32) -> u64 {
+    for index in 0..count {
+        if serve_one(engine, index, count).is_err() {
+            return u64::from(index);
+        }
+    }
+    u64::from(count)
+}

@@ -1,0 +1,96 @@
+-- An image, as C spells what is asked of it.
+use Rattle.std.specs.Prelude.{◌≡◌, ℕ, true, false, List, length, replicate, Some, None, Option, Result, Ok, Err}
+use Rattle.im_types.specs.declared.commands.Command.{Command}
+use Rattle.im_types.specs.declared.commands.Outcome.{Outcome}
+use Rattle.im_types.specs.declared.refusals.Refusal.{Refusal}
+use Rattle.im_types.specs.declared.refusals.Refusal.TheVariants.{Device}
+use Rattle.im_types.specs.Refusals.{number_of}
+use Rattle.im_types.specs.Window.{ask, bounds}
+use Rattle.im_types.specs.Layout.{Sizes, image_length, layout_in_use}
+use Rattle.im_disk.specs.Moment.{Moment}
+use Rattle.im_checkpoint.specs.declared.checkpoint.TurnDone.{TurnDone}
+use Rattle.im_checkpoint.specs.declared.checkpoint.TurnDone.TheVariants.{Idle, Began, Page, Synced, InForce, Swept}
+use Rattle.im_engine.specs.State.{MeansState, MeansEither}
+use Rattle.im_engine.specs.Run.{Answered, TurnAnswered}
+use Rattle.im_listed.specs.Listing.{Task, Puts, Settles}
+use Rattle.im_listed.specs.History.{given}
+use Rattle.im_listed.specs.Image.{ImageState, Carries, begun_in}
+use Rattle.im_c.specs.declared.plain.LtCommand.{LtCommand}
+use Rattle.im_c.specs.declared.plain.LtOutcome.{LtOutcome}
+use Rattle.im_c.specs.declared.plain.LtWindow.{LtWindow}
+use Rattle.im_c.specs.declared.plain.LtStep.{LtStep}
+use Rattle.im_c.specs.Plain.{meant, outcome_of, entry_outcome, refused, no_call}
+
+-- a file with the length of an image, each byte in doubt
+abbrev pub blank : Sizes → Moment
+blank s = given (replicate (image_length layout_in_use s) 0)
+
+-- what a call that is none does: nothing is left to carry out
+abbrev pub idle_after : ImageState → ImageState
+idle_after i = record i { engine = begun_in i }
+
+-- what a command comes to, and what the caller's file does on the way
+pub record Serves (old : ImageState) (c : LtCommand) (out : LtOutcome) (new : ImageState) : Type 0 where
+  pub unknown : meant c ≡ None → (out ≡ no_call) × (new ≡ idle_after old)
+  pub lost : (command : Command) → meant c ≡ Some command → old.lost ≡ true → (out ≡ outcome_of (Err Device)) × (new ≡ old)
+  pub known : (command : Command) → meant c ≡ Some command → old.lost ≡ false
+      → (answer : Result Outcome Refusal) × (out ≡ outcome_of answer) × Answered (begun_in old) command answer new.engine
+      × Carries old.engine.disk.now new (MeansEither (begun_in old) command)
+
+-- what a turn did, by its number, and which page
+abbrev pub turn_code : TurnDone → ℕ
+turn_code Idle = 0
+turn_code Began = 1
+turn_code (Page page) = 2
+turn_code Synced = 3
+turn_code InForce = 4
+turn_code Swept = 5
+
+-- the page that a turn wrote, or 0
+abbrev pub turn_page : TurnDone → ℕ
+turn_page (Page page) = page
+turn_page done = 0
+
+-- what stands for a turn
+abbrev pub turn_outcome : Result TurnDone Refusal → LtOutcome
+turn_outcome (Ok done) = record { refusal = 0; tag = turn_code done; value = turn_page done }
+turn_outcome (Err refusal) = refused (number_of refusal)
+
+-- what a turn comes to, and what the caller's file does on the way
+pub record Turns (old : ImageState) (out : LtOutcome) (new : ImageState) : Type 0 where
+  pub lost : old.lost ≡ true → (out ≡ outcome_of (Err Device)) × (new ≡ old)
+  pub alive : old.lost ≡ false
+      → (answer : Result TurnDone Refusal) × (out ≡ turn_outcome answer) × TurnAnswered (begun_in old) answer new.engine
+      × Carries old.engine.disk.now new (MeansState (begun_in old))
+
+-- what is kept under an element's number
+pub record CollectsFrom (i : ImageState) (element number : ℕ) (out : LtOutcome) : Type 0 where
+  pub lost : i.lost ≡ true → out ≡ entry_outcome (Err Device)
+  pub alive : i.lost ≡ false → out ≡ entry_outcome (ask i.engine.memory.windows (record { element = element; number = number }))
+
+-- a window's bounds, or why there are none
+abbrev pub window_of : Result (ℕ × ℕ) Refusal → LtWindow
+window_of (Ok b) = record { refusal = 0; base = b.0; next = b.1 }
+window_of (Err refusal) = record { refusal = number_of refusal; base = 0; next = 0 }
+
+-- the window of an element
+pub record ShowsWindow (i : ImageState) (element : ℕ) (out : LtWindow) : Type 0 where
+  pub lost : i.lost ≡ true → out ≡ window_of (Err Device)
+  pub alive : i.lost ≡ false → out ≡ window_of (bounds i.engine.memory.windows element)
+
+-- a step, as C spells it
+abbrev pub step_of : Option Task → LtStep
+step_of None = record { kind = 0; place = 0; length = 0 }
+step_of (Some (Puts place bytes)) = record { kind = 1; place = place; length = length bytes }
+step_of (Some Settles) = record { kind = 2; place = 0; length = 0 }
+
+-- a buffer gets these bytes where it has their length, and else it stays
+pub record CopiesBytes (bytes old : List ℕ) (answer : ℕ) (new : List ℕ) : Type 0 where
+  pub fits : length bytes ≡ length old → (answer ≡ 0) × (new ≡ bytes)
+  pub other : (length bytes ≡ length old → ⊥) → (answer ≡ 255) × (new ≡ old)
+
+-- a buffer gets the bytes of a write
+abbrev pub Copies : Option Task → List ℕ → ℕ → List ℕ → Type 0
+Copies None old answer new = (answer ≡ 255) × (new ≡ old)
+Copies (Some (Puts place bytes)) old answer new = CopiesBytes bytes old answer new
+Copies (Some Settles) old answer new = (answer ≡ 255) × (new ≡ old)

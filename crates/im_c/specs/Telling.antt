@@ -1,0 +1,45 @@
+-- A text, as C is told it.
+use Rattle.std.specs.Prelude.{◌≡◌, ◌⊎◌, ℕ, ◌<◌, ◌≤◌, List, [], ◌++◌, ◌==◌, codes, drop, length, Some, Err, if◌then◌else◌}
+use Rattle.im_types.specs.declared.refusals.Refusal.{Refusal}
+use Rattle.im_types.specs.declared.refusals.Refusal.TheVariants.{NoMemory, Device}
+use Rattle.im_types.specs.Layout.{layout_in_use}
+use Rattle.im_types.specs.Meaning.{Reads}
+use Rattle.im_report.specs.Inspecting.{Tells}
+
+-- why there is no report of these bytes: their first fault, or there was no room for it
+abbrev pub IsFault : List ℕ → Refusal → Type 0
+IsFault file refusal = (refusal ≡ NoMemory) ⊎ (refusal ≡ Device) ⊎ Reads layout_in_use file (Err refusal)
+
+-- a buffer begins with a text where that fits, and else it stays
+pub record PutsText (text old new : List ℕ) : Type 0 where
+  pub fits : length text ≤ length old → new ≡ text ++ drop (length text) old
+  pub other : length old < length text → new ≡ old
+
+-- the report of these bytes has this length, and is put into a buffer
+pub record IsTold (file : List ℕ) (count : ℕ) (old new : List ℕ) : Type 0 where
+  pub text : List ℕ
+  pub tells : Tells file (Some []) (Some text)
+  pub whole : count ≡ length text
+  pub put : PutsText text old new
+
+-- the name of the refusal with this number, where a call for C may answer it
+abbrev pub refusal_name : ℕ → List ℕ
+refusal_name number =
+    if number == 1 then codes "Gap"
+    else if number == 2 then codes "Forgotten"
+    else if number == 3 then codes "WindowFull"
+    else if number == 4 then codes "Mismatch"
+    else if number == 5 then codes "NoElement"
+    else if number == 6 then codes "NotAnswered"
+    else if number == 7 then codes "JournalFull"
+    else if number == 8 then codes "Device"
+    else if number == 9 then codes "Failed"
+    else if number == 10 then codes "NoMemory"
+    else if number == 12 then codes "WrongLength"
+    else if number == 13 then codes "NoHeader"
+    else if number == 14 then codes "BadHeader"
+    else if number == 15 then codes "BadPage"
+    else if number == 16 then codes "BadRecord"
+    else if number == 17 then codes "BadLimits"
+    else if number == 255 then codes "NoCall"
+    else codes ""

@@ -1,0 +1,493 @@
+//! An image, as C holds it: C reads the file, and carries out the writes and syncs.
+ghost use Rattle.std.specs.Prelude.{◌≡◌, true, false, length, map};
+ghost use Rattle.std.specs.Prelude.{Ok, Some, Err, IsSome, IfSome, IfOk, IfErr, slice_get};
+ghost use Rattle.std.specs.declared.option.Option.{Option};
+ghost use Rattle.im_types.specs.Contents.{empty_contents};
+ghost use Rattle.im_types.specs.Layout as layout;
+ghost use Rattle.im_types.specs.Layout.{layout_in_use, sizes_of};
+ghost use Rattle.im_disk.specs.Since.{LeavesNow};
+ghost use Rattle.im_engine.specs.State.{MeansState, IsFound};
+ghost use Rattle.im_listed.specs.Image.{ImageState, steps_of};
+ghost use Rattle.im_listed.specs.Listing.{carried, task_of};
+ghost use Rattle.im_listed.specs.History.{given};
+ghost use Rattle.im_c.specs.Handing.{Shows, Becomes};
+ghost use Rattle.im_c.specs.Held.{holds_image};
+ghost use Rattle.im_c.specs.Image.{Serves, Turns, CollectsFrom, ShowsWindow, blank, turn_code, turn_page};
+ghost use Rattle.im_c.specs.Image.{turn_outcome, window_of, step_of, Copies, CopiesBytes};
+ghost use Rattle.im_types.specs.Sizes.{AreLimits};
+
+use crate::parts::Parts;
+use crate::plain::{
+    LtCommand, LtOutcome, LtStep, LtWindow, NO_CALL, entry_outcome, meant, outcome_of, refused,
+};
+use im_checkpoint::TurnDone;
+use im_listed::{Image, Step};
+use im_types::layout::image_length;
+use im_types::{Limits, Refusal};
+use std::alloc::Global;
+use std::marker::Model;
+
+/// An image as C holds it, or none, as which a struct of zero bytes counts. A call that takes it leaves nothing behind:
+/// it hands it out again at `next`, which may be the place that it came from. A handle that is written over is lost.
+#[repr(C)]
+#[derive(Drop)]
+pub struct LtImage {
+    ptr: *mut u8,
+    alloc: Global,
+    /// The image, as contracts see it, or none.
+    pub ghost value: { Option ImageState },
+}
+
+impl Model for LtImage {
+    ghost also_owns = { λ h. holds_image h.alloc h.ptr h.value };
+}
+
+impl LtImage {
+    fn of_parts(parts: Parts<Image, Global>) -> LtImage
+        ensures { result.value ≡ Some parts.value }
+    {
+        let Parts { ptr, alloc } = parts;
+        LtImage {
+            ptr: ptr as *mut u8,
+            alloc,
+        }
+    }
+
+    fn into_parts(self) -> Parts<Image, Global>
+        requires { IsSome self.value }
+        ensures { self.value ≡ Some result.value }
+    {
+        let LtImage { ptr, alloc } = self;
+        Parts {
+            ptr: ptr as *mut Image,
+            alloc,
+        }
+    }
+
+    pub(crate) fn into_box(self) -> Box<Image>
+        requires { IsSome self.value }
+        ensures { self.value ≡ Some result.value }
+    {
+        self.into_parts().into_box()
+    }
+
+    pub(crate) fn of_box(held: Box<Image>) -> LtImage
+        ensures { result.value ≡ Some held.value }
+    {
+        LtImage::of_parts(Parts::of(held))
+    }
+}
+
+// An image in a block of its own.
+fn boxed(alloc: Global, image: Image) -> Result<Box<Image>, Refusal>
+    ensures same { IfOk result (λ b. b.value ≡ image) }
+    ensures only { IfErr result (λ e. e ≡ Refusal.NoMemory) }
+{
+    match Box::new(alloc, image) {
+        Ok(image) => Ok(image),
+        Err(_) => Err(Refusal::NoMemory),
+    }
+}
+
+// A new image in a block of its own.
+fn formatted(alloc: Global, limits: Limits) -> Result<Box<Image>, Refusal>
+    ensures empty { IfOk result (λ b. (b.value.engine.memory ≡ empty_contents limits.cells limits.elements)
+        × (b.value.engine.count ≡ 0) × (b.value.engine.room ≡ limits.slots)) }
+    ensures carried { IfOk result (λ b. b.value.engine.disk.now ≡ carried (blank (sizes_of limits)) (steps_of b.value)) }
+    ensures means { IfOk result (λ b. LeavesNow b.value.engine.disk.now (MeansState b.value.engine)) }
+    ensures works { IfOk result (λ b. b.value.lost ≡ false) }
+{
+    match Image::format(alloc, limits) {
+        Ok(image) => boxed(alloc, image),
+        Err(refusal) => Err(refusal),
+    }
+}
+
+// The image of these bytes in a block of its own.
+fn opened(alloc: Global, bytes: &[u8]) -> Result<Box<Image>, Refusal>
+    ensures carried { IfOk result (λ b. b.value.engine.disk.now ≡ carried (given bytes.now) (steps_of b.value)) }
+    ensures found { IfOk result (λ b. LeavesNow b.value.engine.disk.now (IsFound b.value.engine)) }
+    ensures means { IfOk result (λ b. LeavesNow b.value.engine.disk.now (MeansState b.value.engine)) }
+    ensures works { IfOk result (λ b. b.value.lost ≡ false) }
+{
+    let Ok(bytes) = bytes.to_vec(alloc) else {
+        return Err(Refusal::NoMemory);
+    };
+    match Image::open(alloc, bytes) {
+        Ok(image) => boxed(alloc, image),
+        Err(refusal) => Err(refusal),
+    }
+}
+
+// One command, as C spells it.
+fn serve(image: &mut Image, command: &LtCommand) -> LtOutcome
+    ensures { Serves image.old command.now result image.new }
+{
+    match meant(command) {
+        Some(command) => outcome_of(image.serve(&command)),
+        None => {
+            image.forget_steps();
+            refused(NO_CALL)
+        }
+    }
+}
+
+// The number of what a turn did.
+fn turn_code(done: TurnDone) -> u8
+    ensures { result ≡ turn_code done }
+{
+    match done {
+        TurnDone::Idle => 0,
+        TurnDone::Began => 1,
+        TurnDone::Page(_) => 2,
+        TurnDone::Synced => 3,
+        TurnDone::InForce => 4,
+        TurnDone::Swept => 5,
+    }
+}
+
+// The page that a turn wrote, or 0.
+fn turn_page(done: TurnDone) -> u64
+    ensures { result ≡ turn_page done }
+{
+    match done {
+        TurnDone::Page(page) => page as u64,
+        _ => 0,
+    }
+}
+
+// What stands for a turn.
+fn turn_outcome(answer: Result<TurnDone, Refusal>) -> LtOutcome
+    ensures { result ≡ turn_outcome answer }
+{
+    match answer {
+        Ok(done) => LtOutcome {
+            refusal: 0,
+            tag: turn_code(done),
+            value: turn_page(done),
+        },
+        Err(refusal) => refused(refusal.number()),
+    }
+}
+
+// One turn, as C spells it.
+fn turn(image: &mut Image) -> LtOutcome
+    ensures { Turns image.old result image.new }
+{
+    turn_outcome(image.turn())
+}
+
+// What is kept under an element's number, as C spells it.
+fn collected(image: &Image, element: u16, number: u64) -> LtOutcome
+    ensures { CollectsFrom image.now element number result }
+{
+    entry_outcome(image.collect(element, number))
+}
+
+// The bounds of a window, as C spells them.
+fn window_of(answer: Result<(u64, u64), Refusal>) -> LtWindow
+    ensures { result ≡ window_of answer }
+{
+    match answer {
+        Ok((base, next)) => LtWindow {
+            refusal: 0,
+            base,
+            next,
+        },
+        Err(refusal) => LtWindow {
+            refusal: refusal.number(),
+            base: 0,
+            next: 0,
+        },
+    }
+}
+
+// The window of an element, as C spells it.
+fn shown_window(image: &Image, element: u16) -> LtWindow
+    ensures { ShowsWindow image.now element result }
+{
+    window_of(image.window(element))
+}
+
+// How many commands were accepted, and how many more can be.
+#[derive(Clone, Copy)]
+struct Totals {
+    room: u32,
+    accepted: u64,
+}
+
+// The totals of an image.
+fn totalled(image: LtImage, next: &mut LtImage) -> Totals
+    requires some { IsSome image.value }
+    ensures room { Shows image.value next.new.value (λ i. result.room ≡ i.engine.room) }
+    ensures accepted { Shows image.value next.new.value (λ i. result.accepted ≡ i.engine.count) }
+{
+    let held = image.into_box();
+    let totals = Totals {
+        room: held.room(),
+        accepted: held.count(),
+    };
+    *next = LtImage::of_box(held);
+    totals
+}
+
+// How many steps there are.
+fn count_of(steps: &[Step]) -> usize
+    ensures { result ≡ length (map task_of steps.now) }
+{
+    steps.len()
+}
+
+// The step with this index, as C spells it.
+fn step_at(steps: &[Step], index: usize) -> LtStep
+    ensures { result ≡ step_of (slice_get (map task_of steps.now) index) }
+{
+    match steps.get(index) {
+        Some(Step::Write(place, bytes)) => LtStep {
+            kind: 1,
+            place: *place as u64,
+            length: bytes.len() as u64,
+        },
+        Some(Step::Sync) => LtStep {
+            kind: 2,
+            place: 0,
+            length: 0,
+        },
+        None => LtStep {
+            kind: 0,
+            place: 0,
+            length: 0,
+        },
+    }
+}
+
+// Copies the bytes of the write with this index.
+fn copy_step(steps: &[Step], index: usize, buffer: &mut [u8]) -> u8
+    ensures { Copies (slice_get (map task_of steps.now) index) buffer.old result buffer.new }
+{
+    match steps.get(index) {
+        Some(Step::Write(_, bytes)) => copy(bytes, buffer),
+        _ => NO_CALL,
+    }
+}
+
+// Copies bytes into a buffer of their length: 0. Else 255.
+fn copy(bytes: &[u8], buffer: &mut [u8]) -> u8
+    ensures { CopiesBytes bytes.now buffer.old result buffer.new }
+{
+    if bytes.len() != buffer.len() {
+        return NO_CALL;
+    }
+    buffer.copy_from_slice(bytes);
+    0
+}
+
+/// Makes the image of an empty memory of so many cells, 1 to 65,536, elements, 1 to 64, and journal slots, 16 to 4,096:
+/// 0, and `next` holds it. Else the number of the refusal, and `next` is as it was: `BadLimits` where a number is out of
+/// its range, `NoMemory`. The caller's file has the length of [`lt_image_length`].
+#[unsafe(no_mangle)]
+pub extern "C" fn lt_format(
+    alloc: Global,
+    cells: u32,
+    elements: u16,
+    slots: u32,
+    next: &mut LtImage,
+) -> u8
+    ensures bad { (AreLimits cells elements slots → ⊥) → result ≡ 17 }
+    ensures some { result ≡ 0 → IsSome next.new.value }
+    ensures empty { result ≡ 0 → IfSome next.new.value (λ i.
+        (i.engine.memory ≡ empty_contents cells elements) × (i.engine.count ≡ 0) × (i.engine.room ≡ slots)) }
+    ensures carried { result ≡ 0 → IfSome next.new.value (λ i. i.engine.disk.now
+        ≡ carried (blank (record { cells = cells; elements = elements; slots = slots })) (steps_of i)) }
+    ensures means { result ≡ 0
+        → IfSome next.new.value (λ i. LeavesNow i.engine.disk.now (MeansState i.engine)) }
+{
+    let Some(limits) = Limits::new(cells, elements, slots) else {
+        return Refusal::BadLimits.number();
+    };
+    match formatted(alloc, limits) {
+        Ok(image) => {
+            *next = LtImage::of_box(image);
+            0
+        }
+        Err(refusal) => refusal.number(),
+    }
+}
+
+/// The length of an image of these sizes; 0 where a number is out of its range.
+#[unsafe(no_mangle)]
+pub extern "C" fn lt_image_length(cells: u32, elements: u16, slots: u32) -> u64
+    ensures length { AreLimits cells elements slots
+        → result ≡ layout.image_length layout_in_use (record { cells = cells; elements = elements; slots = slots }) }
+    ensures none { (AreLimits cells elements slots → ⊥) → result ≡ 0 }
+{
+    match Limits::new(cells, elements, slots) {
+        Some(limits) => image_length(limits) as u64,
+        None => 0,
+    }
+}
+
+/// Opens the image of these bytes, which are those of the caller's file: 0, and `next` holds it. Else the number of the
+/// refusal, and `next` is as it was: the first fault of the bytes, `NoMemory`, or `Device` where the list of steps
+/// couldn't grow.
+#[unsafe(no_mangle)]
+pub extern "C" fn lt_open(alloc: Global, bytes: &[u8], next: &mut LtImage) -> u8
+    ensures some { result ≡ 0 → IsSome next.new.value }
+    ensures carried { result ≡ 0
+        → IfSome next.new.value (λ i. i.engine.disk.now ≡ carried (given bytes.now) (steps_of i)) }
+    ensures found { result ≡ 0 → IfSome next.new.value (λ i. LeavesNow i.engine.disk.now (IsFound i.engine)) }
+    ensures means { result ≡ 0
+        → IfSome next.new.value (λ i. LeavesNow i.engine.disk.now (MeansState i.engine)) }
+{
+    match opened(alloc, bytes) {
+        Ok(image) => {
+            *next = LtImage::of_box(image);
+            0
+        }
+        Err(fault) => fault.number(),
+    }
+}
+
+/// Closes the image. It leaves nothing to carry out.
+#[unsafe(no_mangle)]
+pub extern "C" fn lt_close(image: LtImage)
+    requires some { IsSome image.value }
+{
+    drop(image.into_box());
+}
+
+/// One command: what it comes to, at `outcome`, and how many steps the caller has to carry out before it tells that to
+/// anybody. The refusals are those of a request and of a confirmation, `JournalFull`, `Device`, and 255 for an unknown
+/// tag, which changes nothing.
+#[unsafe(no_mangle)]
+pub extern "C" fn lt_serve(
+    image: LtImage,
+    command: &LtCommand,
+    next: &mut LtImage,
+    outcome: &mut LtOutcome,
+) -> usize
+    requires some { IsSome image.value }
+    ensures served { Becomes image.value next.new.value (λ i n. Serves i command.now outcome.new n) }
+    ensures steps { IfSome next.new.value (λ n. result ≡ length (steps_of n)) }
+{
+    let mut held = image.into_box();
+    *outcome = serve(&mut held, command);
+    let steps = count_of(held.steps());
+    *next = LtImage::of_box(held);
+    steps
+}
+
+/// One turn of a checkpoint, and how many steps the caller has to carry out. At `outcome` the tag says what it did: 0
+/// nothing, 1 it began, 2 it wrote the page with the number in `value`, 3 it put the pages on the disk, 4 the area that
+/// was written is in force, 5 it made slots free. Or the refusal, `Device`.
+#[unsafe(no_mangle)]
+pub extern "C" fn lt_turn(image: LtImage, next: &mut LtImage, outcome: &mut LtOutcome) -> usize
+    requires some { IsSome image.value }
+    ensures turned { Becomes image.value next.new.value (λ i n. Turns i outcome.new n) }
+    ensures steps { IfSome next.new.value (λ n. result ≡ length (steps_of n)) }
+{
+    let mut held = image.into_box();
+    *outcome = turn(&mut held);
+    let count = count_of(held.steps());
+    *next = LtImage::of_box(held);
+    count
+}
+
+/// What is kept under an element's number, at `outcome`. Refused with `NoElement`, with `Forgotten` below the window,
+/// with `Gap` where the number isn't used yet, and with `Device`. Nothing changes.
+#[unsafe(no_mangle)]
+pub extern "C" fn lt_collect(
+    image: LtImage,
+    element: u16,
+    number: u64,
+    next: &mut LtImage,
+    outcome: &mut LtOutcome,
+)
+    requires some { IsSome image.value }
+    ensures answer { Shows image.value next.new.value (λ i. CollectsFrom i element number outcome.new) }
+{
+    let held = image.into_box();
+    *outcome = collected(&held, element, number);
+    *next = LtImage::of_box(held);
+}
+
+/// The window of an element, at `window`. Refused with `NoElement` and with `Device`. Nothing changes.
+#[unsafe(no_mangle)]
+pub extern "C" fn lt_window(image: LtImage, element: u16, next: &mut LtImage, window: &mut LtWindow)
+    requires some { IsSome image.value }
+    ensures answer { Shows image.value next.new.value (λ i. ShowsWindow i element window.new) }
+{
+    let held = image.into_box();
+    *window = shown_window(&held, element);
+    *next = LtImage::of_box(held);
+}
+
+/// How many more commands can be accepted.
+#[unsafe(no_mangle)]
+pub extern "C" fn lt_room(image: LtImage, next: &mut LtImage) -> u32
+    requires some { IsSome image.value }
+    ensures room { Shows image.value next.new.value (λ i. result ≡ i.engine.room) }
+{
+    totalled(image, next).room
+}
+
+/// How many commands have been accepted since the image was formatted.
+#[unsafe(no_mangle)]
+pub extern "C" fn lt_count(image: LtImage, next: &mut LtImage) -> u64
+    requires some { IsSome image.value }
+    ensures count { Shows image.value next.new.value (λ i. result ≡ i.engine.count) }
+{
+    totalled(image, next).accepted
+}
+
+/// Says that a step couldn't be carried out. Each later call is answered with `Device`, and there are no steps.
+#[unsafe(no_mangle)]
+pub extern "C" fn lt_failed(image: LtImage, next: &mut LtImage)
+    requires some { IsSome image.value }
+    ensures lost { Becomes image.value next.new.value (λ i n. n ≡ record i { lost = true }) }
+{
+    let mut held = image.into_box();
+    held.lose();
+    *next = LtImage::of_box(held);
+}
+
+/// How many steps the last call left to carry out: of `lt_format`, `lt_open`, `lt_serve`, `lt_serve_group` and
+/// `lt_turn`.
+#[unsafe(no_mangle)]
+pub extern "C" fn lt_steps(image: LtImage, next: &mut LtImage) -> usize
+    requires some { IsSome image.value }
+    ensures count { Shows image.value next.new.value (λ i. result ≡ length (steps_of i)) }
+{
+    let held = image.into_box();
+    let count = count_of(held.steps());
+    *next = LtImage::of_box(held);
+    count
+}
+
+/// The step with this index, from 0, at `step`.
+#[unsafe(no_mangle)]
+pub extern "C" fn lt_step(image: LtImage, index: usize, next: &mut LtImage, step: &mut LtStep)
+    requires some { IsSome image.value }
+    ensures step { Shows image.value next.new.value (λ i. step.new ≡ step_of (slice_get (steps_of i) index)) }
+{
+    let held = image.into_box();
+    *step = step_at(held.steps(), index);
+    *next = LtImage::of_box(held);
+}
+
+/// The bytes of the write with this index, from 0, which has just as many: 0. Else 255, and the buffer is as it was.
+#[unsafe(no_mangle)]
+pub extern "C" fn lt_step_bytes(
+    image: LtImage,
+    index: usize,
+    next: &mut LtImage,
+    buffer: &mut [u8],
+) -> u8
+    requires some { IsSome image.value }
+    ensures bytes { Shows image.value next.new.value (λ i. Copies (slice_get (steps_of i) index) buffer.old result buffer.new) }
+{
+    let held = image.into_box();
+    let number = copy_step(held.steps(), index, buffer);
+    *next = LtImage::of_box(held);
+    number
+}

@@ -1,0 +1,82 @@
+//! What the image in a caller's bytes means, told to C.
+ghost use Rattle.std.specs.Prelude.{◌≡◌, ◌≢◌, [], Some, IfOk, IfErr};
+ghost use Rattle.im_report.specs.Inspecting.{Tells};
+ghost use Rattle.im_c.specs.Telling.{IsFault, IsTold, PutsText};
+
+use im_image::inspect;
+use im_listed::Listed;
+use im_report::inspect_on;
+use im_text::{Observer, Progress, Reason};
+use im_types::{Entry, Refusal};
+use std::alloc::Global;
+
+// Nobody, who follows no work.
+#[derive(Drop)]
+struct Nobody;
+
+impl Observer for Nobody {
+    fn answered(&mut self, _element: u16, _number: u64, _entry: Entry) {}
+
+    fn progressed(&mut self, _progress: Progress) {}
+
+    fn refused(&mut self, _reason: Reason) {}
+}
+
+// Why there is no report: the first fault of the bytes, or that there wasn't room for it.
+fn fault_of(alloc: Global, disk: &mut Listed) -> Refusal
+    ensures { IsFault disk.old.now.bytes result }
+{
+    match inspect(alloc, disk) {
+        Ok(_) => Refusal::NoMemory,
+        Err(refusal) => refusal,
+    }
+}
+
+// The report of the image of these bytes.
+fn report_of(alloc: Global, bytes: &[u8]) -> Result<Vec<u8>, Refusal>
+    ensures told { IfOk result (λ text. Tells bytes.now (Some []) (Some text.items)) }
+    ensures fault { IfErr result (λ e. IsFault bytes.now e) }
+{
+    let Ok(copy) = bytes.to_vec(alloc) else {
+        return Err(Refusal::NoMemory);
+    };
+    let mut text = Vec::new(alloc);
+    let (status, mut disk) = inspect_on(alloc, Listed::new(copy), &mut text, &mut Nobody);
+    if status == 0 {
+        return Ok(text);
+    }
+    Err(fault_of(alloc, &mut disk))
+}
+
+/// Puts a text at the start of a buffer, if it fits.
+pub(crate) fn put_text(text: &[u8], buffer: &mut [u8])
+    ensures { PutsText text.now buffer.old buffer.new }
+{
+    if text.len() > buffer.len() {
+        return;
+    }
+    buffer[..text.len()].copy_from_slice(text);
+}
+
+/// Tells what the image of these bytes means, as `imem inspect` prints it: 0, the text's length at `written`, and the
+/// text at the start of `buffer` where it fits, of which the rest is as it was. Else the number of the refusal, and
+/// nothing is changed: the first fault of the bytes, or `NoMemory`.
+#[unsafe(no_mangle)]
+pub extern "C" fn lt_inspect(
+    alloc: Global,
+    bytes: &[u8],
+    buffer: &mut [u8],
+    written: &mut usize,
+) -> u8
+    ensures told { result ≡ 0 → IsTold bytes.now written.new buffer.old buffer.new }
+    ensures same { result ≢ 0 → (buffer.new ≡ buffer.old) × (written.new ≡ written.old) }
+{
+    match report_of(alloc, bytes) {
+        Ok(text) => {
+            *written = text.len();
+            put_text(&text, buffer);
+            0
+        }
+        Err(refusal) => refusal.number(),
+    }
+}

@@ -1,0 +1,437 @@
+//! An engine that serves requests one after another, and prints their lines.
+ghost use Rattle.std.specs.Prelude.{◌≡◌, ◌≤◌, ◌++◌, ℕ, [], false, Ok};
+ghost use Rattle.std.specs.Prelude.{OnOk, IfOk, MatchResult, length, map};
+ghost use Rattle.im_types.specs.Window.{bounds};
+ghost use Rattle.im_text.specs.Printing.{PrintsMore, PrintsNows, PrintsOn, now_line, nows, told_line, waits_if};
+ghost use Rattle.im_text.specs.Printing.{who_of};
+ghost use Rattle.im_serial.specs.Serving.{Ends, GoesOn, Halts, Serves, at};
+
+use crate::room::{confirm, first_waiting, make_room, next_number};
+use crate::waits::{Places, learn, learn_all, note, tell_earlier, waited_at};
+use im_disk::Disk;
+use im_engine::Engine;
+use im_script::{Allocation, Reader, Said, Script, ScriptLine, split_line};
+use im_text::{Lines, Observer, Progress, Reason, Waited, make_line, make_now};
+use im_types::{Command, Entry, Op, Outcome, Refusal, Reply, Request, WINDOW};
+use std::alloc::{AllocError, Global};
+use std::io::Write;
+
+// The most bytes of a line.
+const LINE: usize = 64;
+
+/// What serving takes besides the engine.
+#[derive(Drop)]
+pub struct Desk {
+    places: Places,
+    /// What is printed.
+    pub lines: Lines,
+    line: String,
+}
+
+impl Desk {
+    /// Takes all room that serving needs, but for the list of those that have to wait.
+    pub fn new(alloc: Global) -> Result<Desk, AllocError>
+        ensures pending { IfOk result (λ desk. desk.lines.pending.items ≡ []) }
+    {
+        Ok(Desk {
+            places: Places::new(alloc)?,
+            lines: Lines::new(alloc)?,
+            line: String::with_capacity(alloc, LINE)?,
+        })
+    }
+}
+
+/// What is printed.
+#[derive(Drop)]
+pub struct Paper {
+    /// The lines on their way to the writer.
+    pub lines: Lines,
+    /// The room in which a line is made.
+    pub line: String,
+}
+
+/// An engine that serves requests, and what is printed and noted of them.
+#[derive(Drop)]
+pub struct Server<D: Disk> {
+    /// The engine.
+    pub engine: Engine<D>,
+    /// The base of each block of the setup.
+    pub bases: Vec<u32>,
+    /// The requests that had to wait, in their order.
+    pub waited: Vec<Waited>,
+    /// What is printed.
+    pub lines: Lines,
+    // Where each of those that had to wait stands, while it is kept.
+    places: Places,
+    // The line that is made.
+    line: String,
+    progress: Progress,
+}
+
+impl<D: Disk> Server<D> {
+    /// A server over an engine, which has served nothing yet. It marks who waits already.
+    pub fn new(alloc: Global, engine: Engine<D>, desk: Desk) -> Server<D>
+        ensures engine { result.engine ≡ engine }
+        ensures lines { result.lines ≡ desk.lines }
+        ensures waited { result.waited.items ≡ [] }
+    {
+        let Desk {
+            mut places,
+            lines,
+            line,
+        } = desk;
+        places.mark_earlier(engine.memory());
+        Server {
+            engine,
+            bases: Vec::new(alloc),
+            waited: Vec::new(alloc),
+            lines,
+            places,
+            line,
+            progress: Progress {
+                served: 0,
+                room: 0,
+                checkpoints: 0,
+            },
+        }
+    }
+
+    /// The engine, and what is printed.
+    pub fn leave(self) -> (Engine<D>, Paper)
+        ensures engine { result.0 ≡ self.engine }
+        ensures lines { result.1.lines ≡ self.lines }
+    {
+        let Server {
+            engine,
+            bases: _,
+            waited: _,
+            lines,
+            places: _,
+            line,
+            progress: _,
+        } = self;
+        (engine, Paper { lines, line })
+    }
+
+    // Confirms the entries of a full window up to the first that still waits.
+    fn make_place<N: Observer>(&mut self, element: u16, observer: &mut N) -> Result<(), Refusal>
+        ensures goes { MatchResult result
+            (λ _. GoesOn D.now D.past D.failures D.honest self.old.engine self.new.engine)
+            (λ _. Halts D.now D.past D.failures D.honest self.old.engine self.new.engine) }
+        ensures lines { self.new.lines ≡ self.old.lines }
+        ensures names { map who_of self.new.waited.items ≡ map who_of self.old.waited.items }
+    {
+        let (base, next) = match self.engine.window(element) {
+            Ok(bounds) => bounds,
+            Err(refusal) => return Err(refusal),
+        };
+        if next.saturating_sub(base) < WINDOW {
+            return Ok(());
+        }
+        let upto = first_waiting(&self.engine, element, base, next);
+        learn(
+            self.waited.as_mut_slice(),
+            &mut self.places,
+            self.engine.memory(),
+            element,
+            (base, upto),
+            observer,
+        );
+        confirm(&mut self.engine, &mut self.progress, element, upto)
+    }
+
+    // Has a place in an element's window, and room in the journal, for its next request.
+    fn prepare<N: Observer>(&mut self, element: u16, observer: &mut N) -> Result<(), Refusal>
+        ensures goes { MatchResult result
+            (λ _. GoesOn D.now D.past D.failures D.honest self.old.engine self.new.engine)
+            (λ _. Halts D.now D.past D.failures D.honest self.old.engine self.new.engine) }
+        ensures lines { self.new.lines ≡ self.old.lines }
+        ensures names { map who_of self.new.waited.items ≡ map who_of self.old.waited.items }
+    {
+        self.make_place(element, observer)?;
+        make_room(&mut self.engine, &mut self.progress)
+    }
+
+    // Prints what a request was answered.
+    fn print<W: Write>(&mut self, who: (u16, u64), entry: Entry, out: &mut W) -> Result<(), Reason>
+        ensures engine { self.new.engine ≡ self.old.engine }
+        ensures names { self.new.waited.items ≡ self.old.waited.items }
+        ensures more { MatchResult result
+            (λ _. PrintsMore (W.contents out.old) self.old.lines (W.contents out.new) self.new.lines
+            (told_line who.0 who.1 entry))
+            (λ _. PrintsOn (W.contents out.old) self.old.lines (W.contents out.new) self.new.lines) }
+    {
+        let (element, number) = who;
+        match make_line(&mut self.line, element, number, entry) {
+            Ok(()) => self.lines.push(out, self.line.as_str()),
+            Err(_) => Err(Reason::Memory),
+        }
+    }
+
+    // Notes a request that has to wait.
+    fn note(&mut self, who: (u16, u64), entry: Entry) -> Result<(), Reason>
+        ensures engine { self.new.engine ≡ self.old.engine }
+        ensures lines { self.new.lines ≡ self.old.lines }
+        ensures names { MatchResult result
+            (λ _. map who_of self.new.waited.items ≡ map who_of self.old.waited.items
+            ++ waits_if (record { element = who.0; number = who.1 }) entry)
+            (λ _. map who_of self.new.waited.items ≡ map who_of self.old.waited.items) }
+    {
+        let (element, number) = who;
+        match note(&mut self.waited, &mut self.places, element, number, entry) {
+            Ok(()) => Ok(()),
+            Err(_) => Err(Reason::Memory),
+        }
+    }
+
+    // Serves an element's request with its next number, and prints what is kept for it.
+    fn ask<W: Write>(&mut self, request: Request, out: &mut W) -> Result<Entry, Reason>
+        requires next { self.old.engine.failed ≡ false → (base : ℕ)
+            × (bounds self.old.engine.memory.windows request.element ≡ Ok (base, request.number)) }
+        ensures serves { MatchResult result
+            (λ _. Serves D.now D.past D.failures D.honest
+            (at self.old.engine (W.contents out.old) self.old.lines self.old.waited.items)
+            (at self.new.engine (W.contents out.new) self.new.lines self.new.waited.items))
+            (λ _. Ends D.now D.past D.failures D.honest
+            (at self.old.engine (W.contents out.old) self.old.lines self.old.waited.items)
+            (at self.new.engine (W.contents out.new) self.new.lines self.new.waited.items)) }
+    {
+        let who = (request.element, request.number);
+        match self.engine.serve(&Command::Request(request)) {
+            Ok(Outcome::Entry(entry)) => match self.print(who, entry, out) {
+                Ok(()) => match self.note(who, entry) {
+                    Ok(()) => Ok(entry),
+                    Err(reason) => Err(reason),
+                },
+                Err(reason) => Err(reason),
+            },
+            Ok(Outcome::Confirmed) => Err(Reason::Request(who.0, Refusal::Failed)), // No request is answered so.
+            Err(refusal) => Err(Reason::Request(who.0, refusal)),
+        }
+    }
+
+    // Serves an element's next request, for which there is room, and prints what is kept for it.
+    fn ask_next<W: Write>(&mut self, element: u16, op: Op, out: &mut W) -> Result<Entry, Reason>
+        ensures serves { MatchResult result
+            (λ _. Serves D.now D.past D.failures D.honest
+            (at self.old.engine (W.contents out.old) self.old.lines self.old.waited.items)
+            (at self.new.engine (W.contents out.new) self.new.lines self.new.waited.items))
+            (λ _. Ends D.now D.past D.failures D.honest
+            (at self.old.engine (W.contents out.old) self.old.lines self.old.waited.items)
+            (at self.new.engine (W.contents out.new) self.new.lines self.new.waited.items)) }
+    {
+        match next_number(&self.engine, element) {
+            Ok(number) => self.ask(
+                Request {
+                    element,
+                    number,
+                    op,
+                },
+                out,
+            ),
+            Err(refusal) => Err(Reason::Request(element, refusal)),
+        }
+    }
+
+    // Serves an element's next request, and prints what is kept for it.
+    fn request<W: Write, N: Observer>(
+        &mut self,
+        element: u16,
+        op: Op,
+        out: &mut W,
+        observer: &mut N,
+    ) -> Result<Entry, Reason>
+        ensures serves { MatchResult result
+            (λ _. Serves D.now D.past D.failures D.honest
+            (at self.old.engine (W.contents out.old) self.old.lines self.old.waited.items)
+            (at self.new.engine (W.contents out.new) self.new.lines self.new.waited.items))
+            (λ _. Ends D.now D.past D.failures D.honest
+            (at self.old.engine (W.contents out.old) self.old.lines self.old.waited.items)
+            (at self.new.engine (W.contents out.new) self.new.lines self.new.waited.items)) }
+    {
+        match self.prepare(element, observer) {
+            Ok(()) => {
+                follow(&mut self.progress, self.engine.room(), observer);
+                self.ask_next(element, op, out)
+            }
+            Err(refusal) => Err(Reason::Request(element, refusal)),
+        }
+    }
+
+    /// Makes a block of the setup, prints what it was answered, and keeps its base. Where element 0's window is full its
+    /// entries before the first that still waits are confirmed first, and turns of a checkpoint are taken while there
+    /// is no room for a command. What is accepted is on the disk before its line is kept for printing.
+    ///
+    /// Refused is what the engine refuses, `Block` where the block isn't made, `Memory`, or a write of the output.
+    pub fn make_block<W: Write, N: Observer>(
+        &mut self,
+        block: Allocation,
+        out: &mut W,
+        observer: &mut N,
+    ) -> Result<(), Reason>
+        ensures serves { MatchResult result
+            (λ _. Serves D.now D.past D.failures D.honest
+            (at self.old.engine (W.contents out.old) self.old.lines self.old.waited.items)
+            (at self.new.engine (W.contents out.new) self.new.lines self.new.waited.items))
+            (λ _. Ends D.now D.past D.failures D.honest
+            (at self.old.engine (W.contents out.old) self.old.lines self.old.waited.items)
+            (at self.new.engine (W.contents out.new) self.new.lines self.new.waited.items)) }
+    {
+        let entry = match self.request(0, Op::Alloc(block.kind, block.length), out, observer) {
+            Ok(entry) => entry,
+            Err(reason) => return Err(reason),
+        };
+        let Entry::Answered(Reply::Base(base)) = entry else {
+            return Err(Reason::Block(self.bases.len().saturating_add(1)));
+        };
+        if self.bases.push(base).is_err() {
+            return Err(Reason::Memory);
+        }
+        Ok(())
+    }
+
+    // Serves a request of a part.
+    fn serve_line<W: Write, N: Observer>(
+        &mut self,
+        line: ScriptLine,
+        out: &mut W,
+        observer: &mut N,
+    ) -> Result<(), Reason>
+        ensures serves { MatchResult result
+            (λ _. Serves D.now D.past D.failures D.honest
+            (at self.old.engine (W.contents out.old) self.old.lines self.old.waited.items)
+            (at self.new.engine (W.contents out.new) self.new.lines self.new.waited.items))
+            (λ _. Ends D.now D.past D.failures D.honest
+            (at self.old.engine (W.contents out.old) self.old.lines self.old.waited.items)
+            (at self.new.engine (W.contents out.new) self.new.lines self.new.waited.items)) }
+    {
+        let Some(op) = line.action.op(self.bases.as_slice()) else {
+            return Err(Reason::Place(line.element));
+        };
+        match self.request(line.element, op, out, observer) {
+            Ok(_entry) => Ok(()),
+            Err(reason) => Err(reason),
+        }
+    }
+
+    // Serves what a line says.
+    fn serve_said<W: Write, N: Observer>(
+        &mut self,
+        said: Said,
+        out: &mut W,
+        observer: &mut N,
+    ) -> Result<(), Reason>
+        ensures serves { MatchResult result
+            (λ _. Serves D.now D.past D.failures D.honest
+            (at self.old.engine (W.contents out.old) self.old.lines self.old.waited.items)
+            (at self.new.engine (W.contents out.new) self.new.lines self.new.waited.items))
+            (λ _. Ends D.now D.past D.failures D.honest
+            (at self.old.engine (W.contents out.old) self.old.lines self.old.waited.items)
+            (at self.new.engine (W.contents out.new) self.new.lines self.new.waited.items)) }
+    {
+        match said {
+            Said::Nothing | Said::Begins(_) => Ok(()),
+            Said::Block(block) => self.make_block(block, out, observer),
+            Said::Asks(line) => self.serve_line(line, out, observer),
+        }
+    }
+
+    // Serves the whole script, line by line as they are read, until a request is refused.
+    pub(crate) fn serve<W: Write, N: Observer>(
+        &mut self,
+        alloc: Global,
+        script: &Script<'_>,
+        out: &mut W,
+        observer: &mut N,
+    ) -> Result<(), Reason>
+        ensures serves { MatchResult result
+            (λ _. Serves D.now D.past D.failures D.honest
+            (at self.old.engine (W.contents out.old) self.old.lines self.old.waited.items)
+            (at self.new.engine (W.contents out.new) self.new.lines self.new.waited.items))
+            (λ _. Ends D.now D.past D.failures D.honest
+            (at self.old.engine (W.contents out.old) self.old.lines self.old.waited.items)
+            (at self.new.engine (W.contents out.new) self.new.lines self.new.waited.items)) }
+    {
+        let mut reader = Reader::new(alloc);
+        let mut rest = Some(script.text());
+        for number in 1..usize::MAX {
+            let Some(text) = rest else {
+                return Ok(());
+            };
+            let (line, behind) = split_line(text);
+            rest = behind;
+            let said = match reader.read(alloc, number, line) {
+                Ok(said) => said,
+                Err(fault) => return Err(Reason::Script(fault)), // There was no memory for it.
+            };
+            match self.serve_said(said, out, observer) {
+                Ok(()) => {}
+                Err(reason) => return Err(reason),
+            }
+        }
+        Ok(())
+    }
+
+    // Learns what is kept at the end for the requests that had to wait, and tells of those that waited before.
+    pub(crate) fn learn_all<N: Observer>(&mut self, observer: &mut N)
+        ensures engine { self.new.engine ≡ self.old.engine }
+        ensures lines { self.new.lines ≡ self.old.lines }
+        ensures names { map who_of self.new.waited.items ≡ map who_of self.old.waited.items }
+    {
+        learn_all(self.waited.as_mut_slice(), self.engine.memory());
+        tell_earlier(&mut self.places, self.engine.memory(), observer);
+    }
+
+    // Prints what became of the requests that had to wait.
+    pub(crate) fn tell<W: Write>(&mut self, out: &mut W) -> Result<(), Reason>
+        ensures engine { self.new.engine ≡ self.old.engine }
+        ensures waited { self.new.waited ≡ self.old.waited }
+        ensures all { OnOk result (PrintsMore (W.contents out.old) self.old.lines (W.contents out.new) self.new.lines
+            (nows self.old.waited.items (length self.old.waited.items))) }
+        ensures some { PrintsNows (W.contents out.old) self.old.lines (W.contents out.new) self.new.lines
+            self.old.waited.items }
+    {
+        print_nows(self.waited.as_slice(), &mut self.line, &mut self.lines, out)
+    }
+}
+
+// Tells how far the work has come, before one request more.
+fn follow<N: Observer>(progress: &mut Progress, room: u32, observer: &mut N) {
+    progress.room = room;
+    observer.progressed(*progress);
+    progress.served = progress.served.saturating_add(1);
+}
+
+// Prints what became of the requests that had to wait.
+fn print_nows<W: Write>(
+    waited: &[Waited],
+    line: &mut String,
+    lines: &mut Lines,
+    out: &mut W,
+) -> Result<(), Reason>
+    ensures all { OnOk result (PrintsMore (W.contents out.old) lines.old (W.contents out.new) lines.new
+        (nows waited.now (length waited.now))) }
+    ensures some { PrintsNows (W.contents out.old) lines.old (W.contents out.new) lines.new waited.now }
+{
+    for at in 0..waited.len() {
+        push_now(waited_at(waited, at), line, lines, out)?;
+    }
+    Ok(())
+}
+
+// Prints what became of one that had to wait.
+fn push_now<W: Write>(
+    waited: Option<Waited>,
+    line: &mut String,
+    lines: &mut Lines,
+    out: &mut W,
+) -> Result<(), Reason>
+    ensures more { MatchResult result
+        (λ _. PrintsMore (W.contents out.old) lines.old (W.contents out.new) lines.new (now_line waited))
+        (λ _. PrintsOn (W.contents out.old) lines.old (W.contents out.new) lines.new) }
+{
+    match make_now(line, waited) {
+        Ok(()) => lines.push(out, line.as_str()),
+        Err(_) => Err(Reason::Memory),
+    }
+}

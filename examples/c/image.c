@@ -1,0 +1,106 @@
+#define _POSIX_C_SOURCE 200809L
+
+#include "image.h"
+
+#include <fcntl.h>
+#include <stdio.h>
+#include <stdlib.h>
+#include <unistd.h>
+
+static void stop(const char *what, uint8_t refusal) {
+    char name[16] = "";
+    lt_refusal_name(refusal, name, sizeof name - 1);
+    fprintf(stderr, "%s: refused %d %s\n", what, refusal, name);
+    exit(1);
+}
+
+static void fail(const char *what) {
+    perror(what);
+    exit(1);
+}
+
+static int write_all(int file, const uint8_t *bytes, size_t length, off_t place) {
+    while (length > 0) {
+        ssize_t done = pwrite(file, bytes, length, place);
+        if (done < 0) return -1;
+        bytes += done;
+        place += done;
+        length -= (size_t)done;
+    }
+    return 0;
+}
+
+/* One step of the list: 0, or -1 where it couldn't be carried out. */
+static int carry_out(struct image *image, size_t index) {
+    struct lt_step step = {0, 0, 0};
+    uint8_t *bytes;
+    int done = -1;
+    lt_step(image->held, index, &image->held, &step);
+    if (step.kind == LT_SYNC) return fsync(image->file);
+    bytes = calloc((size_t)step.length, 1);
+    if (bytes && lt_step_bytes(image->held, index, &image->held, bytes, (size_t)step.length) == 0)
+        done = write_all(image->file, bytes, (size_t)step.length, (off_t)step.place);
+    free(bytes);
+    return done;
+}
+
+/* All steps of a call, in their order. */
+static void carry_out_all(struct image *image, size_t count) {
+    for (size_t index = 0; index < count; index++)
+        if (carry_out(image, index) < 0) {
+            lt_failed(image->held, &image->held);
+            fail("step");
+        }
+}
+
+void image_format(struct image *image, const char *path, uint32_t cells, uint16_t elements, uint32_t slots) {
+    uint8_t refusal = lt_format(cells, elements, slots, &image->held);
+    if (refusal) stop("format", refusal);
+    image->file = open(path, O_RDWR | O_CREAT | O_TRUNC, 0666);
+    if (image->file < 0) fail(path);
+    if (ftruncate(image->file, (off_t)lt_image_length(cells, elements, slots)) < 0) fail(path);
+    carry_out_all(image, lt_steps(image->held, &image->held));
+}
+
+void image_open(struct image *image, const char *path) {
+    off_t length;
+    uint8_t *bytes, refusal;
+    ssize_t done;
+    image->file = open(path, O_RDWR);
+    if (image->file < 0) fail(path);
+    length = lseek(image->file, 0, SEEK_END);
+    bytes = calloc((size_t)length + 1, 1);
+    if (length < 0 || !bytes) fail(path);
+    for (off_t at = 0; at < length; at += done) {
+        done = pread(image->file, bytes + at, (size_t)(length - at), at);
+        if (done <= 0) fail(path);
+    }
+    refusal = lt_open(bytes, (size_t)length, &image->held);
+    if (refusal) stop("open", refusal);
+    free(bytes);
+    carry_out_all(image, lt_steps(image->held, &image->held));
+}
+
+struct lt_outcome image_serve(struct image *image, struct lt_command command) {
+    struct lt_outcome outcome = {0, 0, 0};
+    carry_out_all(image, lt_serve(image->held, &command, &image->held, &outcome));
+    while (outcome.refusal == LT_JOURNAL_FULL) {
+        carry_out_all(image, lt_turn(image->held, &image->held, &outcome));
+        if (outcome.refusal) stop("turn", outcome.refusal);
+        carry_out_all(image, lt_serve(image->held, &command, &image->held, &outcome));
+    }
+    if (outcome.refusal) stop("serve", outcome.refusal);
+    return outcome;
+}
+
+struct lt_outcome image_collect(struct image *image, uint16_t element, uint64_t number) {
+    struct lt_outcome outcome = {0, 0, 0};
+    lt_collect(image->held, element, number, &image->held, &outcome);
+    if (outcome.refusal) stop("collect", outcome.refusal);
+    return outcome;
+}
+
+void image_close(struct image *image) {
+    lt_close(image->held);
+    if (close(image->file) < 0) fail("close");
+}
