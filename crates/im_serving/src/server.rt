@@ -171,6 +171,36 @@ fn await_one<D: Disk, K: Name, R: Wait>(
     }
 }
 
+// Waits for the oldest entry that is kept, and notes it and those behind it that are answered: the number behind them.
+fn note_answered<D: Disk, K: Name, R: Wait>(
+    rt: &R,
+    controller: &Controller<D, K>,
+    port: &mut Port<K>,
+    served: &mut Served,
+) -> Result<u64, Refusal>
+    ensures element { port.new.element ≡ port.old.element }
+    ensures count { length served.new.entries.items ≡ length served.old.entries.items }
+{
+    let base = served.base;
+    match await_one(rt, controller, port, served, base) {
+        Ok(()) => {}
+        Err(refusal) => return Err(refusal),
+    }
+    for number in base.saturating_add(1)..served.next() {
+        match port.collect(rt, controller, number) {
+            Ok(found) => {
+                let entry = found.entry();
+                if matches!(entry, Entry::Waiting) {
+                    return Ok(number);
+                }
+                served.note(number, entry);
+            }
+            Err(refusal) => return Err(refusal),
+        }
+    }
+    Ok(served.next())
+}
+
 // Has a place in the window for the next request: where it is full, the oldest entry is awaited and confirmed.
 fn make_place<D: Disk, K: Name, R: Wait>(
     rt: &R,
@@ -185,15 +215,13 @@ fn make_place<D: Disk, K: Name, R: Wait>(
         → AreGlanced K.memory port.old.element glances.new.last glances.new.glance glances.new.made.items }
     ensures made { glances.new.made ≡ glances.old.made }
 {
-    let base = served.base;
-    if served.next().saturating_sub(base) < WINDOW {
+    if served.next().saturating_sub(served.base) < WINDOW {
         return Ok(());
     }
-    match await_one(rt, controller, port, served, base) {
-        Ok(()) => {}
+    let upto = match note_answered(rt, controller, port, served) {
+        Ok(upto) => upto,
         Err(refusal) => return Err(refusal),
-    }
-    let upto = base.saturating_add(1);
+    };
     match confirm(rt, controller, port, upto) {
         Ok(receipt) => {
             let _confirmed = glances.learn(&receipt);
