@@ -15,5 +15,5 @@ pub use elements::{Done, PIPE, Part, serve_elements};
 pub use gate::{Gate, Open};
 pub use glances::{Glanced, Glances};
 pub use intent::Intent;
-pub use sender::send_all;
+pub use sender::{Sent, send_all};
 pub use server::{Served, serve_element};
