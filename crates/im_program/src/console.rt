@@ -1,6 +1,7 @@
 //! What a person is told on standard error.
 
 use crate::words::Job;
+use im_controller::{Standing, Teller};
 use im_disk::OpenFault;
 use im_text::{Observer, Progress, Reason, Waited, make_now};
 use im_types::Entry;
@@ -9,6 +10,9 @@ use std::io::Eprint;
 
 // How many requests are served between two lines of progress.
 const STRIDE: u64 = 4_096;
+
+// How many turns of checkpoints are made between two lines that tell how a run stands.
+const TURNS: u64 = 1_024;
 
 /// Standard error, for the work on these files.
 #[derive(Drop)]
@@ -92,5 +96,37 @@ impl<R: Eprint + AllocGlobal> Observer for Console<'_, R> {
             Reason::Output(_) | Reason::Memory => eprintln!(self.rt; "imem: {reason}"),
             _ => eprintln!(self.rt; "imem: {path}: {reason}"),
         };
+    }
+}
+
+/// Standard error, for the thread that keeps checkpoints in a run.
+#[derive(Drop)]
+pub struct Watch<'a, R> {
+    rt: &'a R,
+    is_watched: bool,
+    turns: u64,
+}
+
+impl<'a, R> Watch<'a, R> {
+    /// At its beginning. How the run stands is told where somebody watches.
+    pub fn new(rt: &'a R, is_watched: bool) -> Watch<'a, R> {
+        Watch {
+            rt,
+            is_watched,
+            turns: 0,
+        }
+    }
+}
+
+impl<R: Eprint> Teller for Watch<'_, R> {
+    fn listens(&mut self) -> bool {
+        let listens = self.is_watched && self.turns % TURNS == 0;
+        self.turns = self.turns.wrapping_add(1);
+        listens
+    }
+
+    fn tell(&mut self, standing: Standing) {
+        let Standing { waits, room } = standing;
+        let _printed = eprintln!(self.rt; "imem: {waits} elements wait, room for {room}");
     }
 }

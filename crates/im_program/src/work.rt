@@ -14,8 +14,9 @@ ghost use Rattle.im_run.specs.Running.{RanFrom};
 ghost use Rattle.im_program.specs.Words.{demonstration, task_of, task_of_job};
 ghost use Rattle.im_program.specs.Working.{DoneOn};
 
-use crate::console::Console;
+use crate::console::{Console, Watch};
 use crate::words::{DEFAULT_CELLS, DEFAULT_ELEMENTS, DEFAULT_SLOTS, Job, Work};
+use im_controller::Teller;
 use im_damage::Damage;
 use im_dialogue::dialogue_on;
 use im_disk::{Disk, FileDisk, MemDisk, OpenFault, Start};
@@ -256,12 +257,14 @@ pub fn serve_file<R: Files<File = File> + AllocGlobal + Input, S: Start, W: Writ
 pub fn run_file<
     R: Files<File = File> + AllocGlobal + Input + Threads + Wait + Sync,
     S: Start + Send,
+    T: Teller + Drop + Send,
     W: Write,
     N: Observer,
 >(
     rt: &R,
     image: &str,
     script: &str,
+    teller: T,
     out: &mut W,
     observer: &mut N,
     start: S,
@@ -282,7 +285,7 @@ pub fn run_file<
         Err(refusal) => return Err(refusal),
     };
     match FileDisk::open(rt, image, start) {
-        Ok(disk) => Ok(run_on(rt, rt.alloc(), disk, &script, &Open, out, observer)),
+        Ok(disk) => Ok(run_on(rt, rt.alloc(), disk, &script, &Open, teller, out, observer)),
         Err(fault) => Err(refusal_of(rt, image, fault, observer)),
     }
 }
@@ -523,7 +526,8 @@ fn act_at_once<
     ensures none { IfNone result.1 (result.0 ≡ 1) }
 {
     let mut console = Console::of(rt, image, script, is_watched);
-    match run_file(rt, image, script, out, &mut console, start) {
+    let watch = Watch::new(rt, is_watched);
+    match run_file(rt, image, script, watch, out, &mut console, start) {
         Ok((status, disk)) => (status, Some(disk)),
         Err(refusal) => (refuse(rt.alloc(), refusal, out), None),
     }

@@ -8,7 +8,7 @@ ghost use Rattle.im_run.specs.Running.{Closes, EndedOn, Ran, RanOn, RunOn};
 use crate::orders::{Order, read_orders};
 use crate::served::{Did, Outcome, serve_orders};
 use crate::telling::print_finals;
-use im_controller::start;
+use im_controller::{Teller, start};
 use im_disk::{Disk, OpenFault};
 use im_engine::Engine;
 use im_script::Script;
@@ -124,13 +124,21 @@ fn close<D: Disk, W: Write, N: Observer>(
 }
 
 // Serves what each element asks for on an engine, and gives its disk back.
-fn serve_on<D: Disk + Drop + Send, W: Write, N: Observer, G: Gate + Sync, R: Threads + Wait + Sync>(
+fn serve_on<
+    D: Disk + Drop + Send,
+    W: Write,
+    N: Observer,
+    G: Gate + Sync,
+    T: Teller + Drop + Send,
+    R: Threads + Wait + Sync,
+>(
     rt: &R,
     alloc: Global,
     engine: Engine<D>,
     orders: Vec<Order>,
     paper: Paper,
     gate: &G,
+    teller: T,
     out: &mut W,
     observer: &mut N,
 ) -> (u8, D)
@@ -147,7 +155,7 @@ fn serve_on<D: Disk + Drop + Send, W: Write, N: Observer, G: Gate + Sync, R: Thr
                 engine,
                 did,
                 refused,
-            } = serve_orders::<D, Brand, G, R>(rt, alloc, opening, orders, gate);
+            } = serve_orders::<D, Brand, G, T, R>(rt, alloc, opening, orders, gate, teller);
             close(alloc, engine, did, reason_of(refused), paper, out, observer)
         }
         Err((_, engine)) => close(
@@ -168,6 +176,7 @@ fn run_engine<
     W: Write,
     N: Observer,
     G: Gate + Sync,
+    T: Teller + Drop + Send,
     R: Threads + Wait + Sync,
 >(
     rt: &R,
@@ -176,6 +185,7 @@ fn run_engine<
     desk: Desk,
     script: &Script<'_>,
     gate: &G,
+    teller: T,
     out: &mut W,
     observer: &mut N,
 ) -> (u8, D)
@@ -192,7 +202,9 @@ fn run_engine<
     let read = read_orders(alloc, &mut server, script, out, observer);
     let (engine, paper) = server.leave();
     match read {
-        Ok(orders) => serve_on(rt, alloc, engine, orders, paper, gate, out, observer),
+        Ok(orders) => serve_on(
+            rt, alloc, engine, orders, paper, gate, teller, out, observer,
+        ),
         Err(reason) => close(alloc, engine, none, Err(reason), paper, out, observer),
     }
 }
@@ -204,7 +216,8 @@ fn run_engine<
 /// `refused N NAME` where something was refused. A request that wasn't sent, or a glance not made, has no line.
 ///
 /// A server waits for what its element asked for, and confirms it as its window fills. The gate is called round each
-/// request. Where the journal is full servers make turns of a checkpoint, beside the thread that keeps them.
+/// request. Where the journal is full servers make turns of a checkpoint, beside the thread that keeps them, which tells
+/// the teller how many servers wait and what room there is.
 ///
 /// The status is 0; or 3, with `refused 19 Stalled`, where servers that wait for each other are all that was refused;
 /// or 1: the image is refused at opening; a block of the setup can't be made, or a place lies past the last address
@@ -227,6 +240,7 @@ pub fn run_on<
     W: Write,
     N: Observer,
     G: Gate + Sync,
+    T: Teller + Drop + Send,
     R: Threads + Wait + Sync,
 >(
     rt: &R,
@@ -234,6 +248,7 @@ pub fn run_on<
     disk: D,
     script: &Script<'_>,
     gate: &G,
+    teller: T,
     out: &mut W,
     observer: &mut N,
 ) -> (u8, D)
@@ -250,7 +265,7 @@ pub fn run_on<
         Err(_) => return (end(alloc, Err(Reason::Memory), out, observer), disk),
     };
     match Engine::open(alloc, disk) {
-        Ok(engine) => run_engine(rt, alloc, engine, desk, script, gate, out, observer),
+        Ok(engine) => run_engine(rt, alloc, engine, desk, script, gate, teller, out, observer),
         Err((refusal, mut disk)) => {
             let reason = diagnose(alloc, &mut disk, refusal);
             (end(alloc, Err(reason), out, observer), disk)

@@ -9,7 +9,7 @@ use crate::glances::Glances;
 use crate::intent::Intent;
 use crate::sender::{Sent, send_all};
 use crate::server::{Served, serve_element};
-use im_controller::{Controller, Name, Port};
+use im_controller::{Controller, Name, Port, Teller};
 use im_disk::Disk;
 use im_pipes::{Inlet, Outlet, pipe};
 use im_types::Refusal;
@@ -334,13 +334,31 @@ fn begin_all<
     all
 }
 
+// Keeps checkpoints until the controller ends, and tells how things stand.
+fn keep_and_tell<D: Disk, K: Name, T: Teller, R: Wait>(
+    rt: &R,
+    controller: &Controller<D, K>,
+    teller: T,
+) -> Result<(), Refusal> {
+    let mut teller = teller;
+    controller.keep_checkpoints_and_tell(rt, &mut teller)
+}
+
 // Begins the thread that keeps checkpoints, if one can be made.
-fn keep<'s, E, D: Disk + Drop + Send, K: Name + Send + Sync, R: Threads + Wait + Sync>(
+fn keep<
+    's,
+    E,
+    D: Disk + Drop + Send,
+    K: Name + Send + Sync,
+    T: Teller + Drop + Send,
+    R: Threads + Wait + Sync,
+>(
     rt: &'s R,
     scope: &Scope<'s, E>,
     controller: &'s Controller<D, K>,
+    teller: T,
 ) -> Option<JoinHandle<Result<(), Refusal>>> {
-    match scope.spawn(move || controller.keep_checkpoints(rt)) {
+    match scope.spawn(move || keep_and_tell(rt, controller, teller)) {
         Ok(keeper) => Some(keeper),
         Err(_) => None,
     }
@@ -405,6 +423,7 @@ fn serve_within<
     D: Disk + Drop + Send,
     K: Name + Send + Sync,
     G: Gate + Sync,
+    T: Teller + Drop + Send,
     R: Threads + Wait + Sync,
 >(
     rt: &'s R,
@@ -412,6 +431,7 @@ fn serve_within<
     scope: &Scope<'s, E>,
     controller: &'s Controller<D, K>,
     gate: &'s G,
+    teller: T,
     parts: Vec<Part<K>>,
     room: (Vec<Running<K>>, Vec<Done<K>>),
 ) -> Vec<Done<K>>
@@ -420,7 +440,7 @@ fn serve_within<
     ensures { AreEnded K.memory parts.items result.items }
 {
     let (all, done) = room;
-    let keeper = keep(rt, scope, controller);
+    let keeper = keep(rt, scope, controller, teller);
     let all = begin_all(rt, alloc, scope, controller, gate, parts, all);
     let done = end_all(rt, all, done);
     controller.end(rt);
@@ -431,7 +451,7 @@ fn serve_within<
 }
 
 /// Serves all elements at once, each by a thread that sends what it asks for and one that serves it, beside the thread
-/// that keeps checkpoints. The ports come back in the order of the parts, each retired. An element one of whose threads
+/// that keeps checkpoints, which tells the teller how things stand. The ports come back in the order of the parts, each retired. An element one of whose threads
 /// can't be made is refused with `NoMemory`, and nothing of it is served. Without a thread that keeps checkpoints the
 /// servers make the turns that they need.
 ///
@@ -444,12 +464,14 @@ pub fn serve_elements<
     D: Disk + Drop + Send,
     K: Name + Send + Sync,
     G: Gate + Sync,
+    T: Teller + Drop + Send,
     R: Threads + Wait + Sync,
 >(
     rt: &R,
     alloc: Global,
     controller: &Controller<D, K>,
     gate: &G,
+    teller: T,
     parts: Vec<Part<K>>,
 ) -> Result<Vec<Done<K>>, AllocError>
     ensures ends { IfOk result (λ all. AreEnded K.memory parts.items all.items) }
@@ -464,6 +486,6 @@ pub fn serve_elements<
             requires all { (length parts.items ≤ vec_capacity room.0) × (room.0.items ≡ []) }
             requires done { (length parts.items ≤ vec_capacity room.1) × (room.1.items ≡ []) }
             ensures { AreEnded K.memory parts.entry.items result.items }
-        { serve_within(rt, alloc, scope, controller, gate, parts, room) },
+        { serve_within(rt, alloc, scope, controller, gate, teller, parts, room) },
     ))
 }

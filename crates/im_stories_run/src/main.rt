@@ -7,6 +7,7 @@ mod writers;
 
 use anyhow::{Result, anyhow};
 use gates::After;
+use im_controller::Silent;
 use im_disk::MemDisk;
 use im_engine::Engine;
 use im_report::inspect_on;
@@ -108,7 +109,16 @@ fn run<G: Gate + Sync, R: Threads + Wait + Sync>(
         return Err(anyhow!("this is no script"));
     };
     let mut out = Paper::new(alloc);
-    let (status, disk) = run_on(rt, alloc, disk, &script, gate, &mut out, &mut Nobody);
+    let (status, disk) = run_on(
+        rt,
+        alloc,
+        disk,
+        &script,
+        gate,
+        Silent,
+        &mut out,
+        &mut Nobody,
+    );
     said.push_str(out.into_text()?.as_str())?;
     writeln!(said, "status {status}")?;
     Ok(disk)
