@@ -1,8 +1,8 @@
 //! What a person is told on standard error.
 
 use crate::words::Job;
-use im_controller::{Standing, Teller};
 use im_disk::OpenFault;
+use im_serving::{Standing, Watcher};
 use im_text::{Observer, Progress, Reason, Waited, make_now};
 use im_types::Entry;
 use std::alloc::Global;
@@ -104,28 +104,21 @@ impl<R: Eprint + AllocGlobal> Observer for Console<'_, R> {
 pub struct Watch<'a, R> {
     rt: &'a R,
     is_watched: bool,
-    turns: u64,
 }
 
 impl<'a, R> Watch<'a, R> {
-    /// At its beginning. How the run stands is told where somebody watches.
+    /// How the run stands is told where somebody watches.
     pub fn new(rt: &'a R, is_watched: bool) -> Watch<'a, R> {
-        Watch {
-            rt,
-            is_watched,
-            turns: 0,
-        }
+        Watch { rt, is_watched }
     }
 }
 
-impl<R: Eprint> Teller for Watch<'_, R> {
-    fn listens(&mut self) -> bool {
-        let listens = self.is_watched && self.turns % TURNS == 0;
-        self.turns = self.turns.wrapping_add(1);
-        listens
+impl<R: Eprint> Watcher for Watch<'_, R> {
+    fn listens(&self, turn: u64) -> bool {
+        self.is_watched && turn % TURNS == 0
     }
 
-    fn tell(&mut self, standing: Standing) {
+    fn tell(&self, standing: Standing) {
         let Standing { waits, room } = standing;
         let _printed = eprintln!(self.rt; "imem: {waits} elements wait, room for {room}");
     }

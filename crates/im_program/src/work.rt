@@ -16,7 +16,6 @@ ghost use Rattle.im_program.specs.Working.{DoneOn};
 
 use crate::console::{Console, Watch};
 use crate::words::{DEFAULT_CELLS, DEFAULT_ELEMENTS, DEFAULT_SLOTS, Job, Work};
-use im_controller::Teller;
 use im_damage::Damage;
 use im_dialogue::dialogue_on;
 use im_disk::{Disk, FileDisk, MemDisk, OpenFault, Start};
@@ -26,7 +25,7 @@ use im_report::inspect_on;
 use im_run::{STALLED, run_on};
 use im_script::{Script, ScriptFault, read_script, read_script_with_glances};
 use im_serial::serial_on;
-use im_serving::Open;
+use im_serving::{Open, Watcher};
 use im_text::{Observer, Reason, put_refusal};
 use im_types::{Limits, MAX_CELLS, MAX_ELEMENTS, Refusal};
 use std::alloc::Global;
@@ -257,14 +256,14 @@ pub fn serve_file<R: Files<File = File> + AllocGlobal + Input, S: Start, W: Writ
 pub fn run_file<
     R: Files<File = File> + AllocGlobal + Input + Threads + Wait + Sync,
     S: Start + Send,
-    T: Teller + Drop + Send,
+    V: Watcher + Sync,
     W: Write,
     N: Observer,
 >(
     rt: &R,
     image: &str,
     script: &str,
-    teller: T,
+    watcher: &V,
     out: &mut W,
     observer: &mut N,
     start: S,
@@ -285,7 +284,7 @@ pub fn run_file<
         Err(refusal) => return Err(refusal),
     };
     match FileDisk::open(rt, image, start) {
-        Ok(disk) => Ok(run_on(rt, rt.alloc(), disk, &script, &Open, teller, out, observer)),
+        Ok(disk) => Ok(run_on(rt, rt.alloc(), disk, &script, &Open, watcher, out, observer)),
         Err(fault) => Err(refusal_of(rt, image, fault, observer)),
     }
 }
@@ -527,7 +526,7 @@ fn act_at_once<
 {
     let mut console = Console::of(rt, image, script, is_watched);
     let watch = Watch::new(rt, is_watched);
-    match run_file(rt, image, script, watch, out, &mut console, start) {
+    match run_file(rt, image, script, &watch, out, &mut console, start) {
         Ok((status, disk)) => (status, Some(disk)),
         Err(refusal) => (refuse(rt.alloc(), refusal, out), None),
     }

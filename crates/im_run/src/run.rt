@@ -8,12 +8,12 @@ ghost use Rattle.im_run.specs.Running.{Closes, EndedOn, Ran, RanOn, RunOn};
 use crate::orders::{Order, read_orders};
 use crate::served::{Did, Outcome, serve_orders};
 use crate::telling::print_finals;
-use im_controller::{Teller, start};
+use im_controller::start;
 use im_disk::{Disk, OpenFault};
 use im_engine::Engine;
 use im_script::Script;
 use im_serial::{Desk, Paper, Server};
-use im_serving::Gate;
+use im_serving::{Gate, Watcher};
 use im_text::{Observer, Reason, diagnose, end, finish};
 use im_types::Refusal;
 use std::alloc::Global;
@@ -129,7 +129,7 @@ fn serve_on<
     W: Write,
     N: Observer,
     G: Gate + Sync,
-    T: Teller + Drop + Send,
+    V: Watcher + Sync,
     R: Threads + Wait + Sync,
 >(
     rt: &R,
@@ -138,7 +138,7 @@ fn serve_on<
     orders: Vec<Order>,
     paper: Paper,
     gate: &G,
-    teller: T,
+    watcher: &V,
     out: &mut W,
     observer: &mut N,
 ) -> (u8, D)
@@ -155,7 +155,7 @@ fn serve_on<
                 engine,
                 did,
                 refused,
-            } = serve_orders::<D, Brand, G, T, R>(rt, alloc, opening, orders, gate, teller);
+            } = serve_orders::<D, Brand, G, V, R>(rt, alloc, opening, orders, gate, watcher);
             close(alloc, engine, did, reason_of(refused), paper, out, observer)
         }
         Err((_, engine)) => close(
@@ -176,7 +176,7 @@ fn run_engine<
     W: Write,
     N: Observer,
     G: Gate + Sync,
-    T: Teller + Drop + Send,
+    V: Watcher + Sync,
     R: Threads + Wait + Sync,
 >(
     rt: &R,
@@ -185,7 +185,7 @@ fn run_engine<
     desk: Desk,
     script: &Script<'_>,
     gate: &G,
-    teller: T,
+    watcher: &V,
     out: &mut W,
     observer: &mut N,
 ) -> (u8, D)
@@ -203,7 +203,7 @@ fn run_engine<
     let (engine, paper) = server.leave();
     match read {
         Ok(orders) => serve_on(
-            rt, alloc, engine, orders, paper, gate, teller, out, observer,
+            rt, alloc, engine, orders, paper, gate, watcher, out, observer,
         ),
         Err(reason) => close(alloc, engine, none, Err(reason), paper, out, observer),
     }
@@ -217,7 +217,7 @@ fn run_engine<
 ///
 /// A server waits for what its element asked for, and confirms it as its window fills. The gate is called round each
 /// request. Where the journal is full servers make turns of a checkpoint, beside the thread that keeps them, which tells
-/// the teller how many servers wait and what room there is.
+/// the watcher how many servers wait and what room there is.
 ///
 /// The status is 0; or 3, with `refused 19 Stalled`, where servers that wait for each other are all that was refused;
 /// or 1: the image is refused at opening; a block of the setup can't be made, or a place lies past the last address
@@ -240,7 +240,7 @@ pub fn run_on<
     W: Write,
     N: Observer,
     G: Gate + Sync,
-    T: Teller + Drop + Send,
+    V: Watcher + Sync,
     R: Threads + Wait + Sync,
 >(
     rt: &R,
@@ -248,7 +248,7 @@ pub fn run_on<
     disk: D,
     script: &Script<'_>,
     gate: &G,
-    teller: T,
+    watcher: &V,
     out: &mut W,
     observer: &mut N,
 ) -> (u8, D)
@@ -265,7 +265,9 @@ pub fn run_on<
         Err(_) => return (end(alloc, Err(Reason::Memory), out, observer), disk),
     };
     match Engine::open(alloc, disk) {
-        Ok(engine) => run_engine(rt, alloc, engine, desk, script, gate, teller, out, observer),
+        Ok(engine) => run_engine(
+            rt, alloc, engine, desk, script, gate, watcher, out, observer,
+        ),
         Err((refusal, mut disk)) => {
             let reason = diagnose(alloc, &mut disk, refusal);
             (end(alloc, Err(reason), out, observer), disk)

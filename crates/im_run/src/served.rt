@@ -6,10 +6,10 @@ ghost use Rattle.im_controller.specs.Kept.{begun_in};
 ghost use Rattle.im_run.specs.Running.{Follows, ServedOn};
 
 use crate::orders::Order;
-use im_controller::{Controller, Name, Opening, Port, Teller, finish};
+use im_controller::{Controller, Name, Opening, Port, finish};
 use im_disk::Disk;
 use im_engine::Engine;
-use im_serving::{Done, Gate, Glanced, Glances, Part, Served, serve_elements};
+use im_serving::{Done, Gate, Glanced, Glances, Part, Served, Watcher, serve_elements};
 use im_text::Waited;
 use im_types::Refusal;
 use std::alloc::{AllocError, Global};
@@ -180,7 +180,7 @@ fn make_parts<D: Disk, K: Name, R: Wait>(
 }
 
 /// Serves what each element asks for, all at once, through a controller over an engine, and gives the engine back. The
-/// thread that keeps checkpoints tells the teller how things stand.
+/// thread that keeps checkpoints tells the watcher how things stand.
 ///
 /// An element that isn't there is refused with `NoElement`, one for which there is no memory or thread with
 /// `NoMemory`: then nothing of it is served. Another's requests go on.
@@ -188,9 +188,16 @@ pub fn serve_orders<
     D: Disk + Drop + Send,
     K: Name + Send + Sync,
     G: Gate + Sync,
-    T: Teller + Drop + Send,
+    V: Watcher + Sync,
     R: Threads + Wait + Sync,
->(rt: &R, alloc: Global, opening: Opening<D>, orders: Vec<Order>, gate: &G, teller: T) -> Outcome<D>
+>(
+    rt: &R,
+    alloc: Global,
+    opening: Opening<D>,
+    orders: Vec<Order>,
+    gate: &G,
+    watcher: T,
+) -> Outcome<D>
     requires memory { opening.engine.memory ≡ K.memory }
     requires lines { opening.lines_name ≡ K.lines_name }
     requires marked { opening.marked_name ≡ K.marked_name }
@@ -206,7 +213,7 @@ pub fn serve_orders<
     let controller = opening.named::<K>();
     let mut notes = Notes::new(alloc);
     let parts = make_parts(rt, alloc, &controller, orders, &mut notes);
-    match serve_elements(rt, alloc, &controller, gate, teller, parts) {
+    match serve_elements(rt, alloc, &controller, gate, watcher, parts) {
         Ok(all) => {
             for done in all {
                 notes.take(done);

@@ -9,7 +9,8 @@ use crate::glances::Glances;
 use crate::intent::Intent;
 use crate::sender::{Sent, send_all};
 use crate::server::{Served, serve_element};
-use im_controller::{Controller, Name, Port, Teller};
+use crate::watching::{Counted, Watcher};
+use im_controller::{Controller, Name, Port};
 use im_disk::Disk;
 use im_pipes::{Inlet, Outlet, pipe};
 use im_types::Refusal;
@@ -335,13 +336,13 @@ fn begin_all<
 }
 
 // Keeps checkpoints until the controller ends, and tells how things stand.
-fn keep_and_tell<D: Disk, K: Name, T: Teller, R: Wait>(
+fn keep_and_tell<D: Disk, K: Name, W: Watcher, R: Wait>(
     rt: &R,
     controller: &Controller<D, K>,
-    teller: T,
+    watcher: &W,
 ) -> Result<(), Refusal> {
-    let mut teller = teller;
-    controller.keep_checkpoints_and_tell(rt, &mut teller)
+    let mut counted = Counted::of(watcher);
+    controller.keep_checkpoints_and_tell(rt, &mut counted)
 }
 
 // Begins the thread that keeps checkpoints, if one can be made.
@@ -350,15 +351,15 @@ fn keep<
     E,
     D: Disk + Drop + Send,
     K: Name + Send + Sync,
-    T: Teller + Drop + Send,
+    W: Watcher + Sync,
     R: Threads + Wait + Sync,
 >(
     rt: &'s R,
     scope: &Scope<'s, E>,
     controller: &'s Controller<D, K>,
-    teller: T,
+    watcher: &'s W,
 ) -> Option<JoinHandle<Result<(), Refusal>>> {
-    match scope.spawn(move || keep_and_tell(rt, controller, teller)) {
+    match scope.spawn(move || keep_and_tell(rt, controller, watcher)) {
         Ok(keeper) => Some(keeper),
         Err(_) => None,
     }
@@ -423,7 +424,7 @@ fn serve_within<
     D: Disk + Drop + Send,
     K: Name + Send + Sync,
     G: Gate + Sync,
-    T: Teller + Drop + Send,
+    W: Watcher + Sync,
     R: Threads + Wait + Sync,
 >(
     rt: &'s R,
@@ -431,7 +432,7 @@ fn serve_within<
     scope: &Scope<'s, E>,
     controller: &'s Controller<D, K>,
     gate: &'s G,
-    teller: T,
+    watcher: &'s W,
     parts: Vec<Part<K>>,
     room: (Vec<Running<K>>, Vec<Done<K>>),
 ) -> Vec<Done<K>>
@@ -440,7 +441,7 @@ fn serve_within<
     ensures { AreEnded K.memory parts.items result.items }
 {
     let (all, done) = room;
-    let keeper = keep(rt, scope, controller, teller);
+    let keeper = keep(rt, scope, controller, watcher);
     let all = begin_all(rt, alloc, scope, controller, gate, parts, all);
     let done = end_all(rt, all, done);
     controller.end(rt);
@@ -451,7 +452,7 @@ fn serve_within<
 }
 
 /// Serves all elements at once, each by a thread that sends what it asks for and one that serves it, beside the thread
-/// that keeps checkpoints, which tells the teller how things stand. The ports come back in the order of the parts, each retired. An element one of whose threads
+/// that keeps checkpoints, which tells the watcher how things stand. The ports come back in the order of the parts, each retired. An element one of whose threads
 /// can't be made is refused with `NoMemory`, and nothing of it is served. Without a thread that keeps checkpoints the
 /// servers make the turns that they need.
 ///
@@ -464,14 +465,14 @@ pub fn serve_elements<
     D: Disk + Drop + Send,
     K: Name + Send + Sync,
     G: Gate + Sync,
-    T: Teller + Drop + Send,
+    W: Watcher + Sync,
     R: Threads + Wait + Sync,
 >(
     rt: &R,
     alloc: Global,
     controller: &Controller<D, K>,
     gate: &G,
-    teller: T,
+    watcher: &W,
     parts: Vec<Part<K>>,
 ) -> Result<Vec<Done<K>>, AllocError>
     ensures ends { IfOk result (λ all. AreEnded K.memory parts.items all.items) }
@@ -485,7 +486,7 @@ pub fn serve_elements<
         move |scope| -> Vec<Done<K>>
             requires all { (length parts.items ≤ vec_capacity room.0) × (room.0.items ≡ []) }
             requires done { (length parts.items ≤ vec_capacity room.1) × (room.1.items ≡ []) }
-            ensures { AreEnded K.memory parts.entry.items result.items }
-        { serve_within(rt, alloc, scope, controller, gate, teller, parts, room) },
+            ensures { AreEnded K.memory parts.items result.items }
+        { serve_within(rt, alloc, scope, controller, gate, watcher, parts, room) },
     ))
 }

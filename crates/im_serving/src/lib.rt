@@ -10,10 +10,13 @@ mod glances;
 mod intent;
 mod sender;
 mod server;
+mod watching;
 
 pub use elements::{Done, PIPE, Part, serve_elements};
 pub use gate::{Gate, Open};
 pub use glances::{Glanced, Glances};
+pub use im_controller::Standing;
 pub use intent::Intent;
 pub use sender::{Sent, send_all};
 pub use server::{Served, serve_element};
+pub use watching::{Unwatched, Watcher};

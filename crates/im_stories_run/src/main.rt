@@ -7,13 +7,12 @@ mod writers;
 
 use anyhow::{Result, anyhow};
 use gates::After;
-use im_controller::Silent;
 use im_disk::MemDisk;
 use im_engine::Engine;
 use im_report::inspect_on;
 use im_run::run_on;
 use im_script::read_script_with_glances;
-use im_serving::{Gate, Open};
+use im_serving::{Gate, Open, Unwatched};
 use im_types::Limits;
 use im_types::layout::image_length;
 use std::alloc::Global;
@@ -115,7 +114,7 @@ fn run<G: Gate + Sync, R: Threads + Wait + Sync>(
         disk,
         &script,
         gate,
-        Silent,
+        &Unwatched,
         &mut out,
         &mut Nobody,
     );
