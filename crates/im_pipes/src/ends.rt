@@ -213,13 +213,6 @@ impl<T: Drop> Outlet<T> {
         }
     }
 
-    /// Whether the end mark was received. (Own.)
-    pub fn has_ended(&self) -> bool
-        ensures { result ≡ self.now.ended }
-    {
-        self.ended
-    }
-
     /// What both ends know together: what was received is a beginning of what was sent, in order, each item once; and
     /// after the end mark it is all of it. It takes both ends of one pipe, and does nothing. (Own.)
     pub fn whole(self, finished: Finished<T>)

@@ -22,7 +22,7 @@ use Rattle.im_serving.specs.declared.intent.Intent.{Intent}
 use Rattle.im_serving.specs.declared.intent.Intent.TheVariants.{Request, Glance}
 use Rattle.im_serving.specs.Serving.{AreDone, AreGlanced, HasLearnt, IsGlanced, requests, sites}
 
-pub prefix_trans : {A : Type 0} (xs ys zs : List A) → IsPrefix xs ys → IsPrefix ys zs → IsPrefix xs zs
+prefix_trans : {A : Type 0} (xs ys zs : List A) → IsPrefix xs ys → IsPrefix ys zs → IsPrefix xs zs
 prefix_trans xs ys zs p q = (p.0 ++ q.0, sym (append_assoc xs p.0 q.0) ∙ ap (λ l. l ++ q.0) p.1 ∙ q.1)
 
 -- ---- what was seen

@@ -1,4 +1,3 @@
 pub mod SendLemmas
 pub mod Crosses
 pub mod GlanceLemmas
-pub mod ElementLemmas
