@@ -156,7 +156,14 @@ fn run_as<G: Gate + Sync, R: Threads + Wait + Sync>(
     };
     let mut out = Paper::new(alloc);
     let (status, disk) = run_on(
-        rt, alloc, disk, &script, gate, &mut out, &mut Nobody, planned,
+        rt,
+        alloc,
+        disk,
+        &script,
+        gate,
+        &mut out,
+        &mut Nobody,
+        planned,
     );
     said.push_str(out.into_text()?.as_str())?;
     writeln!(said, "status {status}")?;
@@ -215,16 +222,21 @@ fn tell_both<G: Gate + Sync, R: Threads + Wait + Sync>(
     Ok(())
 }
 
-// The same, where the request of one element is held until that of the other is answered.
+// The same, or a plan, where the requests of one element are held until one of another's is answered.
 fn tell_held<R: Threads + Wait + Sync>(
     rt: &R,
     alloc: Global,
     first: u16,
     then: u16,
+    planned: bool,
     said: &mut String,
 ) -> Result<()> {
     let gate = After::new(first, then);
-    tell_both(rt, alloc, &gate, said)?;
+    if planned {
+        tell_plan(rt, alloc, PLAN, &gate, said)?;
+    } else {
+        tell_both(rt, alloc, &gate, said)?;
+    }
     let held = gate.has_held(rt);
     writeln!(said, "{then} was held until {first} was answered: {held}")?;
     Ok(())
@@ -256,29 +268,14 @@ fn tell_plan<G: Gate + Sync, R: Threads + Wait + Sync>(
     Ok(())
 }
 
-// A plan, where the requests of one element are held until one of another's is answered.
-fn tell_held_plan<R: Threads + Wait + Sync>(
-    rt: &R,
-    alloc: Global,
-    first: u16,
-    then: u16,
-    said: &mut String,
-) -> Result<()> {
-    let gate = After::new(first, then);
-    tell_plan(rt, alloc, PLAN, &gate, said)?;
-    let held = gate.has_held(rt);
-    writeln!(said, "{then} was held until {first} was answered: {held}")?;
-    Ok(())
-}
-
 // Plans, whose results are the same in any order, and scripts that are none.
 fn tell_plans<R: Threads + Wait + Sync>(rt: &R, alloc: Global, said: &mut String) -> Result<()> {
     said.push_str("# a plan, in any order\n")?;
     tell_plan(rt, alloc, PLAN, &Open, said)?;
     said.push_str("# two_servers: its fetches are held until a store is answered\n")?;
-    tell_held_plan(rt, alloc, 2, 1, said)?;
+    tell_held(rt, alloc, 2, 1, true, said)?;
     said.push_str("# its stores are held until a fetch is answered, which waits\n")?;
-    tell_held_plan(rt, alloc, 1, 2, said)?;
+    tell_held(rt, alloc, 1, 2, true, said)?;
     said.push_str("# no plan: two stores to one cell\n")?;
     tell_plan(rt, alloc, STORED_TWICE, &Open, said)?;
     said.push_str("# no plan: a block is made\n")?;
@@ -300,9 +297,9 @@ fn tell_all<R: Threads + Wait + Sync>(rt: &R, alloc: Global, said: &mut String) 
     said.push_str("# a fetch and its store, by two servers in any order\n")?;
     tell_both(rt, alloc, &Open, said)?;
     said.push_str("# two_servers: the fetch is held until the store is answered\n")?;
-    tell_held(rt, alloc, 2, 1, said)?;
+    tell_held(rt, alloc, 2, 1, false, said)?;
     said.push_str("# the store is held until the fetch is answered, which waits\n")?;
-    tell_held(rt, alloc, 1, 2, said)?;
+    tell_held(rt, alloc, 1, 2, false, said)?;
     tell_glances(rt, alloc, said)?;
     tell_plans(rt, alloc, said)
 }
