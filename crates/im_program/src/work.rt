@@ -241,8 +241,8 @@ pub fn serve_file<R: Files<File = File> + AllocGlobal + Input, S: Start, W: Writ
 }
 
 /// Runs the script of a file, which may have glances, on the image of another, each element's requests by threads of
-/// its own, and gives the image's disk back, with the status and the lines of [`run_on`]. The script is read first; the
-/// path `-` is standard input.
+/// its own, and gives the image's disk back, with the status and the lines of [`run_on`]. Its requests are a plan where
+/// it is planned. The script is read first; the path `-` is standard input.
 ///
 /// Whatever the image held when it was opened (`S`): as long as the file was honest, a crash at any moment since then
 /// leaves what [`run_on`] says.
@@ -263,6 +263,7 @@ pub fn run_file<
     rt: &R,
     image: &str,
     script: &str,
+    planned: bool,
     watcher: &V,
     out: &mut W,
     observer: &mut N,
@@ -284,7 +285,20 @@ pub fn run_file<
         Err(refusal) => return Err(refusal),
     };
     match FileDisk::open(rt, image, start) {
-        Ok(disk) => Ok(run_on(rt, rt.alloc(), disk, &script, &Open, watcher, out, observer)),
+        Ok(disk) => {
+            let (status, disk) = run_on(
+                rt,
+                rt.alloc(),
+                disk,
+                &script,
+                &Open,
+                watcher,
+                out,
+                observer,
+                planned,
+            );
+            Ok((status, disk))
+        }
         Err(fault) => Err(refusal_of(rt, image, fault, observer)),
     }
 }
@@ -514,6 +528,7 @@ fn act_at_once<
     rt: &R,
     image: &str,
     script: &str,
+    planned: bool,
     out: &mut W,
     is_watched: bool,
     start: S,
@@ -526,7 +541,7 @@ fn act_at_once<
 {
     let mut console = Console::of(rt, image, script, is_watched);
     let watch = Watch::new(rt, is_watched);
-    match run_file(rt, image, script, &watch, out, &mut console, start) {
+    match run_file(rt, image, script, planned, &watch, out, &mut console, start) {
         Ok((status, disk)) => (status, Some(disk)),
         Err(refusal) => (refuse(rt.alloc(), refusal, out), None),
     }
@@ -550,7 +565,11 @@ pub fn act<
 {
     match work {
         Work::Alone(job) => act_alone(rt, job, out, is_watched, start),
-        Work::Run { image, script } => act_at_once(rt, image, script, out, is_watched, start),
+        Work::Run {
+            image,
+            script,
+            planned,
+        } => act_at_once(rt, image, script, *planned, out, is_watched, start),
     }
 }
 

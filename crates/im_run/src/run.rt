@@ -6,9 +6,9 @@ ghost use Rattle.im_serial.specs.Serving.{NotOpened};
 ghost use Rattle.im_run.specs.Running.{Closes, EndedOn, Ran, RanOn, RunOn};
 
 use crate::orders::{Order, read_orders};
+use crate::planned::begin;
 use crate::served::{Did, Outcome, serve_orders};
 use crate::telling::print_finals;
-use im_controller::start;
 use im_disk::{Disk, OpenFault};
 use im_engine::Engine;
 use im_script::Script;
@@ -141,6 +141,7 @@ fn serve_on<
     watcher: &V,
     out: &mut W,
     observer: &mut N,
+    planned: bool,
 ) -> (u8, D)
     ensures status { (result.0 ≤ 1) ⊎ (result.0 ≡ STALLED) }
     ensures ended { D.honest result.1 → engine.failed ≡ false
@@ -149,7 +150,7 @@ fn serve_on<
 {
     let none = Vec::new(alloc);
     let room = trace_room(orders.as_slice(), engine.memory().elements());
-    match start(rt, alloc, engine, room) {
+    match begin(rt, alloc, engine, orders.as_slice(), room, planned) {
         Ok(opening) => {
             let Outcome {
                 engine,
@@ -158,15 +159,7 @@ fn serve_on<
             } = serve_orders::<D, Brand, G, V, R>(rt, alloc, opening, orders, gate, watcher);
             close(alloc, engine, did, reason_of(refused), paper, out, observer)
         }
-        Err((_, engine)) => close(
-            alloc,
-            engine,
-            none,
-            Err(Reason::Memory),
-            paper,
-            out,
-            observer,
-        ),
+        Err((reason, engine)) => close(alloc, engine, none, Err(reason), paper, out, observer),
     }
 }
 
@@ -188,6 +181,7 @@ fn run_engine<
     watcher: &V,
     out: &mut W,
     observer: &mut N,
+    planned: bool,
 ) -> (u8, D)
     requires works { engine.failed ≡ false }
     requires means { D.honest engine.disk → LeavesNow (D.now engine.disk) (MeansState engine) }
@@ -203,7 +197,7 @@ fn run_engine<
     let (engine, paper) = server.leave();
     match read {
         Ok(orders) => serve_on(
-            rt, alloc, engine, orders, paper, gate, watcher, out, observer,
+            rt, alloc, engine, orders, paper, gate, watcher, out, observer, planned,
         ),
         Err(reason) => close(alloc, engine, none, Err(reason), paper, out, observer),
     }
@@ -251,6 +245,7 @@ pub fn run_on<
     watcher: &V,
     out: &mut W,
     observer: &mut N,
+    planned: bool,
 ) -> (u8, D)
     ensures status { (result.0 ≤ 1) ⊎ (result.0 ≡ STALLED) }
     ensures ran { D.honest result.1 → (result.0 ≡ 0) ⊎ (result.0 ≡ STALLED)
@@ -266,7 +261,7 @@ pub fn run_on<
     };
     match Engine::open(alloc, disk) {
         Ok(engine) => run_engine(
-            rt, alloc, engine, desk, script, gate, watcher, out, observer,
+            rt, alloc, engine, desk, script, gate, watcher, out, observer, planned,
         ),
         Err((refusal, mut disk)) => {
             let reason = diagnose(alloc, &mut disk, refusal);
