@@ -286,7 +286,7 @@ pub fn run_file<
     };
     match FileDisk::open(rt, image, start) {
         Ok(disk) => {
-            let (status, disk) = run_on(
+            let (ended, disk) = run_on(
                 rt,
                 rt.alloc(),
                 disk,
@@ -297,7 +297,7 @@ pub fn run_file<
                 observer,
                 planned,
             );
-            Ok((status, disk))
+            Ok((ended, disk))
         }
         Err(fault) => Err(refusal_of(rt, image, fault, observer)),
     }
