@@ -196,7 +196,7 @@ pub fn serve_orders<
     opening: Opening<D>,
     orders: Vec<Order>,
     gate: &G,
-    watcher: T,
+    watcher: &V,
 ) -> Outcome<D>
     requires memory { opening.engine.memory ≡ K.memory }
     requires lines { opening.lines_name ≡ K.lines_name }
