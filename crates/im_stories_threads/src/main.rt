@@ -8,6 +8,7 @@ mod glances;
 mod naming;
 mod parts;
 mod scenes;
+mod servers;
 mod stops;
 mod traces;
 
