@@ -191,21 +191,6 @@ printed 8 = room 8
 printed 9 = 1.9 nocell
 printed 10 = room 10
 
-# A thread that listens gives all that is said, in its order
-disk 312320 = 312320 bytes
-format 4096 16 16 = formatted
-script 1.1 fetch 0 / 1.2 fetch 0 / 1.3 fetch 0 / 1.4 fetch 0 / 1.5 fetch 0 / 1.6 fetch 0 / 1.7 fetch 0 / = 7 lines
-script 1.8 fetch 0 / 1.9 fetch 0 / 1.10 fetch 0 / 1.11 fetch 0 / 1.12 fetch 0 / 1.13 fetch 0 / / 1.14 fetch 0 / = 15 lines
-script 1.15 fetch 0 / 1.16 fetch 0 / 2.1 fetch 0 / window 1 / count / 2.2 fetch = 20 lines
--- From the ninth command on it is asked whether something is there. An empty line is a line; what ends without one isn't.
-talk heard = 0
-printed = 20 lines
-printed 12 = 1.13 nocell
-printed 14 = 1.14 nocell
-printed 18 = 1 window 1 17
-printed 19 = count 17
-count = 17
-
 # Where the client isn't silent no room is made
 disk 312320 = 312320 bytes
 format 4096 16 16 = formatted

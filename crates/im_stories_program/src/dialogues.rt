@@ -1,17 +1,16 @@
 //! Dialogues on the image in memory: what was put together as a script is what the client says. All of it may stand in
-//! the reader's buffer at once, or a byte at a time; the client may be silent whenever the buffer is empty, or a thread
-//! may listen.
+//! the reader's buffer at once, or a byte at a time, and the client may be silent whenever the buffer is empty.
 
 use crate::Desk;
 use crate::writers::{Notes, Paper};
 use anyhow::Result;
 use im_dialogue::dialogue_on;
 use im_disk::{FuseDisk, Mode};
-use im_listening::{Ear, Listener};
+use im_listening::Ear;
 use im_story::{number, place};
 use im_types::LAST;
 use std::alloc::Global;
-use std::io::{self, BufRead, BufReader, Cursor, Read};
+use std::io::{self, BufReader, Read};
 
 // What a client says, who is silent whenever it is asked whether something is there, or never.
 #[derive(Drop)]
@@ -51,29 +50,19 @@ const PLAIN: Manner = Manner {
     bytes: usize::MAX,
 };
 
-// Holds a dialogue with what a reader gives. The status, and how many calls the disk was asked.
-fn hold_with<R: BufRead + Ear>(
-    alloc: Global,
-    desk: &mut Desk,
-    input: &mut R,
-    manner: Manner,
-) -> Result<(u8, u64)> {
-    let disk = FuseDisk::new(desk.image.take()?, manner.passes, Mode::Stop);
-    let mut out = Paper::new(alloc, manner.bytes);
-    let mut notes = Notes::new(alloc);
-    let (status, disk) = dialogue_on(alloc, disk, input, manner.watch, &mut out, &mut notes);
-    let calls = disk.calls();
-    desk.image.set(disk.into_inner());
-    desk.printed.set(out.into_text()?, notes);
-    Ok((status, calls))
-}
-
 // Holds a dialogue in which this is said. The status, and how many calls the disk was asked.
 fn hold(alloc: Global, desk: &mut Desk, text: &[u8], manner: Manner) -> Result<(u8, u64)> {
     let is_silent = manner.is_silent;
     let client = Client { text, is_silent };
     let mut input = BufReader::with_capacity(alloc, manner.buffer, client)?;
-    hold_with(alloc, desk, &mut input, manner)
+    let disk = FuseDisk::new(desk.image.take()?, manner.passes, Mode::Stop);
+    let mut out = Paper::new(alloc, manner.bytes);
+    let mut notes = Notes::new(alloc);
+    let (status, disk) = dialogue_on(alloc, disk, &mut input, manner.watch, &mut out, &mut notes);
+    let calls = disk.calls();
+    desk.image.set(disk.into_inner());
+    desk.printed.set(out.into_text()?, notes);
+    Ok((status, calls))
 }
 
 // How many calls an opening of the image makes: those of a dialogue in which nothing is said.
@@ -90,17 +79,6 @@ fn talk(alloc: Global, desk: &mut Desk, manner: Manner, said: &mut String) -> Re
     let (status, calls) = hold(alloc, desk, text.as_slice(), Manner { passes, ..manner })?;
     let calls = calls.saturating_sub(opening);
     Ok(write!(said, "{status}, {calls} calls")?)
-}
-
-// Holds a dialogue to which a thread listens, a few bytes at a time. Tells the status alone: how many turns are taken
-// depends on the schedule.
-fn talk_heard(alloc: Global, desk: &mut Desk, said: &mut String) -> Result<()> {
-    let text = desk.scripts.take_text(alloc);
-    let mut listener = Listener::new(*desk.rt, Cursor::new(text));
-    listener.begin(alloc);
-    let mut input = BufReader::with_capacity(alloc, 8, listener)?;
-    let (status, _) = hold_with(alloc, desk, &mut input, PLAIN)?;
-    Ok(write!(said, "{status}")?)
 }
 
 // How the words say that a dialogue is held.
@@ -133,10 +111,6 @@ pub fn tell(alloc: Global, desk: &mut Desk, words: &[&str], said: &mut String) -
     let ["talk", how @ ..] = words else {
         return Ok(false);
     };
-    if let ["heard"] = how {
-        talk_heard(alloc, desk, said)?;
-        return Ok(true);
-    }
     match manner_of(how)? {
         Some(manner) => talk(alloc, desk, manner, said)?,
         None => return Ok(false),
