@@ -25,8 +25,11 @@ fn slots_in(bytes: usize, least: Limits) -> u32
 // Half as many commands as the journal of an image of so many bytes has slots.
 fn half_of<D: Disk>(engine: &Engine<D>, bytes: usize) -> u32
     ensures { (slots : ℕ) → AreLimits (length engine.now.memory.cells) (length engine.now.memory.windows) slots
-        → bytes ≡ length_of_image layout_in_use (record { cells = length engine.now.memory.cells;
-            elements = length engine.now.memory.windows; slots = slots })
+        → bytes ≡ length_of_image layout_in_use (record {
+          cells = length engine.now.memory.cells;
+          elements = length engine.now.memory.windows;
+          slots = slots;
+        })
         → result ≡ slots / 2 }
 {
     let memory = engine.memory();

@@ -29,7 +29,10 @@ struct Loan<I> {
 
 // Waits for a byte. One alone: a reader that has given nothing has still all that it had.
 fn hear<I: Read>(loan: Loan<I>) -> Loan<I> {
-    let Loan { mut input, heard: _ } = loan;
+    let Loan {
+        mut input,
+        heard: _,
+    } = loan;
     let mut byte = [0u8; 1];
     let heard = match input.read(&mut byte) {
         Ok(0) => Heard::End,
@@ -40,11 +43,7 @@ fn hear<I: Read>(loan: Loan<I>) -> Loan<I> {
 }
 
 // The thread: waits for a byte of each reader that is lent, until nobody is left who lends one.
-fn hear_all<R: Wait + Drop, I: Read + Drop>(
-    rt: R,
-    lent: Receiver<Loan<I>>,
-    give: Sender<Loan<I>>,
-) {
+fn hear_all<R: Wait + Drop, I: Read + Drop>(rt: R, lent: Receiver<Loan<I>>, give: Sender<Loan<I>>) {
     for _ in rt.forever() {
         let Ok(loan) = lent.recv(&rt) else {
             return;
@@ -90,9 +89,10 @@ pub struct Listener<R, I: Drop> {
     helper: Option<Helper<I>>,
 }
 
-impl<R: Threads + Wait + Copy + Drop + Send + 'static, I: Read + Drop + Send + 'static>
-    Listener<R, I>
-{
+impl<R: Threads + Wait + Copy + Drop + Send + 'static, I: Read + Drop + Send + 'static> Listener<
+    R,
+    I,
+> {
     /// A reader of these bytes. It can't tell whether a read would wait until [`Listener::begin`].
     pub fn new(rt: R, input: I) -> Listener<R, I> {
         let heard = Heard::Nothing;

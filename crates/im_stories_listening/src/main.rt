@@ -76,7 +76,11 @@ fn tell_lines<R: AllocGlobal + Print + Threads + Wait + Copy + Drop + Send + 'st
         }
         given.extend_from_slice(&part[..count])?;
     }
-    println!(rt; "the same: {}, {} bytes", given.as_slice() == SAID, given.len())?;
+    println!(rt;
+        "the same: {}, {} bytes",
+        given.as_slice() == SAID,
+        given.len()
+    )?;
     Ok(())
 }
 
@@ -112,7 +116,10 @@ fn tell_fault<R: AllocGlobal + Print + Threads + Wait + Copy + Drop + Send + 'st
     wait_for(rt, &mut listener);
     let mut part = [0u8; 3];
     let is_fault = listener.read(&mut part).is_err();
-    println!(rt; "a fault: {is_fault}, then {} bytes", listener.read(&mut part)?)?;
+    println!(rt;
+        "a fault: {is_fault}, then {} bytes",
+        listener.read(&mut part)?
+    )?;
     Ok(())
 }
 

@@ -5,7 +5,7 @@ ghost use Rattle.std.specs.Prelude.{◌≡◌, ◌≤◌};
 
 use im_disk::Unknown;
 use im_listening::Listener;
-use im_program::{Job, Work, WordFault, act, read_words, refuse};
+use im_program::{Job, WordFault, Work, act, read_words, refuse};
 use im_types::Refusal;
 use std::alloc::{AllocError, Global};
 use std::env::{self, Env};
@@ -30,8 +30,18 @@ fn status_after(printed: io::Result<()>, status: u8) -> u8
 /// Does the work. Standard input is read as much at once as there is, so that lines of a dialogue which stand together
 /// are served together, and a thread listens to it where a dialogue is held.
 fn work_on<
-    R: Files<File = File> + AllocGlobal + Input<Reader = I> + Print + Eprint + Threads + Wait + Copy
-        + Drop + Send + Sync + 'static,
+    R: Files<File = File>
+        + AllocGlobal
+        + Input<Reader = I>
+        + Print
+        + Eprint
+        + Threads
+        + Wait
+        + Copy
+        + Drop
+        + Send
+        + Sync
+        + 'static,
     I: BufRead + Drop + Send + 'static,
     W: Write,
 >(rt: &R, work: &Work, out: &mut W, is_watched: bool) -> u8
@@ -52,8 +62,18 @@ fn work_on<
 
 /// Does what the words ask for.
 fn run<
-    R: Files<File = File> + AllocGlobal + Input<Reader = I> + Print + Eprint + Threads + Wait + Copy
-        + Drop + Send + Sync + 'static,
+    R: Files<File = File>
+        + AllocGlobal
+        + Input<Reader = I>
+        + Print
+        + Eprint
+        + Threads
+        + Wait
+        + Copy
+        + Drop
+        + Send
+        + Sync
+        + 'static,
     I: BufRead + Drop + Send + 'static,
     W: Write,
 >(rt: &R, words: &[&str], out: &mut W, is_watched: bool) -> u8
@@ -91,8 +111,19 @@ fn no_words<R: AllocGlobal + Eprint, W: Write>(rt: &R, error: &io::Error, out: &
 
 /// Reads the command line, and does what it asks for.
 fn start<
-    R: Env + Files<File = File> + AllocGlobal + Input<Reader = I> + Print + Eprint + Threads + Wait
-        + Copy + Drop + Send + Sync + 'static,
+    R: Env
+        + Files<File = File>
+        + AllocGlobal
+        + Input<Reader = I>
+        + Print
+        + Eprint
+        + Threads
+        + Wait
+        + Copy
+        + Drop
+        + Send
+        + Sync
+        + 'static,
     I: BufRead + Drop + Send + 'static,
     W: Write,
 >(rt: &R, out: &mut W, is_watched: bool) -> u8
