@@ -3,6 +3,7 @@ use Rattle.std.proofs.Common.{◌≡◌, ⊎_elim, inl, ℕ, List, [], ◌++◌,
 use Rattle.std.specs.Prelude.{Option, Bool, false}
 use Rattle.std.specs.Io.KnownBytes.{Appends}
 use Rattle.std.proofs.KnownBytes.{Appends-nil}
+use Rattle.im_types.specs.Layout.{image_length, layout_in_use}
 use Rattle.im_disk.specs.Moment.{Moment, Left}
 use Rattle.im_disk.specs.Since.{Leaves, LeavesNow}
 use Rattle.im_disk.proofs.SinceLemmas.{left_now, leaves_now, leaves_then}
@@ -13,6 +14,16 @@ use Rattle.im_text.proofs.PrintingLemmas.{take-all}
 use Rattle.im_dialogue.specs.Talk.{put_of, texts_of, Talking, TalksOn, TalkEnds}
 use Rattle.im_dialogue.specs.Dialogue.{Closed, Talked}
 use Rattle.im_dialogue.proofs.TalkLemmas.{at_start, ended_at}
+
+-- an image of these limits, by the numbers of cells and elements as the code has them
+pub same_length : (cells elements slots c e bytes : ℕ) → c ≡ cells → e ≡ elements → bytes ≡ image_length layout_in_use (record { cells = cells; elements = elements; slots = slots }) → bytes ≡ image_length layout_in_use (record { cells = c; elements = e; slots = slots })
+same_length cells elements slots c e bytes same_c same_e is =
+    subst (λ (n : ℕ). bytes ≡ image_length layout_in_use (record { cells = n; elements = e; slots = slots })) (sym same_c)
+    (subst (λ (n : ℕ). bytes ≡ image_length layout_in_use (record { cells = cells; elements = n; slots = slots })) (sym same_e) is)
+
+-- what is left since a moment is left since the same moment
+pub same_start : (was is new : Moment) (past_was past_is past_new : List Moment) → is ≡ was → past_is ≡ past_was → Leaves is new past_is past_new (Left is) → Leaves was new past_was past_new (Left was)
+same_start was is new past_was past_is past_new now past it = subst (λ (m : Moment). Leaves m new past_was past_new (Left m)) now (subst (λ (p : List Moment). Leaves is new p past_new (Left is)) past it)
 
 module _ {D : Type 0} (watch : Bool) (now : D → Moment) (past : D → List Moment) where
   -- an opening leaves nothing new, and what it found was there

@@ -4,14 +4,17 @@ ghost use Rattle.im_disk.specs.Since.{LeavesNow};
 ghost use Rattle.im_engine.specs.State.{MeansState};
 ghost use Rattle.im_dialogue.specs.Dialogue.{Closed, NotOpened, Talked};
 
+use crate::resting::open_with_half;
 use crate::serving::serve_lines;
 use im_disk::Disk;
 use im_engine::Engine;
+use im_listening::Ear;
 use im_text::{Observer, diagnose, end};
 use std::alloc::Global;
 use std::io::{BufRead, Write};
 
-/// Opens the image of a disk, serves a dialogue on it as [`serve_lines`] does, and gives the disk back.
+/// Opens the image of a disk, serves a dialogue on it as [`serve_lines`] does, and gives the disk back. While nothing is
+/// there to be read it takes turns of a checkpoint if there is room for less than half of what the journal holds.
 ///
 /// The status is 0, or 1 where something ended the dialogue: the image was refused at opening; a call of the disk
 /// failed; the input can't be read, or the output can't be written; or there was not enough memory. The observer is
@@ -21,7 +24,7 @@ use std::io::{BufRead, Write};
 /// leaves the memory after a beginning of the commands that were put on the image, and at the end after all that were
 /// answered, and where a call of the disk failed perhaps after those of the line or group that it was for. What was
 /// printed is a beginning of the answers, then of the refusal; and where the status is 0, all answers and nothing else.
-pub fn dialogue_on<D: Disk, R: BufRead, W: Write, N: Observer>(
+pub fn dialogue_on<D: Disk, R: BufRead + Ear, W: Write, N: Observer>(
     alloc: Global,
     disk: D,
     input: &mut R,
@@ -35,9 +38,8 @@ pub fn dialogue_on<D: Disk, R: BufRead, W: Write, N: Observer>(
         ⊎ Talked watch D.now D.past disk result.1 (W.contents out.old) (W.contents out.new) result.0 }
     ensures honest { D.honest result.1 → D.honest disk }
 {
-    // A stop in it leaves what a stop before it leaves: an opening writes nothing.
-    match Engine::open(alloc, disk) {
-        Ok(engine) => talk_on(alloc, engine, input, watch, out, observer),
+    match open_with_half(alloc, disk) {
+        Ok((engine, half)) => talk_on(alloc, engine, input, half, watch, out, observer),
         Err((refusal, mut disk)) => {
             let reason = diagnose(alloc, &mut disk, refusal);
             (end(alloc, Err(reason), out, observer), disk)
@@ -46,10 +48,11 @@ pub fn dialogue_on<D: Disk, R: BufRead, W: Write, N: Observer>(
 }
 
 // Serves a dialogue on an engine, and gives its disk back.
-fn talk_on<D: Disk, R: BufRead, W: Write, N: Observer>(
+fn talk_on<D: Disk, R: BufRead + Ear, W: Write, N: Observer>(
     alloc: Global,
     mut engine: Engine<D>,
     input: &mut R,
+    least: u32,
     watch: bool,
     out: &mut W,
     observer: &mut N,
@@ -61,7 +64,7 @@ fn talk_on<D: Disk, R: BufRead, W: Write, N: Observer>(
         → Closed watch D.now D.past engine result.1 (W.contents out.old) (W.contents out.new) result.0 }
     ensures honest { D.honest result.1 → D.honest engine.disk }
 {
-    match serve_lines(alloc, &mut engine, input, watch, out) {
+    match serve_lines(alloc, &mut engine, input, least, watch, out) {
         Ok(()) => (0, engine.close()),
         Err(reason) => (end(alloc, Err(reason), out, observer), engine.close()),
     }

@@ -4,6 +4,7 @@
 mod answers;
 mod asking;
 mod dialogue;
+mod resting;
 mod serving;
 mod talk;
 mod together;

@@ -8,13 +8,14 @@ ghost use Rattle.im_dialogue.specs.Talk.{TalkEnds, TalksOn};
 
 use crate::answers::{Answer, Expected, add_answer};
 use crate::asking::{Asked, read_asked};
-use crate::talk::{answer, make_room, wrong};
+use crate::talk::{answer, make_room, turn_while_quiet, wrong};
 use crate::together::{gather, serve_members};
 use crate::watching::{make_nows, told_with};
 use arrayvec::ArrayVec;
 use im_damage::Damage;
 use im_disk::Disk;
 use im_engine::Engine;
+use im_listening::Ear;
 use im_text::{Reason, put_through};
 use im_types::{MAX_GROUP, Request};
 use std::alloc::{AllocError, Global};
@@ -277,6 +278,29 @@ fn serve_next<D: Disk, R: BufRead, W: Write>(
     }
 }
 
+// Takes turns while nothing is there to be read and there is room for less than so many commands, and serves what is
+// read next. How many lines, or none where the dialogue is at its end.
+fn serve_rested<D: Disk, R: BufRead + Ear, W: Write>(
+    alloc: Global,
+    engine: &mut Engine<D>,
+    input: &mut R,
+    number: u64,
+    least: u32,
+    watch: bool,
+    drafts: &mut Drafts,
+    out: &mut W,
+) -> Result<u64, Reason>
+    ensures { MatchResult result
+        (λ _. TalksOn watch D.now D.past D.honest engine.old (W.contents out.old) engine.new (W.contents out.new))
+        (λ _. TalkEnds watch D.now D.past D.honest engine.old (W.contents out.old) engine.new (W.contents out.new)) }
+{
+    // All that was asked is answered by now: nobody waits for these turns.
+    if let Err(refusal) = turn_while_quiet(engine, input, least) {
+        return Err(Reason::Image(refusal, Damage::Unknown));
+    }
+    serve_next(alloc, engine, input, number, watch, drafts, out)
+}
+
 /// Serves a dialogue on an engine, until the input ends or `quit` is asked. Each line of the input is answered by one
 /// line, in their order, which is written and put through once what it tells is on the disk. A line that isn't in the
 /// grammar is answered by what was expected, and changes nothing. The end of the input without a line feed is no line.
@@ -284,6 +308,9 @@ fn serve_next<D: Disk, R: BufRead, W: Write>(
 /// Up to 16 requests of elements that differ, whose lines stand in the reader's buffer one behind the other, are served
 /// as one group, and their answers written together: they are those that the lines would have by themselves. No line
 /// waits for another. All other lines are answered before the next one is read.
+///
+/// While nothing is there to be read, as the reader tells, turns of a checkpoint are taken if there is room for less than
+/// so many commands (`least`).
 ///
 /// Where it is watched (`watch`), the line of a request is followed by a line `E.N now REPLY` for each request that
 /// waited and is answered by it, in the order in which they came. A request that may bring such lines is then served by
@@ -293,10 +320,11 @@ fn serve_next<D: Disk, R: BufRead, W: Write>(
 /// that can't be read, an output that can't be written, and want of memory. What was printed is then a beginning of the
 /// answers, and each command that was answered is in every file that a crash leaves; those of a group that wasn't
 /// answered are there all together or not at all.
-pub fn serve_lines<D: Disk, R: BufRead, W: Write>(
+pub fn serve_lines<D: Disk, R: BufRead + Ear, W: Write>(
     alloc: Global,
     engine: &mut Engine<D>,
     input: &mut R,
+    least: u32,
     watch: bool,
     out: &mut W,
 ) -> Result<(), Reason>
@@ -311,7 +339,7 @@ pub fn serve_lines<D: Disk, R: BufRead, W: Write>(
     };
     let mut number: u64 = 1;
     for _served in 0..u64::MAX {
-        match serve_next(alloc, engine, input, number, watch, &mut drafts, out) {
+        match serve_rested(alloc, engine, input, number, least, watch, &mut drafts, out) {
             Ok(0) => return Ok(()),
             Ok(many) => number = number.saturating_add(many),
             Err(reason) => return Err(reason),

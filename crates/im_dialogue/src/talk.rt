@@ -1,5 +1,5 @@
 //! What is asked, done on an engine.
-ghost use Rattle.std.specs.Prelude.{◌≡◌, Some, None, MatchOption, MatchResult};
+ghost use Rattle.std.specs.Prelude.{◌≡◌, ◌≤◌, true, Some, None, MatchOption, MatchResult};
 ghost use Rattle.im_dialogue.specs.declared.asking.Asked.TheVariants.{Collect, Count, Quit, Room, Serve, Turn, Window};
 ghost use Rattle.im_dialogue.specs.declared.answers.Answer.TheVariants as answer;
 ghost use Rattle.im_dialogue.specs.Talk.{GoesOn, Halts, Says, is_end};
@@ -9,6 +9,7 @@ use crate::asking::Asked;
 use im_checkpoint::TurnDone;
 use im_disk::Disk;
 use im_engine::Engine;
+use im_listening::Ear;
 use im_types::layout::MOST_AREA_PAGES;
 use im_types::{Command, Refusal, Waiter};
 
@@ -29,16 +30,33 @@ fn take_turn<D: Disk>(engine: &mut Engine<D>) -> Result<TurnDone, Refusal>
     }
 }
 
-/// Takes turns of a checkpoint while there is room for less than so many commands, and something is left to do.
-/// `Device`, where a call of the disk failed, or `Failed`, where one had failed before: what was said stays.
-pub fn make_room<D: Disk>(engine: &mut Engine<D>, least: u32) -> Result<(), Refusal>
+/// What hears nothing.
+#[derive(Drop)]
+struct Deaf;
+
+impl Ear for Deaf {
+    fn is_quiet(&mut self) -> bool {
+        true
+    }
+}
+
+/// Takes turns of a checkpoint while nothing is heard, there is room for less than so many commands, and something is
+/// left to do. `Device`, where a call of the disk failed, or `Failed`, where one had failed before: what was said stays.
+/// Where there is room for so many, or where a read never waits, nothing is done.
+pub(crate) fn turn_while_quiet<D: Disk, E: Ear>(
+    engine: &mut Engine<D>,
+    ear: &mut E,
+    least: u32,
+) -> Result<(), Refusal>
     ensures goes { MatchResult result
         (λ _. GoesOn D.now D.past D.honest engine.old engine.new)
         (λ _. Halts D.now D.past D.honest engine.old engine.new) }
     ensures honest { D.honest engine.new.disk → D.honest engine.old.disk }
+    ensures enough { least ≤ engine.old.room → engine.new ≡ engine.old }
+    ensures ready { E.is_ready ear.old ≡ true → engine.new ≡ engine.old }
 {
     for _turn in 0..MOST_TURNS {
-        if engine.room() >= least {
+        if engine.room() >= least || !ear.is_quiet() {
             return Ok(());
         }
         // A stop in it leaves the memory as it is.
@@ -51,6 +69,17 @@ pub fn make_room<D: Disk>(engine: &mut Engine<D>, least: u32) -> Result<(), Refu
         }
     }
     Ok(())
+}
+
+/// Takes turns of a checkpoint while there is room for less than so many commands, and something is left to do.
+/// `Device`, where a call of the disk failed, or `Failed`, where one had failed before: what was said stays.
+pub fn make_room<D: Disk>(engine: &mut Engine<D>, least: u32) -> Result<(), Refusal>
+    ensures goes { MatchResult result
+        (λ _. GoesOn D.now D.past D.honest engine.old engine.new)
+        (λ _. Halts D.now D.past D.honest engine.old engine.new) }
+    ensures honest { D.honest engine.new.disk → D.honest engine.old.disk }
+{
+    turn_while_quiet(engine, &mut Deaf, least)
 }
 
 // Whether a refusal ends the dialogue: a call of the disk has failed.

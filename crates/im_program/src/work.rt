@@ -21,6 +21,7 @@ use im_dialogue::dialogue_on;
 use im_disk::{Disk, FileDisk, MemDisk, OpenFault, Start};
 use im_engine::Engine;
 use im_image::image_length;
+use im_listening::Ear;
 use im_report::inspect_on;
 use im_run::{STALLED, run_on};
 use im_script::{Script, ScriptFault, read_script, read_script_with_glances};
@@ -30,7 +31,7 @@ use im_text::{Observer, Reason, put_refusal};
 use im_types::{Limits, MAX_CELLS, MAX_ELEMENTS, Refusal};
 use std::alloc::Global;
 use std::fs::{self, File, OpenOptions};
-use std::io::{self, BufReader, Eprint, ErrorKind, Input, Read, Write};
+use std::io::{self, BufRead, Eprint, ErrorKind, Input, Read, Write};
 use std::rt::Files;
 use std::sync::Wait;
 use std::thread::Threads;
@@ -303,29 +304,7 @@ pub fn run_file<
     }
 }
 
-/// Serves a dialogue of standard input on a disk. It is read as much at once as there is, so that lines which stand
-/// together are served together; where there is no memory for that, byte by byte.
-fn talk_on_input<R: AllocGlobal + Input, D: Disk, W: Write, N: Observer>(
-    rt: &R,
-    disk: D,
-    watch: bool,
-    out: &mut W,
-    observer: &mut N,
-) -> (u8, D)
-    ensures status { result.0 ≤ 1 }
-    ensures talked { D.honest result.1
-        → NotOpened D.now D.past disk result.1 (W.contents out.old) (W.contents out.new) result.0
-        ⊎ Talked watch D.now D.past disk result.1 (W.contents out.old) (W.contents out.new) result.0 }
-    ensures honest { D.honest result.1 → D.honest disk }
-{
-    match BufReader::new(rt.alloc(), rt.reader()) {
-        Ok(mut input) => dialogue_on(rt.alloc(), disk, &mut input, watch, out, observer),
-        Err(_) => dialogue_on(rt.alloc(), disk, &mut rt.reader(), watch, out, observer),
-    }
-}
-
-/// Serves a dialogue of standard input on the image of a file, and gives its disk back, with the status and the lines
-/// of [`dialogue_on`].
+/// Serves a dialogue on the image of a file, and gives its disk back, with the status and the lines of [`dialogue_on`].
 ///
 /// Whatever the image held when it was opened (`S`): as long as the file was honest, a crash at any moment since then
 /// leaves what [`dialogue_on`] says.
@@ -335,9 +314,16 @@ fn talk_on_input<R: AllocGlobal + Input, D: Disk, W: Write, N: Observer>(
 /// [`dialogue_on`] refuses is its status and its last line.
 ///
 /// That an image is ever opened is no clause: none knows what a folder holds.
-pub fn talk_file<R: Files<File = File> + AllocGlobal + Input, S: Start, W: Write, N: Observer>(
+pub fn talk_file<
+    R: Files<File = File> + AllocGlobal,
+    S: Start,
+    I: BufRead + Ear,
+    W: Write,
+    N: Observer,
+>(
     rt: &R,
     image: &str,
+    input: &mut I,
     watch: bool,
     out: &mut W,
     observer: &mut N,
@@ -351,7 +337,7 @@ pub fn talk_file<R: Files<File = File> + AllocGlobal + Input, S: Start, W: Write
     ensures same { OnErr result (Keeps (W.contents out.old) (W.contents out.new)) }
 {
     match FileDisk::open(rt, image, start) {
-        Ok(disk) => Ok(talk_on_input(rt, disk, watch, out, observer)),
+        Ok(disk) => Ok(dialogue_on(rt.alloc(), disk, input, watch, out, observer)),
         Err(fault) => Err(refusal_of(rt, image, fault, observer)),
     }
 }
@@ -445,9 +431,16 @@ fn format_image<R: Files<File = File> + AllocGlobal, S: Start, N: Observer>(
 }
 
 /// Does the job. The status, and the disk of the file that was opened for it, if one was.
-fn do_job<R: Files<File = File> + AllocGlobal + Input, S: Start, W: Write, N: Observer>(
+fn do_job<
+    R: Files<File = File> + AllocGlobal + Input,
+    S: Start,
+    I: BufRead + Ear,
+    W: Write,
+    N: Observer,
+>(
     rt: &R,
     job: &Job,
+    input: &mut I,
     out: &mut W,
     observer: &mut N,
     start: S,
@@ -476,7 +469,9 @@ fn do_job<R: Files<File = File> + AllocGlobal + Input, S: Start, W: Write, N: Ob
             Ok((status, disk)) => Ok((status, Some(disk))),
             Err(refusal) => Err(refusal),
         },
-        Job::Serve { image, watch } => match talk_file(rt, image, watch, out, observer, start) {
+        Job::Serve { image, watch } => match talk_file(
+            rt, image, input, watch, out, observer, start,
+        ) {
             Ok((status, disk)) => Ok((status, Some(disk))),
             Err(refusal) => Err(refusal),
         },
@@ -488,10 +483,10 @@ fn do_job<R: Files<File = File> + AllocGlobal + Input, S: Start, W: Write, N: Ob
 }
 
 /// Does the job of one thread, and answers the status that the program ends with: 0, or 1 where something was refused
-/// or a write of the output failed; and the disk of the image, where its file was made or opened. What it prints goes
-/// to `out`, a refusal as its last line `refused N NAME`. Standard error has one line of reason for a refusal, and a
-/// line `K.N now REPLY` for a request that waited when the image was opened and whose entry is confirmed; and, where
-/// `is_watched`, how far a long script has come.
+/// or a write of the output failed; and the disk of the image, where its file was made or opened. A dialogue reads
+/// `input`. What it prints goes to `out`, a refusal as its last line `refused N NAME`. Standard error has one line of
+/// reason for a refusal, and a line `K.N now REPLY` for a request that waited when the image was opened and whose entry
+/// is confirmed; and, where `is_watched`, how far a long script has come.
 ///
 /// Refused are: `BadLimits` for an image with a number out of its range, and then no file is made; and what
 /// [`format_file`], [`serve_file`], [`talk_file`] and [`inspect_file`] refuse. Where there is a disk, its status and
@@ -499,9 +494,15 @@ fn do_job<R: Files<File = File> + AllocGlobal + Input, S: Start, W: Write, N: Ob
 /// demonstration.
 ///
 /// `start` stands for what the image holds when it is opened. It is used up, and no code reads it.
-pub fn act_alone<R: Files<File = File> + AllocGlobal + Input + Eprint, S: Start, W: Write>(
+pub fn act_alone<
+    R: Files<File = File> + AllocGlobal + Input + Eprint,
+    S: Start,
+    I: BufRead + Ear,
+    W: Write,
+>(
     rt: &R,
     job: &Job,
+    input: &mut I,
     out: &mut W,
     is_watched: bool,
     start: S,
@@ -513,7 +514,7 @@ pub fn act_alone<R: Files<File = File> + AllocGlobal + Input + Eprint, S: Start,
     ensures none { IfNone result.1 ((task_of_job job.now ≡ demonstration) ⊎ (result.0 ≡ 1)) }
 {
     let mut console = Console::new(rt, *job, is_watched);
-    match do_job(rt, job, out, &mut console, start) {
+    match do_job(rt, job, input, out, &mut console, start) {
         Ok(done) => done,
         Err(refusal) => (refuse(rt.alloc(), refusal, out), None),
     }
@@ -555,8 +556,16 @@ fn act_at_once<
 pub fn act<
     R: Files<File = File> + AllocGlobal + Input + Eprint + Threads + Wait + Sync,
     S: Start + Send,
+    I: BufRead + Ear,
     W: Write,
->(rt: &R, work: &Work, out: &mut W, is_watched: bool, start: S) -> (u8, Option<FileDisk<S>>)
+>(
+    rt: &R,
+    work: &Work,
+    input: &mut I,
+    out: &mut W,
+    is_watched: bool,
+    start: S,
+) -> (u8, Option<FileDisk<S>>)
     ensures status { (result.0 ≤ 1) ⊎ (result.0 ≡ STALLED) }
     ensures done { IfSome result.1 (λ disk. ⟦<FileDisk<S> as Disk>⟧.honest disk →
         DoneOn ⟦<FileDisk<S> as Disk>⟧.now ⟦<FileDisk<S> as Disk>⟧.past ⟦<FileDisk<S> as Disk>⟧.failures S.first
@@ -564,7 +573,7 @@ pub fn act<
     ensures none { IfNone result.1 ((task_of work.now ≡ demonstration) ⊎ (result.0 ≡ 1)) }
 {
     match work {
-        Work::Alone(job) => act_alone(rt, job, out, is_watched, start),
+        Work::Alone(job) => act_alone(rt, job, input, out, is_watched, start),
         Work::Run {
             image,
             script,

@@ -177,3 +177,114 @@ script 1.1 fetch 0 / 2.1 fetch 0 / 3.1 fetch 0 / = 3 lines
 -- All three are on the disk; a line and half of one were written.
 talk to 15 bytes = 1, 6 calls
 count = 3
+
+# While nobody asks, room is made as soon as there is less than a half
+disk 312320 = 312320 bytes
+format 4096 16 16 = formatted
+script 1.1 fetch 0 / 1.2 fetch 0 / 1.3 fetch 0 / 1.4 fetch 0 / 1.5 fetch 0 / 1.6 fetch 0 / 1.7 fetch 0 / = 7 lines
+script 1.8 fetch 0 / room / 1.9 fetch 0 / room / = 11 lines
+-- Four calls for each command. Room 8 is a half. Behind the ninth command there is room for 7: the checkpoint begins, writes
+-- 37 pages, syncs by 2 calls, comes into force by 4, and sweeps three slots by 4. Then there is room for 10.
+talk slowly silently = 0, 83 calls
+printed = 11 lines
+printed 8 = room 8
+printed 9 = 1.9 nocell
+printed 10 = room 10
+
+# Where the client isn't silent no room is made
+disk 312320 = 312320 bytes
+format 4096 16 16 = formatted
+script 1.1 fetch 0 / 1.2 fetch 0 / 1.3 fetch 0 / 1.4 fetch 0 / 1.5 fetch 0 / 1.6 fetch 0 / 1.7 fetch 0 / = 7 lines
+script 1.8 fetch 0 / 1.9 fetch 0 / room / = 10 lines
+talk slowly = 0, 36 calls
+printed 9 = room 7
+
+# The disk fails while nobody asks: all that was asked is answered
+disk 312320 = 312320 bytes
+format 4096 16 16 = formatted
+script 1.1 fetch 0 / 1.2 fetch 0 / 1.3 fetch 0 / 1.4 fetch 0 / 1.5 fetch 0 / 1.6 fetch 0 / 1.7 fetch 0 / = 7 lines
+script 1.8 fetch 0 / 1.9 fetch 0 / room / = 10 lines
+talk slowly silently 40 calls = 1, 41 calls
+printed = 10 lines
+printed 8 = 1.9 nocell
+printed 9 = refused 8 Device
+count = 9
+
+# A full journal is given room by turns before a command, and before a group for all of it
+disk 312320 = 312320 bytes
+format 4096 16 16 = formatted
+script 1.1 fetch 0 / 1.2 fetch 0 / 1.3 fetch 0 / 1.4 fetch 0 / 1.5 fetch 0 / 1.6 fetch 0 / 1.7 fetch 0 / = 7 lines
+script 1.8 fetch 0 / 1.9 fetch 0 / 1.10 fetch 0 / 1.11 fetch 0 / 1.12 fetch 0 / 1.13 fetch 0 / 1.14 fetch 0 / = 14 lines
+script 1.15 fetch 0 / 1.16 fetch 0 / 2.1 fetch 0 / room / = 18 lines
+-- Sixteen commands, then 37 pages, 2, 4, and three slots by 4, and one more command.
+talk slowly = 0, 115 calls
+printed 16 = 2.1 nocell
+printed 17 = room 2
+
+# Refusals of numbers are answered, and serving goes on
+disk 327680 = 327680 bytes
+format 4096 16 256 = formatted
+script 1.1 fetch 0 / confirm 1 2 / 1.1 fetch 0 / collect 1.1 / 1.3 fetch 0 / 1.2 fetch 0 / confirm 1 1 / = 7 lines
+-- Two requests and a confirmation are put on the disk; a confirmation of what is dropped already is done again by nothing.
+talk slowly = 0, 12 calls
+printed 0 = 1.1 nocell
+printed 1 = 1 confirmed 2
+printed 2 = 1.1 refused 2 Forgotten
+printed 3 = 1.1 refused 2 Forgotten
+printed 4 = 1.3 refused 1 Gap
+printed 5 = 1.2 nocell
+printed 6 = 1 confirmed 1
+
+# A window that is full is refused, until it is confirmed
+disk 327680 = 327680 bytes
+format 4096 16 256 = formatted
+script 1.1 fetch 0 / 1.2 fetch 0 / 1.3 fetch 0 / 1.4 fetch 0 / 1.5 fetch 0 / 1.6 fetch 0 / 1.7 fetch 0 / = 7 lines
+script 1.8 fetch 0 / 1.9 fetch 0 / 1.10 fetch 0 / 1.11 fetch 0 / 1.12 fetch 0 / 1.13 fetch 0 / 1.14 fetch 0 / = 14 lines
+script 1.15 fetch 0 / 1.16 fetch 0 / 1.17 fetch 0 / confirm 1 2 / 1.17 fetch 0 / window 1 / = 20 lines
+talk = 0, 72 calls
+printed 15 = 1.16 nocell
+printed 16 = 1.17 refused 3 WindowFull
+printed 17 = 1 confirmed 2
+printed 18 = 1.17 nocell
+printed 19 = 1 window 2 18
+
+# Each turn of the least image's checkpoint is told
+disk 33792 = 33792 bytes
+format 1 1 16 = formatted
+script turn / 0.1 alloc i 1 / 0.2 fetch 0 / 0.3 store 0 0 / turn / turn / turn / turn / turn / turn / turn / turn / room / = 13 lines
+-- Three commands take twelve calls, and the turns thirteen.
+talk = 0, 25 calls
+printed 0 = turn idle
+printed 1 = 0.1 base 0
+printed 2 = 0.2 waiting
+printed 3 = 0.3 stored
+printed 4 = turn began
+printed 5 = turn page 0
+printed 6 = turn page 1
+printed 7 = turn page 2
+printed 8 = turn synced
+printed 9 = turn inforce
+printed 10 = turn swept
+printed 11 = turn idle
+printed 12 = room 16
+
+# What ends without a line feed isn't asked
+disk 327680 = 327680 bytes
+format 4096 16 256 = formatted
+script 1.1 fetch 0 / 1.2 fetch = 1 lines
+talk = 0, 4 calls
+printed = 1 lines
+count = 1
+
+# A full journal that no checkpoint empties is told, and serving goes on
+-- An image whose count of commands is the last that there is.
+disk 33792 = 33792 bytes
+format 1 1 16 = formatted
+write 23 40 = 00
+script 0.1 fetch 0 / collect 0.1 / window 0 / room / = 4 lines
+talk slowly silently = 0, 0 calls
+printed = 4 lines
+printed 0 = 0.1 refused 7 JournalFull
+printed 1 = 0.1 refused 1 Gap
+printed 2 = 0 window 1 1
+printed 3 = room 0

@@ -18,7 +18,8 @@ fn run(desk: &mut Desk, words: &[&str], said: &mut String) -> Result<()> {
         return Err(anyhow!("the words ask for no work of one thread"));
     };
     let mut out = Paper::new(alloc, usize::MAX);
-    let (status, _disk) = act_alone(desk.rt, &job, &mut out, false, Unknown);
+    let mut nothing = b"".as_slice();
+    let (status, _disk) = act_alone(desk.rt, &job, &mut nothing, &mut out, false, Unknown);
     desk.printed.set(out.into_text()?, Notes::new(alloc));
     Ok(write!(said, "{status}")?)
 }

@@ -4,12 +4,13 @@
 ghost use Rattle.std.specs.Prelude.{◌≡◌, ◌≤◌};
 
 use im_disk::Unknown;
-use im_program::{WordFault, act, read_words, refuse};
+use im_listening::Listener;
+use im_program::{Job, WordFault, Work, act, read_words, refuse};
 use im_types::Refusal;
 use std::alloc::{AllocError, Global};
 use std::env::{self, Env};
 use std::fs::File;
-use std::io::{self, Eprint, Input, IsTerminal, Print, Write};
+use std::io::{self, BufRead, BufReader, Eprint, Input, IsTerminal, Print, Write};
 use std::process::ExitCode;
 use std::rt::Files;
 use std::sync::Wait;
@@ -26,18 +27,60 @@ fn status_after(printed: io::Result<()>, status: u8) -> u8
     }
 }
 
+/// Does the work. Standard input is read as much at once as there is, so that lines of a dialogue which stand together
+/// are served together, and a thread listens to it where a dialogue is held.
+fn work_on<
+    R: Files<File = File>
+        + AllocGlobal
+        + Input<Reader = I>
+        + Print
+        + Eprint
+        + Threads
+        + Wait
+        + Copy
+        + Drop
+        + Send
+        + Sync
+        + 'static,
+    I: BufRead + Drop + Send + 'static,
+    W: Write,
+>(rt: &R, work: &Work, out: &mut W, is_watched: bool) -> u8
+    ensures { result ≤ 3 }
+{
+    let mut listener = Listener::new(*rt, rt.reader());
+    if let Work::Alone(Job::Serve { .. }) = work {
+        listener.begin(rt.alloc());
+    }
+    match BufReader::new(rt.alloc(), listener) {
+        Ok(mut input) => {
+            let (status, _disk) = act(rt, work, &mut input, out, is_watched, Unknown);
+            status
+        }
+        Err(_) => refuse(rt.alloc(), Refusal::NoMemory, out),
+    }
+}
+
 /// Does what the words ask for.
 fn run<
-    R: Files<File = File> + AllocGlobal + Input + Print + Eprint + Threads + Wait + Sync,
+    R: Files<File = File>
+        + AllocGlobal
+        + Input<Reader = I>
+        + Print
+        + Eprint
+        + Threads
+        + Wait
+        + Copy
+        + Drop
+        + Send
+        + Sync
+        + 'static,
+    I: BufRead + Drop + Send + 'static,
     W: Write,
 >(rt: &R, words: &[&str], out: &mut W, is_watched: bool) -> u8
     ensures { result ≤ 3 }
 {
     match read_words(rt.alloc(), words) {
-        Ok(work) => {
-            let (status, _disk) = act(rt, &work, out, is_watched, Unknown);
-            status
-        }
+        Ok(work) => work_on(rt, &work, out, is_watched),
         Err(WordFault::NoMemory) => refuse(rt.alloc(), Refusal::NoMemory, out),
         Err(WordFault::Bad(error)) => {
             let printed = error.print(rt);
@@ -68,7 +111,20 @@ fn no_words<R: AllocGlobal + Eprint, W: Write>(rt: &R, error: &io::Error, out: &
 
 /// Reads the command line, and does what it asks for.
 fn start<
-    R: Env + Files<File = File> + AllocGlobal + Input + Print + Eprint + Threads + Wait + Sync,
+    R: Env
+        + Files<File = File>
+        + AllocGlobal
+        + Input<Reader = I>
+        + Print
+        + Eprint
+        + Threads
+        + Wait
+        + Copy
+        + Drop
+        + Send
+        + Sync
+        + 'static,
+    I: BufRead + Drop + Send + 'static,
     W: Write,
 >(rt: &R, out: &mut W, is_watched: bool) -> u8
     ensures { result ≤ 3 }

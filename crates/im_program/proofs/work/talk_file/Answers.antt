@@ -5,5 +5,5 @@ returns-in-Ok-clause-talked g c = λ honest. record {
   old = c.in-Ok.disk;
   was = c.in-Ok.ensures.now;
   none = c.in-Ok.ensures.past;
-  talked = c.talk_on_input.ensures.talked honest;
+  talked = c.dialogue_on.ensures.talked honest;
 }

@@ -1,0 +1,63 @@
+//! When a dialogue makes room while nobody asks.
+ghost use Rattle.std.specs.Prelude.{◌≡◌, ◌≤◌, ◌/◌, ℕ, false, length, IfOk, MatchResult};
+ghost use Rattle.im_types.specs.Layout.{image_length as length_of_image, layout_in_use};
+ghost use Rattle.im_types.specs.Sizes.{AreLimits};
+ghost use Rattle.im_disk.specs.Moment.{Left};
+ghost use Rattle.im_disk.specs.Since.{LeavesNow, LeavesWithin};
+ghost use Rattle.im_engine.specs.State.{MeansState};
+
+use im_disk::Disk;
+use im_engine::Engine;
+use im_types::layout::{SLOT, image_length};
+use im_types::{Limits, MAX_SLOTS, MIN_SLOTS, Refusal};
+use std::alloc::Global;
+
+// How many slots the journal of an image of this many bytes has, where one with these limits has the least journal.
+fn slots_in(bytes: usize, least: Limits) -> u32
+    ensures { (slots : ℕ) → slots ≤ MAX_SLOTS → least.slots ≤ slots
+        → bytes ≡ length_of_image layout_in_use (record { cells = least.cells; elements = least.elements; slots = slots })
+        → result ≡ slots }
+{
+    let more = bytes.saturating_sub(image_length(least)) / SLOT;
+    least.slots + more.min((MAX_SLOTS - least.slots) as usize) as u32
+}
+
+// Half as many commands as the journal of an image of so many bytes has slots.
+fn half_of<D: Disk>(engine: &Engine<D>, bytes: usize) -> u32
+    ensures { (slots : ℕ) → AreLimits (length engine.now.memory.cells) (length engine.now.memory.windows) slots
+        → bytes ≡ length_of_image layout_in_use (record {
+          cells = length engine.now.memory.cells;
+          elements = length engine.now.memory.windows;
+          slots = slots;
+        })
+        → result ≡ slots / 2 }
+{
+    let memory = engine.memory();
+    match Limits::new(memory.cells(), memory.elements(), MIN_SLOTS) {
+        Some(least) => slots_in(bytes, least) / 2,
+        None => 0,
+    }
+}
+
+/// Opens the image of a disk. With the engine comes half of the commands that its journal has room for.
+pub(crate) fn open_with_half<D: Disk>(
+    alloc: Global,
+    mut disk: D,
+) -> Result<(Engine<D>, u32), (Refusal, D)>
+    ensures means { IfOk result (λ r. D.honest r.0.disk → LeavesNow (D.now r.0.disk) (MeansState r.0)) }
+    ensures works { IfOk result (λ r. r.0.failed ≡ false) }
+    ensures leaves { MatchResult result
+        (λ r. D.honest r.0.disk → LeavesWithin D.now D.past disk r.0.disk (Left (D.now disk)))
+        (λ e. D.honest e.1 → LeavesWithin D.now D.past disk e.1 (Left (D.now disk))) }
+    ensures honest { MatchResult result (λ r. D.honest r.0.disk → D.honest disk) (λ e. D.honest e.1 → D.honest disk) }
+{
+    let bytes = disk.len().unwrap_or(0);
+    // A stop in it leaves what a stop before it leaves: an opening writes nothing.
+    match Engine::open(alloc, disk) {
+        Ok(engine) => {
+            let half = half_of(&engine, bytes);
+            Ok((engine, half))
+        }
+        Err(refused) => Err(refused),
+    }
+}

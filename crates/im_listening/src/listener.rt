@@ -1,0 +1,209 @@
+//! A reader that listens by a thread.
+ghost use Rattle.std.specs.Io.{ReadsAtMost};
+
+use crate::Ear;
+use crossbeam_channel::{Receiver, Sender, bounded};
+use std::alloc::Global;
+use std::io::{self, Error, ErrorKind, Read};
+use std::sync::Wait;
+use std::thread::{self, Threads, yield_now};
+
+// So often the thread is let go first, before its reader is taken to wait.
+const PATIENCE: usize = 4_096;
+
+// What a reader gave that no read has taken yet.
+#[derive(Clone, Copy)]
+enum Heard {
+    Nothing,
+    Byte(u8),
+    End,
+    Error(ErrorKind),
+}
+
+// A reader, as it goes to the thread and comes back.
+#[derive(Drop)]
+struct Loan<I> {
+    input: I,
+    heard: Heard,
+}
+
+// Waits for a byte. One alone: a reader that has given nothing has still all that it had.
+fn hear<I: Read>(loan: Loan<I>) -> Loan<I> {
+    let Loan {
+        mut input,
+        heard: _,
+    } = loan;
+    let mut byte = [0u8; 1];
+    let heard = match input.read(&mut byte) {
+        Ok(0) => Heard::End,
+        Ok(_) => Heard::Byte(byte[0]),
+        Err(error) => Heard::Error(error.kind()),
+    };
+    Loan { input, heard }
+}
+
+// The thread: waits for a byte of each reader that is lent, until nobody is left who lends one.
+fn hear_all<R: Wait + Drop, I: Read + Drop>(rt: R, lent: Receiver<Loan<I>>, give: Sender<Loan<I>>) {
+    for _ in rt.forever() {
+        let Ok(loan) = lent.recv(&rt) else {
+            return;
+        };
+        if give.send(&rt, hear(loan)).is_err() {
+            return;
+        }
+    }
+}
+
+// The way to the thread, and back.
+#[derive(Drop)]
+struct Helper<I: Drop> {
+    lend: Sender<Loan<I>>,
+    back: Receiver<Loan<I>>,
+}
+
+// Gives this byte, and what is there behind it. Behind a line feed nothing is waited for.
+fn put_first<I: Read>(byte: u8, input: &mut I, buf: &mut [u8]) -> io::Result<usize>
+    ensures bound { ReadsAtMost result buf.new }
+{
+    let Some((first, rest)) = buf.split_first_mut() else {
+        return Ok(0);
+    };
+    *first = byte;
+    if byte == b'\n' {
+        return Ok(1);
+    }
+    match input.read(rest) {
+        Ok(more) => Ok(1 + more),
+        Err(_) => Ok(1), // The next read meets it again.
+    }
+}
+
+/// A reader that can tell whether a read would wait: where that is asked, a thread of its own waits for the next byte,
+/// and has the reader until then. A read waits for the thread, and reads on where it came to. The thread keeps no
+/// program from ending.
+#[derive(Drop)]
+pub struct Listener<R, I: Drop> {
+    rt: R,
+    // The reader, where the thread hasn't it.
+    here: Option<Loan<I>>,
+    helper: Option<Helper<I>>,
+}
+
+impl<R: Threads + Wait + Copy + Drop + Send + 'static, I: Read + Drop + Send + 'static> Listener<
+    R,
+    I,
+> {
+    /// A reader of these bytes. It can't tell whether a read would wait until [`Listener::begin`].
+    pub fn new(rt: R, input: I) -> Listener<R, I> {
+        let heard = Heard::Nothing;
+        Listener {
+            rt,
+            here: Some(Loan { input, heard }),
+            helper: None,
+        }
+    }
+
+    /// Lets its thread begin. Where there is no memory for the way to it, or the system gives no thread, it still can't
+    /// tell.
+    pub fn begin(&mut self, alloc: Global) {
+        let Ok((lend, lent)) = bounded(alloc, 1) else {
+            return;
+        };
+        let Ok((give, back)) = bounded(alloc, 1) else {
+            return;
+        };
+        let rt = self.rt;
+        // It isn't joined: a reader that waits for ever would keep the program from ending.
+        if thread::spawn(&self.rt, move || hear_all(rt, lent, give)).is_ok() {
+            self.helper = Some(Helper { lend, back });
+        }
+    }
+}
+
+impl<R: Wait, I: Read + Drop> Listener<R, I> {
+    // Whether the thread has just brought the reader back.
+    fn is_back(&mut self) -> bool {
+        let Some(helper) = &self.helper else {
+            return false;
+        };
+        match helper.back.try_recv(&self.rt) {
+            Ok(loan) => {
+                self.here = Some(loan);
+                true
+            }
+            Err(_) => false,
+        }
+    }
+
+    // Waits until the thread brings the reader back, if it has it.
+    fn take_back(&mut self) {
+        if self.here.is_some() {
+            return;
+        }
+        let Some(helper) = &self.helper else {
+            return;
+        };
+        if let Ok(loan) = helper.back.recv(&self.rt) {
+            self.here = Some(loan);
+        }
+    }
+
+    // Lends the reader to the thread. Whether it has it now.
+    fn lend(&mut self, loan: Loan<I>) -> bool {
+        let Some(helper) = &self.helper else {
+            self.here = Some(loan);
+            return false;
+        };
+        match helper.lend.send(&self.rt, loan) {
+            Ok(()) => true,
+            Err(refused) => {
+                self.here = Some(refused.into_inner());
+                false
+            }
+        }
+    }
+
+    // Whether the thread, to which the reader was lent just now, waits.
+    fn waits(&mut self) -> bool {
+        for _time in 0..PATIENCE {
+            if self.is_back() {
+                return false;
+            }
+            yield_now();
+        }
+        true
+    }
+}
+
+impl<R: Wait, I: Read + Drop> Ear for Listener<R, I> {
+    fn is_quiet(&mut self) -> bool {
+        match self.here.take() {
+            None => !self.is_back(),
+            Some(loan) => {
+                if let Heard::Nothing = loan.heard {
+                    self.lend(loan) && self.waits()
+                } else {
+                    self.here = Some(loan);
+                    false
+                }
+            }
+        }
+    }
+}
+
+impl<R: Wait, I: Read + Drop> Read for Listener<R, I> {
+    fn read(&mut self, buf: &mut [u8]) -> io::Result<usize> {
+        self.take_back();
+        let Some(loan) = &mut self.here else {
+            return Ok(0); // The thread has ended, and the reader with it.
+        };
+        let heard = loan.heard;
+        loan.heard = Heard::Nothing;
+        match heard {
+            Heard::Nothing => loan.input.read(buf),
+            Heard::Byte(byte) => put_first(byte, &mut loan.input, buf),
+            Heard::End => Ok(0),
+            Heard::Error(kind) => Err(Error::from(kind)),
+        }
+    }
+}
