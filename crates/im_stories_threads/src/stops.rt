@@ -9,7 +9,7 @@ use anyhow::{Result, anyhow};
 use im_controller::{Controller, Finished, Name, Opening, Port, Receipt, finish, start};
 use im_disk::{Crash, Disk, FuseDisk, MemDisk, Mode};
 use im_engine::Engine;
-use im_serving::{Done, Open, serve_elements};
+use im_serving::{Done, Open, Unwatched, serve_elements};
 use im_types::layout::image_length;
 use im_types::{Entry, Kind, LAST, Limits, Op, Outcome, Refusal, Reply};
 use std::alloc::Global;
@@ -133,7 +133,7 @@ fn play_servers<K: Name + Send + Sync, R: Threads + Wait + Sync>(
     let mut parts = Vec::new(alloc);
     parts.push(part(rt, alloc, controller, 1, &[Op::Fetch(0)])?)?;
     parts.push(part(rt, alloc, controller, 2, &[Op::Store(0, 5)])?)?;
-    for done in serve_elements(rt, alloc, controller, &Open, parts)? {
+    for done in serve_elements(rt, alloc, controller, &Open, &Unwatched, parts)? {
         told.push(told_to(&done)?)?;
         ports.push(done.port)?;
     }
