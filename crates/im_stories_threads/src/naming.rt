@@ -37,6 +37,7 @@ fn act_named<K: Name + Send + Sync, R: Threads + Wait + Sync>(
     requires marked { opening.marked_name ≡ K.marked_name }
     requires ports { opening.ports ≡ K.ports }
     requires book { opening.book ≡ K.book }
+    requires plan { opening.plan ≡ K.plan }
     requires begun { begun_in ⟦<FuseDisk as Disk>⟧.now ⟦<FuseDisk as Disk>⟧.past ⟦<FuseDisk as Disk>⟧.failures
         opening.engine ≡ K.begun }
     requires honest { ⟦<FuseDisk as Disk>⟧.honest opening.engine.disk → K.honest }
