@@ -45,7 +45,7 @@ says --planned = yes
 imem run a.img s --planned=yes = status 2
 says --planned = yes
 imem run a.img = status 2
-says Usage: imem run [OPTIONS] <IMAGE> <SCRIPT> = yes
+says Usage: imem run <IMAGE> <SCRIPT> = yes
 imem mend = status 2
 says Usage: imem [COMMAND] = yes
 
