@@ -3,12 +3,13 @@
 
 use crate::naming::{Act, act_on};
 use crate::scenes::port;
+use crate::servers::part;
 use crate::traces::alike;
 use anyhow::{Result, anyhow};
 use im_controller::{Controller, Finished, Name, Opening, Port, Receipt, finish, start};
 use im_disk::{Crash, Disk, FuseDisk, MemDisk, Mode};
 use im_engine::Engine;
-use im_serving::{Done, Glances, Intent, Open, Part, Served, serve_elements};
+use im_serving::{Done, Open, serve_elements};
 use im_types::layout::image_length;
 use im_types::{Entry, Kind, LAST, Limits, Op, Outcome, Refusal, Reply};
 use std::alloc::Global;
@@ -80,32 +81,6 @@ fn opening_of<R: Wait>(
     }
 }
 
-// What a server asks for: this one thing, under number 1.
-fn part<K: Name, R: Wait>(
-    rt: &R,
-    alloc: Global,
-    controller: &Controller<FuseDisk, K>,
-    element: u16,
-    op: Op,
-) -> Result<Part<K>> {
-    let Ok(glances) = Glances::new(rt, alloc, controller, element) else {
-        return Err(anyhow!("no glance"));
-    };
-    let mut intents = Vec::new(alloc);
-    intents.push(Intent::Request(op))?;
-    Ok(Part {
-        port: port(rt, controller, element)?,
-        served: Served {
-            element,
-            first: 1,
-            base: 1,
-            entries: Vec::new(alloc),
-        },
-        glances,
-        intents,
-    })
-}
-
 // Sees that a refusal is one of the disk.
 fn is_of_disk(refusal: Refusal) -> Result<()> {
     match refusal {
@@ -156,8 +131,8 @@ fn play_servers<K: Name + Send + Sync, R: Threads + Wait + Sync>(
     ports.push(first)?;
     told.push(told_by(0, made)?)?;
     let mut parts = Vec::new(alloc);
-    parts.push(part(rt, alloc, controller, 1, Op::Fetch(0))?)?;
-    parts.push(part(rt, alloc, controller, 2, Op::Store(0, 5))?)?;
+    parts.push(part(rt, alloc, controller, 1, &[Op::Fetch(0)])?)?;
+    parts.push(part(rt, alloc, controller, 2, &[Op::Store(0, 5)])?)?;
     for done in serve_elements(rt, alloc, controller, &Open, parts)? {
         told.push(told_to(&done)?)?;
         ports.push(done.port)?;
