@@ -1,5 +1,5 @@
 //! An image, as C holds it: C reads the file, and carries out the writes and syncs.
-ghost use Rattle.std.specs.Prelude.{◌≡◌, true, false, length, map};
+ghost use Rattle.std.specs.Prelude.{◌≡◌, ◌≢◌, true, false, length, map};
 ghost use Rattle.std.specs.Prelude.{Ok, Some, Err, IsSome, IfSome, IfOk, IfErr, slice_get};
 ghost use Rattle.std.specs.declared.option.Option.{Option};
 ghost use Rattle.im_types.specs.Contents.{empty_contents};
@@ -7,11 +7,12 @@ ghost use Rattle.im_types.specs.Layout as layout;
 ghost use Rattle.im_types.specs.Layout.{layout_in_use, sizes_of};
 ghost use Rattle.im_disk.specs.Since.{LeavesNow};
 ghost use Rattle.im_engine.specs.State.{MeansState, IsFound};
-ghost use Rattle.im_listed.specs.Image.{ImageState, steps_of};
+ghost use Rattle.im_listed.specs.Image.{ImageState, IsFaultOf, steps_of};
 ghost use Rattle.im_listed.specs.Listing.{carried, task_of};
 ghost use Rattle.im_listed.specs.History.{given};
 ghost use Rattle.im_c.specs.Handing.{Shows, Becomes};
 ghost use Rattle.im_c.specs.Held.{holds_image};
+ghost use Rattle.im_c.specs.Telling.{TellsFault};
 ghost use Rattle.im_c.specs.Image.{Serves, Turns, CollectsFrom, ShowsWindow, blank, turn_code, turn_page};
 ghost use Rattle.im_c.specs.Image.{turn_outcome, window_of, step_of, Copies, CopiesBytes};
 ghost use Rattle.im_types.specs.Sizes.{AreLimits};
@@ -109,6 +110,7 @@ fn opened(alloc: Global, bytes: &[u8]) -> Result<Box<Image>, Refusal>
     ensures found { IfOk result (λ b. LeavesNow b.value.engine.disk.now (IsFound b.value.engine)) }
     ensures means { IfOk result (λ b. LeavesNow b.value.engine.disk.now (MeansState b.value.engine)) }
     ensures works { IfOk result (λ b. b.value.lost ≡ false) }
+    ensures fault { IfErr result (IsFaultOf bytes.now) }
 {
     let Ok(bytes) = bytes.to_vec(alloc) else {
         return Err(Refusal::NoMemory);
@@ -338,6 +340,7 @@ pub extern "C" fn lt_open(alloc: Global, bytes: &[u8], next: &mut LtImage) -> u8
     ensures found { result ≡ 0 → IfSome next.new.value (λ i. LeavesNow i.engine.disk.now (IsFound i.engine)) }
     ensures means { result ≡ 0
         → IfSome next.new.value (λ i. LeavesNow i.engine.disk.now (MeansState i.engine)) }
+    ensures fault { result ≢ 0 → TellsFault bytes.now result }
 {
     match opened(alloc, bytes) {
         Ok(image) => {

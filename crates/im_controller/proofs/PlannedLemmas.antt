@@ -1,5 +1,6 @@
 -- Traces that keep to a plan, and what their answers are by it.
-use Rattle.std.proofs.Common.{◌≡◌, ℕ, zero, suc, ◌<◌, Bool, true, false, List, [], ◌∷◌, ◌++◌, refl, sym, ap, ◌∙◌, subst, Option, None, Some, Result, Ok, Err, map, append-nil, append_assoc, arith}
+use Rattle.std.proofs.Common.{◌≡◌, ℕ, Bool, true, false, List, [], ◌∷◌, ◌++◌, sym, subst, Option, None, Some, Result, Ok, Err, append-nil}
+use Rattle.std.specs.Prelude.{IfSome}
 use Rattle.std.specs.List.{AllByRecursion}
 use mathlib.Core.List.{IsPrefix}
 use Rattle.im_types.specs.declared.commands.Command.{Command}
@@ -56,18 +57,26 @@ keeps-before m (Some plan) history trace p k = (k.0, all-front (λ line. IsPlann
 pub tells-last : (m : Contents) (plan : Option (List Request)) (call : Call) (outcome : Outcome) (history : List Line) → KeepsTo m plan history → IsProof m call (Ok outcome) history → TellsBy m plan call outcome
 tells-last m None call outcome history k proof = tt
 tells-last m (Some plan) call outcome history k proof =
-    planned-last m plan proof.1.0 (line_of call (Ok outcome)) k.0 (subst (λ (ls : List Line). IsLegal m ls) proof.1.1 proof.0)
-    (subst (λ (ls : List Line). IsPlannedRun plan ls) proof.1.1 k.1)
+    let line = line_of call (Ok outcome) in
+    let run : IsPlannedRun plan (proof.1.0 ++ line ∷ []) = subst (λ (ls : List Line). IsPlannedRun plan ls) proof.1.1 k.1 in
+    let legal : IsLegal m (proof.1.0 ++ line ∷ []) = subst (λ (ls : List Line). IsLegal m ls) proof.1.1 proof.0 in
+    ((planned-grows plan proof.1.0 line (all-front (λ line. IsPlannedCall plan line.call) proof.1.0 (line ∷ []) run)).0 run, planned-last m plan proof.1.0 line k.0 legal run)
 
 -- a receipt
 pub tells-of : (m : Contents) (plan : Option (List Request)) (trace : List Line) (a : Result ReceiptState Refusal) → KeepsTo m plan trace → IsOfTrace m trace a → TellsOf m plan a
 tells-of m plan trace (Ok r) k of = tells-last m plan (Commands r.command) r.outcome r.history (keeps-before m plan r.history trace of.0 k) of.1
 tells-of m plan trace (Err refusal) k of = tt
 
+-- the same where there is an answer
+pub tells-some : (m : Contents) (plan : Option (List Request)) (trace : List Line) (a : Option (Result ReceiptState Refusal)) → KeepsTo m plan trace → IfSome a (IsOfTrace m trace) → IfSome a (TellsOf m plan)
+tells-some m plan trace None k of = tt
+tells-some m plan trace (Some a) k of = tells-of m plan trace a k of
+
 -- the end
 pub ends-by : (m : Contents) (plan : Option (List Request)) (trace : List Line) (end : Contents) → KeepsTo m plan trace → end_of m trace ≡ end → EndsBy m plan end
 ends-by m None trace end k is = tt
 ends-by m (Some plan) trace end k is = subst (λ (e : Contents). EndsAsPlanned m plan e) is (record {
+  starts = k.0;
   results = λ r entry has e. planned-kept m plan trace r entry k.0 k.1 has e;
   waits = λ r entry has none e. planned-waits m plan trace r entry k.0 k.1 has none e;
   one = λ r entry served has e. planned-served m plan trace r entry k.0 k.1 served has e;

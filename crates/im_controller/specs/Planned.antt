@@ -50,10 +50,10 @@ abbrev pub KeepsTo : Contents → Option (List Request) → List Line → Type 0
 KeepsTo m None trace = Unit {0}
 KeepsTo m (Some plan) trace = Starts m plan × IsPlannedRun plan trace
 
--- what is told of a planned request with this outcome is its result by the plan, if it is answered
+-- the plan has the request of this call, and what is told of it with this outcome is its result by the plan, if it is answered
 abbrev pub TellsBy : Contents → Option (List Request) → Call → Outcome → Type 0
 TellsBy m None call outcome = Unit {0}
-TellsBy m (Some plan) call outcome = TellsResults m plan (line_of call (Ok outcome))
+TellsBy m (Some plan) call outcome = IsPlannedCall plan call × TellsResults m plan (line_of call (Ok outcome))
 
 -- so is what a receipt tells
 abbrev pub TellsOf : Contents → Option (List Request) → Result ReceiptState Refusal → Type 0
@@ -67,6 +67,8 @@ TellsFound m plan (Err refusal) = Unit {0}
 
 -- What is kept of a planned run from this memory.
 pub record EndsAsPlanned (m : Contents) (plan : List Request) (end : Contents) : Type 0 where
+  -- the plan fits the memory at the start
+  pub starts : Starts m plan
   -- what is kept for a planned request is its result, if it is answered
   pub results : (r : Request) (entry : Entry) → IsInPlan plan r → ask end.windows (asker r) ≡ Ok entry → IsResultOrWaits (result_of m.cells plan r.op) entry
   -- a fetch that has none stays waiting

@@ -1,9 +1,6 @@
-use Rattle.std.proofs.Common.{◌≡◌, ◌+◌, ◌≤◌, false, true, List, Option, refl, ap, sym, subst, ◌∙◌, map, length, arith}
-use Rattle.im_types.specs.declared.commands.Request.{Request}
+use Rattle.std.proofs.Common.{◌≡◌, ◌≤◌, false, true, List, ap, sym, subst, ◌∙◌, length, arith}
 use Rattle.im_types.specs.declared.commands.Line.{Line}
-use Rattle.im_types.specs.declared.groups.Served.{Served}
 use Rattle.im_types.specs.declared.refusals.Refusal.TheVariants.{OffPlan}
-use Rattle.im_types.specs.Contents.{Contents}
 use Rattle.im_types.specs.Trace.{end_of}
 use Rattle.im_types.specs.Changes.{shown_by}
 use Rattle.im_engine.specs.Groups.{all_refused}
@@ -12,7 +9,7 @@ use Rattle.im_controller.specs.State.{SharedState}
 use Rattle.im_controller.specs.Groups.{AreFreeFor}
 use Rattle.im_controller.specs.Kept.{HasKept, accepted_in}
 use Rattle.im_controller.specs.Planned.{KeepsTo}
-use Rattle.im_controller.specs.Admitted.{is_picked, picked, with_refused_off}
+use Rattle.im_controller.specs.Admitted.{is_picked, picked}
 use Rattle.im_controller.proofs.AdmitLemmas.{admitted-is, refused-is, off-log, off-trace, off-fits, off-shared}
 use Rattle.im_controller.proofs.PlannedLemmas.{keeps-starts}
 use Rattle.im_controller.proofs.groups.admit.Goals as goal

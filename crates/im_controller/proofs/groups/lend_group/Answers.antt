@@ -1,10 +1,9 @@
-use Rattle.std.proofs.Common.{◌≡◌, false, List, ap, sym, subst, ◌∙◌, length}
+use Rattle.std.proofs.Common.{◌≡◌, false, List, length}
 use Rattle.im_types.specs.declared.commands.Request.{Request}
 use Rattle.im_disk.specs.Since.{CallsAtMost, LeavesWithin, LeavesNow}
 use Rattle.im_engine.specs.Groups.{MeansGroup, GroupFaults, calls_for_group, group_put}
 use Rattle.im_controller.specs.State.{SharedState}
 use Rattle.im_controller.specs.Groups.{those, LendsGroup}
-use Rattle.im_controller.specs.Admitted.{admitted, with_refused_off}
 use Rattle.im_controller.proofs.AdmitLemmas.{admit-on, admit-cut, admit-apart, admit-free, admit-room, admit-within, admitted-same}
 use Rattle.im_controller.proofs.groups.lend_group.Goals as goal
 

@@ -1,4 +1,4 @@
-use Rattle.std.proofs.Common.{◌≡◌, ◌⊎◌, ◌∙◌, false, ap, subst, sym, Result, Err}
+use Rattle.std.proofs.Common.{◌≡◌, ◌⊎◌, ◌∙◌, false, ap, subst, sym, Result}
 use Rattle.std.specs.Prelude.{IfErr}
 use Rattle.im_disk.specs.Since.{LeavesNow}
 use Rattle.im_engine.specs.State.{MeansState}
