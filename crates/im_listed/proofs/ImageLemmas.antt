@@ -1,10 +1,10 @@
 -- What the list of a call does to a caller's file.
-use Rattle.std.proofs.Common.{◌≡◌, ◌⊎◌, inl, inr, ⊎_elim, ℕ, zero, suc, Bool, true, false, List, [], take, Result, Ok, Err, refl, sym, ◌∙◌, ap, subst, arith, if◌then◌else◌}
+use Rattle.std.proofs.Common.{◌≡◌, ◌⊎◌, inl, inr, ⊎_elim, ℕ, zero, suc, Bool, true, false, List, [], length, take, Result, Ok, Err, refl, sym, ◌∙◌, ap, subst, arith, if◌then◌else◌}
 use Rattle.std.proofs.lemmas.Bool.{false≢true}
 use Rattle.im_types.specs.declared.commands.Command.{Command}
 use Rattle.im_types.specs.declared.commands.Outcome.{Outcome}
 use Rattle.im_types.specs.declared.refusals.Refusal.{Refusal}
-use Rattle.im_types.specs.declared.refusals.Refusal.TheVariants.{NoMemory, Device}
+use Rattle.im_types.specs.declared.refusals.Refusal.TheVariants.{NoMemory, Device, WrongLength}
 use Rattle.im_types.specs.Step.{is_accepted}
 use Rattle.im_disk.specs.Moment.{Moment, Left, Faults, synced}
 use Rattle.im_disk.specs.Since.{Leaves, LeavesNow}
@@ -14,8 +14,8 @@ use Rattle.im_engine.specs.State.{EngineState, MeansState, IsFirstFault}
 use Rattle.im_engine.specs.Run.{Answered, TurnAnswered, TurnTaken, is_device}
 use Rattle.im_listed.specs.History.{given}
 use Rattle.im_listed.specs.Numbers.{told}
-use Rattle.im_listed.specs.Listing.{Listing, carried, with_no_steps, LeftOnTheWay, Accounts}
-use Rattle.im_listed.specs.Image.{ImageState, Carries, IsFaultOf, begun_in, tells_device}
+use Rattle.im_listed.specs.Listing.{Listing, carried, over, with_no_steps, LeftOnTheWay, Accounts}
+use Rattle.im_listed.specs.Image.{ImageState, Carries, IsFaultOf, IsWant, begun_in, tells_device}
 use Rattle.im_listed.proofs.NumberLemmas.{told_same}
 
 -- what is known after a call, of the engine as it began
@@ -71,6 +71,11 @@ own_fault bytes e start d is leaves why =
     let left : Left start.now d.now.bytes = ⊎_elim (λ p. p) (λ p. p) (leaves_now start.now d.now start.past d.past (Left start.now) leaves d.now.bytes (left_now d.now)) in
     let same : d.now.bytes ≡ bytes = left_synced (given bytes) d.now.bytes (subst (λ (m : Moment). Left m d.now.bytes) is left) in
     ⊎_elim (λ none. inl none) (λ other. inr (⊎_elim (λ failed. inl failed) (λ found. inr (subst (IsFirstFault e) same (found tt d.now.bytes (left_now d.now)))) other)) why
+
+-- a disk over as many bytes as an image has hasn't the wrong length
+pub right_length : (bytes : List ℕ) (n : ℕ) (e : Refusal) (start : Listing) → start ≡ over bytes → length bytes ≡ n → (e ≡ WrongLength) ⊎ (e ≡ NoMemory) ⊎ (e ≡ Device) → (e ≡ WrongLength → length start.now.bytes ≡ n → ⊥) → IsWant e
+right_length bytes n e start is size why wrong =
+    ⊎_elim (λ w. absurd (wrong w (ap (λ (d : Listing). length d.now.bytes) is ∙ size))) (λ want. want) why
 
 alive_by : (accepted : Bool) (room : ℕ) (s new : EngineState Listing) (command : Command) (answer : Result Outcome Refusal) → is_accepted s.memory command ≡ accepted → s.room ≡ room → Answered s command answer new → s.failed ≡ false → tells_device answer ≡ false → new.failed ≡ false
 alive_by false room s new command answer is e a f calm = ap (λ (t : EngineState Listing). t.failed) (a.unaccepted f is).1 ∙ f

@@ -26,6 +26,10 @@ abbrev pub tells_device : {T : Type 0} → Result T Refusal → Bool
 tells_device (Ok answer) = false
 tells_device (Err refusal) = is_device refusal
 
+-- there was no room for the image, or for a step
+abbrev pub IsWant : Refusal → Type 0
+IsWant refusal = (refusal ≡ NoMemory) ⊎ (refusal ≡ Device)
+
 -- why these bytes aren't opened: their first fault, or there was no room for them, or for a step
 abbrev pub IsFaultOf : List ℕ → Refusal → Type 0
 IsFaultOf file refusal = (refusal ≡ NoMemory) ⊎ (refusal ≡ Device) ⊎ IsFirstFault refusal file

@@ -13,7 +13,7 @@ ghost use Rattle.im_engine.specs.Run.{Answered, TurnAnswered};
 ghost use Rattle.im_engine.specs.Groups.{GroupAnswered, MeansGroup, all_refused};
 ghost use Rattle.im_listed.specs.Listing.{Accounts, task_of, carried};
 ghost use Rattle.im_listed.specs.History.{given};
-ghost use Rattle.im_listed.specs.Image.{ImageState, Carries, IsFaultOf, begun_in, steps_of, tells_device};
+ghost use Rattle.im_listed.specs.Image.{ImageState, Carries, IsFaultOf, IsWant, begun_in, steps_of, tells_device};
 
 use crate::listed::Listed;
 use crate::step::Step;
@@ -78,7 +78,8 @@ fn settled(bytes: Vec<u8>) -> Result<Listed, DeviceFault>
 impl Image {
     /// Makes the image of an empty memory. The caller's file has its length, and each of its bytes is in doubt.
     ///
-    /// `NoMemory` where there isn't room for the image, the memory and the pages of a checkpoint.
+    /// `NoMemory` where there isn't room for the image, the memory and the pages of a checkpoint, `Device` where the list
+    /// couldn't grow.
     pub fn format(alloc: Global, limits: Limits) -> Result<Image, Refusal>
         ensures empty { IfOk result (λ i. (i.engine.memory ≡ empty_contents limits.cells limits.elements)
             × (i.engine.count ≡ 0) × (i.engine.room ≡ limits.slots)) }
@@ -86,6 +87,7 @@ impl Image {
             ≡ carried (given (replicate (image_length layout_in_use (sizes_of limits)) 0)) (steps_of i)) }
         ensures means { IfOk result (λ i. LeavesNow i.engine.disk.now (MeansState i.engine)) }
         ensures works { IfOk result (λ i. i.lost ≡ false) }
+        ensures only { IfErr result IsWant }
     {
         let Ok(bytes) = vec![in alloc; 0; image_length(limits)] else {
             return Err(Refusal::NoMemory);

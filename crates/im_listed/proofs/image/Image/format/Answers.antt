@@ -1,7 +1,8 @@
-use Rattle.std.proofs.Common.{ℕ, List, replicate, rules, ◌≡◌, ◌∙◌, ap}
+use Rattle.std.proofs.Common.{ℕ, List, replicate, length, rules, ◌≡◌, ◌∙◌, ap}
+use Rattle.std.proofs.lemmas.List.{length-replicate}
 use Rattle.im_types.specs.Layout.{image_length, layout_in_use, sizes_of}
 use Rattle.im_listed.specs.Listing.{Listing, over}
-use Rattle.im_listed.proofs.ImageLemmas.{begun_with}
+use Rattle.im_listed.proofs.ImageLemmas.{begun_with, right_length}
 use Rattle.im_listed.proofs.image.Image.format.Goals as goal
 
 pub returns-in-Ok-format-clause-carried : goal.returns-in-Ok-format-clause-carried
@@ -14,3 +15,10 @@ returns-in-Ok-format-clause-carried c =
 
 pub returns-in-Ok-format-clause-means : goal.returns-in-Ok-format-clause-means
 returns-in-Ok-format-clause-means c = c.in-Ok-format.ensures.means tt
+
+pub returns-clause-only : goal.returns-clause-only
+returns-clause-only c =
+    let n = image_length layout_in_use (sizes_of c.args.limits) in
+    let zeros : c.in-Ok.bytes.items ≡ replicate c.image_length.result 0 = search rules in
+    let size : length c.in-Ok.bytes.items ≡ n = ap length zeros ∙ length-replicate c.image_length.result 0 ∙ c.image_length.ensures.length in
+    right_length c.in-Ok.bytes.items n c.in-Err.refusal c.new.result c.new.ensures.over size c.in-Err.ensures.faults.0 (λ is. (c.in-Err.ensures.wrong is tt).0)
