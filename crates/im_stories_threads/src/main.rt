@@ -1,18 +1,22 @@
 //! Threads under one lock: what ports are answered beside each other, that the thread that keeps checkpoints works,
 //! that servers wait and are woken, that readers wait for nobody, that the plain memory serves a long trace again alike,
-//! and that each thread ends where the disk stops, with nothing lost that was answered.
+//! that each thread ends where the disk stops, with nothing lost that was answered, and that planned requests come to the
+//! same in every order.
 #![tactic(auto)]
 
 mod crews;
+mod gates;
 mod glances;
 mod naming;
 mod parts;
+mod plans;
 mod scenes;
 mod servers;
 mod stops;
 mod traces;
 
 use crate::naming::{Act, act_on};
+use crate::plans::show_plans;
 use crate::scenes::Scene;
 use crate::stops::show_stops;
 use anyhow::{Result, anyhow};
@@ -68,7 +72,8 @@ fn show_all<R: Threads + Wait + Sync>(rt: &R, alloc: Global, said: &mut String) 
     ] {
         show_scene(rt, alloc, scene, said)?;
     }
-    show_stops(rt, alloc, said)
+    show_stops(rt, alloc, said)?;
+    show_plans(rt, alloc, said)
 }
 
 fn main(rt: HostRuntime) -> Result<()> {

@@ -3,6 +3,7 @@
 ghost use Rattle.std.specs.Prelude.{◌≡◌};
 ghost use Rattle.im_controller.specs.Kept.{begun_in};
 
+use crate::plans::{Planned, play_planned};
 use crate::scenes::{Scene, show};
 use crate::stops::stop;
 use anyhow::Result;
@@ -21,6 +22,8 @@ pub enum Act {
     Shows(Scene),
     /// Servers are stopped by their disk, and then it crashes.
     Stops(Crash),
+    /// Requests are served under a plan.
+    Plays(Planned),
 }
 
 // Does it by a controller that has a name.
@@ -46,6 +49,7 @@ fn act_named<K: Name + Send + Sync, R: Threads + Wait + Sync>(
     match act {
         Act::Shows(scene) => show(rt, alloc, scene, limits, controller, said),
         Act::Stops(crash) => stop(rt, alloc, crash, limits, controller),
+        Act::Plays(planned) => play_planned(rt, alloc, planned, controller, said),
     }
 }
 
