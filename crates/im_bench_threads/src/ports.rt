@@ -179,6 +179,7 @@ fn store_named<D: Disk + Drop + Send, K: Name + Send + Sync, R: Threads + Wait +
     requires marked { opening.marked_name ≡ K.marked_name }
     requires ports { opening.ports ≡ K.ports }
     requires book { opening.book ≡ K.book }
+    requires plan { opening.plan ≡ K.plan }
     requires begun { begun_in D.now D.past D.failures opening.engine ≡ K.begun }
     requires honest { D.honest opening.engine.disk → K.honest }
 {

@@ -1,14 +1,13 @@
 -- A text, as C is told it.
-use Rattle.std.specs.Prelude.{◌≡◌, ◌⊎◌, ℕ, ◌<◌, ◌≤◌, List, [], ◌++◌, ◌==◌, codes, drop, length, Some, Err, if◌then◌else◌}
+use Rattle.std.specs.Prelude.{◌≡◌, ℕ, ◌<◌, ◌≤◌, List, [], ◌++◌, ◌==◌, codes, drop, length, Some, if◌then◌else◌}
 use Rattle.im_types.specs.declared.refusals.Refusal.{Refusal}
-use Rattle.im_types.specs.declared.refusals.Refusal.TheVariants.{NoMemory, Device}
-use Rattle.im_types.specs.Layout.{layout_in_use}
-use Rattle.im_types.specs.Meaning.{Reads}
+use Rattle.im_types.specs.Refusals.{number_of}
+use Rattle.im_listed.specs.Image.{IsFaultOf}
 use Rattle.im_report.specs.Inspecting.{Tells}
 
--- why there is no report of these bytes: their first fault, or there was no room for it
-abbrev pub IsFault : List ℕ → Refusal → Type 0
-IsFault file refusal = (refusal ≡ NoMemory) ⊎ (refusal ≡ Device) ⊎ Reads layout_in_use file (Err refusal)
+-- the number of why these bytes aren't read: of their first fault, or that there was no room
+abbrev pub TellsFault : List ℕ → ℕ → Type 0
+TellsFault file number = (refusal : Refusal) × (number ≡ number_of refusal) × IsFaultOf file refusal
 
 -- a buffer begins with a text where that fits, and else it stays
 pub record PutsText (text old new : List ℕ) : Type 0 where

@@ -1,5 +1,5 @@
 //! An image, as C holds it: C reads the file, and carries out the writes and syncs.
-ghost use Rattle.std.specs.Prelude.{◌≡◌, true, false, length, map};
+ghost use Rattle.std.specs.Prelude.{◌≡◌, ◌≢◌, ◌⊎◌, true, false, length, map};
 ghost use Rattle.std.specs.Prelude.{Ok, Some, Err, IsSome, IfSome, IfOk, IfErr, slice_get};
 ghost use Rattle.std.specs.declared.option.Option.{Option};
 ghost use Rattle.im_types.specs.Contents.{empty_contents};
@@ -7,11 +7,12 @@ ghost use Rattle.im_types.specs.Layout as layout;
 ghost use Rattle.im_types.specs.Layout.{layout_in_use, sizes_of};
 ghost use Rattle.im_disk.specs.Since.{LeavesNow};
 ghost use Rattle.im_engine.specs.State.{MeansState, IsFound};
-ghost use Rattle.im_listed.specs.Image.{ImageState, steps_of};
+ghost use Rattle.im_listed.specs.Image.{ImageState, IsFaultOf, IsWant, steps_of};
 ghost use Rattle.im_listed.specs.Listing.{carried, task_of};
 ghost use Rattle.im_listed.specs.History.{given};
 ghost use Rattle.im_c.specs.Handing.{Shows, Becomes};
 ghost use Rattle.im_c.specs.Held.{holds_image};
+ghost use Rattle.im_c.specs.Telling.{TellsFault};
 ghost use Rattle.im_c.specs.Image.{Serves, Turns, CollectsFrom, ShowsWindow, blank, turn_code, turn_page};
 ghost use Rattle.im_c.specs.Image.{turn_outcome, window_of, step_of, Copies, CopiesBytes};
 ghost use Rattle.im_types.specs.Sizes.{AreLimits};
@@ -96,6 +97,7 @@ fn formatted(alloc: Global, limits: Limits) -> Result<Box<Image>, Refusal>
     ensures carried { IfOk result (λ b. b.value.engine.disk.now ≡ carried (blank (sizes_of limits)) (steps_of b.value)) }
     ensures means { IfOk result (λ b. LeavesNow b.value.engine.disk.now (MeansState b.value.engine)) }
     ensures works { IfOk result (λ b. b.value.lost ≡ false) }
+    ensures only { IfErr result IsWant }
 {
     match Image::format(alloc, limits) {
         Ok(image) => boxed(alloc, image),
@@ -109,6 +111,7 @@ fn opened(alloc: Global, bytes: &[u8]) -> Result<Box<Image>, Refusal>
     ensures found { IfOk result (λ b. LeavesNow b.value.engine.disk.now (IsFound b.value.engine)) }
     ensures means { IfOk result (λ b. LeavesNow b.value.engine.disk.now (MeansState b.value.engine)) }
     ensures works { IfOk result (λ b. b.value.lost ≡ false) }
+    ensures fault { IfErr result (IsFaultOf bytes.now) }
 {
     let Ok(bytes) = bytes.to_vec(alloc) else {
         return Err(Refusal::NoMemory);
@@ -284,7 +287,8 @@ fn copy(bytes: &[u8], buffer: &mut [u8]) -> u8
 
 /// Makes the image of an empty memory of so many cells, 1 to 65,536, elements, 1 to 64, and journal slots, 16 to 4,096:
 /// 0, and `next` holds it. Else the number of the refusal, and `next` is as it was: `BadLimits` where a number is out of
-/// its range, `NoMemory`. The caller's file has the length of [`lt_image_length`].
+/// its range, `NoMemory`, or `Device` where the list of steps couldn't grow. The caller's file has the length of
+/// [`lt_image_length`].
 #[unsafe(no_mangle)]
 pub extern "C" fn lt_format(
     alloc: Global,
@@ -294,6 +298,7 @@ pub extern "C" fn lt_format(
     next: &mut LtImage,
 ) -> u8
     ensures bad { (AreLimits cells elements slots → ⊥) → result ≡ 17 }
+    ensures only { AreLimits cells elements slots → (result ≡ 0) ⊎ (result ≡ 10) ⊎ (result ≡ 8) }
     ensures some { result ≡ 0 → IsSome next.new.value }
     ensures empty { result ≡ 0 → IfSome next.new.value (λ i.
         (i.engine.memory ≡ empty_contents cells elements) × (i.engine.count ≡ 0) × (i.engine.room ≡ slots)) }
@@ -338,6 +343,7 @@ pub extern "C" fn lt_open(alloc: Global, bytes: &[u8], next: &mut LtImage) -> u8
     ensures found { result ≡ 0 → IfSome next.new.value (λ i. LeavesNow i.engine.disk.now (IsFound i.engine)) }
     ensures means { result ≡ 0
         → IfSome next.new.value (λ i. LeavesNow i.engine.disk.now (MeansState i.engine)) }
+    ensures fault { result ≢ 0 → TellsFault bytes.now result }
 {
     match opened(alloc, bytes) {
         Ok(image) => {

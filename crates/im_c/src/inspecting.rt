@@ -1,7 +1,8 @@
 //! What the image in a caller's bytes means, told to C.
 ghost use Rattle.std.specs.Prelude.{◌≡◌, ◌≢◌, [], Some, IfOk, IfErr};
 ghost use Rattle.im_report.specs.Inspecting.{Tells};
-ghost use Rattle.im_c.specs.Telling.{IsFault, IsTold, PutsText};
+ghost use Rattle.im_listed.specs.Image.{IsFaultOf};
+ghost use Rattle.im_c.specs.Telling.{TellsFault, IsTold, PutsText};
 
 use im_image::inspect;
 use im_listed::Listed;
@@ -24,7 +25,7 @@ impl Observer for Nobody {
 
 // Why there is no report: the first fault of the bytes, or that there wasn't room for it.
 fn fault_of(alloc: Global, disk: &mut Listed) -> Refusal
-    ensures { IsFault disk.old.now.bytes result }
+    ensures { IsFaultOf disk.old.now.bytes result }
 {
     match inspect(alloc, disk) {
         Ok(_) => Refusal::NoMemory,
@@ -35,7 +36,7 @@ fn fault_of(alloc: Global, disk: &mut Listed) -> Refusal
 // The report of the image of these bytes.
 fn report_of(alloc: Global, bytes: &[u8]) -> Result<Vec<u8>, Refusal>
     ensures told { IfOk result (λ text. Tells bytes.now (Some []) (Some text.items)) }
-    ensures fault { IfErr result (λ e. IsFault bytes.now e) }
+    ensures fault { IfErr result (λ e. IsFaultOf bytes.now e) }
 {
     let Ok(copy) = bytes.to_vec(alloc) else {
         return Err(Refusal::NoMemory);
@@ -69,6 +70,7 @@ pub extern "C" fn lt_inspect(
     written: &mut usize,
 ) -> u8
     ensures told { result ≡ 0 → IsTold bytes.now written.new buffer.old buffer.new }
+    ensures fault { result ≢ 0 → TellsFault bytes.now result }
     ensures same { result ≢ 0 → (buffer.new ≡ buffer.old) × (written.new ≡ written.old) }
 {
     match report_of(alloc, bytes) {

@@ -39,7 +39,7 @@ module _ (m : Contents) (left0 : ℕ) (rs0 : List Request) (p0 : PaneView) (left
 
 -- ---- those that are lent
 
-those-others : (element : ℕ) (bs : List Bool) (rs : List Request) → AreOthers element rs → AreOthers element (those bs rs)
+pub those-others : (element : ℕ) (bs : List Bool) (rs : List Request) → AreOthers element rs → AreOthers element (those bs rs)
 those-others element [] rs others = tt
 those-others element (b ∷ bs) [] others = tt
 those-others element (true ∷ bs) (r ∷ rs) others = (others.0, those-others element bs rs others.1)

@@ -23,7 +23,7 @@ get-set_other xs i j x y apart there =
     ∙ ap Some (get_or-set_other xs i j x y (λ e. apart (sym e)) ∙ get_or_from_slice_get xs j y y there)
 
 -- other places stay free
-free_after : (places : List (Option UnclaimedState)) (e : ℕ) (w : Option UnclaimedState) (rs : List Request) → AreOthers e rs → AreFreeFor places rs → AreFreeFor (slice_set places e w) rs
+pub free_after : (places : List (Option UnclaimedState)) (e : ℕ) (w : Option UnclaimedState) (rs : List Request) → AreOthers e rs → AreFreeFor places rs → AreFreeFor (slice_set places e w) rs
 free_after places e w [] others free = tt
 free_after places e w (r ∷ rs) others free = (get-set_other places e r.element w None others.0 free.0, free_after places e w rs others.1 free.1)
 

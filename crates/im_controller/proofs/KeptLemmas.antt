@@ -1,5 +1,5 @@
 -- What a crash leaves, with a command, a group or a turn more.
-use Rattle.std.proofs.Common.{◌≡◌, ◌⊎◌, inl, inr, ⊎_elim, ℕ, zero, suc, ◌+◌, ◌<◌, ◌≤◌, Bool, true, false, ◌&&◌, List, [], ◌∷◌, ◌++◌, length, length-append, append_assoc, map, take, refl, sym, ap, ◌∙◌, subst, arith, if◌then◌else◌, Result, Ok, Err}
+use Rattle.std.proofs.Common.{◌≡◌, ◌⊎◌, inl, inr, ⊎_elim, ℕ, zero, suc, ◌+◌, ◌≤◌, Bool, true, false, ◌&&◌, List, [], ◌∷◌, ◌++◌, length, length-append, append_assoc, map, refl, sym, ap, ◌∙◌, subst, arith, if◌then◌else◌, Result, Ok, Err}
 use Rattle.std.specs.Prelude.{Some, nat_lt, ◌==◌, IfErr}
 use Rattle.std.proofs.lemmas.Bool.Decides.{nat_tests}
 use Rattle.std.proofs.lemmas.List.{append-nil, take_all, take-append-le}
@@ -7,7 +7,6 @@ use Rattle.im_types.specs.declared.commands.Command.{Command}
 use Rattle.im_types.specs.declared.commands.Command.TheVariants.{Request as Asks}
 use Rattle.im_types.specs.declared.commands.Request.{Request}
 use Rattle.im_types.specs.declared.commands.Outcome.{Outcome}
-use Rattle.im_types.specs.declared.commands.Call.{Call}
 use Rattle.im_types.specs.declared.commands.Call.TheVariants.{Command as Commands, Collect}
 use Rattle.im_types.specs.declared.commands.Line.{Line}
 use Rattle.im_types.specs.declared.groups.Served.{Served}
@@ -17,8 +16,8 @@ use Rattle.im_types.specs.Contents.{Contents}
 use Rattle.im_types.specs.Meaning.{Means, Reached, accept_each}
 use Rattle.im_types.specs.Run.{after, accepted}
 use Rattle.im_types.specs.Step.{step, is_accepted}
-use Rattle.im_types.specs.Trace.{contents_after, end_of}
-use Rattle.im_types.specs.Groups.{is_new, is_put, answer_of, reached_by_one, reached_by_all, answers_of, puts_of}
+use Rattle.im_types.specs.Trace.{end_of}
+use Rattle.im_types.specs.Groups.{is_new, is_put, answer_of, reached_by_one, answers_of, puts_of}
 use Rattle.im_laws.specs.Traces.{command_in, commands_of}
 use Rattle.im_laws.proofs.Tests.{true_false, true_or_false}
 use Rattle.im_laws.proofs.AcceptLemmas.{accepted-ok}
@@ -39,7 +38,7 @@ use Rattle.im_engine.proofs.Running.{Failures, failures_more, failures_turned}
 use Rattle.im_controller.specs.Lines.{leaves_line, line_of, lines_of}
 use Rattle.im_controller.specs.Groups.{answer_in, MembersAnswered}
 use Rattle.im_controller.specs.Lends.{IsTurnFault, told_turn}
-use Rattle.im_controller.specs.Kept.{Begun, begun_in, accepted_in, MeansThrough, MeansSome, MeansAll, HasKept}
+use Rattle.im_controller.specs.Kept.{Begun, begun_in, accepted_in, MeansSome, MeansAll, HasKept}
 use Rattle.im_controller.proofs.LendLemmas.{ok-leaves}
 use Rattle.im_controller.proofs.GroupLemmas.{answers_served}
 use Rattle.im_controller.proofs.PutLemmas.{lines_all, one-end, refused-lines}

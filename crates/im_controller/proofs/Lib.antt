@@ -10,3 +10,5 @@ pub mod GroupLemmas
 pub mod Choosing
 pub mod Lending
 pub mod KeptLemmas
+pub mod PlannedLemmas
+pub mod AdmitLemmas

@@ -5,6 +5,8 @@ use Rattle.std.specs.List.{AllByRecursion}
 use mathlib.Core.List.{IsPrefix}
 use Rattle.std.proofs.lemmas.List.Sums.{sum_by-append, sum_by-set}
 use Rattle.std.proofs.lemmas.Option.{slice_get_within, get_or_from_slice_get}
+use Rattle.im_types.specs.declared.changes.Change.{Change}
+use Rattle.im_types.specs.declared.commands.Command.{Command}
 use Rattle.im_types.specs.declared.commands.Command.TheVariants.{Request as Asks}
 use Rattle.im_types.specs.declared.commands.Request.{Request}
 use Rattle.im_types.specs.declared.commands.Outcome.{Outcome}
@@ -18,7 +20,7 @@ use Rattle.im_types.specs.declared.commands.Outcome.TheVariants.{Entry as Tells}
 use Rattle.im_types.specs.Trace.{told, answer_to, contents_after, IsLegal, end_of}
 use Rattle.im_laws.proofs.TraceLemmas.{end_of-append, IsLegal-push}
 use Rattle.im_controller.specs.Lines.{Counts, EndsIn, EndsInAll, leaves_line, line_of, lines_of, memory_after, counts_after}
-use Rattle.im_controller.specs.Log.{UnclaimedState, LogState, IsProof, IsProofIn, unclaimed_lines, with_line, with_unclaimed, without_unclaimed, AreFree, IsLog}
+use Rattle.im_controller.specs.Log.{UnclaimedState, LogState, IsProof, IsProofIn, unclaimed_lines, with_line, with_unclaimed, without_unclaimed, AreFree, IsLog, IsOfTrace, receipt_for}
 
 -- the line of a call, if it leaves one
 abbrev pub lines_by : Bool → Call → Result Outcome Refusal → List Line
@@ -159,3 +161,9 @@ log-claimed m marks l books is free = (
 pub last-told : (l : LogState) (trace : List Line) (call : Call) (answer : Result Entry Refusal) → trace ≡ l.trace ++ lines_of call (told answer) → IfOk answer (λ entry. EndsIn trace (line_of call (Ok (Tells entry))))
 last-told l trace call (Ok entry) is = (l.trace, is)
 last-told l trace call (Err refusal) is = tt
+
+-- a receipt with the trace of an answer
+pub receipt-of_trace : (m : Contents) (trace history : List Line) (told : List Change) (command : Command) (a : Result Outcome Refusal) → IsPrefix history trace → IsProof m (Commands command) a history
+    → IsOfTrace m trace (receipt_for history told command a)
+receipt-of_trace m trace history told command (Ok outcome) begins proof = (begins, proof)
+receipt-of_trace m trace history told command (Err refusal) begins proof = tt

@@ -5,6 +5,7 @@ use Rattle.std.proofs.lemmas.Bool.Decides.{nat_tests}
 use mathlib.Core.List.{IsPrefix}
 use Rattle.im_types.specs.declared.changes.Change.{Change}
 use Rattle.im_types.specs.declared.commands.Command.{Command}
+use Rattle.im_types.specs.declared.commands.Request.{Request}
 use Rattle.im_types.specs.declared.commands.Outcome.{Outcome}
 use Rattle.im_types.specs.declared.commands.Call.{Call}
 use Rattle.im_types.specs.declared.commands.Call.TheVariants.{Command as Commands, Collect}
@@ -22,6 +23,7 @@ use Rattle.im_engine.specs.Run.{Answered}
 use Rattle.im_glass.specs.Panes.{PaneView}
 use Rattle.im_controller.specs.Lines.{Counts, leaves_line, line_of, lines_of, memory_after, counts_after}
 use Rattle.im_controller.specs.Log.{ReceiptState, IsToldOf, plain, receipt_for, with_line}
+use Rattle.im_controller.specs.Planned.{has_command}
 use Rattle.im_controller.specs.State.{SharedState}
 use Rattle.im_controller.specs.Lends.{Lends, changes_put, shows}
 use Rattle.im_controller.proofs.LendLemmas.{ok-leaves}
@@ -178,15 +180,16 @@ plain-receipt history shown command (Ok outcome) = refl
 plain-receipt history shown command (Err refusal) = refl
 
 -- a command that the engine was lent to
-module _ {D : Type 0} (marks : Line → Bool) (s s' : SharedState D) (t t' : Counts) (command : Command) (a : Result Outcome Refusal) (answer : Result ReceiptState Refusal) where
-  pub lends-served : answer ≡ receipt_for s'.log.trace s'.shown command a → s.engine.failed ≡ false → length s.log.trace < s.log.limit
+module _ {D : Type 0} (marks : Line → Bool) (plan : Option (List Request)) (s s' : SharedState D) (t t' : Counts) (command : Command) (a : Result Outcome Refusal) (answer : Result ReceiptState Refusal) where
+  pub lends-served : answer ≡ receipt_for s'.log.trace s'.shown command a → s.engine.failed ≡ false → length s.log.trace < s.log.limit → has_command plan command ≡ true
       → Answered s.engine command a s'.engine → s'.log ≡ with_line s.log (Commands command) a → s'.servers ≡ s.servers
-      → t' ≡ counts_after marks t (lines_of (Commands command) a) → s'.shown ≡ s.shown ++ shows s.engine.memory command a → Lends marks s t command answer s' t'
-  lends-served is alive room answered log servers tally shown =
+      → t' ≡ counts_after marks t (lines_of (Commands command) a) → s'.shown ≡ s.shown ++ shows s.engine.memory command a → Lends marks plan s t command answer s' t'
+  lends-served is alive room has answered log servers tally shown =
       let same : a ≡ plain answer = sym (ap plain is ∙ plain-receipt s'.log.trace s'.shown command a) in record {
         dead = λ dead. absurd (true_false (sym dead ∙ alive));
         full = λ _ over. absurd (omega (arith, over, room));
-        served = λ _ _. inl (
+        off = λ _ _ lacks. absurd (true_false (sym has ∙ lacks));
+        served = λ _ _ _. inl (
           subst (λ (x : Result Outcome Refusal). Answered s.engine command x s'.engine) same answered,
           record { log = log ∙ ap (with_line s.log (Commands command)) same; servers = servers },
         );

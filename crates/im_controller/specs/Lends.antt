@@ -1,14 +1,15 @@
 -- What is done under the lock. (Own.)
-use Rattle.std.specs.Prelude.{◌≡◌, ◌≢◌, ◌⊎◌, ℕ, ◌<◌, ◌≤◌, ◌++◌, ◌&&◌, Bool, true, false, List, [], ◌∷◌, Some, Result, Ok, Err, length, count_by, nat_lt, slice_get, slice_set, if◌then◌else◌, ◌==◌}
+use Rattle.std.specs.Prelude.{◌≡◌, ◌≢◌, ◌⊎◌, ℕ, ◌<◌, ◌≤◌, ◌++◌, ◌&&◌, Bool, true, false, Option, List, [], ◌∷◌, Some, Result, Ok, Err, length, count_by, nat_lt, slice_get, slice_set, if◌then◌else◌, ◌==◌}
 use Rattle.im_types.specs.declared.operations.Entry.{Entry}
 use Rattle.im_types.specs.declared.operations.Entry.TheVariants.{Waiting}
 use Rattle.im_types.specs.declared.commands.Command.{Command}
+use Rattle.im_types.specs.declared.commands.Request.{Request}
 use Rattle.im_types.specs.declared.commands.Outcome.{Outcome}
 use Rattle.im_types.specs.declared.commands.Call.{Call}
 use Rattle.im_types.specs.declared.commands.Call.TheVariants.{Command as Commands, Collect}
 use Rattle.im_types.specs.declared.commands.Line.{Line}
 use Rattle.im_types.specs.declared.refusals.Refusal.{Refusal}
-use Rattle.im_types.specs.declared.refusals.Refusal.TheVariants.{NoElement, JournalFull, Device, Failed, NoMemory, TraceFull, Stalled}
+use Rattle.im_types.specs.declared.refusals.Refusal.TheVariants.{NoElement, JournalFull, Device, Failed, NoMemory, TraceFull, Stalled, OffPlan}
 use Rattle.im_types.specs.declared.changes.Change.{Change}
 use Rattle.im_types.specs.Contents.{Contents}
 use Rattle.im_types.specs.Step.{is_accepted}
@@ -25,6 +26,7 @@ use Rattle.im_controller.specs.declared.tellers.Standing.{Standing}
 use Rattle.im_controller.specs.Lines.{Counts, lines_of, counts_after}
 use Rattle.im_controller.specs.Log.{ReceiptState, plain, receipt_for, with_line}
 use Rattle.im_controller.specs.Servers.{entry_at, is_answered, is_waiting, are_stuck, with_server}
+use Rattle.im_controller.specs.Planned.{has_command}
 use Rattle.im_controller.specs.State.{SharedState, PortState}
 
 -- the line of a call, if it leaves one, stands in the log; the servers stay
@@ -52,11 +54,13 @@ pub record IsRoomless {D : Type 0} (s : SharedState D) (command : Command) (answ
   pub same : s' ≡ s
 
 -- A command that is lent to the engine, by its answer. Refused first where the engine has failed, and then where the trace is full.
-pub record Lends {D : Type 0} (marks : Line → Bool) (s : SharedState D) (t : Counts) (command : Command) (answer : Result ReceiptState Refusal) (s' : SharedState D) (t' : Counts) : Type 0 where
+pub record Lends {D : Type 0} (marks : Line → Bool) (plan : Option (List Request)) (s : SharedState D) (t : Counts) (command : Command) (answer : Result ReceiptState Refusal) (s' : SharedState D) (t' : Counts) : Type 0 where
   pub dead : s.engine.failed ≡ true → (answer ≡ Err Failed) × (s' ≡ s)
   pub full : s.engine.failed ≡ false → s.log.limit ≤ length s.log.trace → (answer ≡ Err TraceFull) × (s' ≡ s)
+  -- then where there is a plan that doesn't have its operation under its number
+  pub off : s.engine.failed ≡ false → length s.log.trace < s.log.limit → has_command plan command ≡ false → (answer ≡ Err OffPlan) × (s' ≡ s)
   -- else the engine answers it, and its line is left where it has an outcome or a refusal of numbers; or the pane has no room for its change
-  pub served : s.engine.failed ≡ false → length s.log.trace < s.log.limit →
+  pub served : s.engine.failed ≡ false → length s.log.trace < s.log.limit → has_command plan command ≡ true →
       (Answered s.engine command (plain answer) s'.engine × Leaves s (Commands command) (plain answer) s') ⊎ IsRoomless s command answer s'
   -- its port has counted the line, if there is one, and an outcome has the trace that ends in it
   pub tally : t' ≡ counts_after marks t (lines_of (Commands command) (plain answer))

@@ -6,3 +6,5 @@ pub mod Lends
 pub mod Waits
 pub mod Groups
 pub mod Kept
+pub mod Planned
+pub mod Admitted

@@ -111,6 +111,11 @@ Claims marks l t element r None l' t' = (l' ≡ l) × (t' ≡ t)
 Claims marks l t element r (Some answer) l' t' =
     (l' ≡ without_unclaimed l element) × (t' ≡ counts_after marks t (lines_of (Commands (Asks r)) (plain answer))) × IsOf (Asks r) answer
 
+-- an outcome has a beginning of the trace, legal and with its line at the end
+abbrev pub IsOfTrace : Contents → List Line → Result ReceiptState Refusal → Type 0
+IsOfTrace m trace (Ok r) = IsPrefix r.history trace × IsProof m (Commands r.command) (Ok r.outcome) r.history
+IsOfTrace m trace (Err refusal) = Unit {0}
+
 -- no answer waits in any of these places
 abbrev pub AreFree : List (Option UnclaimedState) → Type 0
 AreFree places = AllByRecursion (λ place. place ≡ None) places

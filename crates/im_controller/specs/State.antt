@@ -1,6 +1,7 @@
 -- What lies under the lock, as contracts see it. (Own.)
-use Rattle.std.specs.Prelude.{ℕ, List}
+use Rattle.std.specs.Prelude.{ℕ, List, Option}
 use Rattle.logbook.specs.Pages.{Book}
+use Rattle.im_types.specs.declared.commands.Request.{Request}
 use Rattle.im_types.specs.declared.changes.Change.{Change}
 use Rattle.im_engine.specs.State.{EngineState}
 use Rattle.im_controller.specs.declared.servers.Server.{Server}
@@ -14,7 +15,7 @@ pub record SharedState (D : Type 0) : Type 0 where
   pub servers : List Server
   pub shown : List Change
 
--- an engine with room for a trace, before it has a name: how many ports there are, which ledgers count the lines and the marked lines, and the book of what is shown
+-- an engine with room for a trace, before it has a name: how many ports there are, which ledgers count the lines and the marked lines, the book of what is shown, and the plan, if there is one
 pub record OpeningState (D : Type 0) : Type 0 where
   pub engine : EngineState D
   pub limit : ℕ
@@ -22,6 +23,7 @@ pub record OpeningState (D : Type 0) : Type 0 where
   pub lines_name : ℕ
   pub marked_name : ℕ
   pub book : Book
+  pub plan : Option (List Request)
 
 -- a port: its element, and how many lines it was told
 pub record PortState : Type 0 where

@@ -1,5 +1,5 @@
 //! The lock, and the thread that keeps checkpoints.
-ghost use Rattle.std.specs.Prelude.{◌≡◌, ◌⊎◌, IfOk, IfErr};
+ghost use Rattle.std.specs.Prelude.{◌≡◌, ◌⊎◌, IfOk, IfErr, IfSome};
 ghost use Rattle.im_types.specs.declared.refusals.Refusal.TheVariants.{NoElement};
 ghost use mathlib.Core.List.{IsPrefix};
 ghost use Rattle.im_types.specs.Trace.{IsLegal};
@@ -8,6 +8,7 @@ ghost use Rattle.im_types.specs.declared.commands.Call.TheVariants.{Command as C
 ghost use Rattle.im_controller.specs.Lines.{EndsIn, line_of, lines_of, counts_after};
 ghost use Rattle.im_controller.specs.Log.{plain};
 ghost use Rattle.im_controller.specs.Groups.{Holds};
+ghost use Rattle.im_controller.specs.Planned.{TellsOf};
 ghost use Rattle.im_controller.specs.Lends.{IsTurnFault};
 
 use crate::bell::Bell;
@@ -193,6 +194,7 @@ impl<D: Disk, K: Name> Controller<D, K> {
         request: &Request,
     ) -> Option<Result<Receipt<K>, Refusal>>
         ensures holds { Holds K.marks tally.old request.now result tally.new }
+        ensures planned { IfSome result (TellsOf K.memory K.plan) }
     {
         let turn = self.turns.wait(rt, request.element as usize);
         let mut guard = self.shared.lock(rt);

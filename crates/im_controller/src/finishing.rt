@@ -2,6 +2,7 @@
 ghost use Rattle.std.specs.Prelude.{◌≡◌, ◌≤◌, ◌+◌, false, IsTrue, length, sum_by, count_by};
 ghost use Rattle.im_types.specs.Trace.{IsLegal, end_of};
 ghost use Rattle.im_controller.specs.Kept.{HasKept, accepted_in};
+ghost use Rattle.im_controller.specs.Planned.{EndsBy};
 
 use crate::books::{Books, Reserve, Tally};
 use crate::controller::Controller;
@@ -36,6 +37,9 @@ pub struct Finished<D: Disk> {
 /// Each file that a crash has left since the trace began means the memory that was opened after a beginning of the
 /// trace's accepted commands; and each that it may leave now, after all of them. Where a call of the disk has failed,
 /// the commands that it left in doubt may be there too, all of them or none.
+///
+/// Under a plan what is kept for a planned request is its result by the plan, if it is answered; and once all of the plan
+/// was served, the memory that was opened and the plan alone say what is kept, whatever the threads did.
 pub fn finish<D: Disk, K: Name, R: Wait>(
     rt: &R,
     controller: Controller<D, K>,
@@ -43,6 +47,7 @@ pub fn finish<D: Disk, K: Name, R: Wait>(
 ) -> Finished<D>
     ensures legal { IsLegal K.memory result.trace.items }
     ensures end { end_of K.memory result.trace.items ≡ result.engine.memory }
+    ensures planned { EndsBy K.memory K.plan result.engine.memory }
     ensures kept { D.honest result.engine.disk → K.begun.failed ≡ false
         → HasKept D.now D.past D.failures K.begun K.memory (accepted_in K.memory result.trace.items) result.engine }
     ensures honest { D.honest result.engine.disk → K.honest }
@@ -66,6 +71,7 @@ pub fn finish<D: Disk, K: Name, R: Wait>(
         pane,
         watched: _,
         servers: _,
+        plan: _,
         reserve,
         ended: _,
         idle: _,

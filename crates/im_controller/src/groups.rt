@@ -1,6 +1,5 @@
 //! Groups of requests that the engine is lent to, and whose answers wait for their ports.
-ghost use Rattle.std.specs.Prelude.{◌≡◌, ◌<◌, ◌≤◌, ◌+◌, ◌-◌, [], false, length, map};
-ghost use Rattle.im_types.specs.declared.refusals.Refusal.TheVariants.{TraceFull};
+ghost use Rattle.std.specs.Prelude.{◌≡◌, ◌<◌, ◌≤◌, ◌+◌, ◌-◌, ◌++◌, [], ◌∷◌, false, length, map, IfSome, if◌then◌else◌};
 ghost use Rattle.im_types.specs.Trace.{end_of};
 ghost use Rattle.im_types.specs.Groups.{AreApart};
 ghost use Rattle.im_disk.specs.Since.{LeavesWithin, LeavesNow, CallsAtMost};
@@ -9,17 +8,21 @@ ghost use Rattle.im_engine.specs.Groups.{all_refused, group_put, calls_for_group
 ghost use Rattle.im_controller.specs.Groups.{answer_in, with_all_unclaimed, AreAnswersTo, memory_after_all, lines_left};
 ghost use Rattle.im_controller.specs.Groups.{AreFreeFor, MembersAnswered, LendsGroup, Holds, IsCut};
 ghost use Rattle.im_controller.specs.Groups.{those, spread, next_answer, answers_left};
+ghost use Rattle.im_controller.specs.Planned.{AreOnPlan, StartsBy, TellsOf};
+ghost use Rattle.im_controller.specs.Admitted.{is_asked, is_picked, picked, admitted, with_refused_off};
 
 use crate::books::Tally;
 use crate::inbox::Inbox;
 use crate::log::Log;
 use crate::name::Name;
 use crate::panes::{choose, places_with, show_put};
+use crate::plans::has_request;
 use crate::receipts::Receipt;
 use crate::shared::Shared;
 use arrayvec::ArrayVec;
 use im_disk::Disk;
 use im_engine::Engine;
+use im_planning::Plan;
 use im_types::{Outcome, Refusal, Request, Served};
 use std::sync::{Mutex, Wait};
 
@@ -50,14 +53,14 @@ fn keep_all<K: Name>(log: &mut Log<K>, members: &[Request], served: &[Served])
     }
 }
 
-// Refuses so many members for want of room in the trace.
-fn refuse_for_room(members: &[Request], served: &mut ArrayVec<Served, 16>)
+// Refuses all members alike.
+fn refuse_alike(refusal: Refusal, members: &[Request], served: &mut ArrayVec<Served, 16>)
     requires fits { length members.now ≤ 16 }
     requires empty { served.old.items ≡ [] }
-    ensures { served.new.items ≡ all_refused TraceFull members.now }
+    ensures { served.new.items ≡ all_refused refusal members.now }
 {
     for _i in 0..members.len() {
-        served.push(Served::Refused(Refusal::TraceFull));
+        served.push(Served::Refused(refusal));
     }
 }
 
@@ -84,7 +87,7 @@ fn serve_members<D: Disk>(
     ensures honest { D.honest engine.new.disk → D.honest engine.old.disk }
 {
     if !engine.failed() && room == 0 {
-        return refuse_for_room(members.as_slice(), served);
+        return refuse_alike(Refusal::TraceFull, members.as_slice(), served);
     }
     // A stop in it leaves all that the group puts on the disk, or nothing of it: no answer is given before.
     engine.serve_group(members, served);
@@ -129,15 +132,8 @@ fn spread(roomy: &[bool], served: &[Served], answers: &mut ArrayVec<Served, 16>)
     }
 }
 
-/// Lends the engine to the requests of a group: what [`lend`](crate::lend) of each would answer, one after another, but
-/// that the answers wait for their ports, and their lines are counted when the ports take them. What they change is
-/// shown once, after all of them were put on the disk. Tells of each member whether the pane has room for what it
-/// changes: else it isn't lent, and is refused with `NoMemory`.
-///
-/// `Failed` for all where the engine has failed, `TraceFull` for all where the trace has no room left, and then what
-/// [`Engine::serve_group`] answers each: a refusal of numbers; `JournalFull`; `Device` for all that are lent, with no
-/// line, after which the engine has failed, and nothing more is shown.
-pub fn lend_group<D: Disk, K: Name, R: Wait>(
+// Lends the engine to members that the plan has, if any of them is to be served.
+fn lend_members<D: Disk, K: Name, R: Wait>(
     rt: &R,
     shared: &mut Shared<D, K>,
     members: &ArrayVec<Request, 16>,
@@ -147,6 +143,8 @@ pub fn lend_group<D: Disk, K: Name, R: Wait>(
     requires free { AreFreeFor shared.old.log.places members.now.items }
     requires room { length shared.old.log.trace < shared.old.log.limit
         → length shared.old.log.trace + length members.now.items ≤ shared.old.log.limit }
+    requires planned { shared.old.engine.failed ≡ false → length shared.old.log.trace < shared.old.log.limit
+        → AreOnPlan K.plan members.now.items }
     ensures lends { LendsGroup shared.old members.now.items result.items shared.new }
     // What the disk is left with, as by the engine alone.
     ensures few { D.honest shared.new.engine.disk → CallsAtMost D.past shared.old.engine.disk shared.new.engine.disk
@@ -184,6 +182,123 @@ pub fn lend_group<D: Disk, K: Name, R: Wait>(
     roomy
 }
 
+// Puts a request behind these, if it is picked.
+fn push_if(chosen: &mut ArrayVec<Request, 16>, is_picked: bool, request: Request)
+    requires room { length chosen.old.items < 16 }
+    ensures { chosen.new.items ≡ chosen.old.items ++ (if is_picked then request ∷ [] else []) }
+{
+    if is_picked {
+        chosen.push(request);
+    }
+}
+
+// Whether a member is picked: those that the plan has are wanted, if it is asked, or the others.
+fn is_picked(plan: &Option<Plan>, asked: bool, wanted: bool, member: &Request) -> bool
+    ensures { result ≡ is_picked plan.now asked wanted member.now }
+{
+    if asked && !has_request(plan, member) {
+        return !wanted;
+    }
+    wanted
+}
+
+// The members that are picked.
+fn pick(
+    plan: &Option<Plan>,
+    asked: bool,
+    wanted: bool,
+    members: &[Request],
+    chosen: &mut ArrayVec<Request, 16>,
+)
+    requires fits { length members.now ≤ 16 }
+    requires empty { chosen.old.items ≡ [] }
+    ensures picked { chosen.new.items ≡ picked (is_picked plan.now asked wanted) members.now }
+    ensures few { length chosen.new.items ≤ length members.now }
+{
+    for i in 0..members.len() {
+        let is_picked = is_picked(plan, asked, wanted, &members[i]);
+        push_if(chosen, is_picked, members[i]);
+    }
+}
+
+// Whether a plan is asked: not where all are refused for another reason.
+fn is_asked<D: Disk, K: Name>(shared: &Shared<D, K>) -> bool
+    ensures asked { result ≡ is_asked shared.now }
+    ensures few { length shared.now.log.trace ≤ shared.now.log.limit }
+{
+    let room = shared.log.room();
+    if shared.engine.failed() {
+        return false;
+    }
+    0 < room
+}
+
+// The members that are lent: those that the plan has, where the engine lives and the trace has room. The refusals of the
+// others wait for their ports.
+fn admit<D: Disk, K: Name>(
+    shared: &mut Shared<D, K>,
+    members: &[Request],
+    lent: &mut ArrayVec<Request, 16>,
+)
+    requires fits { length members.now ≤ 16 }
+    requires empty { lent.old.items ≡ [] }
+    requires apart { AreApart members.now }
+    requires free { AreFreeFor shared.old.log.places members.now }
+    ensures lent { lent.new.items ≡ admitted K.plan shared.old members.now }
+    ensures shared { shared.new ≡ with_refused_off K.plan shared.old members.now }
+    ensures starts { StartsBy K.memory K.plan }
+{
+    let asked = is_asked(shared);
+    let mut off = ArrayVec::new();
+    let mut refused = ArrayVec::new();
+    pick(&shared.plan, asked, true, members, lent);
+    pick(&shared.plan, asked, false, members, &mut off);
+    refuse_alike(Refusal::OffPlan, off.as_slice(), &mut refused);
+    keep_all(&mut shared.log, off.as_slice(), refused.as_slice());
+}
+
+/// Lends the engine to the requests of a group: what [`lend`](crate::lend) of each would answer, one after another, but
+/// that the answers wait for their ports, and their lines are counted when the ports take them. What they change is
+/// shown once, after all of them were put on the disk. Tells of each member, but for those that are off the plan, whether
+/// the pane has room for what it changes: else it isn't lent, and is refused with `NoMemory`.
+///
+/// `Failed` for all where the engine has failed, `TraceFull` for all where the trace has no room left, `OffPlan` for
+/// those that a plan doesn't have with their operation under their number, and then what [`Engine::serve_group`] answers
+/// each: a refusal of numbers; `JournalFull`; `Device` for all that are lent, with no line, after which the engine has
+/// failed, and nothing more is shown.
+pub fn lend_group<D: Disk, K: Name, R: Wait>(
+    rt: &R,
+    shared: &mut Shared<D, K>,
+    members: &ArrayVec<Request, 16>,
+) -> ArrayVec<bool, 16>
+    requires cut { IsCut members.now.items }
+    requires apart { AreApart members.now.items }
+    requires free { AreFreeFor shared.old.log.places members.now.items }
+    requires room { length shared.old.log.trace < shared.old.log.limit
+        → length shared.old.log.trace + length members.now.items ≤ shared.old.log.limit }
+    ensures lends { LendsGroup (with_refused_off K.plan shared.old members.now.items)
+        (admitted K.plan shared.old members.now.items) result.items shared.new }
+    // What the disk is left with, as by the engine alone.
+    ensures few { D.honest shared.new.engine.disk → CallsAtMost D.past shared.old.engine.disk shared.new.engine.disk
+        (calls_for_group (length (group_put shared.old.engine
+        (those result.items (admitted K.plan shared.old members.now.items))))) }
+    ensures faults { GroupFaults shared.old.engine.failed shared.new.engine.failed
+        (D.failures shared.old.engine.disk) (D.failures shared.new.engine.disk) }
+    ensures leaves { D.honest shared.new.engine.disk → shared.old.engine.failed ≡ false
+        → LeavesWithin D.now D.past shared.old.engine.disk shared.new.engine.disk
+        (MeansGroup shared.old.engine (those result.items (admitted K.plan shared.old members.now.items))) }
+    ensures doubt { D.honest shared.new.engine.disk → shared.old.engine.failed ≡ false
+        → LeavesNow (D.now shared.new.engine.disk)
+        (MeansGroup shared.old.engine (those result.items (admitted K.plan shared.old members.now.items))) }
+    ensures means { D.honest shared.new.engine.disk → shared.new.engine.failed ≡ false
+        → LeavesNow (D.now shared.new.engine.disk) (MeansState shared.new.engine) }
+    ensures honest { D.honest shared.new.engine.disk → D.honest shared.old.engine.disk }
+{
+    let mut lent = ArrayVec::new();
+    admit(shared, members.as_slice(), &mut lent);
+    lend_members(rt, shared, &lent)
+}
+
 // Serves all that is asked and whose answer has a free place, group by group.
 fn serve_asked<D: Disk, K: Name, R: Wait>(rt: &R, shared: &mut Shared<D, K>, inbox: &Mutex<Inbox>) {
     let mut from = 0;
@@ -211,6 +326,7 @@ pub(crate) fn hold<D: Disk, K: Name, R: Wait>(
     request: &Request,
 ) -> Option<Result<Receipt<K>, Refusal>>
     ensures holds { Holds K.marks tally.old request.now result tally.new }
+    ensures planned { IfSome result (TellsOf K.memory K.plan) }
 {
     if let Some(answer) = shared
         .log

@@ -1,6 +1,6 @@
 //! The trace, the books that count its lines, and the answers that wait for their ports.
 ghost use Rattle.std.specs.Prelude.{◌≡◌, ◌<◌, ◌≤◌, ◌+◌, ◌-◌, ◌++◌, true, false, Some, None, Ok, length, vec_len};
-ghost use Rattle.std.specs.Prelude.{vec_capacity, slice_get, slice_set, sum_by, count_by, IfOk, MatchOption};
+ghost use Rattle.std.specs.Prelude.{vec_capacity, slice_get, slice_set, sum_by, count_by, IfOk, IfSome, MatchOption};
 ghost use Rattle.im_types.specs.declared.commands.Call.TheVariants.{Command as Commands, Collect};
 ghost use Rattle.im_types.specs.declared.commands.Outcome.TheVariants.{Entry as Tells};
 ghost use Rattle.im_types.specs.declared.commands.Command.TheVariants.{Request as Asks};
@@ -8,7 +8,7 @@ ghost use Rattle.im_types.specs.Trace.{answer_to, end_of, IsLegal};
 ghost use Rattle.im_controller.specs.Lines.{leaves_line, lines_of, memory_after, counts_after};
 ghost use Rattle.im_controller.specs.Lines.{EndsIn, EndsInAll, line_of};
 ghost use Rattle.im_controller.specs.Log.{with_line, with_unclaimed, Takes, Claims, IsProof, IsToldOf, AreFree};
-ghost use Rattle.im_controller.specs.Log.{receipt_for};
+ghost use Rattle.im_controller.specs.Log.{receipt_for, IsOfTrace};
 
 use crate::books::{Books, Tally};
 use crate::name::{Name, Shown};
@@ -118,7 +118,8 @@ impl<K: Name> Log<K> {
     ) -> Result<Receipt<K>, Refusal>
         requires ends { EndsInAll self.now.trace (lines_of (Commands command.now) answer) }
         requires told { IsToldOf K.memory self.now.trace told }
-        ensures { result ≡ receipt_for self.now.trace told command.now answer }
+        ensures receipt { result ≡ receipt_for self.now.trace told command.now answer }
+        ensures proof { IsOfTrace K.memory self.now.trace result }
     {
         receipt_of(Snapshot::of(&self.trace), told, command, answer)
     }
@@ -126,12 +127,13 @@ impl<K: Name> Log<K> {
     // What is kept under a number, with the trace that the line of this collect ends.
     pub(crate) fn found(&self, element: u16, number: u64, entry: Entry) -> Found<K>
         requires { EndsIn self.now.trace (line_of (Collect element number) (Ok (Tells entry))) }
-        ensures { result ≡ record {
+        ensures found { result ≡ record {
           element = element;
           number = number;
           entry = entry;
           history = self.now.trace;
         } }
+        ensures proof { IsProof K.memory (Collect element number) (Ok (Tells entry)) self.now.trace }
     {
         Found {
             entry,
@@ -178,6 +180,7 @@ impl<K: Name> Log<K> {
     ) -> Option<Result<Receipt<K>, Refusal>>
         requires told { IsToldOf K.memory self.old.trace told }
         ensures claims { Claims K.marks self.old tally.old element request.now result self.new tally.new }
+        ensures proof { IfSome result (IsOfTrace K.memory self.old.trace) }
         ensures trace { self.new.trace ≡ self.old.trace }
     {
         let found = take_from(&mut self.places, element, request)?;

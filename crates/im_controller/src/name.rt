@@ -6,7 +6,8 @@ use std::sync::ledger::Ledger;
 /// What all parts of one controller agree on. Contracts alone see it: a caller's function has it as a type parameter,
 /// and each of its members is picked where that function is called.
 pub trait Name {
-    ghost use Rattle.std.specs.Prelude.{ℕ, Bool};
+    ghost use Rattle.std.specs.Prelude.{ℕ, Bool, List, Option};
+    ghost use Rattle.im_types.specs.declared.commands.Request.{Request};
     ghost use Rattle.im_types.specs.declared.commands.Line.{Line};
     ghost use Rattle.im_types.specs.Contents.{Contents};
     ghost use Rattle.logbook.specs.Pages.{Book};
@@ -14,6 +15,9 @@ pub trait Name {
 
     /// The memory that the trace begins with.
     ghost memory: { Contents };
+
+    /// The plan that all requests keep to, if there is one.
+    ghost plan: { Option (List Request) };
 
     /// Which lines are counted apart. Any test will do, so the trace can be asked for any line.
     ghost marks: { Line → Bool };
@@ -38,9 +42,11 @@ pub trait Name {
 }
 
 impl Name for Brand {
-    ghost use Rattle.std.specs.Prelude.{[], false};
+    ghost use Rattle.std.specs.Prelude.{[], None, false};
 
     ghost memory = { record { cells = []; windows = [] } };
+
+    ghost plan = { None };
 
     ghost marks = { λ _. false };
 

@@ -1,6 +1,9 @@
 //! An engine with room for a trace, before it has a name.
-ghost use Rattle.std.specs.Prelude.{◌≡◌, ◌≤◌, ◌<◌, [], IfOk, IfErr, length, count_by, vec_capacity};
-ghost use Rattle.im_types.specs.declared.refusals.Refusal.TheVariants.{NoMemory};
+ghost use Rattle.std.specs.Prelude.{◌≡◌, ◌↔◌, ◌⊎◌, ◌≤◌, ◌<◌, [], true, None, Some, IsTrue, IfOk, IfErr, OnOk, length};
+ghost use Rattle.std.specs.Prelude.{count_by, vec_capacity};
+ghost use Rattle.im_types.specs.declared.refusals.Refusal.TheVariants.{NoMemory, BadPlan};
+ghost use Rattle.im_types.specs.Plan.{FitsPlan};
+ghost use Rattle.im_plans.specs.Runs.{Starts};
 ghost use Rattle.im_types.specs.Changes.{opening};
 ghost use Rattle.im_controller.specs.Log.{AreFree};
 ghost use Rattle.im_controller.specs.Kept.{begun_in};
@@ -19,6 +22,7 @@ use im_disk::Disk;
 use im_engine::Engine;
 use im_glass::{Unnamed, open};
 use im_memory::Memory;
+use im_planning::{Plan, fits};
 use im_types::{Line, Refusal};
 use std::alloc::{AllocError, Global};
 use std::cmp::max;
@@ -32,6 +36,7 @@ pub struct Opening<D: Disk> {
     engine: Engine<D>,
     parts: Parts,
     pane: Unnamed,
+    plan: Option<Plan>,
     lines: Blank,
     marked: Blank,
 }
@@ -41,6 +46,7 @@ impl<D: Disk> Model for Opening<D> {
     ghost use Rattle.im_types.specs.Changes.{opening};
     ghost use Rattle.im_controller.specs.Log.{AreFree};
     ghost use Rattle.im_controller.specs.Servers.{is_unmade};
+    ghost use Rattle.im_controller.specs.Planned.{StartsBy};
     ghost use Rattle.im_controller.specs.State.{OpeningState};
 
     ghost Value = { OpeningState D };
@@ -52,12 +58,13 @@ impl<D: Disk> Model for Opening<D> {
       lines_name = o.lines.name;
       marked_name = o.marked.name;
       book = o.pane.book;
+      plan = o.plan;
     } };
 
     ghost invariant = { λ o. (o.lines.parts ≡ o.parts.ports) × (o.marked.parts ≡ o.parts.ports)
         × (o.parts.trace.items ≡ []) × (o.parts.limit ≤ vec_capacity o.parts.trace) × AreFree o.parts.places.items
         × (o.pane.shown ≡ opening o.engine.memory) × (o.pane.cells ≡ length o.engine.memory.cells)
-        × (o.parts.ports ≡ count_by is_unmade o.parts.servers) };
+        × (o.parts.ports ≡ count_by is_unmade o.parts.servers) × StartsBy o.engine.memory o.plan };
 }
 
 // What takes memory.
@@ -124,7 +131,7 @@ pub fn start<D: Disk + Drop, R: Wait>(
     engine: Engine<D>,
     trace_room: usize,
 ) -> Result<Opening<D>, (Refusal, Engine<D>)>
-    ensures found { IfOk result (λ o. (o.engine ≡ engine) × (o.limit ≡ trace_room)) }
+    ensures found { IfOk result (λ o. (o.engine ≡ engine) × (o.limit ≡ trace_room) × (o.plan ≡ None)) }
     ensures refused { IfErr result (λ e. (e.0 ≡ NoMemory) × (e.1 ≡ engine)) }
 {
     match make_parts(alloc, trace_room, engine.memory().elements()) {
@@ -135,6 +142,7 @@ pub fn start<D: Disk + Drop, R: Wait>(
                     engine,
                     parts,
                     pane,
+                    plan: None,
                     lines: Blank::new(ports),
                     marked: Blank::new(ports),
                 })
@@ -145,7 +153,64 @@ pub fn start<D: Disk + Drop, R: Wait>(
     }
 }
 
+// Whether a plan fits a memory: then a run under it may start from there.
+fn may_start(plan: &Plan, memory: &Memory) -> bool
+    ensures starts { result ≡ true → Starts memory.now.contents plan.now }
+    ensures fits { IsTrue result ↔ FitsPlan memory.now.contents plan.now }
+{
+    let _requests = plan.requests(); // So that it is known to be a plan,
+    let _elements = memory.elements(); // and that the memory's waiters agree with its entries.
+    fits(plan, memory)
+}
+
+/// The same as [`start`], under a plan: a request that the plan doesn't have with its operation under its number is
+/// refused with `OffPlan` from then on. `BadPlan`, with the engine as it was, exactly where the plan doesn't fit its
+/// memory, and else `NoMemory` as `start`; the plan is dropped then.
+pub fn start_planned<D: Disk + Drop, R: Wait>(
+    rt: &R,
+    alloc: Global,
+    engine: Engine<D>,
+    plan: Plan,
+    trace_room: usize,
+) -> Result<Opening<D>, (Refusal, Engine<D>)>
+    ensures found { IfOk result (λ o. (o.engine ≡ engine) × (o.limit ≡ trace_room) × (o.plan ≡ Some plan)) }
+    ensures fits { OnOk result (FitsPlan engine.memory plan) }
+    ensures bad { IfErr result (λ e. e.0 ≡ BadPlan → FitsPlan engine.memory plan → ⊥) }
+    ensures refused { IfErr result (λ e. ((e.0 ≡ NoMemory) ⊎ (e.0 ≡ BadPlan)) × (e.1 ≡ engine)) }
+{
+    if !may_start(&plan, engine.memory()) {
+        return Err((Refusal::BadPlan, engine));
+    }
+    match start(rt, alloc, engine, trace_room) {
+        Ok(opening) => Ok(opening.under(plan)),
+        Err(refused) => Err(refused),
+    }
+}
+
 impl<D: Disk> Opening<D> {
+    // The same under a plan that fits.
+    fn under(self, plan: Plan) -> Opening<D>
+        requires starts { Starts self.engine.memory plan }
+        ensures { result ≡ record self { plan = Some plan } }
+    {
+        let Opening {
+            engine,
+            parts,
+            pane,
+            plan: _,
+            lines,
+            marked,
+        } = self;
+        Opening {
+            engine,
+            parts,
+            pane,
+            plan: Some(plan),
+            lines,
+            marked,
+        }
+    }
+
     /// The controller, under the name that its caller's functions have for it. It takes no memory.
     pub fn named<K: Name>(self) -> Controller<D, K>
         requires memory { self.engine.memory ≡ K.memory }
@@ -153,6 +218,7 @@ impl<D: Disk> Opening<D> {
         requires marked { self.marked_name ≡ K.marked_name }
         requires ports { self.ports ≡ K.ports }
         requires book { self.book ≡ K.book }
+        requires plan { self.plan ≡ K.plan }
         requires begun { begun_in D.now D.past D.failures self.engine ≡ K.begun }
         requires honest { D.honest self.engine.disk → K.honest }
     {
@@ -160,6 +226,7 @@ impl<D: Disk> Opening<D> {
             engine,
             parts,
             pane,
+            plan,
             lines,
             marked,
         } = self;
@@ -199,6 +266,7 @@ impl<D: Disk> Opening<D> {
             pane,
             watched,
             servers,
+            plan,
             reserve,
             ended: false,
             idle: false,

@@ -9,6 +9,7 @@ ghost use Rattle.im_controller.specs.Lines.{EndsIn, line_of, lines_of, counts_af
 ghost use Rattle.im_controller.specs.Log.{plain};
 ghost use Rattle.im_controller.specs.Lends.{IsTurnFault};
 ghost use Rattle.im_controller.specs.Waits.{entry_of, IsFoundOf, IsAwaited};
+ghost use Rattle.im_controller.specs.Planned.{TellsOf, TellsFound};
 
 use crate::books::Tally;
 use crate::controller::Controller;
@@ -38,8 +39,9 @@ impl<K: Name> Model for Port<K> {
 
 impl<K: Name> Port<K> {
     /// Asks for an operation under a number of this element, and waits until it is answered, by this port or by another
-    /// that serves it in a group. Refused as by [`lend_group`](crate::lend_group): `Failed`, `TraceFull`, a refusal of
-    /// numbers, `JournalFull`, `Device`.
+    /// that serves it in a group. Refused as by [`lend_group`](crate::lend_group): `Failed`, `TraceFull`, `OffPlan`, a
+    /// refusal of numbers, `JournalFull`, `Device`. Under a plan the receipt tells what the plan says, in whatever order
+    /// its requests are served.
     pub fn submit<D: Disk, R: Wait>(
         &mut self,
         rt: &R,
@@ -49,6 +51,7 @@ impl<K: Name> Port<K> {
     ) -> Result<Receipt<K>, Refusal>
         ensures asked { IfOk result (λ r. r.command
             ≡ Asks (record { element = self.old.element; number = number; op = op })) }
+        ensures planned { TellsOf K.memory K.plan result }
         ensures legal { IfOk result (λ r. IsLegal K.memory r.history) }
         ensures last { IfOk result (λ r. EndsIn r.history (line_of (Commands r.command) (Ok r.outcome))) }
         ensures counts { self.new.told ≡ counts_after K.marks self.old.told
@@ -105,6 +108,7 @@ impl<K: Name> Port<K> {
         number: u64,
     ) -> Result<Found<K>, Refusal>
         ensures asked { IsFoundOf self.old.element number result }
+        ensures planned { TellsFound K.memory K.plan result }
         ensures legal { IfOk result (λ f. IsLegal K.memory f.history) }
         ensures last { IfOk result (λ f. EndsIn f.history
             (line_of (Collect f.element f.number) (Ok (Tells f.entry)))) }
@@ -130,6 +134,7 @@ impl<K: Name> Port<K> {
         number: u64,
     ) -> Result<Found<K>, Refusal>
         ensures asked { IsFoundOf self.old.element number result }
+        ensures planned { TellsFound K.memory K.plan result }
         ensures answered { IsAwaited result }
         ensures legal { IfOk result (λ f. IsLegal K.memory f.history) }
         ensures last { IfOk result (λ f. EndsIn f.history

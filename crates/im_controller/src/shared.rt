@@ -13,12 +13,14 @@ ghost use Rattle.im_engine.specs.State.{MeansState, MeansEither};
 ghost use Rattle.im_controller.specs.Lines.{EndsIn, line_of};
 ghost use Rattle.im_controller.specs.Lends.{Lends, Looks, LendsTurn, IsTurnFault, BeginsWait, told_turn, standing_in, with_server_at};
 ghost use Rattle.im_controller.specs.Lends.{MakesPort};
+ghost use Rattle.im_controller.specs.Planned.{TellsOf, TellsFound};
 ghost use Rattle.im_controller.specs.Waits.{Awaits, IsTold, IsFoundOf, entry_of};
 
 use crate::books::{Reserve, Tally};
 use crate::log::Log;
 use crate::name::{Name, Shown};
 use crate::panes::{put_ahead, show_put};
+use crate::plans::has_command;
 use crate::ports::Port;
 use crate::receipts::{Found, Receipt};
 use crate::servers::{Ask, Server, Servers};
@@ -27,6 +29,7 @@ use im_checkpoint::TurnDone;
 use im_disk::Disk;
 use im_engine::Engine;
 use im_glass::{Glance, Pane};
+use im_planning::Plan;
 use im_types::{Call, Command, Entry, Outcome, Refusal};
 use std::marker::Model;
 use std::sync::Wait;
@@ -38,13 +41,15 @@ use std::sync::Wait;
 /// The trace is legal from the memory that was opened, and its end is the engine's memory. What is shown is the full
 /// cells of the memory that was opened, and then the changes of the trace. Each file that a crash has left since then
 /// means the memory that was opened after a beginning of the trace's accepted commands, and of those that are in doubt
-/// where a call of the disk has failed; and each that it may leave now has all those of the trace.
+/// where a call of the disk has failed; and each that it may leave now has all those of the trace. Where there is a plan,
+/// it has each request of the trace.
 pub struct Shared<D: Disk, K: Name> {
     pub(crate) engine: Engine<D>,
     pub(crate) log: Log<K>,
     pub(crate) pane: Pane<Shown<K>>,
     pub(crate) watched: Vec<bool>,
     pub(crate) servers: Servers,
+    pub(crate) plan: Option<Plan>,
     pub(crate) reserve: Reserve<K>,
     pub(crate) ended: bool,
     pub(crate) idle: bool,
@@ -57,6 +62,7 @@ impl<D: Disk, K: Name> Model for Shared<D, K> {
     ghost use Rattle.im_controller.specs.State.{SharedState};
     ghost use Rattle.im_controller.specs.Kept.{HasKept, accepted_in};
     ghost use Rattle.im_controller.specs.Servers.{is_unmade};
+    ghost use Rattle.im_controller.specs.Planned.{KeepsTo};
 
     ghost Value = { SharedState D };
 
@@ -74,14 +80,15 @@ impl<D: Disk, K: Name> Model for Shared<D, K> {
         × (D.honest s.engine.disk → K.honest)
         × (D.honest s.engine.disk → K.begun.failed ≡ false
         → HasKept D.now D.past D.failures K.begun K.memory (accepted_in K.memory s.log.trace) s.engine)
-        × (s.reserve ≡ count_by is_unmade s.servers) };
+        × (s.reserve ≡ count_by is_unmade s.servers)
+        × (s.plan ≡ K.plan) × KeepsTo K.memory K.plan s.log.trace };
 }
 
 /// Lends the engine to a command, for the port whose tally this is: its line is left in the trace and counted where it
 /// has an outcome or a refusal of numbers. What it changes is shown after it was put on the disk, and never before.
 ///
-/// In this order: `Failed` where the engine has failed, `TraceFull` where the trace has no room left, and then what
-/// [`Engine::serve`] answers: a refusal of numbers; `JournalFull`; `Device`, after which no line is left and the engine
+/// In this order: `Failed` where the engine has failed, `TraceFull` where the trace has no room left, `OffPlan` where
+/// there is a plan that doesn't have its operation under its number, and then what [`Engine::serve`] answers: a refusal of numbers; `JournalFull`; `Device`, after which no line is left and the engine
 /// has failed, and nothing more is shown. `NoMemory` before `Device`, where the pane has no room for what the command
 /// changes: then all is as it was.
 pub fn lend<D: Disk, K: Name, R: Wait>(
@@ -90,7 +97,8 @@ pub fn lend<D: Disk, K: Name, R: Wait>(
     tally: &mut Tally<K>,
     command: &Command,
 ) -> Result<Receipt<K>, Refusal>
-    ensures lends { Lends K.marks shared.old tally.old command.now result shared.new tally.new }
+    ensures lends { Lends K.marks K.plan shared.old tally.old command.now result shared.new tally.new }
+    ensures planned { TellsOf K.memory K.plan result }
     ensures legal { IfOk result (λ r. IsLegal K.memory r.history) }
     // What the disk is left with, as by the engine alone.
     ensures calls { D.honest shared.new.engine.disk
@@ -112,6 +120,9 @@ pub fn lend<D: Disk, K: Name, R: Wait>(
     }
     if shared.log.room() == 0 {
         return Err(Refusal::TraceFull);
+    }
+    if !has_command(&shared.plan, command) {
+        return Err(Refusal::OffPlan);
     }
     let places = u64::from(shared.engine.room());
     match put_ahead(&mut shared.pane, shared.engine.memory(), places, command) {
@@ -250,6 +261,7 @@ pub(crate) fn find<D: Disk, K: Name>(
 ) -> Result<Found<K>, Refusal>
     ensures looks { Looks K.marks shared.old tally.old element number (entry_of result) shared.new tally.new }
     ensures found { IsFoundOf element number result }
+    ensures planned { TellsFound K.memory K.plan result }
 {
     match look(shared, tally, element, number) {
         Ok(entry) => Ok(shared.log.found(element, number, entry)),
@@ -266,6 +278,7 @@ pub(crate) fn ask_once<D: Disk, K: Name>(
 ) -> Option<Result<Found<K>, Refusal>>
     ensures awaits { Awaits K.marks tally.old element number result tally.new }
     ensures told { IsTold shared.old element number result }
+    ensures planned { IfSome result (TellsFound K.memory K.plan) }
 {
     match begin_wait(shared, element, number) {
         Ok(Ask::Wait) => None,

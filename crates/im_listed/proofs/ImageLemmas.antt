@@ -1,20 +1,21 @@
 -- What the list of a call does to a caller's file.
-use Rattle.std.proofs.Common.{◌≡◌, inl, inr, ⊎_elim, ℕ, zero, suc, ◌≤◌, Bool, true, false, List, [], ◌∷◌, length, take, Result, Ok, Err, refl, sym, ◌∙◌, ap, subst, arith, if◌then◌else◌}
+use Rattle.std.proofs.Common.{◌≡◌, ◌⊎◌, inl, inr, ⊎_elim, ℕ, zero, suc, Bool, true, false, List, [], length, take, Result, Ok, Err, refl, sym, ◌∙◌, ap, subst, arith, if◌then◌else◌}
 use Rattle.std.proofs.lemmas.Bool.{false≢true}
 use Rattle.im_types.specs.declared.commands.Command.{Command}
 use Rattle.im_types.specs.declared.commands.Outcome.{Outcome}
 use Rattle.im_types.specs.declared.refusals.Refusal.{Refusal}
+use Rattle.im_types.specs.declared.refusals.Refusal.TheVariants.{NoMemory, Device, WrongLength}
 use Rattle.im_types.specs.Step.{is_accepted}
-use Rattle.im_disk.specs.Moment.{Moment, Left, LeftSince, Faults}
+use Rattle.im_disk.specs.Moment.{Moment, Left, Faults, synced}
 use Rattle.im_disk.specs.Since.{Leaves, LeavesNow}
-use Rattle.im_disk.proofs.SinceLemmas.{only_now}
+use Rattle.im_disk.proofs.SinceLemmas.{only_now, left_now, left_synced, leaves_now}
 use Rattle.im_checkpoint.specs.declared.checkpoint.TurnDone.{TurnDone}
-use Rattle.im_engine.specs.State.{EngineState, MeansState}
+use Rattle.im_engine.specs.State.{EngineState, MeansState, IsFirstFault}
 use Rattle.im_engine.specs.Run.{Answered, TurnAnswered, TurnTaken, is_device}
 use Rattle.im_listed.specs.History.{given}
 use Rattle.im_listed.specs.Numbers.{told}
-use Rattle.im_listed.specs.Listing.{Task, Listing, carried, over, with_no_steps, LeftOnTheWay, Accounts}
-use Rattle.im_listed.specs.Image.{ImageState, Carries, begun_in, steps_of, tells_device}
+use Rattle.im_listed.specs.Listing.{Listing, carried, over, with_no_steps, LeftOnTheWay, Accounts}
+use Rattle.im_listed.specs.Image.{ImageState, Carries, IsFaultOf, IsWant, begun_in, tells_device}
 use Rattle.im_listed.proofs.NumberLemmas.{told_same}
 
 -- what is known after a call, of the engine as it began
@@ -57,10 +58,24 @@ carries old new P f =
 pub carries_on : (old new : ImageState) (P : EngineState Listing → List ℕ → Type 0) (s : EngineState Listing) → s ≡ begun_in old → Facts s new P → Carries old.engine.disk.now new (P (begun_in old))
 carries_on old new P s e f = carries old new P (subst (λ (t : EngineState Listing). Facts t new P) e f)
 
-pub begun_with : (bytes : List ℕ) (d start : Listing) → start ≡ over bytes → told d.failed d.begun ≡ told start.failed start.begun → Accounts d → d.now ≡ carried (given bytes) d.steps
+pub begun_with : (bytes : List ℕ) (d start : Listing) → (start.failed ≡ false) × (start.begun ≡ given bytes) → told d.failed d.begun ≡ told start.failed start.begun → Accounts d → d.now ≡ carried (given bytes) d.steps
 begun_with bytes d start e same account =
-    let there : told d.failed d.begun ≡ told false (given bytes) = same ∙ ap (λ (s : Listing). told s.failed s.begun) e in
+    let lives = e.0 in
+    let began = e.1 in
+    let there : told d.failed d.begun ≡ told false (given bytes) = same ∙ (λ i. told (lives i) (began i)) in
     account.ends ∙ ap (λ (b : Moment). carried b d.steps) (told_same d.failed false d.begun (given bytes) there)
+
+-- what is read of bytes that are all on the disk is what they themselves are
+pub own_fault : (bytes : List ℕ) (e : Refusal) (start d : Listing) → start.now ≡ synced (given bytes) → Leaves start.now d.now start.past d.past (Left start.now) → (e ≡ NoMemory) ⊎ (e ≡ Device) ⊎ (Unit {0} → LeavesNow d.now (IsFirstFault e)) → IsFaultOf bytes e
+own_fault bytes e start d is leaves why =
+    let left : Left start.now d.now.bytes = ⊎_elim (λ p. p) (λ p. p) (leaves_now start.now d.now start.past d.past (Left start.now) leaves d.now.bytes (left_now d.now)) in
+    let same : d.now.bytes ≡ bytes = left_synced (given bytes) d.now.bytes (subst (λ (m : Moment). Left m d.now.bytes) is left) in
+    ⊎_elim (λ none. inl none) (λ other. inr (⊎_elim (λ failed. inl failed) (λ found. inr (subst (IsFirstFault e) same (found tt d.now.bytes (left_now d.now)))) other)) why
+
+-- a disk over as many bytes as an image has hasn't the wrong length
+pub right_length : (bytes : List ℕ) (n : ℕ) (e : Refusal) (start : Listing) → start ≡ over bytes → length bytes ≡ n → (e ≡ WrongLength) ⊎ (e ≡ NoMemory) ⊎ (e ≡ Device) → (e ≡ WrongLength → length start.now.bytes ≡ n → ⊥) → IsWant e
+right_length bytes n e start is size why wrong =
+    ⊎_elim (λ w. absurd (wrong w (ap (λ (d : Listing). length d.now.bytes) is ∙ size))) (λ want. want) why
 
 alive_by : (accepted : Bool) (room : ℕ) (s new : EngineState Listing) (command : Command) (answer : Result Outcome Refusal) → is_accepted s.memory command ≡ accepted → s.room ≡ room → Answered s command answer new → s.failed ≡ false → tells_device answer ≡ false → new.failed ≡ false
 alive_by false room s new command answer is e a f calm = ap (λ (t : EngineState Listing). t.failed) (a.unaccepted f is).1 ∙ f

@@ -1,5 +1,5 @@
 -- Moments with one number are the same.
-use Rattle.std.proofs.Common.{◌≡◌, ℕ, zero, suc, ◌+◌, Bool, true, false, List, [], ◌∷◌, refl, sym, ◌∙◌, ap, arith}
+use Rattle.std.proofs.Common.{◌≡◌, ℕ, zero, suc, ◌+◌, Bool, true, false, List, [], ◌∷◌, refl, sym, ap, arith}
 use Rattle.im_disk.specs.Moment.{Moment}
 use Rattle.im_listed.specs.Numbers.{pair, bytes_number, ranges_number, moment_number, told}
 

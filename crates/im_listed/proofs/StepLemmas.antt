@@ -1,11 +1,12 @@
 -- One step more on the list of a disk over a caller's bytes.
-use Rattle.std.proofs.Common.{◌≡◌, ◌⊎◌, inl, inr, ⊎_elim, ℕ, ◌+◌, ◌≤◌, ◌<◌, List, [], ◌∷◌, ◌++◌, length, take, map, refl, sym, ◌∙◌, ap, subst, arith, length-append, false}
+use Rattle.std.proofs.Common.{◌≡◌, inl, inr, ⊎_elim, ℕ, List, [], ◌∷◌, ◌++◌, length, map, refl, sym, ◌∙◌, ap, subst, arith, length-append, Bool, true, false}
 use Rattle.std.proofs.lemmas.Bool.{cases_lt}
 use Rattle.std.proofs.lemmas.List.{take-append-le, take_all}
-use Rattle.im_disk.specs.Moment.{Moment, Left}
+use Rattle.std.proofs.lemmas.Bool.{false≢true}
+use Rattle.im_disk.specs.Moment.{Moment, Left, synced}
 use Rattle.im_listed.specs.declared.step.Step.{Step}
 use Rattle.im_listed.specs.History.{History, later}
-use Rattle.im_listed.specs.Listing.{Task, task_of, stepped, carried, Listing, later_with, shown, Accounts, Agrees}
+use Rattle.im_listed.specs.Listing.{Task, Settles, task_of, stepped, carried, Listing, later_with, shown, no_range, is_calm, settled, Accounts, Agrees}
 
 carried_more : (m : Moment) (ts : List Task) (t : Task) → carried m (ts ++ t ∷ []) ≡ stepped t (carried m ts)
 carried_more m [] t = refl
@@ -23,8 +24,34 @@ accounts_more d t a =
           (cases_lt (length d.steps) many);
     }
 
-pub agrees_more : (bytes new_bytes : List ℕ) (steps new_steps : List Step) (h : History) (t : Task) → Agrees bytes steps h → map task_of new_steps ≡ map task_of steps ++ t ∷ [] → new_bytes ≡ (stepped t h.now).bytes → Agrees new_bytes new_steps (later (stepped t h.now) h)
-agrees_more bytes new_bytes steps new_steps h t a more same = record {
+pub agrees_more : (bytes new_bytes : List ℕ) (steps new_steps : List Step) (calm : Bool) (h : History) (t : Task) → Agrees bytes steps calm h → map task_of new_steps ≡ map task_of steps ++ t ∷ [] → new_bytes ≡ (stepped t h.now).bytes → Agrees new_bytes new_steps (is_calm (stepped t h.now)) (later (stepped t h.now) h)
+agrees_more bytes new_bytes steps new_steps calm h t a more same = record {
   same = same;
+  calm_is = refl;
   accounts = subst (λ (ts : List Task). Accounts (record { now = stepped t h.now; past = h.now ∷ h.past; begun = h.begun; steps = ts; failed = false })) (sym more) (accounts_more (shown h steps false) t a.accounts);
+}
+
+none_is : (ranges : List (ℕ × ℕ)) → no_range ranges ≡ true → ranges ≡ []
+none_is [] is = refl
+none_is (r ∷ rs) is = absurd (false≢true is)
+
+calm_synced : (m : Moment) → is_calm m ≡ true → synced m ≡ m
+calm_synced m is =
+    let none = none_is m.ranges is in
+    (λ i. record { bytes = m.bytes; ranges = sym none i })
+
+-- a sync where all was synced
+accounts_later : (d : Listing) → synced d.now ≡ d.now → Accounts d → Accounts (later_with (synced d.now) d.steps d)
+accounts_later d same a = record {
+  ends = same ∙ a.ends;
+  way = λ many file within left. inr (a.way many file within left);
+}
+
+-- a sync, which lists a step where not all was synced
+pub agrees_synced : (bytes : List ℕ) (steps new_steps : List Step) (calm : Bool) (h : History) → Agrees bytes steps calm h → map task_of new_steps ≡ settled calm (map task_of steps) → Agrees bytes new_steps true (later (synced h.now) h)
+agrees_synced bytes steps new_steps false h a more = agrees_more bytes bytes steps new_steps false h Settles a more a.same
+agrees_synced bytes steps new_steps true h a same = record {
+  same = a.same;
+  calm_is = refl;
+  accounts = subst (λ (ts : List Task). Accounts (record { now = synced h.now; past = h.now ∷ h.past; begun = h.begun; steps = ts; failed = false })) (sym same) (accounts_later (shown h steps false) (calm_synced h.now (sym a.calm_is)) a.accounts);
 }

@@ -1,10 +1,10 @@
 -- An image in the hands of a caller that carries out the writes and syncs itself.
-use Rattle.std.specs.Prelude.{◌≡◌, ℕ, Bool, true, false, List, [], Result, Ok, Err, if◌then◌else◌}
+use Rattle.std.specs.Prelude.{◌≡◌, ◌⊎◌, ℕ, Bool, false, List, [], Result, Ok, Err, if◌then◌else◌}
 use Rattle.im_types.specs.declared.refusals.Refusal.{Refusal}
-use Rattle.im_types.specs.declared.refusals.Refusal.TheVariants.{Device}
+use Rattle.im_types.specs.declared.refusals.Refusal.TheVariants.{NoMemory, Device}
 use Rattle.im_disk.specs.Moment.{Moment}
 use Rattle.im_disk.specs.Since.{LeavesNow}
-use Rattle.im_engine.specs.State.{EngineState, MeansState}
+use Rattle.im_engine.specs.State.{EngineState, MeansState, IsFirstFault}
 use Rattle.im_engine.specs.Run.{is_device}
 use Rattle.im_listed.specs.Listing.{Task, Listing, carried, LeftOnTheWay, with_no_steps}
 
@@ -25,6 +25,14 @@ steps_of s = if s.lost then [] else s.engine.disk.steps
 abbrev pub tells_device : {T : Type 0} → Result T Refusal → Bool
 tells_device (Ok answer) = false
 tells_device (Err refusal) = is_device refusal
+
+-- there was no room for the image, or for a step
+abbrev pub IsWant : Refusal → Type 0
+IsWant refusal = (refusal ≡ NoMemory) ⊎ (refusal ≡ Device)
+
+-- why these bytes aren't opened: their first fault, or there was no room for them, or for a step
+abbrev pub IsFaultOf : List ℕ → Refusal → Type 0
+IsFaultOf file refusal = (refusal ≡ NoMemory) ⊎ (refusal ≡ Device) ⊎ IsFirstFault refusal file
 
 -- What carrying out the steps of a call does to the caller's file, which is as the steps of the calls before left it.
 pub record Carries (old : Moment) (new : ImageState) (P : List ℕ → Type 0) : Type 0 where

@@ -1,5 +1,5 @@
 -- A disk over a caller's bytes, and what the caller's file comes to by the list of its writes and syncs.
-use Rattle.std.specs.Prelude.{◌≡◌, ℕ, ◌≤◌, Bool, true, false, List, [], ◌∷◌, length, take, map, Result, MatchResult}
+use Rattle.std.specs.Prelude.{◌≡◌, ℕ, ◌≤◌, Bool, true, false, List, [], ◌∷◌, ◌++◌, length, take, map, Result, MatchResult, if◌then◌else◌}
 use Rattle.im_disk.specs.Moment.{Moment, Left, LeftSince, written, synced}
 use Rattle.im_listed.specs.declared.step.Step.{Step}
 use Rattle.im_listed.specs.declared.step.Step.TheVariants.{Write, Sync}
@@ -53,6 +53,19 @@ with_no_steps d = record { now = d.now; past = []; begun = d.now; steps = []; fa
 abbrev pub over : List ℕ → Listing
 over bytes = record { now = given bytes; past = []; begun = given bytes; steps = []; failed = false }
 
+-- no range
+abbrev pub no_range : List (ℕ × ℕ) → Bool
+no_range [] = true
+no_range (r ∷ rs) = false
+
+-- nothing was written since the last sync
+abbrev pub is_calm : Moment → Bool
+is_calm m = no_range m.ranges
+
+-- the steps with a sync more, where something was written since the last one
+abbrev pub settled : Bool → List Task → List Task
+settled calm steps = if calm then steps else steps ++ Settles ∷ []
+
 -- nothing happened but a failure
 abbrev pub broken : Listing → Listing
 broken d = record { now = d.now; past = d.past; begun = d.begun; steps = d.steps; failed = true }
@@ -70,7 +83,8 @@ pub record Accounts (d : Listing) : Type 0 where
   pub ends : d.now ≡ carried d.begun d.steps
   pub way : LeftOnTheWay d.begun d.steps (LeftSince (d.now ∷ d.past) 0)
 
--- the bytes, the list and the history agree
-pub record Agrees (bytes : List ℕ) (steps : List Step) (h : History) : Type 0 where
+-- the bytes, the list, whether all was synced, and the history agree
+pub record Agrees (bytes : List ℕ) (steps : List Step) (calm : Bool) (h : History) : Type 0 where
   pub same : bytes ≡ h.now.bytes
+  pub calm_is : calm ≡ is_calm h.now
   pub accounts : Accounts (shown h steps false)

@@ -5,6 +5,7 @@ ghost use Rattle.im_types.specs.Contents.{empty_contents};
 ghost use Rattle.im_types.specs.Groups.{AreApart};
 ghost use Rattle.im_types.specs.Layout.{image_length, layout_in_use, sizes_of};
 ghost use Rattle.im_types.specs.Window.{ask, bounds};
+ghost use Rattle.im_disk.specs.Moment.{synced};
 ghost use Rattle.im_disk.specs.Since.{LeavesNow};
 ghost use Rattle.im_checkpoint.specs.Step.{NoCheckpoint};
 ghost use Rattle.im_engine.specs.State.{MeansState, MeansEither, IsFound};
@@ -12,12 +13,13 @@ ghost use Rattle.im_engine.specs.Run.{Answered, TurnAnswered};
 ghost use Rattle.im_engine.specs.Groups.{GroupAnswered, MeansGroup, all_refused};
 ghost use Rattle.im_listed.specs.Listing.{Accounts, task_of, carried};
 ghost use Rattle.im_listed.specs.History.{given};
-ghost use Rattle.im_listed.specs.Image.{ImageState, Carries, begun_in, steps_of, tells_device};
+ghost use Rattle.im_listed.specs.Image.{ImageState, Carries, IsFaultOf, IsWant, begun_in, steps_of, tells_device};
 
 use crate::listed::Listed;
 use crate::step::Step;
 use arrayvec::ArrayVec;
 use im_checkpoint::TurnDone;
+use im_disk::{DeviceFault, Disk};
 use im_engine::Engine;
 use im_types::layout::image_length;
 use im_types::{Command, Entry, Limits, Outcome, Refusal, Request, Served};
@@ -63,10 +65,21 @@ fn known(engine: &Engine<Listed>) -> bool
     engine.failed()
 }
 
+// A disk over these bytes, all of which are on the caller's disk behind its one step.
+fn settled(bytes: Vec<u8>) -> Result<Listed, DeviceFault>
+    ensures now { IfOk result (λ d. d.now ≡ synced (given bytes.items)) }
+    ensures begun { IfOk result (λ d. (d.failed ≡ false) × (d.begun ≡ given bytes.items)) }
+{
+    let mut disk = Listed::new(bytes);
+    disk.sync()?;
+    Ok(disk)
+}
+
 impl Image {
     /// Makes the image of an empty memory. The caller's file has its length, and each of its bytes is in doubt.
     ///
-    /// `NoMemory` where there isn't room for the image, the memory and the pages of a checkpoint.
+    /// `NoMemory` where there isn't room for the image, the memory and the pages of a checkpoint, `Device` where the list
+    /// couldn't grow.
     pub fn format(alloc: Global, limits: Limits) -> Result<Image, Refusal>
         ensures empty { IfOk result (λ i. (i.engine.memory ≡ empty_contents limits.cells limits.elements)
             × (i.engine.count ≡ 0) × (i.engine.room ≡ limits.slots)) }
@@ -74,6 +87,7 @@ impl Image {
             ≡ carried (given (replicate (image_length layout_in_use (sizes_of limits)) 0)) (steps_of i)) }
         ensures means { IfOk result (λ i. LeavesNow i.engine.disk.now (MeansState i.engine)) }
         ensures works { IfOk result (λ i. i.lost ≡ false) }
+        ensures only { IfErr result IsWant }
     {
         let Ok(bytes) = vec![in alloc; 0; image_length(limits)] else {
             return Err(Refusal::NoMemory);
@@ -92,16 +106,21 @@ impl Image {
 
     /// Opens the image of these bytes, which are those of the caller's file, each of them in doubt.
     ///
-    /// The first fault of the bytes, as [`Engine::open`] has it, or `NoMemory`, or `Device` where the list couldn't
-    /// grow.
+    /// Refused with the first fault of the bytes, as [`Engine::open`] has it, with `NoMemory`, or with `Device` where
+    /// the list couldn't grow.
     pub fn open(alloc: Global, bytes: Vec<u8>) -> Result<Image, Refusal>
         ensures carried { IfOk result (λ i. i.engine.disk.now ≡ carried (given bytes.items) (steps_of i)) }
         ensures found { IfOk result (λ i. LeavesNow i.engine.disk.now (IsFound i.engine)) }
         ensures means { IfOk result (λ i. LeavesNow i.engine.disk.now (MeansState i.engine)) }
         ensures idle { IfOk result (λ i. i.engine.step ≡ NoCheckpoint) }
         ensures works { IfOk result (λ i. i.lost ≡ false) }
+        ensures fault { IfErr result (IsFaultOf bytes.items) }
     {
-        match Engine::open(alloc, Listed::new(bytes)) {
+        // The engine's own sync then finds nothing in doubt, so that what it reads is the bytes themselves.
+        let Ok(disk) = settled(bytes) else {
+            return Err(Refusal::Device);
+        };
+        match Engine::open(alloc, disk) {
             Ok(engine) => {
                 let _ = known(&engine);
                 Ok(Image {
@@ -109,7 +128,7 @@ impl Image {
                     lost: false,
                 })
             }
-            Err((refusal, _)) => Err(refusal),
+            Err((refusal, _)) => Err(refusal), // The bytes' own.
         }
     }
 

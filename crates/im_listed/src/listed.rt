@@ -1,7 +1,7 @@
 //! A disk over bytes that a caller hands in. It lists what the caller has to do to its file.
 ghost use Rattle.std.specs.Prelude.{◌≡◌, ◌+◌, ◌≤◌, ◌∷◌, ◌++◌, [], false, true, map, length, take, drop, Ok, OnOk, OnErr};
 ghost use Rattle.im_disk.specs.Moment.{Counts, written, synced};
-ghost use Rattle.im_listed.specs.Listing.{Puts, Settles, task_of, over, with_no_steps, later_with, Lists, Accounts};
+ghost use Rattle.im_listed.specs.Listing.{Puts, task_of, over, with_no_steps, later_with, settled, is_calm, Lists, Accounts};
 ghost use Rattle.im_listed.specs.Numbers.{told};
 
 use crate::account::Ledger;
@@ -24,7 +24,7 @@ const SYNCED: u64 = 4;
 
 /// A disk over bytes that a caller hands in, which are a copy of its file. It lists its writes and syncs, for the caller
 /// to carry out on the file in their order, and makes them on the copy at once. The list is emptied between calls
-/// ([`Empties`]).
+/// ([`Empties`]). A sync lists nothing where nothing was written since the last one.
 ///
 /// What a crash leaves of the caller's file is what it leaves at a beginning of the list ([`Listed::steps`]). A call
 /// fails only where the list cannot grow.
@@ -32,6 +32,7 @@ const SYNCED: u64 = 4;
 pub struct Listed {
     bytes: Vec<u8>,
     steps: Vec<Step>,
+    calm: bool,
     failed: bool,
     ledger: Ledger,
 }
@@ -44,7 +45,7 @@ impl Model for Listed {
 
     ghost view = { λ d. shown (history_of d.ledger.events) d.steps.items d.failed };
 
-    ghost invariant = { λ d. Agrees d.bytes.items d.steps.items (history_of d.ledger.events) };
+    ghost invariant = { λ d. Agrees d.bytes.items d.steps.items d.calm (history_of d.ledger.events) };
 }
 
 // Adds a step to the list, if it can grow.
@@ -67,6 +68,17 @@ fn add_write(steps: &mut Vec<Step>, place: usize, bytes: &[u8]) -> Result<(), Al
     add(steps, Step::Write(place, copy))
 }
 
+// Adds a sync to the list, where not all was synced, if it can grow.
+fn add_sync(steps: &mut Vec<Step>, calm: bool) -> Result<(), AllocError>
+    ensures ok { OnOk result (map task_of steps.new.items ≡ settled calm (map task_of steps.old.items)) }
+    ensures err { OnErr result (steps.new.items ≡ steps.old.items) }
+{
+    if calm {
+        return Ok(());
+    }
+    add(steps, Step::Sync)
+}
+
 // Puts the bytes there.
 fn put(bytes: &mut Vec<u8>, at: usize, part: &[u8])
     requires { at + length part.now ≤ length bytes.old.items }
@@ -87,6 +99,7 @@ impl Listed {
         Listed {
             bytes,
             steps: Vec::new(alloc),
+            calm: false,
             failed: false,
             ledger,
         }
@@ -154,20 +167,22 @@ impl Disk for Listed {
             return Err(DeviceFault);
         }
         put(&mut self.bytes, at, bytes);
+        self.calm = false;
         self.ledger.note(&[WRITTEN, at as u64], bytes);
         Ok(())
     }
 
     fn sync(&mut self) -> Result<(), DeviceFault>
         ensures answer { Lists result
-            (later_with (synced self.old.now) (self.old.steps ++ Settles ∷ []) self.old) self.old self.new }
+            (later_with (synced self.old.now) (settled (is_calm self.old.now) self.old.steps) self.old) self.old self.new }
         ensures failures { Counts result (told self.old.failed self.old.begun) (told self.new.failed self.new.begun) }
         ensures honest { ⟦<Listed as Disk>⟧.honest self.new }
     {
-        if let Err(_) = add(&mut self.steps, Step::Sync) {
+        if let Err(_) = add_sync(&mut self.steps, self.calm) {
             self.failed = true;
             return Err(DeviceFault);
         }
+        self.calm = true;
         self.ledger.note(&[SYNCED, 0], &[]);
         Ok(())
     }

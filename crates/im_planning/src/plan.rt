@@ -63,7 +63,8 @@ impl Plan {
     /// Whether the plan has this request, with its operation, under its element's number. In logarithmic time.
     #[tactic(auto, using(crate::proofs::MakingLemmas::in_plan))]
     pub fn has(&self, request: &Request) -> bool
-        ensures { IsTrue result ↔ IsInPlan self.now request.now }
+        ensures has { IsTrue result ↔ IsInPlan self.now request.now }
+        ensures found { result ≡ is_op request.now.op (op_under (request.now.element, request.now.number) self.now) }
     {
         self.has_under(request)
     }

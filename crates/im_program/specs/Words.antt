@@ -32,6 +32,10 @@ format_app = with_rule (with_rule (with_rule (with_rule (new_app (codes "format"
 abbrev pub script_app : Text → App
 script_app name = with_rule (with_rule (new_app name) (path_rule (codes "IMAGE"))) (path_rule (codes "SCRIPT"))
 
+-- run IMAGE SCRIPT [--planned]
+abbrev pub run_app : App
+run_app = with_rule (script_app (codes "run")) (flag_rule (codes "planned"))
+
 -- serve IMAGE [--watch]
 abbrev pub serve_app : App
 serve_app = with_rule (with_rule (new_app (codes "serve")) (path_rule (codes "IMAGE"))) (flag_rule (codes "watch"))
@@ -50,7 +54,7 @@ top_app = with_version (new_app (codes "imem"))
 
 -- imem, alone or with one of its subcommands
 abbrev pub imem_app : App
-imem_app = with_subcommand (with_subcommand (with_subcommand (with_subcommand (with_subcommand top_app format_app.top) (script_app (codes "serial")).top) (script_app (codes "run")).top) serve_app.top) inspect_app.top
+imem_app = with_subcommand (with_subcommand (with_subcommand (with_subcommand (with_subcommand top_app format_app.top) (script_app (codes "serial")).top) run_app.top) serve_app.top) inspect_app.top
 
 -- ---- what is asked for
 
@@ -59,7 +63,7 @@ pub data Task : Type 0 where
   demonstration : Task
   format : (image : List ℕ) (cells elements slots : ℕ) → Task
   serial : (image script : List ℕ) → Task
-  run : (image script : List ℕ) → Task
+  run : (image script : List ℕ) (planned : Bool) → Task
   serve : (image : List ℕ) (watch : Bool) → Task
   inspect : (image : List ℕ) → Task
 
@@ -74,7 +78,7 @@ task_of_job (Inspect image) = inspect image.now
 -- the task that a Work is
 abbrev pub task_of : Work → Task
 task_of (Alone job) = task_of_job job
-task_of (Run image script) = run image.now script.now
+task_of (Run image script planned) = run image.now script.now planned
 
 -- an option's number, in decimal digits below 2^32, or `fallback` where the option is not given
 abbrev pub number_in : List Row → Text → ℕ → Option ℕ
@@ -98,9 +102,9 @@ format_task rows =
 abbrev pub serial_task : List Row → Task
 serial_task rows = serial (path_in rows (codes "IMAGE")) (path_in rows (codes "SCRIPT"))
 
--- the task of run, by its two paths
+-- the task of run, by its two paths and whether it is planned
 abbrev pub run_task : List Row → Task
-run_task rows = run (path_in rows (codes "IMAGE")) (path_in rows (codes "SCRIPT"))
+run_task rows = run (path_in rows (codes "IMAGE")) (path_in rows (codes "SCRIPT")) (is_given rows (codes "planned"))
 
 -- the task of serve, by its path and whether it is watched
 abbrev pub serve_task : List Row → Task

@@ -5,7 +5,7 @@ ghost use Rattle.clap.specs.Words.{app_of, fault_of, found_of, kind_of, rows_of,
 ghost use Rattle.clap.specs.declared.builder.command.Command.TheViews.{out-Command};
 ghost use Rattle.im_script.specs.Grammar.{texts};
 ghost use Rattle.im_program.specs.Words.{asked, flag_rule, format_app, format_task, imem_app, inspect_app, inspect_task};
-ghost use Rattle.im_program.specs.Words.{is_given, number_in, option_rule, path_in, path_rule, run_task, script_app};
+ghost use Rattle.im_program.specs.Words.{is_given, number_in, option_rule, path_in, path_rule, run_app, run_task, script_app};
 ghost use Rattle.im_program.specs.Words.{serial_task, serve_app, serve_task, task_in, task_of, top_app};
 
 use clap::error::ErrorKind;
@@ -33,6 +33,8 @@ pub enum Work<'a> {
         image: &'a str,
         /// The script's path.
         script: &'a str,
+        /// Whether its requests are a plan.
+        planned: bool,
     },
 }
 
@@ -149,9 +151,15 @@ lines. Then a thread for each element sends its requests, another serves them an
 answer, and one more keeps checkpoints. At the end each request that was sent prints 'K.N REPLY', by
 elements and then by numbers, with what it was answered in the end.
 
+With --planned the script is a plan: its parts have only fetches, stores and glances, with at most one
+store to a cell, and each i cell that they name is empty when they begin. Then what its requests print
+is the same in every run, in whatever order the elements are served. A script that is no such plan is
+'refused 23 BadPlan' behind the setup, before anything of it is served.
+
 Example: the lines 'setup', 'alloc x i 1', 'element 1', 'fetch x', 'element 2', 'store x 5' in the
-file fetch.script, run on the image a.img
+file fetch.script, run on the image a.img, and as a plan
   imem run a.img fetch.script
+  imem run b.img fetch.script --planned
 
 Exit status: 0 all was answered; 1 something was refused, with 'refused N NAME' as the last line, or the
 output can't be written; 2 a bad command line; 3 the elements wait for each other, with
@@ -279,6 +287,21 @@ fn script_command<'a>(
     Ok(two)
 }
 
+/// The subcommand `run`.
+fn run_command<'a>(alloc: Global) -> Result<Command<'a>, AllocError>
+    ensures app { IfOk result (λ c. app_of c ≡ run_app) }
+    ensures local { IfOk result (λ c. (out-Command c).has_globals ≡ false) }
+{
+    let script = script_command(alloc, "run", RUN, RUN_EXAMPLES)?;
+    let planned = flag_option(
+        alloc,
+        "planned",
+        "Take the script for a plan: fetches and stores, at most one store to a cell",
+    );
+    let one = script.arg(planned)?;
+    Ok(one)
+}
+
 /// The subcommand `serve`.
 fn serve_command<'a>(alloc: Global) -> Result<Command<'a>, AllocError>
     ensures app { IfOk result (λ c. app_of c ≡ serve_app) }
@@ -328,7 +351,7 @@ fn imem_command<'a>(alloc: Global) -> Result<Command<'a>, AllocError>
     let empty = top_command(alloc);
     let format = format_command(alloc)?;
     let serial = script_command(alloc, "serial", SERIAL, SERIAL_EXAMPLES)?;
-    let run = script_command(alloc, "run", RUN, RUN_EXAMPLES)?;
+    let run = run_command(alloc)?;
     let serve = serve_command(alloc)?;
     let inspect = inspect_command(alloc)?;
     let one = empty.subcommand(format)?;
@@ -403,7 +426,12 @@ fn run_work<'a>(found: &ArgMatches<'a>) -> Work<'a>
     ensures { task_of result ≡ run_task (rows_of (found_of found.now)) }
 {
     let (image, script) = two_paths(found);
-    Work::Run { image, script }
+    let planned = is_given(found, "planned");
+    Work::Run {
+        image,
+        script,
+        planned,
+    }
 }
 
 /// What `serve` is asked for.

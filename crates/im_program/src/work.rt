@@ -242,8 +242,8 @@ pub fn serve_file<R: Files<File = File> + AllocGlobal + Input, S: Start, W: Writ
 }
 
 /// Runs the script of a file, which may have glances, on the image of another, each element's requests by threads of
-/// its own, and gives the image's disk back, with the status and the lines of [`run_on`]. The script is read first; the
-/// path `-` is standard input.
+/// its own, and gives the image's disk back, with the status and the lines of [`run_on`]. Its requests are a plan where
+/// it is planned. The script is read first; the path `-` is standard input.
 ///
 /// Whatever the image held when it was opened (`S`): as long as the file was honest, a crash at any moment since then
 /// leaves what [`run_on`] says.
@@ -263,6 +263,7 @@ pub fn run_file<
     rt: &R,
     image: &str,
     script: &str,
+    planned: bool,
     out: &mut W,
     observer: &mut N,
     start: S,
@@ -283,7 +284,7 @@ pub fn run_file<
         Err(refusal) => return Err(refusal),
     };
     match FileDisk::open(rt, image, start) {
-        Ok(disk) => Ok(run_on(rt, rt.alloc(), disk, &script, &Open, out, observer)),
+        Ok(disk) => Ok(run_on(rt, rt.alloc(), disk, &script, &Open, out, observer, planned)),
         Err(fault) => Err(refusal_of(rt, image, fault, observer)),
     }
 }
@@ -513,6 +514,7 @@ fn act_at_once<
     rt: &R,
     image: &str,
     script: &str,
+    planned: bool,
     out: &mut W,
     is_watched: bool,
     start: S,
@@ -524,7 +526,7 @@ fn act_at_once<
     ensures none { IfNone result.1 (result.0 ≡ 1) }
 {
     let mut console = Console::of(rt, image, script, is_watched);
-    match run_file(rt, image, script, out, &mut console, start) {
+    match run_file(rt, image, script, planned, out, &mut console, start) {
         Ok((status, disk)) => (status, Some(disk)),
         Err(refusal) => (refuse(rt.alloc(), refusal, out), None),
     }
@@ -556,7 +558,11 @@ pub fn act<
 {
     match work {
         Work::Alone(job) => act_alone(rt, job, input, out, is_watched, start),
-        Work::Run { image, script } => act_at_once(rt, image, script, out, is_watched, start),
+        Work::Run {
+            image,
+            script,
+            planned,
+        } => act_at_once(rt, image, script, *planned, out, is_watched, start),
     }
 }
 

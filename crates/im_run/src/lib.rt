@@ -4,6 +4,7 @@
 #![tactic(auto)]
 
 mod orders;
+mod planned;
 mod run;
 mod served;
 mod telling;

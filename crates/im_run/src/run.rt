@@ -6,9 +6,9 @@ ghost use Rattle.im_serial.specs.Serving.{NotOpened};
 ghost use Rattle.im_run.specs.Running.{Closes, EndedOn, Ran, RanOn, RunOn};
 
 use crate::orders::{Order, read_orders};
+use crate::planned::begin;
 use crate::served::{Did, Outcome, serve_orders};
 use crate::telling::print_finals;
-use im_controller::start;
 use im_disk::{Disk, OpenFault};
 use im_engine::Engine;
 use im_script::Script;
@@ -133,6 +133,7 @@ fn serve_on<D: Disk + Drop + Send, W: Write, N: Observer, G: Gate + Sync, R: Thr
     gate: &G,
     out: &mut W,
     observer: &mut N,
+    planned: bool,
 ) -> (u8, D)
     ensures status { (result.0 ≤ 1) ⊎ (result.0 ≡ STALLED) }
     ensures ended { D.honest result.1 → engine.failed ≡ false
@@ -141,7 +142,7 @@ fn serve_on<D: Disk + Drop + Send, W: Write, N: Observer, G: Gate + Sync, R: Thr
 {
     let none = Vec::new(alloc);
     let room = trace_room(orders.as_slice(), engine.memory().elements());
-    match start(rt, alloc, engine, room) {
+    match begin(rt, alloc, engine, orders.as_slice(), room, planned) {
         Ok(opening) => {
             let Outcome {
                 engine,
@@ -150,15 +151,7 @@ fn serve_on<D: Disk + Drop + Send, W: Write, N: Observer, G: Gate + Sync, R: Thr
             } = serve_orders::<D, Brand, G, R>(rt, alloc, opening, orders, gate);
             close(alloc, engine, did, reason_of(refused), paper, out, observer)
         }
-        Err((_, engine)) => close(
-            alloc,
-            engine,
-            none,
-            Err(Reason::Memory),
-            paper,
-            out,
-            observer,
-        ),
+        Err((reason, engine)) => close(alloc, engine, none, Err(reason), paper, out, observer),
     }
 }
 
@@ -178,6 +171,7 @@ fn run_engine<
     gate: &G,
     out: &mut W,
     observer: &mut N,
+    planned: bool,
 ) -> (u8, D)
     requires works { engine.failed ≡ false }
     requires means { D.honest engine.disk → LeavesNow (D.now engine.disk) (MeansState engine) }
@@ -192,7 +186,9 @@ fn run_engine<
     let read = read_orders(alloc, &mut server, script, out, observer);
     let (engine, paper) = server.leave();
     match read {
-        Ok(orders) => serve_on(rt, alloc, engine, orders, paper, gate, out, observer),
+        Ok(orders) => serve_on(
+            rt, alloc, engine, orders, paper, gate, out, observer, planned,
+        ),
         Err(reason) => close(alloc, engine, none, Err(reason), paper, out, observer),
     }
 }
@@ -236,6 +232,7 @@ pub fn run_on<
     gate: &G,
     out: &mut W,
     observer: &mut N,
+    planned: bool,
 ) -> (u8, D)
     ensures status { (result.0 ≤ 1) ⊎ (result.0 ≡ STALLED) }
     ensures ran { D.honest result.1 → (result.0 ≡ 0) ⊎ (result.0 ≡ STALLED)
@@ -250,7 +247,9 @@ pub fn run_on<
         Err(_) => return (end(alloc, Err(Reason::Memory), out, observer), disk),
     };
     match Engine::open(alloc, disk) {
-        Ok(engine) => run_engine(rt, alloc, engine, desk, script, gate, out, observer),
+        Ok(engine) => run_engine(
+            rt, alloc, engine, desk, script, gate, out, observer, planned,
+        ),
         Err((refusal, mut disk)) => {
             let reason = diagnose(alloc, &mut disk, refusal);
             (end(alloc, Err(reason), out, observer), disk)

@@ -194,6 +194,7 @@ pub fn serve_orders<
     requires marked { opening.marked_name ≡ K.marked_name }
     requires ports { opening.ports ≡ K.ports }
     requires book { opening.book ≡ K.book }
+    requires plan { opening.plan ≡ K.plan }
     requires begun { begun_in D.now D.past D.failures opening.engine ≡ K.begun }
     requires honest { D.honest opening.engine.disk → K.honest }
     ensures follows { Follows K.memory result.engine.memory }

@@ -16,6 +16,7 @@ use Rattle.im_controller.specs.contracts.books.Reserve as Reserve
 use Rattle.im_controller.specs.contracts.books.Tally as Tally
 use Rattle.im_controller.specs.contracts.ports.Port as Port
 use Rattle.im_glass.proofs.pane.Pane.TheSendSync.{the_send as pane_send}
+use Rattle.im_planning.proofs.plan.Plan.TheSendSync.{the_send as plan_send}
 use Rattle.im_controller.specs.contracts.shared.Shared as Shared
 use Rattle.im_controller.specs.contracts.inbox.Inbox as Inbox
 use Rattle.im_serving.specs.contracts.server.Served as Served
@@ -79,7 +80,7 @@ Bell-sync = search (sendable, crosses) depth 40
 
 module _ (D K : RattleType) (d : disk.Ghosts D.Denot) (n : name.Ghosts K.Denot) where
   pub Shared-send : IsSend D → IsSend (Shared.the_field D K d n).row
-  Shared-send s = let e = Engine-send D d s in let l = Log-send K n in let r = Reserve-send K n in let v = Servers-send in search (sendable, crosses, pane_send) depth 40
+  Shared-send s = let e = Engine-send D d s in let l = Log-send K n in let r = Reserve-send K n in let v = Servers-send in search (sendable, crosses, pane_send, plan_send) depth 40
 
   pub Controller-sync : IsSend D → IsSync (Controller.the_field D K d n).row
   Controller-sync s = let e = Shared-send s in let i = Inbox-send in let t = Turns-sync in let b = Bell-sync in search (sendable, crosses) depth 40

@@ -9,6 +9,8 @@ imem format a.img --cells 0004294967295 = make a.img of 4294967295 cells, 16 ele
 imem serial a.img s = serve s on a.img
 imem serial a.img - = serve - on a.img
 imem run a.img s = run s on a.img
+imem run a.img s --planned = run s on a.img, planned
+imem run --planned a.img - = run - on a.img, planned
 imem serve a.img = talk on a.img, unwatched
 imem serve a.img --watch = talk on a.img, watched
 imem serve --watch a.img = talk on a.img, watched
@@ -38,8 +40,12 @@ says Usage: imem inspect <IMAGE> = yes
 imem serial a.img s t = status 2
 says 't' = yes
 says Usage: imem serial <IMAGE> <SCRIPT> = yes
+imem serial a.img s --planned = status 2
+says --planned = yes
+imem run a.img s --planned=yes = status 2
+says --planned = yes
 imem run a.img = status 2
-says Usage: imem run <IMAGE> <SCRIPT> = yes
+says Usage: imem run [OPTIONS] <IMAGE> <SCRIPT> = yes
 imem mend = status 2
 says Usage: imem [COMMAND] = yes
 

@@ -35,7 +35,14 @@ fn add_job(said: &mut String, job: &Job) -> Result<(), AllocError> {
 fn add_work(said: &mut String, work: &Work) -> Result<(), AllocError> {
     match work {
         Work::Alone(job) => add_job(said, job),
-        Work::Run { image, script } => write!(said, "run {script} on {image}"),
+        Work::Run {
+            image,
+            script,
+            planned,
+        } => {
+            let how = if *planned { ", planned" } else { "" };
+            write!(said, "run {script} on {image}{how}")
+        }
     }
 }
 

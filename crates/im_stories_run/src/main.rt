@@ -84,6 +84,52 @@ glance 4095
 glance 4294967295
 ";
 
+// A plan, of which a cell is fetched by two elements, and an address is in no block.
+const PLAN: &str = "setup
+alloc x i 2
+element 1
+fetch x
+fetch x+1
+element 2
+store x 5
+store x+1 6
+element 3
+fetch x
+fetch 9
+";
+
+// No plan: two elements store to one cell.
+const STORED_TWICE: &str = "setup
+alloc x i 2
+element 2
+store x 5
+element 3
+store x 7
+";
+
+// No plan: an element makes a block.
+const MAKES_A_BLOCK: &str = "element 1
+fetch 0
+alloc i 1
+";
+
+// An element that isn't there, behind one that takes.
+const NO_ELEMENT: &str = "element 1
+take 0
+element 16
+fetch 0
+";
+
+// The numbers of element 0 go on after those of the setup. A cell has nobody to store to it.
+const GOES_ON: &str = "setup
+alloc x i 2
+element 0
+store x+1 8
+fetch x+1
+glance x+1
+fetch x
+";
+
 // An image of the usual limits, with nothing in it.
 fn new_image(alloc: Global) -> Result<MemDisk> {
     let Some(limits) = Limits::new(4_096, 16, 256) else {
@@ -95,7 +141,36 @@ fn new_image(alloc: Global) -> Result<MemDisk> {
     }
 }
 
-// Runs a script on an image, and says what was printed, and the status.
+// Runs a script on an image, as a plan or not, and says what was printed, and the status.
+fn run_as<G: Gate + Sync, R: Threads + Wait + Sync>(
+    rt: &R,
+    alloc: Global,
+    disk: MemDisk,
+    text: &str,
+    gate: &G,
+    planned: bool,
+    said: &mut String,
+) -> Result<MemDisk> {
+    let Ok(script) = read_script_with_glances(alloc, text.as_bytes()) else {
+        return Err(anyhow!("this is no script"));
+    };
+    let mut out = Paper::new(alloc);
+    let (status, disk) = run_on(
+        rt,
+        alloc,
+        disk,
+        &script,
+        gate,
+        &mut out,
+        &mut Nobody,
+        planned,
+    );
+    said.push_str(out.into_text()?.as_str())?;
+    writeln!(said, "status {status}")?;
+    Ok(disk)
+}
+
+// The same, not as a plan.
 fn run<G: Gate + Sync, R: Threads + Wait + Sync>(
     rt: &R,
     alloc: Global,
@@ -104,14 +179,7 @@ fn run<G: Gate + Sync, R: Threads + Wait + Sync>(
     gate: &G,
     said: &mut String,
 ) -> Result<MemDisk> {
-    let Ok(script) = read_script_with_glances(alloc, text.as_bytes()) else {
-        return Err(anyhow!("this is no script"));
-    };
-    let mut out = Paper::new(alloc);
-    let (status, disk) = run_on(rt, alloc, disk, &script, gate, &mut out, &mut Nobody);
-    said.push_str(out.into_text()?.as_str())?;
-    writeln!(said, "status {status}")?;
-    Ok(disk)
+    run_as(rt, alloc, disk, text, gate, false, said)
 }
 
 // Says the lines of cells and of entries that an image's report has, and gives its disk back.
@@ -154,16 +222,21 @@ fn tell_both<G: Gate + Sync, R: Threads + Wait + Sync>(
     Ok(())
 }
 
-// The same, where the request of one element is held until that of the other is answered.
+// The same, or a plan, where the requests of one element are held until one of another's is answered.
 fn tell_held<R: Threads + Wait + Sync>(
     rt: &R,
     alloc: Global,
     first: u16,
     then: u16,
+    planned: bool,
     said: &mut String,
 ) -> Result<()> {
     let gate = After::new(first, then);
-    tell_both(rt, alloc, &gate, said)?;
+    if planned {
+        tell_plan(rt, alloc, PLAN, &gate, said)?;
+    } else {
+        tell_both(rt, alloc, &gate, said)?;
+    }
     let held = gate.has_held(rt);
     writeln!(said, "{then} was held until {first} was answered: {held}")?;
     Ok(())
@@ -182,15 +255,53 @@ fn tell_glances<R: Threads + Wait + Sync>(rt: &R, alloc: Global, said: &mut Stri
     Ok(())
 }
 
+// Runs a script on a new image as a plan.
+fn tell_plan<G: Gate + Sync, R: Threads + Wait + Sync>(
+    rt: &R,
+    alloc: Global,
+    text: &str,
+    gate: &G,
+    said: &mut String,
+) -> Result<()> {
+    let disk = new_image(alloc)?;
+    let _disk = run_as(rt, alloc, disk, text, gate, true, said)?;
+    Ok(())
+}
+
+// Plans, whose results are the same in any order, and scripts that are none.
+fn tell_plans<R: Threads + Wait + Sync>(rt: &R, alloc: Global, said: &mut String) -> Result<()> {
+    said.push_str("# a plan, in any order\n")?;
+    tell_plan(rt, alloc, PLAN, &Open, said)?;
+    said.push_str("# two_servers: its fetches are held until a store is answered\n")?;
+    tell_held(rt, alloc, 2, 1, true, said)?;
+    said.push_str("# its stores are held until a fetch is answered, which waits\n")?;
+    tell_held(rt, alloc, 1, 2, true, said)?;
+    said.push_str("# no plan: two stores to one cell\n")?;
+    tell_plan(rt, alloc, STORED_TWICE, &Open, said)?;
+    said.push_str("# no plan: a block is made\n")?;
+    tell_plan(rt, alloc, MAKES_A_BLOCK, &Open, said)?;
+    said.push_str("# an element that is not there, before what is no plan\n")?;
+    tell_plan(rt, alloc, NO_ELEMENT, &Open, said)?;
+    said.push_str("# a plan of element 0, whose numbers go on, and of which a fetch waits\n")?;
+    tell_plan(rt, alloc, GOES_ON, &Open, said)?;
+    said.push_str("# a plan does not fit where a cell is waited for\n")?;
+    let disk = new_image(alloc)?;
+    let disk = run(rt, alloc, disk, WAITS, &Open, said)?;
+    let disk = run_as(rt, alloc, disk, STORES, &Open, true, said)?;
+    let _disk = report(alloc, disk, said)?;
+    Ok(())
+}
+
 fn tell_all<R: Threads + Wait + Sync>(rt: &R, alloc: Global, said: &mut String) -> Result<()> {
     tell_stalled(rt, alloc, said)?;
     said.push_str("# a fetch and its store, by two servers in any order\n")?;
     tell_both(rt, alloc, &Open, said)?;
     said.push_str("# two_servers: the fetch is held until the store is answered\n")?;
-    tell_held(rt, alloc, 2, 1, said)?;
+    tell_held(rt, alloc, 2, 1, false, said)?;
     said.push_str("# the store is held until the fetch is answered, which waits\n")?;
-    tell_held(rt, alloc, 1, 2, said)?;
-    tell_glances(rt, alloc, said)
+    tell_held(rt, alloc, 1, 2, false, said)?;
+    tell_glances(rt, alloc, said)?;
+    tell_plans(rt, alloc, said)
 }
 
 fn main(rt: HostRuntime) -> Result<()> {

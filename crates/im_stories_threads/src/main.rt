@@ -1,26 +1,27 @@
 //! Threads under one lock: what ports are answered beside each other, that the thread that keeps checkpoints works,
-//! that servers wait and are woken, that readers wait for nobody, and that the plain memory serves a long trace again
-//! alike.
+//! that servers wait and are woken, that readers wait for nobody, that the plain memory serves a long trace again alike,
+//! and that each thread ends where the disk stops, with nothing lost that was answered.
 #![tactic(auto)]
-
-ghost use Rattle.std.specs.Prelude.{◌≡◌};
-ghost use Rattle.im_controller.specs.Kept.{begun_in};
 
 mod crews;
 mod glances;
+mod naming;
 mod parts;
 mod scenes;
+mod servers;
+mod stops;
 mod traces;
 
-use crate::scenes::{Scene, show};
+use crate::naming::{Act, act_on};
+use crate::scenes::Scene;
+use crate::stops::show_stops;
 use anyhow::{Result, anyhow};
-use im_controller::{Name, Opening, start};
-use im_disk::{Disk, FuseDisk, MemDisk, Mode};
+use im_controller::{Opening, start};
+use im_disk::{FuseDisk, MemDisk, Mode};
 use im_engine::Engine;
 use im_types::layout::image_length;
 use im_types::{LAST, Limits};
 use std::alloc::Global;
-use std::marker::Brand;
 use std::sync::Wait;
 use std::thread::Threads;
 
@@ -41,27 +42,6 @@ fn opening<R: Wait>(
     }
 }
 
-// Shows a scene by a controller that has a name.
-fn show_named<K: Name + Send + Sync, R: Threads + Wait + Sync>(
-    rt: &R,
-    alloc: Global,
-    scene: Scene,
-    limits: Limits,
-    opening: Opening<FuseDisk>,
-    said: &mut String,
-) -> Result<()>
-    requires memory { opening.engine.memory ≡ K.memory }
-    requires lines { opening.lines_name ≡ K.lines_name }
-    requires marked { opening.marked_name ≡ K.marked_name }
-    requires ports { opening.ports ≡ K.ports }
-    requires book { opening.book ≡ K.book }
-    requires begun { begun_in ⟦<FuseDisk as Disk>⟧.now ⟦<FuseDisk as Disk>⟧.past ⟦<FuseDisk as Disk>⟧.failures
-        opening.engine ≡ K.begun }
-    requires honest { ⟦<FuseDisk as Disk>⟧.honest opening.engine.disk → K.honest }
-{
-    show(rt, alloc, scene, limits, opening.named::<K>(), said)
-}
-
 fn show_scene<R: Threads + Wait + Sync>(
     rt: &R,
     alloc: Global,
@@ -73,7 +53,7 @@ fn show_scene<R: Threads + Wait + Sync>(
     };
     writeln!(said, "{}", scene.head())?;
     let opening = opening(rt, alloc, scene, limits)?;
-    show_named::<Brand, R>(rt, alloc, scene, limits, opening, said)
+    act_on(rt, alloc, Act::Shows(scene), limits, opening, said)
 }
 
 fn show_all<R: Threads + Wait + Sync>(rt: &R, alloc: Global, said: &mut String) -> Result<()> {
@@ -88,7 +68,7 @@ fn show_all<R: Threads + Wait + Sync>(rt: &R, alloc: Global, said: &mut String) 
     ] {
         show_scene(rt, alloc, scene, said)?;
     }
-    Ok(())
+    show_stops(rt, alloc, said)
 }
 
 fn main(rt: HostRuntime) -> Result<()> {

@@ -3,6 +3,7 @@ use Rattle.std.proofs.lemmas.Bool.{eqb-true}
 use Rattle.im_controller.specs.Lines.{Counts}
 use Rattle.im_controller.specs.Log.{AreFree}
 use Rattle.im_controller.proofs.LogLemmas.{log-claimed}
+use Rattle.im_controller.proofs.PlannedLemmas.{ends-by}
 use Rattle.im_controller.proofs.finishing.finish.Goals as goal
 
 pub returns-clause-lines : goal.returns-clause-lines
@@ -24,3 +25,6 @@ returns-clause-marked g c = λ came claimed.
     let free = subst AreFree c.as_slice.ensures.value (c.are_free-claimed.ensures claimed) in
     let all = log-claimed g.K.Name.memory g.K.Name.marks _ _ c.log.invariant.0 free in
     omega (arith, amount, book, all.1, m.marked_amount, r.3)
+
+pub returns-clause-planned : goal.returns-clause-planned
+returns-clause-planned g c = ends-by g.K.Name.memory g.K.Name.plan c.engine.inside.log.trace c.engine.inside.engine.memory c.engine.invariant.8 c.engine.invariant.0

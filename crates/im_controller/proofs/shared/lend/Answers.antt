@@ -1,5 +1,7 @@
-use Rattle.std.proofs.Common.{◌≡◌, false, length, refl, inl, sym, ap, ◌∙◌, subst}
+use Rattle.std.proofs.Common.{◌≡◌, false, List, Option, length, refl, inl, sym, ap, ◌∙◌, subst}
 use Rattle.im_types.specs.declared.commands.Call.TheVariants.{Command as Commands}
+use Rattle.im_types.specs.declared.commands.Line.{Line}
+use Rattle.im_types.specs.declared.commands.Request.{Request}
 use Rattle.im_types.specs.Contents.{Contents}
 use Rattle.im_types.specs.Step.{step}
 use Rattle.im_engine.specs.State.{MeansState, MeansEither}
@@ -9,6 +11,8 @@ use Rattle.im_controller.specs.Lends.{Lends}
 use Rattle.im_controller.specs.Log.{LogState, receipt_for}
 use Rattle.im_controller.specs.State.{SharedState}
 use Rattle.im_controller.specs.Kept.{accepted_in}
+use Rattle.im_controller.specs.Planned.{has_command, KeepsTo}
+use Rattle.im_controller.proofs.PlannedLemmas.{keeps-line, keeps-starts, on-command, tells-of}
 use Rattle.im_controller.proofs.LendLemmas.{answered-so, answered-memory}
 use Rattle.im_controller.proofs.ShownLemmas.{lend-shown, end-cells, told-all, lends-served, some_room}
 use Rattle.im_controller.proofs.KeptLemmas.{accepted-after, kept_on, kept_lent}
@@ -68,11 +72,16 @@ invariant_of-shared g c =
           c.args.command.now c.serve-answer.result c.serve-answer.ensures.answered c.serve-answer.ensures.faults
           (c.serve-answer.ensures.leaves honest alive) (c.serve-answer.ensures.doubt honest alive) (c.serve-answer.ensures.means honest))),
       c.shared.invariant.6,
+      c.shared.invariant.7,
+      subst (λ (ls : List Line). KeepsTo m g.K.Name.plan ls) (sym (ap (λ (l : LogState). l.trace) c.leave.ensures.log))
+          (keeps-line m trace (Commands c.args.command.now) c.serve-answer.result g.K.Name.plan c.shared.invariant.8
+          (on-command m g.K.Name.plan c.args.command.now (keeps-starts m g.K.Name.plan trace c.shared.invariant.8)
+          (ap (λ (p : Option (List Request)). has_command p c.args.command.now) (sym c.shared.invariant.7) ∙ sym c.has_command.ensures ∙ c.if-not-has_command.false))),
     )
 
 pub returns-in-Ok-clause-lends : goal.returns-in-Ok-clause-lends
 returns-in-Ok-clause-lends g c =
-    let is = c.receipt.ensures ∙ ap (λ l. receipt_for c.leave.new.self.trace l c.args.command.now c.serve-answer.result) c.show_put-told.ensures.told in
+    let is = c.receipt.ensures.receipt ∙ ap (λ l. receipt_for c.leave.new.self.trace l c.args.command.now c.serve-answer.result) c.show_put-told.ensures.told in
     let room = some_room c.room.result _ _ c.if-room-eq0.false c.room.ensures.room in
     let shown = lend-shown g.K.Name.memory c.shared.inside.engine c.serve-answer.new.self c.args.command.now c.serve-answer.result c.serve-answer.ensures.answered (sym c.failed.ensures.failed ∙ c.if-failed.false)
     c.memory.result.now.contents c.from-places.result c.memory.ensures (c.from-places.ensures ∙ c.room-2.ensures)
@@ -80,8 +89,9 @@ returns-in-Ok-clause-lends g c =
     c.failed-in-Ok.result c.failed-in-Ok.ensures.failed c.show_put-told.ensures.shown c.show_put-told.ensures.hidden
     c.shared.inside.log.trace c.leave.new.self.trace c.shared.invariant.0 c.shared.invariant.1 (ap (λ (l : LogState). l.trace) c.leave.ensures.log) in
     let s' : SharedState g.row.D.Denot = record { engine = c.serve-answer.new.self; log = c.leave.new.self; servers = c.shared.inside.servers; shown = c.show_put-told.new.pane.shown } in
-    subst (λ (s : SharedState g.row.D.Denot). Lends g.K.Name.marks s c.args.tally.now c.args.command.now c.receipt.result s' c.leave.new.tally) c.shared.view_is
-    (lends-served g.K.Name.marks _ s' c.args.tally.now c.leave.new.tally c.args.command.now c.serve-answer.result c.receipt.result is (sym c.failed.ensures.failed ∙ c.if-failed.false) room
+    subst (λ (s : SharedState g.row.D.Denot). Lends g.K.Name.marks g.K.Name.plan s c.args.tally.now c.args.command.now c.receipt.result s' c.leave.new.tally) c.shared.view_is
+    (lends-served g.K.Name.marks g.K.Name.plan _ s' c.args.tally.now c.leave.new.tally c.args.command.now c.serve-answer.result c.receipt.result is (sym c.failed.ensures.failed ∙ c.if-failed.false) room
+    (ap (λ (p : Option (List Request)). has_command p c.args.command.now) (sym c.shared.invariant.7) ∙ sym c.has_command.ensures ∙ c.if-not-has_command.false)
     c.serve-answer.ensures.answered c.leave.ensures.log refl c.leave.ensures.tally shown.pane.is)
 
 pub returns-in-Ok-clause-doubt : goal.returns-in-Ok-clause-doubt
@@ -92,3 +102,21 @@ pub returns-in-Err-clause-doubt : goal.returns-in-Err-clause-doubt
 returns-in-Err-clause-doubt g c = λ honest alive file left.
     let means = c.failed.ensures.means honest (sym c.failed.ensures.failed ∙ c.if-failed.false) file left in
     inl (subst (λ (s : SharedState g.row.D.Denot). MeansState s.engine file) c.shared.view_is means)
+
+pub returns-in-Ok-clause-planned : goal.returns-in-Ok-clause-planned
+returns-in-Ok-clause-planned g c =
+    let m = g.K.Name.memory in let trace = c.shared.inside.log.trace in
+    tells-of m g.K.Name.plan c.leave.new.self.trace c.receipt.result
+    (subst (λ (ls : List Line). KeepsTo m g.K.Name.plan ls) (sym (ap (λ (l : LogState). l.trace) c.leave.ensures.log))
+    (keeps-line m trace (Commands c.args.command.now) c.serve-answer.result g.K.Name.plan c.shared.invariant.8
+    (on-command m g.K.Name.plan c.args.command.now (keeps-starts m g.K.Name.plan trace c.shared.invariant.8)
+    (ap (λ (p : Option (List Request)). has_command p c.args.command.now) (sym c.shared.invariant.7) ∙ sym c.has_command.ensures ∙ c.if-not-has_command.false))))
+    c.receipt.ensures.proof
+
+pub returns-then-not-has_command-clause-doubt : goal.returns-then-not-has_command-clause-doubt
+returns-then-not-has_command-clause-doubt g c = λ honest alive file left. inl (
+    subst (λ (s : SharedState g.row.D.Denot). g.D.Disk.honest s.engine.disk → s.engine.failed ≡ false → LeavesNow (g.D.Disk.now s.engine.disk) (MeansState s.engine)) c.shared.view_is c.failed.ensures.means honest alive file left)
+
+pub returns-then-not-has_command-clause-means : goal.returns-then-not-has_command-clause-means
+returns-then-not-has_command-clause-means g c =
+    subst (λ (s : SharedState g.row.D.Denot). g.D.Disk.honest s.engine.disk → s.engine.failed ≡ false → LeavesNow (g.D.Disk.now s.engine.disk) (MeansState s.engine)) c.shared.view_is c.failed.ensures.means

@@ -1,4 +1,4 @@
-use Rattle.std.proofs.Common.{◌≡◌, ◌⊎◌, ◌∙◌, false, ap, subst, sym, Result, Err}
+use Rattle.std.proofs.Common.{◌≡◌, ◌⊎◌, ◌∙◌, false, ap, subst, sym, Result}
 use Rattle.std.specs.Prelude.{IfErr}
 use Rattle.im_disk.specs.Since.{LeavesNow}
 use Rattle.im_engine.specs.State.{MeansState}
@@ -28,6 +28,8 @@ invariant_of-shared g c =
           (sym (accepted-after m trace ∙ c.shared.invariant.0)) c.turn-done.result c.turn-done.ensures.answered c.turn-done.ensures.faults
           (c.turn-done.ensures.leaves honest) (c.turn-done.ensures.now honest) (c.turn-done.ensures.means honest)),
       c.shared.invariant.6,
+      c.shared.invariant.7,
+      c.shared.invariant.8,
     )
 
 pub returns-clause-only : goal.returns-clause-only

@@ -1,9 +1,12 @@
-use Rattle.std.proofs.Common.{◌≡◌, sym, ap, ◌∙◌, ◌++◌}
+use Rattle.std.proofs.Common.{◌≡◌, List, sym, ap, subst, ◌∙◌, ◌++◌}
+use Rattle.im_types.specs.declared.commands.Line.{Line}
 use Rattle.im_types.specs.declared.commands.Call.TheVariants.{Collect}
 use Rattle.im_controller.specs.Lines.{lines_of}
 use Rattle.im_controller.specs.Log.{LogState}
 use Rattle.im_types.specs.Trace.{told, end_of}
 use Rattle.im_types.specs.Changes.{shown_by}
+use Rattle.im_controller.specs.Planned.{KeepsTo}
+use Rattle.im_controller.proofs.PlannedLemmas.{keeps-line, question-on}
 use Rattle.im_controller.proofs.LogLemmas.{last-told}
 use Rattle.im_controller.proofs.ShownLemmas.{looked-shown, memory-same}
 use Rattle.im_controller.proofs.KeptLemmas.{kept_looked}
@@ -30,4 +33,7 @@ invariant_of-shared g c =
           kept_looked g.D.Disk.now g.D.Disk.past g.D.Disk.failures g.K.Name.begun g.K.Name.memory c.shared.inside.engine c.shared.inside.log.trace c.leave.new.self.trace c.args.element c.args.number (told c.collect-answer.result) is
           (c.shared.invariant.5 honest began)),
       c.shared.invariant.6,
+      c.shared.invariant.7,
+      subst (λ (ls : List Line). KeepsTo g.K.Name.memory g.K.Name.plan ls) (sym is)
+          (keeps-line g.K.Name.memory c.shared.inside.log.trace call (told c.collect-answer.result) g.K.Name.plan c.shared.invariant.8 (question-on g.K.Name.plan c.args.element c.args.number)),
     )

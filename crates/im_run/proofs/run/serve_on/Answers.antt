@@ -31,7 +31,7 @@ pub returns-in-Err-clause-ended : goal.returns-in-Err-clause-ended
 returns-in-Err-clause-ended g c = λ honest alive.
     let k = c.close-in-Err in
     let e = c.in-Err.engine in
-    let same = c.in-Err.ensures.refused.1 in
+    let same = c.in-Err.ensures.same in
     let works = ap (λ (x : EngineState g.row.D.Denot). x.failed) same ∙ alive in
     record {
       engine = e;

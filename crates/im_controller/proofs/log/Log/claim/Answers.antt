@@ -1,8 +1,9 @@
-use Rattle.std.proofs.Common.{Some, subst, sym, ap, ◌∙◌}
+use Rattle.std.proofs.Common.{Some, Result, subst, sym, ap, ◌∙◌}
+use Rattle.im_types.specs.declared.refusals.Refusal.{Refusal}
 use Rattle.im_controller.specs.Lines.{counts_after}
-use Rattle.im_controller.specs.Log.{UnclaimedState, LogState, IsProofIn, IsToldOf, unclaimed_lines}
+use Rattle.im_controller.specs.Log.{UnclaimedState, LogState, IsProofIn, IsToldOf, IsOfTrace, ReceiptState, unclaimed_lines}
 use Rattle.im_controller.proofs.ShownLemmas.{told-earlier}
-use Rattle.im_controller.proofs.LogLemmas.{log-claims, all-get}
+use Rattle.im_controller.proofs.LogLemmas.{log-claims, all-get, receipt-of_trace}
 use Rattle.im_controller.proofs.log.Log.claim.Goals as goal
 
 pub receipt_of-requires : goal.receipt_of-requires
@@ -21,3 +22,11 @@ invariant_of-self-2 g c =
       log-claims g.K.Name.memory marks _ c.self.inside.books c.self.invariant.0 c.args.element c.in_ok-found.found c.in_ok-found.ensures.0,
       c.self.invariant.1,
     )
+
+pub returns-clause-proof : goal.returns-clause-proof
+returns-clause-proof g c =
+    let m = g.K.Name.memory in let trace = c.self.inside.trace.items in
+    let proof = subst (λ (w : UnclaimedState). IsProofIn m trace (Some w)) (sym c.found.view_is)
+    (all-get (IsProofIn m trace) c.self.inside.places.items c.args.element (Some c.in_ok-found.found) c.self.invariant.0.proofs c.in_ok-found.ensures.0) in
+    subst (λ (l : LogState). IsOfTrace m l.trace c.receipt_of.result) c.self.view_is
+    (subst (λ (a : Result ReceiptState Refusal). IsOfTrace m trace a) (sym c.receipt_of.ensures) (receipt-of_trace m trace _ _ _ _ proof.1 proof.0))

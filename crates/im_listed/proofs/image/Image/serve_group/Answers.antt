@@ -2,7 +2,6 @@ use Rattle.std.proofs.Common.{◌≡◌, inl, List, ℕ, false, sym, ◌∙◌, 
 use Rattle.im_engine.specs.State.{EngineState}
 use Rattle.im_engine.specs.Groups.{MeansGroup}
 use Rattle.im_listed.specs.Listing.{Listing}
-use Rattle.im_listed.specs.Numbers.{told}
 use Rattle.im_listed.specs.Image.{ImageState, begun_in}
 use Rattle.im_listed.proofs.ImageLemmas.{carries_on, start_of}
 use Rattle.im_listed.proofs.image.Image.serve_group.Goals as goal

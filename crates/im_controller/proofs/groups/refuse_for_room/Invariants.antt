@@ -1,7 +1,0 @@
-use Rattle.std.proofs.Common.{◌≡◌, ◌++◌, drop}
-use Rattle.im_types.specs.declared.refusals.Refusal.TheVariants.{TraceFull}
-use Rattle.im_engine.specs.Groups.{all_refused}
-use Rattle.im_controller.proofs.groups.refuse_for_room.Given as goal
-
-abbrev pub invariant-loop-i : goal.invariant-loop-i
-invariant-loop-i l = l.served.items ++ all_refused TraceFull (drop l._i l.members) ≡ all_refused TraceFull l.members

@@ -1,0 +1,19 @@
+use Rattle.std.proofs.Common.{sym, subst, Result}
+use Rattle.im_types.specs.declared.commands.Call.TheVariants.{Collect}
+use Rattle.im_types.specs.declared.commands.Outcome.TheVariants.{Entry as Tells}
+use Rattle.im_types.specs.declared.refusals.Refusal.{Refusal}
+use Rattle.im_controller.specs.Log.{FoundState}
+use Rattle.im_controller.specs.Planned.{TellsBy, TellsFound}
+use Rattle.im_controller.proofs.PlannedLemmas.{tells-last}
+use Rattle.im_controller.proofs.shared.find.Goals as goal
+use Rattle.im_controller.proofs.shared.find.Goals.{in-Ok, in-Err}
+
+pub returns-clause-planned : goal.returns-clause-planned
+returns-clause-planned g c =
+    let m = g.K.Name.memory in let plan = g.K.Name.plan in
+    elim c.match-look.branch [
+      | in-Ok w ↦ subst (λ (a : Result FoundState Refusal). TellsFound m plan a) (sym w.result-is)
+          (subst (λ (f : FoundState). TellsBy m plan (Collect f.element f.number) (Tells f.entry)) (sym w.found.ensures.found)
+          (tells-last m plan (Collect c.args.element c.args.number) _ c.shared.inside.log.trace c.shared.invariant.8 w.found.ensures.proof))
+      | in-Err w ↦ subst (λ (a : Result FoundState Refusal). TellsFound m plan a) (sym w.result-is) tt
+    ]

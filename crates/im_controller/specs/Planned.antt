@@ -1,0 +1,82 @@
+-- Planned runs under the lock: what a plan has, and what each answer is by it. (Own.)
+use Rattle.std.specs.Prelude.{◌≡◌, List, [], ◌∷◌, Option, None, Some, Bool, true, Result, Ok, Err}
+use Rattle.im_types.specs.declared.operations.Entry.{Entry}
+use Rattle.im_types.specs.declared.operations.Entry.TheVariants.{Waiting}
+use Rattle.im_types.specs.declared.commands.Command.{Command}
+use Rattle.im_types.specs.declared.commands.Command.TheVariants.{Request as Asks, Confirm}
+use Rattle.im_types.specs.declared.commands.Request.{Request}
+use Rattle.im_types.specs.declared.commands.Outcome.{Outcome}
+use Rattle.im_types.specs.declared.commands.Outcome.TheVariants.{Entry as Tells}
+use Rattle.im_types.specs.declared.refusals.Refusal.{Refusal}
+use Rattle.im_types.specs.declared.commands.Call.{Call}
+use Rattle.im_types.specs.declared.commands.Call.TheVariants.{Command as Commands, Collect}
+use Rattle.im_types.specs.declared.commands.Line.{Line}
+use Rattle.im_types.specs.Contents.{Contents}
+use Rattle.im_types.specs.Window.{ask}
+use Rattle.im_types.specs.Step.{asker}
+use Rattle.im_types.specs.Plan.{result_of}
+use Rattle.im_plans.specs.Runs.{IsInPlan, IsPlannedCall, IsPlannedRun, IsResultOrWaits, TellsResults, HasServed, entry_for, Starts}
+use Rattle.im_planning.specs.Making.{op_under, is_op}
+use Rattle.im_controller.specs.Lines.{line_of}
+use Rattle.im_controller.specs.Log.{ReceiptState, FoundState}
+
+-- whether the plan has a request: this operation, under this number; without a plan any may come
+abbrev pub has_request : Option (List Request) → Request → Bool
+has_request None r = true
+has_request (Some plan) r = is_op r.op (op_under (r.element, r.number) plan)
+
+-- the same of a command: a confirmation may be any
+abbrev pub has_command : Option (List Request) → Command → Bool
+has_command plan (Asks r) = has_request plan r
+has_command plan (Confirm element upto) = true
+
+-- a call of which the plan has the request, if it is one
+abbrev pub IsOnPlan : Option (List Request) → Call → Type 0
+IsOnPlan None call = Unit {0}
+IsOnPlan (Some plan) call = IsPlannedCall plan call
+
+-- so is each of these requests
+abbrev pub AreOnPlan : Option (List Request) → List Request → Type 0
+AreOnPlan plan [] = Unit {0}
+AreOnPlan plan (r ∷ rs) = IsOnPlan plan (Commands (Asks r)) × AreOnPlan plan rs
+
+-- the plan, if there is one, fits the memory
+abbrev pub StartsBy : Contents → Option (List Request) → Type 0
+StartsBy m None = Unit {0}
+StartsBy m (Some plan) = Starts m plan
+
+-- the plan, if there is one, fits the memory, and has each request of a trace
+abbrev pub KeepsTo : Contents → Option (List Request) → List Line → Type 0
+KeepsTo m None trace = Unit {0}
+KeepsTo m (Some plan) trace = Starts m plan × IsPlannedRun plan trace
+
+-- the plan has the request of this call, and what is told of it with this outcome is its result by the plan, if it is answered
+abbrev pub TellsBy : Contents → Option (List Request) → Call → Outcome → Type 0
+TellsBy m None call outcome = Unit {0}
+TellsBy m (Some plan) call outcome = IsPlannedCall plan call × TellsResults m plan (line_of call (Ok outcome))
+
+-- so is what a receipt tells
+abbrev pub TellsOf : Contents → Option (List Request) → Result ReceiptState Refusal → Type 0
+TellsOf m plan (Ok r) = TellsBy m plan (Commands r.command) r.outcome
+TellsOf m plan (Err refusal) = Unit {0}
+
+-- and what was found under a number
+abbrev pub TellsFound : Contents → Option (List Request) → Result FoundState Refusal → Type 0
+TellsFound m plan (Ok f) = TellsBy m plan (Collect f.element f.number) (Tells f.entry)
+TellsFound m plan (Err refusal) = Unit {0}
+
+-- What is kept of a planned run from this memory.
+pub record EndsAsPlanned (m : Contents) (plan : List Request) (end : Contents) : Type 0 where
+  -- the plan fits the memory at the start
+  pub starts : Starts m plan
+  -- what is kept for a planned request is its result, if it is answered
+  pub results : (r : Request) (entry : Entry) → IsInPlan plan r → ask end.windows (asker r) ≡ Ok entry → IsResultOrWaits (result_of m.cells plan r.op) entry
+  -- a fetch that has none stays waiting
+  pub waits : (r : Request) (entry : Entry) → IsInPlan plan r → result_of m.cells plan r.op ≡ None → ask end.windows (asker r) ≡ Ok entry → entry ≡ Waiting
+  -- once all of the plan was served, the memory at the start and the plan alone say what is kept
+  pub one : (r : Request) (entry : Entry) → HasServed end.windows plan → IsInPlan plan r → ask end.windows (asker r) ≡ Ok entry → entry ≡ entry_for (result_of m.cells plan r.op)
+
+-- the same where there is a plan
+abbrev pub EndsBy : Contents → Option (List Request) → Contents → Type 0
+EndsBy m None end = Unit {0}
+EndsBy m (Some plan) end = EndsAsPlanned m plan end

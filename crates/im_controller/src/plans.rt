@@ -1,0 +1,26 @@
+//! Which commands the plan has, where there is one.
+ghost use Rattle.std.specs.Prelude.{◌≡◌};
+ghost use Rattle.im_controller.specs.Planned.{has_request, has_command};
+
+use im_planning::Plan;
+use im_types::{Command, Request};
+
+// Whether the plan has a request, with its operation, under its number; without a plan any may come.
+pub(crate) fn has_request(plan: &Option<Plan>, request: &Request) -> bool
+    ensures { result ≡ has_request plan.now request.now }
+{
+    match plan {
+        None => true,
+        Some(plan) => plan.has(request),
+    }
+}
+
+// The same of a command: a confirmation may be any.
+pub(crate) fn has_command(plan: &Option<Plan>, command: &Command) -> bool
+    ensures { result ≡ has_command plan.now command.now }
+{
+    match command {
+        Command::Request(request) => has_request(plan, request),
+        Command::Confirm { .. } => true,
+    }
+}

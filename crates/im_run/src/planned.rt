@@ -1,0 +1,158 @@
+//! A script's requests as a plan.
+ghost use Rattle.std.specs.Prelude.{◌≡◌, IfOk, IfErr, IsSome, true};
+
+use crate::orders::Order;
+use im_controller::{Opening, start, start_planned};
+use im_disk::Disk;
+use im_engine::Engine;
+use im_memory::Memory;
+use im_planning::Plan;
+use im_serving::Intent;
+use im_text::Reason;
+use im_types::{Cell, Kind, Op, Refusal, Request};
+use std::alloc::{AllocError, Global};
+use std::collections::BTreeSet;
+use std::sync::Wait;
+
+// The element of an order that isn't there, if there is one.
+fn missing_element(memory: &Memory, orders: &[Order]) -> Option<u16> {
+    for order in orders {
+        if order.element >= memory.elements() {
+            return Some(order.element);
+        }
+    }
+    None
+}
+
+// Adds an element's requests, from its next number on. Glances are none.
+fn add_requests(requests: &mut Vec<Request>, order: &Order) -> Result<(), AllocError> {
+    let mut number = order.next;
+    for intent in order.intents.as_slice() {
+        if let Intent::Request(op) = *intent {
+            requests.push(Request {
+                element: order.element,
+                number,
+                op,
+            })?;
+            number = number.saturating_add(1);
+        }
+    }
+    Ok(())
+}
+
+// The requests of all elements, under the numbers that they will have.
+fn requests_of(alloc: Global, orders: &[Order]) -> Result<Vec<Request>, AllocError> {
+    let mut requests = Vec::new(alloc);
+    for order in orders {
+        add_requests(&mut requests, order)?;
+    }
+    Ok(requests)
+}
+
+// Whether no plan that fits the memory has this operation, beside stores to these addresses.
+fn is_bad(memory: &Memory, stored: &mut BTreeSet<u32>, op: Op) -> bool {
+    let address = match op {
+        Op::Fetch(address) => address,
+        Op::Store(address, _) => {
+            if !matches!(stored.insert(address), Ok(true)) {
+                return true;
+            }
+            address
+        }
+        _ => return true,
+    };
+    match memory.block(address) {
+        Some(block) => block.kind == Kind::I && memory.cell(address) != Some(Cell::Empty),
+        None => false,
+    }
+}
+
+// Whose requests make these no plan that fits the memory: the first element with one that can't be in it.
+fn bad_plan(alloc: Global, memory: &Memory, orders: &[Order]) -> Reason {
+    let mut stored = BTreeSet::new(alloc);
+    let mut element = 0;
+    for order in orders {
+        element = order.element;
+        for intent in order.intents.as_slice() {
+            if let Intent::Request(op) = *intent {
+                if is_bad(memory, &mut stored, op) {
+                    return Reason::Request(element, Refusal::BadPlan);
+                }
+            }
+        }
+    }
+    Reason::Request(element, Refusal::BadPlan) // Its numbers reach the last that there is.
+}
+
+// The plan that elements' orders are.
+fn plan_of(alloc: Global, memory: &Memory, orders: &[Order]) -> Result<Plan, Reason> {
+    if let Some(element) = missing_element(memory, orders) {
+        return Err(Reason::Request(element, Refusal::NoElement));
+    }
+    let Ok(requests) = requests_of(alloc, orders) else {
+        return Err(Reason::Memory);
+    };
+    match Plan::new(alloc, requests) {
+        Ok(plan) => Ok(plan),
+        Err(Refusal::BadPlan) => Err(bad_plan(alloc, memory, orders)),
+        Err(_) => Err(Reason::Memory),
+    }
+}
+
+// Begins under the plan that elements' orders are.
+fn begin_planned<D: Disk + Drop, R: Wait>(
+    rt: &R,
+    alloc: Global,
+    engine: Engine<D>,
+    orders: &[Order],
+    room: usize,
+) -> Result<Opening<D>, (Reason, Engine<D>)>
+    ensures found { IfOk result (λ o. (o.engine ≡ engine) × IsSome o.plan) }
+    ensures same { IfErr result (λ e. e.1 ≡ engine) }
+{
+    let plan = match plan_of(alloc, engine.memory(), orders) {
+        Ok(plan) => plan,
+        Err(reason) => return Err((reason, engine)),
+    };
+    match start_planned(rt, alloc, engine, plan, room) {
+        Ok(opening) => Ok(opening),
+        Err((Refusal::BadPlan, engine)) => Err((bad_plan(alloc, engine.memory(), orders), engine)),
+        Err((_, engine)) => Err((Reason::Memory, engine)),
+    }
+}
+
+// Begins without a plan.
+fn begin_free<D: Disk + Drop, R: Wait>(
+    rt: &R,
+    alloc: Global,
+    engine: Engine<D>,
+    room: usize,
+) -> Result<Opening<D>, (Reason, Engine<D>)>
+    ensures found { IfOk result (λ o. o.engine ≡ engine) }
+    ensures same { IfErr result (λ e. e.1 ≡ engine) }
+{
+    match start(rt, alloc, engine, room) {
+        Ok(opening) => Ok(opening),
+        Err((_, engine)) => Err((Reason::Memory, engine)),
+    }
+}
+
+/// Makes room for what the elements ask for, before any thread starts. Where it is planned, their requests are a plan:
+/// `NoElement` where one of them isn't there, and then `BadPlan` where a request is no fetch or store, two store to one
+/// address, a cell that one names isn't empty or is waited for, or a number lies past the last one.
+pub fn begin<D: Disk + Drop, R: Wait>(
+    rt: &R,
+    alloc: Global,
+    engine: Engine<D>,
+    orders: &[Order],
+    room: usize,
+    planned: bool,
+) -> Result<Opening<D>, (Reason, Engine<D>)>
+    ensures found { IfOk result (λ o. (o.engine ≡ engine) × (planned ≡ true → IsSome o.plan)) }
+    ensures same { IfErr result (λ e. e.1 ≡ engine) }
+{
+    if planned {
+        return begin_planned(rt, alloc, engine, orders, room);
+    }
+    begin_free(rt, alloc, engine, room)
+}
