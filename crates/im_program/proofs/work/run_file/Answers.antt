@@ -4,8 +4,8 @@ use Rattle.std.proofs.Crossing.{crosses}
 use Rattle.im_program.proofs.Crosses.{FileDisk-row-send}
 use Rattle.im_program.proofs.work.run_file.Goals as goal
 
-pub run_on-requires-send-D : goal.run_on-requires-send-D
-run_on-requires-send-D g c κs within =
+pub run_on-ended-requires-send-D : goal.run_on-ended-requires-send-D
+run_on-ended-requires-send-D g c κs within =
     let disk = FileDisk-row-send (param 1 g.row.S) g.S.Start c.type_bounds.send-S in
     search (sendable, crosses) depth 40 fits 30000
 
@@ -14,5 +14,5 @@ returns-in-Ok-open-clause-ran g c = λ honest. record {
   old = c.in-Ok-open.disk;
   begins = c.in-Ok-open.ensures.now;
   none = c.in-Ok-open.ensures.past;
-  run = c.run_on.ensures.run honest;
+  run = c.run_on-ended.ensures.run honest;
 }
