@@ -9,7 +9,7 @@ use im_controller::{Controller, Name, Opening, Port, finish, start_planned};
 use im_disk::{FuseDisk, MemDisk, Mode};
 use im_engine::Engine;
 use im_planning::Plan;
-use im_serving::{Done, Gate, Open, Part, serve_elements};
+use im_serving::{Done, Gate, Open, Part, Unwatched, serve_elements};
 use im_story::{add_entry, add_outcome, add_refusal};
 use im_types::layout::image_length;
 use im_types::{Call, Command, Entry, Kind, LAST, Limits, Line, Op, Refusal, Request};
@@ -83,7 +83,7 @@ fn serve<K: Name + Send + Sync, G: Gate + Sync, R: Threads + Wait + Sync>(
 ) -> Result<(Vec<Port<K>>, Vec<Told>)> {
     let mut ports = Vec::new(alloc);
     let mut told = Vec::new(alloc);
-    for done in serve_elements(rt, alloc, controller, gate, parts)? {
+    for done in serve_elements(rt, alloc, controller, gate, &Unwatched, parts)? {
         note(&done, &mut told, said)?;
         ports.push(done.port)?;
     }
