@@ -57,6 +57,9 @@ fn words(refusal: Refusal) -> &'static str {
         Refusal::Forgotten => "its number was confirmed",
         Refusal::Mismatch => "its number is kept for another operation",
         Refusal::NotAnswered => "an entry still waits",
+        Refusal::BadPlan =>
+            "it is in no plan: it is neither a fetch nor a store, its cell has a second store, or its cell can't answer it",
+        Refusal::Stalled => "the elements wait for each other",
         _ => "it is refused",
     }
 }
