@@ -31,7 +31,7 @@ sizes_in_range s e =
 -- what is a header's has its sizes in range
 pub limits_of_header : (area : ℕ) (h : Header) → is_header layout_in_use area h ≡ true → AreLimits h.sizes.cells h.sizes.elements h.sizes.slots
 limits_of_header area h e =
-    sizes_in_range h.sizes (both_true ((h.version == 1) && (h.area == area) && nat_le 1 h.generation && nat_le h.generation LAST && nat_le h.count LAST) (are_sizes layout_in_use h.sizes) e).1
+    sizes_in_range h.sizes (both_true ((h.version == 2) && (h.area == area) && nat_le 1 h.generation && nat_le h.generation LAST && nat_le h.count LAST) (are_sizes layout_in_use h.sizes) e).1
 
 -- a header of these fields is spelled where the bytes spell one
 pub spelled_is : (area : ℕ) (bytes : List ℕ) (h : Header) (b : Bool) → h ≡ header_in bytes → b ≡ (same_bytes (slice_range bytes 1 64) (header_body h) && is_header layout_in_use area h) → b ≡ spells_header layout_in_use area bytes

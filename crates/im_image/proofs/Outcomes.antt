@@ -30,23 +30,23 @@ module _ (file : List ℕ) (h : Header) (m : Contents) (good : header_fault layo
   abbrev tail_in : Option Tail
   tail_in = tail (ring_of layout_in_use h.sizes) h.count file
 
-  reads-outcome : (outcome : Result Reached Refusal) → outcome ≡ reached_after h.count m tail_in → Reads layout_in_use file outcome
+  reads-outcome : (outcome : Result Reached Refusal) → outcome ≡ reached_after layout_in_use h.count m tail_in → Reads layout_in_use file outcome
   reads-outcome outcome e =
       subst (λ (f : Option Refusal). Outcome_by file outcome f) (sym good)
-      (inl (m, shown, subst (λ (x : Header). outcome ≡ reached_after x.count m (tail (ring_of layout_in_use x.sizes) x.count file)) is e))
+      (inl (m, shown, subst (λ (x : Header). outcome ≡ reached_after layout_in_use x.count m (tail (ring_of layout_in_use x.sizes) x.count file)) is e))
 
   pub reads-no-tail : tail_in ≡ None → Reads layout_in_use file (Err BadRecord)
-  reads-no-tail none = reads-outcome (Err BadRecord) (ap (λ (t : Option Tail). reached_after h.count m t) (sym none))
+  reads-no-tail none = reads-outcome (Err BadRecord) (ap (λ (t : Option Tail). reached_after layout_in_use h.count m t) (sym none))
 
   pub reads-unaccepted : (commands : List Command) (room : ℕ) → tail_in ≡ Some (record { commands = commands; room = room }) → accept_each m commands ≡ None → Reads layout_in_use file (Err BadRecord)
   reads-unaccepted commands room run none = reads-outcome (Err BadRecord) (sym
-      (ap (λ (t : Option Tail). reached_after h.count m t) run ∙ ap (λ (o : Option Contents). reached_by (h.count + length commands) room o) none))
+      (ap (λ (t : Option Tail). reached_after layout_in_use h.count m t) run ∙ ap (λ (o : Option Contents). reached_by (h.count + length commands) room o) none))
 
   pub reads-all : (commands : List Command) (room count : ℕ) (new : Contents) → tail_in ≡ Some (record { commands = commands; room = room }) → accept_each m commands ≡ Some new → count ≡ h.count + length commands
       → Reads layout_in_use file (Ok (record { contents = new; count = count; room = room }))
   reads-all commands room count new run accepted counts = reads-outcome (Ok (record { contents = new; count = count; room = room }))
       (ap (λ (n : ℕ). reached_by n room (Some new)) counts
-      ∙ sym (ap (λ (t : Option Tail). reached_after h.count m t) run ∙ ap (λ (o : Option Contents). reached_by (h.count + length commands) room o) accepted))
+      ∙ sym (ap (λ (t : Option Tail). reached_after layout_in_use h.count m t) run ∙ ap (λ (o : Option Contents). reached_by (h.count + length commands) room o) accepted))
 
 -- the journal lies inside an image
 pub in-room : (file : List ℕ) (h : Header) → h ≡ header_of file → header_fault layout_in_use file ≡ None → (ring_of layout_in_use h.sizes).base + 64 * h.sizes.slots ≤ length file

@@ -10,13 +10,13 @@ use byteorder::{ByteOrder, LittleEndian};
 use im_types::layout::OPEN;
 use im_types::{LAST, Limits};
 
-/// The version of the layout.
-pub const VERSION: u16 = 1;
+/// The version of the layout in use.
+pub const VERSION: u16 = 2;
 
 /// What stands in a header.
 #[derive(Clone, Copy, Debug, PartialEq, Eq)]
 pub struct Header {
-    /// The version of the layout, 1.
+    /// The version of the layout, 2.
     pub version: u16,
     /// The area that it is the header of, 0 or 1.
     pub area: u8,

@@ -1,5 +1,5 @@
 -- A session record, place by place.
-use Rattle.std.proofs.Common.{◌≡◌, ℕ, ◌+◌, ◌-◌, ◌*◌, ◌%◌, ◌<◌, ◌≤◌, zero, suc, take, drop, List, [], ◌∷◌, ◌++◌, None, Some, length, replicate, slice_get, slice_index, slice_range, refl, sym, ap, ◌∙◌, arith, add-one}
+use Rattle.std.proofs.Common.{◌≡◌, ℕ, ◌+◌, ◌-◌, ◌*◌, ◌%◌, ◌<◌, ◌≤◌, zero, suc, take, drop, List, [], ◌∷◌, ◌++◌, None, Some, length, replicate, slice_get, slice_index, slice_range, refl, sym, ap, ◌∙◌, subst, arith, add-one}
 use Rattle.std.proofs.lemmas.List.{append_assoc, append-nil, length-append, length-replicate, take_at, drop_at, drop-drop, drop-replicate, take_all}
 use Rattle.byteorder.specs.Endian.{little_number}
 use Rattle.byteorder.specs.Numbers.{little_number-reads_back}
@@ -8,11 +8,12 @@ use Rattle.im_types.specs.declared.operations.Kept.{Kept}
 use Rattle.im_types.specs.Contents.{Window}
 use Rattle.im_types.specs.Bytes.{zeros}
 use Rattle.im_types.specs.Layout.{layout_in_use, session_record_bytes}
-use Rattle.im_types.specs.Records.{place_bytes, entry_at, places_from, session_bytes}
+use Rattle.im_types.specs.Records.{place_bytes, entry_at, places_from, session_bytes, FitsPlace}
 use Rattle.im_formats.specs.Reading.{read_place}
 use Rattle.im_formats.proofs.Places.{read_place-spelled}
-use Rattle.im_formats.proofs.Sessions.{places-piece, fits_at}
-use Rattle.im_records.specs.Entries.{SpellsSession}
+use Rattle.im_formats.proofs.Sessions.{places-piece, ring_of_version, fits_at}
+use Rattle.im_types.specs.declared.layout.Version.TheVariants.{Two}
+use Rattle.im_records.specs.Entries.{FitEntries, SpellsSession}
 use Rattle.im_records.specs.Placed.{placed}
 use Rattle.im_records.proofs.Reading.{length-place, none_some, some_inj}
 
@@ -112,7 +113,7 @@ entry_is_read bytes w base past lt spells is =
     ∙ ap (λ (l : List ℕ). take 32 (drop (32 * place) (drop 32 l))) spells.is
     ∙ place_of_session w place (small (base % WINDOW + past))
     ∙ ap (λ (k : ℕ). place_bytes (slice_get w.kept k)) (ap (λ (b : ℕ). (place + WINDOW - b % WINDOW) % WINDOW) (sym is) ∙ turn base past lt))
-    ∙ read_place-spelled (slice_get w.kept past) (fits_at w spells.fits past)
+    ∙ read_place-spelled (slice_get w.kept past) (fits_at layout_in_use (ring_of_version Two) w spells.fits past)
   where
     place : ℕ
     place = (base % WINDOW + past) % WINDOW
@@ -152,3 +153,9 @@ pub whole_window : (v w : Window) (count : ℕ) → v.base ≡ w.base → v.kept
 whole_window v w count base kept long =
     let all : v.kept ≡ w.kept = kept ∙ take_all count w.kept long in
     (λ i. Some (record { base = base i; kept = all i }))
+
+-- many copies of an entry that fits
+pub fit_copies : (n : ℕ) (k : Kept) → FitsPlace (Some k) → FitEntries (replicate n k)
+fit_copies zero k fits i x at = absurd (none_some x at)
+fit_copies (suc n) k fits zero x at = subst (λ (e : Kept). FitsPlace (Some e)) (some_inj k x at) fits
+fit_copies (suc n) k fits (suc i) x at = fit_copies n k fits i x at

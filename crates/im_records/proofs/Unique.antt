@@ -9,7 +9,8 @@ use Rattle.im_types.specs.Records.{cell_bytes, node_bytes, FitsCell, FitsNode}
 use Rattle.im_types.specs.Pages.{Records, IsRow, SpellsArea}
 use Rattle.im_formats.specs.Reading.{read_cell, read_node}
 use Rattle.im_formats.proofs.Records.{read_cell-spelled, read_node-spelled}
-use Rattle.im_formats.proofs.Sessions.{session_bytes-one}
+use Rattle.im_formats.proofs.Sessions.{ring_of_version, session_bytes-one}
+use Rattle.im_types.specs.declared.layout.Version.TheVariants.{Two}
 use Rattle.im_records.proofs.Reading.{some_inj}
 
 one_row : {X : Type 0} (size : ℕ) (spelled : X → List ℕ) (Fits : X → Type 0) (none : X) (count : ℕ) (bytes : List ℕ) (row other : List X) → ((x y : X) → Fits x → Fits y → spelled x ≡ spelled y → x ≡ y) → IsRow size spelled Fits none count bytes row → IsRow size spelled Fits none count bytes other → row ≡ other
@@ -28,5 +29,5 @@ pub one_area : (s : Sizes) (area : List ℕ) (r q : Records) → AreLimits s.cel
 one_area s area r q limits spells spells' =
     let cells : r.cells ≡ q.cells = one_row _ _ _ _ _ _ r.cells q.cells (one_cell s.cells (node_count layout_in_use s) (omega (arith, limits.few_cells)) (omega (arith, limits.few_elements))) spells.cells spells'.cells in
     let nodes : r.nodes ≡ q.nodes = one_row _ _ _ _ _ _ r.nodes q.nodes (one_node (node_count layout_in_use s) (omega (arith, limits.few_elements))) spells.nodes spells'.nodes in
-    let windows : r.windows ≡ q.windows = one_row _ _ _ _ _ _ r.windows q.windows session_bytes-one spells.sessions spells'.sessions in
+    let windows : r.windows ≡ q.windows = one_row _ _ _ _ _ _ r.windows q.windows (session_bytes-one layout_in_use (ring_of_version Two)) spells.sessions spells'.sessions in
     (λ i. record { cells = cells i; nodes = nodes i; windows = windows i })

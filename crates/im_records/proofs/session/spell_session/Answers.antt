@@ -1,9 +1,18 @@
-use Rattle.std.proofs.Common.{◌++◌, ◌∷◌, length, refl, ap, ◌∙◌}
+use Rattle.std.proofs.Common.{◌≡◌, ◌++◌, [], ◌∷◌, length, refl, ap, ◌∙◌, arith}
 use Rattle.byteorder.specs.Endian.{little_bytes}
 use Rattle.im_types.specs.Bytes.{zeros}
 use Rattle.im_types.specs.Records.{place_bytes}
-use Rattle.im_records.proofs.SessionLemmas.{place_more}
+use Rattle.im_records.proofs.SessionLemmas.{placed_behind, place_more}
+use Rattle.im_records.specs.Placed.{placed}
 use Rattle.im_records.proofs.session.spell_session.Goals as goal
 
 pub loop-place-preserved : goal.loop-place-preserved
 loop-place-preserved c = place_more c.args.window.now (little_bytes 8 c.args.window.now.base ++ length c.args.window.now.kept ∷ zeros 23) c.loop-place.bytes c.put-in-loop-place.new.bytes c.spell_place.result c.loop-place.place refl c.loop-place-test.true c.loop-place.invariant (c.spell_place.ensures ∙ ap place_bytes c.entry_at.ensures) c.put-in-loop-place.ensures
+
+pub loop-place-init : goal.loop-place-init
+loop-place-init c =
+    placed_behind [] (little_bytes 8 c.args.window.now.base ++ length c.args.window.now.kept ∷ zeros 23) (zeros 4096) c.put.new.bytes 0 4096 refl refl
+    (c.put.ensures ∙ ap (λ part. placed 0 part (zeros 4096)) c.spell_head.ensures)
+
+pub returns : goal.returns
+returns c = let end : c.loop-place.place ≡ 64 = omega arith in rw end at c.loop-place.invariant
