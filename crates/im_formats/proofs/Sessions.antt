@@ -68,7 +68,7 @@ abbrev turned : ℕ → Window → ℕ → ℕ
 turned n w place = (place + n - w.base % n) % n
 
 module _ (l : Layout) (ring : IsRing l.window) where
-  place_of_session : (w : Window) (place : ℕ) → place < l.window → take 32 (drop (32 * place) (drop 32 (session_bytes l w))) ≡ place_bytes (entry_at l.window w place)
+  pub place_of_session : (w : Window) (place : ℕ) → place < l.window → take 32 (drop (32 * place) (drop 32 (session_bytes l w))) ≡ place_bytes (entry_at l.window w place)
   place_of_session w place lt =
       places-piece l.window w (replicate l.window 0) (zeros (32 * l.window - 32)) 0 place (omega (arith, length-replicate {A = ℕ} l.window 0))
       ∙ ap (λ (k : ℕ). place_bytes (entry_at l.window w k)) (start place)

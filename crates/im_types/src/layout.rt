@@ -63,9 +63,20 @@ pub enum Version {
 }
 
 impl Version {
+    /// The number that stands for it in a header.
+    pub fn number(self) -> u16
+        ensures { result ≡ (layout_of self).version }
+    {
+        match self {
+            Version::One => 1,
+            Version::Two => 2,
+        }
+    }
+
     /// How many entries a window keeps.
     pub fn window(self) -> usize
-        ensures { result ≡ (layout_of self).window }
+        ensures window { result ≡ (layout_of self).window }
+        ensures few { (1 ≤ result) × (result ≤ WINDOW) }
     {
         match self {
             Version::One => 16,
@@ -73,9 +84,20 @@ impl Version {
         }
     }
 
+    /// Whether it knows a reset.
+    pub fn has_resets(self) -> bool
+        ensures { result ≡ (layout_of self).resets }
+    {
+        match self {
+            Version::One => false,
+            Version::Two => true,
+        }
+    }
+
     /// How many cells there may be.
     pub fn most_cells(self) -> u32
-        ensures { result ≡ (layout_of self).most_cells }
+        ensures most { result ≡ (layout_of self).most_cells }
+        ensures few { result ≤ MAX_CELLS }
     {
         match self {
             Version::One => 65_536,
@@ -85,7 +107,8 @@ impl Version {
 
     /// The bytes of a session record: its head, a place for each entry of a window, and zeros up to twice as many bytes.
     pub fn session_record(self) -> usize
-        ensures { result ≡ layout.session_record_bytes (layout_of self) }
+        ensures bytes { result ≡ layout.session_record_bytes (layout_of self) }
+        ensures few { result ≤ SESSION_RECORD }
     {
         match self {
             Version::One => 1_024,
@@ -109,7 +132,8 @@ impl Version {
     {
         match self {
             Version::One => (16 * limits.elements as usize + NODES_ON_A_PAGE - 1) / NODES_ON_A_PAGE,
-            Version::Two => (WINDOW as usize * limits.elements as usize + NODES_ON_A_PAGE - 1) / NODES_ON_A_PAGE,
+            Version::Two => (WINDOW as usize * limits.elements as usize + NODES_ON_A_PAGE - 1)
+                / NODES_ON_A_PAGE,
         }
     }
 
