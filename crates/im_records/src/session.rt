@@ -100,8 +100,8 @@ fn has_reset(kept: &[Kept]) -> bool
     kept.iter().any(|kept| is_of_reset(kept))
 }
 
-// Whether a version has room for a window, and knows each of its entries.
-fn has_room_for(version: Version, window: &WindowRecord) -> bool
+/// Whether a version has room for a window, and knows each of its entries: the first one has 16 places, and no reset.
+pub fn has_room_for(version: Version, window: &WindowRecord) -> bool
     ensures { result ≡ has_room_for (layout_of version) window.now }
 {
     match version {

@@ -1,5 +1,5 @@
 -- Where things stand in an image. (Own.)
-use Rattle.std.specs.Prelude.{ℕ, ◌+◌, ◌*◌, ◌/◌, ◌-◌, List, take, drop, Bool, true, false, ◌&&◌, nat_le, slice_range}
+use Rattle.std.specs.Prelude.{ℕ, ◌+◌, ◌*◌, ◌/◌, ◌-◌, List, take, drop, Bool, true, false, ◌&&◌, nat_le, ◌==◌, if◌then◌else◌, slice_range}
 use Rattle.im_types.specs.declared.TheConstants.{MAX_ELEMENTS, MIN_SLOTS, MAX_SLOTS}
 use Rattle.im_types.specs.declared.layout.Version.{Version}
 use Rattle.im_types.specs.declared.layout.Version.TheVariants.{One, Two}
@@ -25,6 +25,10 @@ layout_2 = record { version = 2; window = 64; most_cells = 1048576; resets = tru
 abbrev pub layout_of : Version → Layout
 layout_of One = layout_1
 layout_of Two = layout_2
+
+-- the layout of an image whose header has this number: the first one's is 1, and any other is taken for the second one's
+abbrev pub layout_named : ℕ → Layout
+layout_named number = if number == 1 then layout_1 else layout_2
 
 -- the layout in use: that of each image that is made, served and written
 abbrev pub layout_in_use : Layout

@@ -1,13 +1,13 @@
 -- What an image means: the memory of the area in force, after the run of commands in the journal. (Own.)
-use Rattle.std.specs.Prelude.{◌≡◌, ℕ, ◌+◌, ◌≤◌, ◌⊎◌, List, [], ◌∷◌, length, Bool, Option, None, Some, Result, Ok, Err, MatchOption, if◌then◌else◌, ◌||◌, ◌&&◌}
+use Rattle.std.specs.Prelude.{◌≡◌, ℕ, ◌+◌, ◌≤◌, ◌⊎◌, List, [], ◌∷◌, length, Bool, true, false, Option, None, Some, Result, Ok, Err, MatchOption, if◌then◌else◌, ◌||◌, ◌&&◌}
 use Rattle.std.specs.List.{list_all}
 use Rattle.im_types.specs.declared.commands.Command.{Command}
 use Rattle.im_types.specs.declared.refusals.Refusal.{Refusal}
-use Rattle.im_types.specs.declared.refusals.Refusal.TheVariants.{BadPage, BadRecord}
+use Rattle.im_types.specs.declared.refusals.Refusal.TheVariants.{BadPage, BadRecord, OldVersion}
 use Rattle.im_types.specs.Contents.{Contents}
 use Rattle.im_types.specs.Step.{step, is_accepted}
 use Rattle.im_types.specs.Layout.{Layout, layout_in_use, area_of, ring_of}
-use Rattle.im_types.specs.Header.{header_of, header_fault}
+use Rattle.im_types.specs.Header.{header_of, header_fault, layout_in, is_old}
 use Rattle.im_types.specs.Journal.{Tail, tail}
 use Rattle.im_types.specs.Records.{has_room_for}
 use Rattle.im_types.specs.Pages.{Shows}
@@ -54,6 +54,15 @@ abbrev pub Reads : Layout → List ℕ → Result Reached Refusal → Type 0
 Reads l file outcome = MatchOption (header_fault l file)
     (((m : Contents) × IsShown l file m × (outcome ≡ read_journal l file m)) ⊎ (((m : Contents) → IsShown l file m → ⊥) × (outcome ≡ Err BadPage)))
     (λ fault. outcome ≡ Err fault)
+
+-- opening an image comes to this, by whether it is old: one that is old is refused, another is read
+abbrev pub OpensBy : Bool → List ℕ → Result Reached Refusal → Type 0
+OpensBy true file outcome = outcome ≡ Err OldVersion
+OpensBy false file outcome = Reads (layout_in file) file outcome
+
+-- opening an image comes to this
+abbrev pub Opens : List ℕ → Result Reached Refusal → Type 0
+Opens file outcome = OpensBy (is_old file) file outcome
 
 -- an image of the layout in use means this memory after so many commands, with room for so many more at the least
 abbrev pub Means : Contents → ℕ → ℕ → List ℕ → Type 0

@@ -63,6 +63,18 @@ pub enum Version {
 }
 
 impl Version {
+    /// The version of an image whose header has this number: 1 is the first one's, and any other is taken for the second
+    /// one's.
+    pub fn named(number: u16) -> Version
+        ensures { layout_of result ≡ layout.layout_named number }
+    {
+        if number == 1 {
+            Version::One
+        } else {
+            Version::Two
+        }
+    }
+
     /// The number that stands for it in a header.
     pub fn number(self) -> u16
         ensures { result ≡ (layout_of self).version }
@@ -108,7 +120,7 @@ impl Version {
     /// The bytes of a session record: its head, a place for each entry of a window, and zeros up to twice as many bytes.
     pub fn session_record(self) -> usize
         ensures bytes { result ≡ layout.session_record_bytes (layout_of self) }
-        ensures few { result ≤ SESSION_RECORD }
+        ensures few { (1 ≤ result) × (result ≤ SESSION_RECORD) }
     {
         match self {
             Version::One => 1_024,
