@@ -103,7 +103,12 @@ fn show(alloc: Global, limits: Limits, records: AreaRecords) -> Result<Memory, R
 /// for the memory, or for what is read.
 ///
 /// It takes a step for each byte, each record, each waiter and each entry.
-pub fn decode(alloc: Global, version: Version, area: &[u8], limits: Limits) -> Result<Memory, Refusal>
+pub fn decode(
+    alloc: Global,
+    version: Version,
+    area: &[u8],
+    limits: Limits,
+) -> Result<Memory, Refusal>
     requires { length area.now ≡ layout.area_bytes (layout_of version) (sizes_of limits) }
     ensures found { IfOk result (λ m. Shows (layout_of version) (sizes_of limits) area.now m.contents) }
     ensures bad { IsErrOf result Refusal.BadPage → (m : Contents) → Shows (layout_of version) (sizes_of limits) area.now m
@@ -117,7 +122,12 @@ pub fn decode(alloc: Global, version: Version, area: &[u8], limits: Limits) -> R
 }
 
 // The records of an area whose bytes are given back.
-fn read_own(alloc: Global, version: Version, area: Vec<u8>, limits: Limits) -> Result<AreaRecords, Refusal>
+fn read_own(
+    alloc: Global,
+    version: Version,
+    area: Vec<u8>,
+    limits: Limits,
+) -> Result<AreaRecords, Refusal>
     requires { length area.items ≡ layout.area_bytes (layout_of version) (sizes_of limits) }
     ensures found { IfOk result (λ r. SpellsArea (layout_of version) (sizes_of limits) area.items r) }
     ensures bad { IsErrOf result Refusal.BadPage → (r : Records)
@@ -128,7 +138,12 @@ fn read_own(alloc: Global, version: Version, area: Vec<u8>, limits: Limits) -> R
 }
 
 /// The same of bytes that nobody needs afterwards: they are given back before the memory is made.
-pub(crate) fn decode_own(alloc: Global, version: Version, area: Vec<u8>, limits: Limits) -> Result<Memory, Refusal>
+pub(crate) fn decode_own(
+    alloc: Global,
+    version: Version,
+    area: Vec<u8>,
+    limits: Limits,
+) -> Result<Memory, Refusal>
     requires { length area.items ≡ layout.area_bytes (layout_of version) (sizes_of limits) }
     ensures found { IfOk result (λ m. Shows (layout_of version) (sizes_of limits) area.items m.contents) }
     ensures bad { IsErrOf result Refusal.BadPage → (m : Contents) → Shows (layout_of version) (sizes_of limits) area.items m

@@ -121,11 +121,16 @@ fn read_run<D: Disk>(
     ensures faults { Faults MayRefuseImage result (D.failures disk.old) (D.failures disk.new) }
 {
     let version = header.layout();
-    let (journal, commands) =
-        match Journal::read_tail(alloc, disk, version, header.limits, header.count) {
-            Ok(read) => read,
-            Err(refusal) => return Err(refusal),
-        };
+    let (journal, commands) = match Journal::read_tail(
+        alloc,
+        disk,
+        version,
+        header.limits,
+        header.count,
+    ) {
+        Ok(read) => read,
+        Err(refusal) => return Err(refusal),
+    };
     if replay(version, &mut memory, &commands) {
         Ok(Image {
             header,

@@ -35,9 +35,9 @@ returns-then-replay-clause-means g c = λ h.
     let it = c.requires.shown (c.read_tail.ensures.honest h) in
     let named : layout_of c.layout-version.result ≡ layout_in file = c.layout-version.ensures ∙ ap (λ (x : Header). layout_named x.version) it.header.is in
     let run = (c.in-Ok.ensures.tail h).reads in
-    let reads = subst (λ (l : Layout). tail (ring_of l (sizes_of c.args.header.limits)) c.args.header.count file ≡ Some _) named run in
+    let reads = subst (λ (l : Layout). tail (ring_of l (sizes_of c.args.header.limits)) c.args.header.count file ≡ Some (record { commands = c.in-Ok.read.1.items; room = c.in-Ok.read.0.room })) named run in
     let served = ap (λ (cs : List Command). accept_in (layout_of c.layout-version.result) c.args.memory.contents cs) (sym c.deref.ensures.value) ∙ c.if-replay.ensures.yes refl in
-    let accepted = subst (λ (l : Layout). accept_in l c.args.memory.contents c.in-Ok.read.1.items ≡ Some _) named served in
+    let accepted = subst (λ (l : Layout). accept_in l c.args.memory.contents c.in-Ok.read.1.items ≡ Some c.replay.new.memory.contents) named served in
     record {
       header = it.header.is;
       holds = (c.in-Ok.ensures.tail h).holds;
@@ -50,7 +50,7 @@ returns-else-replay-clause-fault g c = inr (inr (λ h.
     let file = (g.D.Disk.now c.args.disk.now).bytes in
     let it = c.requires.shown (c.read_tail.ensures.honest h) in
     let named : layout_of c.layout-version.result ≡ layout_in file = c.layout-version.ensures ∙ ap (λ (x : Header). layout_named x.version) it.header.is in
-    let reads = subst (λ (l : Layout). tail (ring_of l (sizes_of c.args.header.limits)) c.args.header.count file ≡ Some _) named (c.in-Ok.ensures.tail h).reads in
+    let reads = subst (λ (l : Layout). tail (ring_of l (sizes_of c.args.header.limits)) c.args.header.count file ≡ Some (record { commands = c.in-Ok.read.1.items; room = c.in-Ok.read.0.room })) named (c.in-Ok.ensures.tail h).reads in
     let served = ap (λ (cs : List Command). accept_in (layout_of c.layout-version.result) c.args.memory.contents cs) (sym c.deref.ensures.value) ∙ c.if-replay.ensures.no refl in
     let un = subst (λ (l : Layout). accept_in l c.args.memory.contents c.in-Ok.read.1.items ≡ None) named served in
     reads-unaccepted (layout_in file) file (seen c.args.header) c.args.memory.contents it.header.good it.header.is it.shown

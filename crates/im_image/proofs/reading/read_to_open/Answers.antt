@@ -41,3 +41,6 @@ pub returns-in-Ok-clause-reads : goal.returns-in-Ok-clause-reads
 returns-in-Ok-clause-reads g c = λ h.
     reads_then (g.D.Disk.now c.args.disk.now) (g.D.Disk.now c.read_header_to_open.new.disk) (g.D.Disk.now c.read_behind.new.disk) (g.D.Disk.past c.args.disk.now) (g.D.Disk.past c.read_header_to_open.new.disk) (g.D.Disk.past c.read_behind.new.disk)
     (c.read_header_to_open.ensures.reads (c.read_behind.ensures.honest h)) (c.read_behind.ensures.reads h)
+
+pub returns-in-Err-clause-fault : goal.returns-in-Err-clause-fault
+returns-in-Err-clause-fault g c = ⊎_elim (λ device. inr (inl device)) (λ fault. inr (inr fault)) c.in-Err.ensures.fault
