@@ -34,6 +34,7 @@ fn digest_reply(reply: Reply) -> u64 {
         Reply::Released => 107,
         Reply::NoBlock => 108,
         Reply::StillWaiting => 109,
+        Reply::Cleared => 110,
     }
 }
 

@@ -111,6 +111,7 @@ fn entry_code(entry: Entry) -> u8
         Entry::Answered(Reply::Released) => 9,
         Entry::Answered(Reply::NoBlock) => 10,
         Entry::Answered(Reply::StillWaiting) => 11,
+        Entry::Answered(Reply::Cleared) => 12,
     }
 }
 

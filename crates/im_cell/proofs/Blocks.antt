@@ -1,21 +1,22 @@
 -- Blocks stay whole.
-use Rattle.std.proofs.Common.{◌≡◌, inl, inr, ⊎_elim, ℕ, zero, suc, ◌+◌, ◌<◌, ◌≤◌, List, [], ◌∷◌, ◌++◌, map, take, length, get_or, set, replicate, Some, None, refl, sym, ap, ◌∙◌, arith, length-set}
+use Rattle.std.proofs.Common.{◌≡◌, inl, inr, ⊎_elim, ℕ, zero, suc, ◌+◌, ◌<◌, ◌≤◌, List, [], ◌∷◌, ◌++◌, map, take, length, get_or, set, replicate, Some, None, refl, sym, ap, ◌∙◌, subst, arith, length-set}
 use Rattle.std.specs.Prelude.{Option}
 use Rattle.std.proofs.lemmas.Bool.{cases_lt, cases_eq}
 use Rattle.std.proofs.lemmas.List.{get_or-set_same, get_or-set_other, get_or_past, take_more}
 use Rattle.im_types.specs.declared.operations.Block.{Block}
 use Rattle.im_types.specs.declared.operations.Kind.{Kind}
-use Rattle.im_types.specs.Place.{place, fill}
-use Rattle.im_laws.proofs.PlaceLemmas.{get_or-fill, place-free}
-use Rattle.im_laws.proofs.BlockLemmas.{get_or-fill_in, place-fits}
+use Rattle.im_types.specs.Place.{place, fill, change_each}
+use Rattle.im_laws.proofs.PlaceLemmas.{get_or-fill, get_or-change_each, place-free}
+use Rattle.im_laws.proofs.BlockLemmas.{get_or-fill_in, length-change_each, place-fits}
 use Rattle.im_types.specs.declared.cells.Cell.{Cell}
+use Rattle.im_types.specs.declared.cells.Cell.TheVariants.{Empty}
 use Rattle.im_types.specs.declared.records.CellRecord.{CellRecord}
 use Rattle.im_cell.specs.declared.slots.Slot.{Slot}
 use Rattle.im_cell.specs.declared.records.Record.{Record}
 use Rattle.im_types.specs.declared.TheConstants.{NONE}
 use Rattle.im_cell.specs.declared.records.Record.TheVariants.{Empty as IsEmpty, Waiting as IsWaiting, Full as IsFull, Clashed as IsClashed, Free}
 use Rattle.im_cell.specs.Records.{slot_of, slots_of, record_shown}
-use Rattle.im_cell.specs.Slots.{slot_at, block_in, block_at, new_slot, empty_slot, shown_slot, HasBlocks}
+use Rattle.im_cell.specs.Slots.{slot_at, block_in, block_at, with_cell, new_slot, empty_slot, shown_slot, HasBlocks}
 use Rattle.im_cell.proofs.Places.{length-fill}
 
 some_none : {X : Type 0} (x : X) → Some x ≡ None → ⊥
@@ -108,6 +109,42 @@ HasBlocks-released slots block at blocks = record {
       (get_or-fill slots block.base block.length None a);
 }
 
+-- cells that are all changed into one are filled with it
+change_each-fill : {X : Type 0} (change : Option X → Option X) (xs : List (Option X)) (base n : ℕ) (x : Option X)
+    → ((b : ℕ) → base ≤ b → b < base + n → b < length xs → change (get_or xs b None) ≡ x) → change_each change xs base n ≡ fill xs base n x
+change_each-fill change [] base n x same = refl
+change_each-fill change (y ∷ xs) zero zero x same = refl
+change_each-fill change (y ∷ xs) zero (suc n) x same =
+    ap (λ z. z ∷ change_each change xs zero n) (same 0 (omega arith) (omega arith) (omega arith))
+    ∙ ap (λ zs. x ∷ zs) (change_each-fill change xs zero n x (λ b lo hi h. same (suc b) (omega arith) (omega arith) (omega arith)))
+change_each-fill change (y ∷ xs) (suc base) n x same =
+    ap (λ zs. y ∷ zs) (change_each-fill change xs base n x (λ b lo hi h. same (suc b) (omega arith) (omega arith) (omega arith)))
+
+-- the cells of a block are empty
+module _ (slots : List (Option Slot)) (block : Block) (at : block_at slots block.base ≡ Some block) (blocks : HasBlocks slots) where
+  pub emptied-fill : change_each (with_cell Empty) slots block.base block.length ≡ fill slots block.base block.length (new_slot block Empty)
+  emptied-fill = change_each-fill (with_cell Empty) slots block.base block.length (new_slot block Empty) (λ b lo hi h. empty_there (slot_at slots b) (blocks.whole block.base block at b lo hi))
+    where
+      empty_there : (o : Option Slot) → block_in o ≡ Some block → with_cell Empty o ≡ new_slot block Empty
+      empty_there None is = absurd (some_none block (sym is))
+      empty_there (Some slot) is = ap (λ b. new_slot b Empty) (some_same slot.block block is)
+
+  pub HasBlocks-emptied : HasBlocks (fill slots block.base block.length (new_slot block Empty))
+  HasBlocks-emptied = subst HasBlocks emptied-fill (record {
+    within = λ a b is. let w = blocks.within a b (sym (same a) ∙ is) in (w.0, w.1, omega (arith, long));
+    whole = λ a b is c lo hi. same c ∙ blocks.whole a b (sym (same a) ∙ is) c lo hi;
+  })
+    where
+      long : length (change_each (with_cell Empty) slots block.base block.length) ≡ length slots
+      long = length-change_each (with_cell Empty) slots block.base block.length
+
+      own : (o : Option Slot) → block_in (with_cell Empty o) ≡ block_in o
+      own None = refl
+      own (Some slot) = refl
+
+      same : (b : ℕ) → block_at (change_each (with_cell Empty) slots block.base block.length) b ≡ block_at slots b
+      same b = ⊎_elim (λ h. ap block_in h) (λ h. ap block_in h.2 ∙ own (slot_at slots b)) (get_or-change_each (with_cell Empty) slots block.base block.length b)
+
 -- what is known of the block whose base is this address
 pub record IsBlock (slots : List (Option Slot)) (block : Block) : Type 0 where
   pub here : block_at slots block.base ≡ Some block
@@ -156,3 +193,10 @@ row-more cells row new i d begun inside pushed =
 -- a record set at an address, spelled otherwise
 pub set-same : (records : List Record) (at a : ℕ) (kept : Record) → at ≡ a → set records at kept ≡ set records a kept
 set-same records at a kept same = ap (λ i. set records i kept) same
+
+-- the same of a block that was found at an address of the table
+pub IsBlock-at : (slots value : List (Option Slot)) (a : ℕ) (block : Block) → slots ≡ value → block.base ≡ a → block_at value a ≡ Some block → HasBlocks slots → IsBlock slots block
+IsBlock-at slots value a block same base at blocks =
+    let here : block_at slots block.base ≡ Some block = ap (block_at slots) base ∙ ap (λ s. block_at s a) same ∙ at in
+    let w = blocks.within block.base block here in
+    record { here = here; some = omega (arith, w.1); inside = w.2 }

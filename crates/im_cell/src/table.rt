@@ -1,8 +1,8 @@
 //! The table. Its blocks lie at the least place: first fit in order of address (Knuth, The Art of Computer
 //! Programming 1, section 2.5), by a tree over the cells.
-ghost use Rattle.std.specs.Prelude.{◌≡◌, ◌<◌, ◌≤◌, None, false, length, map, replicate, slice_set};
+ghost use Rattle.std.specs.Prelude.{◌≡◌, ◌<◌, ◌≤◌, None, Some, false, true, length, map, replicate, slice_set};
 ghost use Rattle.std.specs.Prelude.{IsTrue, IsNone, IsSome, IfSome, IfOk, IfErr};
-ghost use Rattle.im_types.specs.Place.{place, fill, IsLeastFree};
+ghost use Rattle.im_types.specs.Place.{place, fill, change_each, IsLeastFree};
 ghost use Rattle.im_cell.specs.Slots.{slot_at, block_at, cell_at, with_cell, empty_slot, shown_slot};
 ghost use Rattle.im_cell.specs.Slots.{is_releasable, length_at, HasBlocks};
 
@@ -156,6 +156,19 @@ impl CellTable {
         Some(base)
     }
 
+    // The block with this base, where none of its cells is waiting.
+    fn quiet_block(&self, base: u32) -> Option<Block>
+        ensures found { IfSome result (λ block. (block.base ≡ base) × (block_at self.now base ≡ Some block)
+            × (is_releasable self.now base ≡ true)) }
+        ensures none { IsNone result → is_releasable self.now base ≡ false }
+    {
+        let slot = self.slot(base)?;
+        if slot.block.base != base || any_waiting(self.records.as_slice(), slot.block) {
+            return None;
+        }
+        Some(slot.block)
+    }
+
     /// Gives the cells of the block with this base back. `false`, and nothing changed, where there is no such block
     /// or a cell of it is waiting.
     pub fn release(&mut self, base: u32) -> bool
@@ -163,19 +176,36 @@ impl CellTable {
         ensures released { IsTrue result → self.new ≡ fill self.old base (length_at self.old base) None }
         ensures same { result ≡ false → self.new ≡ self.old }
     {
-        let Some(slot) = self.slot(base) else {
+        let Some(block) = self.quiet_block(base) else {
             return false;
         };
-        let block = slot.block;
-        if block.base != base || any_waiting(self.records.as_slice(), block) {
-            return false;
-        }
         fill_cells(
             self.records.as_mut_slice(),
             self.nodes.as_mut_slice(),
             block.base,
             block.length,
             FREE,
+        );
+        true
+    }
+
+    /// Empties the cells of the block with this base. `false`, and nothing changed, where there is no such block or a
+    /// cell of it is waiting.
+    pub fn reset(&mut self, base: u32) -> bool
+        ensures done { result ≡ is_releasable self.old base }
+        ensures emptied { IsTrue result → self.new
+            ≡ change_each (with_cell Cell.Empty) self.old base (length_at self.old base) }
+        ensures same { result ≡ false → self.new ≡ self.old }
+    {
+        let Some(block) = self.quiet_block(base) else {
+            return false;
+        };
+        fill_cells(
+            self.records.as_mut_slice(),
+            self.nodes.as_mut_slice(),
+            block.base,
+            block.length,
+            Record::Empty(block),
         );
         true
     }

@@ -7,7 +7,7 @@ ghost use Rattle.std.specs.List.{AllByRecursion, list_any};
 ghost use Rattle.im_types.specs.Contents.{Held, held_at, full_in};
 ghost use Rattle.im_types.specs.Act.{block_with_base, is_waiting_cell};
 ghost use Rattle.im_types.specs.Presences.{presence_in};
-ghost use Rattle.im_types.specs.Changes.{is_below, store_change_in, release_change, change_of, change_by};
+ghost use Rattle.im_types.specs.Changes.{is_below, store_change_in, emptying_change, change_of, change_by};
 ghost use Rattle.im_types.specs.Changes.{fill_at, opening};
 
 use im_memory::Memory;
@@ -82,10 +82,10 @@ fn is_one_waiting(memory: &Memory, base: u32, count: u32) -> bool
     false
 }
 
-// What a release changes.
-fn release_change(memory: &Memory, a: u32) -> Change
+// What a release or a reset changes.
+fn emptying_change(memory: &Memory, a: u32) -> Change
     ensures { let cells = memory.now.contents.cells in
-        result ≡ release_change cells a (block_with_base a (held_at cells a)) }
+        result ≡ emptying_change cells a (block_with_base a (held_at cells a)) }
 {
     let _cells = memory.cells();
     match with_base(a, memory.block(a)) {
@@ -106,7 +106,8 @@ fn change_of(memory: &Memory, op: Op) -> Change
 {
     match op {
         Op::Alloc(_, _) => Change::Same,
-        Op::Release(a) => release_change(memory, a),
+        Op::Release(a) => emptying_change(memory, a),
+        Op::Reset(a) => emptying_change(memory, a),
         Op::Fetch(_) => Change::Same,
         Op::Store(a, value) => store_change(a, value, memory.block(a), memory.cell(a)),
         Op::Take(_) => Change::Same,
@@ -115,7 +116,7 @@ fn change_of(memory: &Memory, op: Op) -> Change
 }
 
 /// What a command would change of the full I cells, if it were accepted, by the memory before it. It is of the
-/// memory's own cells. It takes a step for each cell of a block that is released, else none, and no memory.
+/// memory's own cells. It takes a step for each cell of a block that is released or reset, else none, and no memory.
 pub fn change_by(memory: &Memory, command: &Command) -> Change
     ensures change { result ≡ change_by memory.now.contents command.now }
     ensures below { is_below (length memory.now.contents.cells) result ≡ true }

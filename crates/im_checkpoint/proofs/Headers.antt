@@ -43,7 +43,7 @@ limits_of s are =
 
 -- the numbers of a header in force
 pub record IsGood (h : Header) : Type 0 where
-  pub version : h.version ≡ 1
+  pub version : h.version ≡ layout_in_use.version
   pub area : h.area ≤ 1
   pub from_one : 1 ≤ h.generation
   pub to_last : h.generation ≤ LAST
@@ -59,7 +59,7 @@ good h file it =
     let d = and_both _ (nat_le h.count LAST) e.0 in
     let c = and_both _ (nat_le h.generation LAST) d.0 in
     let b = and_both _ (nat_le 1 h.generation) c.0 in
-    let a = and_both (h.version == 1) (h.area == h.area) b.0 in
+    let a = and_both (h.version == layout_in_use.version) (h.area == h.area) b.0 in
     record {
       version = same_number _ _ a.0;
       area = it.number;
@@ -85,7 +85,7 @@ follows h count g later few = record {
     slots = omega (arith, g.limits.few_slots);
   };
   good = joined _ (are_sizes layout_in_use h.sizes) (joined _ (nat_le count LAST) (joined _ (nat_le (h.generation + 1) LAST) (joined _ (nat_le 1 (h.generation + 1))
-      (joined (h.version == 1) (1 - h.area == 1 - h.area) (same_itself _ _ g.version) (same_itself _ _ refl)) (is_least _ _ (omega arith))) (is_least _ _ (omega (arith, later)))) (is_least _ _ few)) g.sizes;
+      (joined (h.version == layout_in_use.version) (1 - h.area == 1 - h.area) (same_itself _ _ g.version) (same_itself _ _ refl)) (is_least _ _ (omega arith))) (is_least _ _ (omega (arith, later)))) (is_least _ _ few)) g.sizes;
 }
 
 -- where the other area lies

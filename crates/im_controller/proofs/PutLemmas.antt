@@ -5,7 +5,7 @@ use Rattle.std.proofs.lemmas.Bool.Decides.{nat_tests}
 use Rattle.im_types.specs.declared.TheConstants.{LAST}
 use Rattle.im_types.specs.declared.changes.Change.{Change}
 use Rattle.im_types.specs.declared.operations.Op.{Op}
-use Rattle.im_types.specs.declared.operations.Op.TheVariants.{Alloc, Release, Fetch, Store, Take, Put}
+use Rattle.im_types.specs.declared.operations.Op.TheVariants.{Alloc, Release, Reset, Fetch, Store, Take, Put}
 use Rattle.im_types.specs.declared.commands.Command.{Command}
 use Rattle.im_types.specs.declared.commands.Command.TheVariants.{Request as Asks}
 use Rattle.im_types.specs.declared.commands.Request.{Request}
@@ -108,8 +108,14 @@ together-precedes earlier (Release a) is = absurd (by_social (is_social earlier)
     by_social : (b : Bool) → (if b then (if false then are_apart_at (stored_at earlier) (stored_at (Release a)) else false) else false) ≡ true → ⊥
     by_social true is = true_false (sym is)
     by_social false is = true_false (sym is)
+together-precedes earlier (Reset a) is = absurd (by_social (is_social earlier) is)
+  where
+    by_social : (b : Bool) → (if b then (if false then are_apart_at (stored_at earlier) (stored_at (Reset a)) else false) else false) ≡ true → ⊥
+    by_social true is = true_false (sym is)
+    by_social false is = true_false (sym is)
 together-precedes (Alloc kind n) (Store a v) is = absurd (true_false (sym is))
 together-precedes (Release b) (Store a v) is = absurd (true_false (sym is))
+together-precedes (Reset b) (Store a v) is = absurd (true_false (sym is))
 together-precedes (Fetch b) (Store a v) is = tt
 together-precedes (Take b) (Store a v) is = tt
 together-precedes (Put b w) (Store a v) is = tt

@@ -2,7 +2,7 @@
 use Rattle.std.specs.Prelude.{◌≡◌, ℕ, ◌+◌, ◌-◌, ◌<◌, ◌≤◌, ◌==◌, min, List, [], ◌∷◌, ◌++◌, Bool, true, false, Option, None, Some, Result, Ok, Err, length, map, slice_get, if◌then◌else◌}
 use Rattle.im_types.specs.declared.TheConstants.{LAST}
 use Rattle.im_types.specs.declared.operations.Op.{Op}
-use Rattle.im_types.specs.declared.operations.Op.TheVariants.{Alloc, Release, Fetch, Store, Take, Put}
+use Rattle.im_types.specs.declared.operations.Op.TheVariants.{Alloc, Release, Reset, Fetch, Store, Take, Put}
 use Rattle.im_types.specs.declared.commands.Command.TheVariants.{Request as Asks}
 use Rattle.im_types.specs.declared.commands.Request.{Request}
 use Rattle.im_types.specs.declared.commands.Outcome.{Outcome}
@@ -25,10 +25,11 @@ use Rattle.im_controller.specs.Lends.{is_taken, changes_put}
 
 -- ---- which requests may be one group
 
--- whether an operation is served with others: one that makes or gives back a block stands alone
+-- whether an operation is served with others: one that makes, gives back or empties a block stands alone
 abbrev pub is_social : Op → Bool
 is_social (Alloc kind n) = false
 is_social (Release base) = false
+is_social (Reset base) = false
 is_social (Fetch a) = true
 is_social (Store a v) = true
 is_social (Take a) = true
@@ -38,6 +39,7 @@ is_social (Put a v) = true
 abbrev pub stored_at : Op → Option ℕ
 stored_at (Alloc kind n) = None
 stored_at (Release base) = None
+stored_at (Reset base) = None
 stored_at (Fetch a) = None
 stored_at (Store a v) = Some a
 stored_at (Take a) = None
@@ -63,7 +65,7 @@ abbrev pub MayFollow : Op → List Request → Type 0
 MayFollow op [] = Unit {0}
 MayFollow op (r ∷ rs) = (are_together op r.op ≡ true) × MayFollow op rs
 
--- the requests may be one group: one that makes or gives back a block stands alone, and no two store at one address
+-- the requests may be one group: one that makes, gives back or empties a block stands alone, and no two store at one address
 abbrev pub IsCut : List Request → Type 0
 IsCut [] = Unit {0}
 IsCut (r ∷ rs) = MayFollow r.op rs × IsCut rs

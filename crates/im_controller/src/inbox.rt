@@ -37,6 +37,7 @@ fn is_social(op: Op) -> bool
     match op {
         Op::Alloc(_, _) => false,
         Op::Release(_) => false,
+        Op::Reset(_) => false,
         Op::Fetch(_) => true,
         Op::Store(_, _) => true,
         Op::Take(_) => true,
@@ -51,6 +52,7 @@ fn stored_at(op: Op) -> Option<u32>
     match op {
         Op::Alloc(_, _) => None,
         Op::Release(_) => None,
+        Op::Reset(_) => None,
         Op::Fetch(_) => None,
         Op::Store(at, _) => Some(at),
         Op::Take(_) => None,

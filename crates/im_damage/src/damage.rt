@@ -6,7 +6,7 @@ use im_cell::CellRow;
 use im_image::{PAGE, VERSION};
 use im_memory::Memory;
 use im_records::{read_cell, read_node, read_session};
-use im_types::layout::{CELL_RECORD, NODE_RECORD, OPEN, SESSION_RECORD, SLOT};
+use im_types::layout::{CELL_RECORD, NODE_RECORD, OPEN, SLOT, Version};
 use im_types::{
     Block, CellRecord, Command, LAST, Limits, MAX_GROUP, NONE, NodeRecord, PresenceTag,
 };
@@ -96,7 +96,7 @@ impl Display for HeaderField {
         match *self {
             HeaderField::Area(area) => write!(f, "its area is {area}"),
             HeaderField::Version(version) => {
-                write!(f, "its version is {version}, where {VERSION} is read here")
+                write!(f, "its version is {version}, where {VERSION} and 1 are read here")
             }
             HeaderField::Letters => write!(f, "the letters IMEM are missing"),
             HeaderField::Generation(generation) => write!(f, "its generation is {generation}"),
@@ -227,7 +227,7 @@ fn field_in(header: &[u8; 64], number: u8) -> HeaderField {
     let count = LittleEndian::read_u64(&header[16..24]);
     if &header[4..8] != b"IMEM".as_slice() {
         HeaderField::Letters
-    } else if version != VERSION {
+    } else if version != VERSION && version != Version::One.number() {
         HeaderField::Version(version)
     } else if header[1] != number {
         HeaderField::Area(header[1])
@@ -332,9 +332,9 @@ pub fn bad_node(part: &[u8], nodes: usize) -> Option<usize> {
 }
 
 /// The first element of this part whose window isn't.
-pub fn bad_window(part: &[u8], elements: usize) -> Option<usize> {
-    for (at, bytes) in part.chunks(SESSION_RECORD).enumerate() {
-        if at < elements && read_session(bytes).is_none() {
+pub fn bad_window(version: Version, part: &[u8], elements: usize) -> Option<usize> {
+    for (at, bytes) in part.chunks(version.session_record()).enumerate() {
+        if at < elements && read_session(version, bytes).is_none() {
             return Some(at);
         }
     }

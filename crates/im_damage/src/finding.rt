@@ -6,12 +6,9 @@ use crate::damage::{
     of_headers, of_journal,
 };
 use im_disk::Disk;
-use im_image::{
-    Header, PAGE, area_at, area_pages, cell_pages, decode, image_length, journal_at, node_count,
-    node_pages, read_header,
-};
-use im_records::{CELLS_ON_A_PAGE, NODES_ON_A_PAGE, SESSIONS_ON_A_PAGE, read_area};
-use im_types::layout::{CELL_RECORD, NODE_RECORD, SESSION_RECORD, SLOT, cell_bytes, node_bytes};
+use im_image::{Header, PAGE, cell_pages, decode, read_header};
+use im_records::{CELLS_ON_A_PAGE, NODES_ON_A_PAGE, read_area};
+use im_types::layout::{CELL_RECORD, NODE_RECORD, SLOT, Version, cell_bytes};
 use im_types::{Limits, Refusal};
 use std::alloc::Global;
 
@@ -82,7 +79,7 @@ fn length_by(places: &Places, found: usize) -> Damage {
         Header::read(&places.zero, 0)
     };
     match header {
-        Some(header) => Damage::Length(found, image_length(header.limits)),
+        Some(header) => Damage::Length(found, header.layout().image_length(header.limits)),
         None => Damage::Unknown,
     }
 }
@@ -103,13 +100,13 @@ fn read_pages<D: Disk>(alloc: Global, disk: &mut D, header: &Header) -> Option<V
     ensures reads { D.honest disk.new → OnlyReads D.now D.past disk.old disk.new }
     ensures honest { D.honest disk.new → D.honest disk.old }
 {
-    let limits = header.limits;
+    let (version, limits) = (header.layout(), header.limits);
     let at = if header.area == 1 {
-        area_at(limits, 1)
+        version.area_at(limits, 1)
     } else {
-        area_at(limits, 0)
+        version.area_at(limits, 0)
     };
-    read_part(alloc, disk, at, PAGE * area_pages(limits))
+    read_part(alloc, disk, at, PAGE * version.area_pages(limits))
 }
 
 // What is wrong with the pages of the area in force.
@@ -121,7 +118,7 @@ fn of_pages<D: Disk>(alloc: Global, disk: &mut D) -> Damage
         return Damage::Unknown;
     };
     match read_pages(alloc, disk, &header) {
-        Some(area) => of_area(alloc, area.as_slice(), header.limits),
+        Some(area) => of_area(alloc, header.layout(), area.as_slice(), header.limits),
         None => Damage::Unknown,
     }
 }
@@ -141,7 +138,7 @@ fn of_slots<D: Disk>(alloc: Global, disk: &mut D) -> Damage
     match read_part(
         alloc,
         disk,
-        journal_at(limits),
+        header.layout().journal_at(limits),
         SLOT * limits.slots as usize,
     ) {
         Some(ring) => of_ring(alloc, area.as_slice(), ring.as_slice(), &header),
@@ -151,11 +148,12 @@ fn of_slots<D: Disk>(alloc: Global, disk: &mut D) -> Damage
 
 // What is wrong with the slots of a ring, behind this area.
 fn of_ring(alloc: Global, area: &[u8], ring: &[u8], header: &Header) -> Damage {
-    if area.len() != PAGE * area_pages(header.limits) {
+    let (version, limits) = (header.layout(), header.limits);
+    if area.len() != PAGE * version.area_pages(limits) {
         return Damage::Unknown;
     }
-    match decode(alloc, area, header.limits) {
-        Ok(mut memory) => of_journal(ring, &mut memory, header.limits.slots, header.count),
+    match decode(alloc, version, area, limits) {
+        Ok(mut memory) => of_journal(ring, &mut memory, limits.slots, header.count),
         Err(_) => Damage::Unknown,
     }
 }
@@ -174,16 +172,16 @@ fn of_part(
 }
 
 // What is wrong with the cells' part.
-fn of_cells(part: &[u8], limits: Limits) -> Option<Damage> {
+fn of_cells(version: Version, part: &[u8], limits: Limits) -> Option<Damage> {
     let cells = limits.cells as usize;
-    let bad = bad_cell(part, cells, node_count(limits));
+    let bad = bad_cell(part, cells, version.node_count(limits));
     let record = bad.map(|at| (at / CELLS_ON_A_PAGE, RecordOf::Cell(at)));
     of_part(0, record, bad_padding(part, CELL_RECORD * cells))
 }
 
 // What is wrong with the nodes' part.
-fn of_nodes(part: &[u8], limits: Limits) -> Option<Damage> {
-    let nodes = node_count(limits);
+fn of_nodes(version: Version, part: &[u8], limits: Limits) -> Option<Damage> {
+    let nodes = version.node_count(limits);
     let record = bad_node(part, nodes).map(|at| (at / NODES_ON_A_PAGE, RecordOf::Node(at)));
     of_part(
         cell_pages(limits),
@@ -193,38 +191,37 @@ fn of_nodes(part: &[u8], limits: Limits) -> Option<Damage> {
 }
 
 // What is wrong with the windows' part.
-fn of_windows(part: &[u8], limits: Limits) -> Option<Damage> {
+fn of_windows(version: Version, part: &[u8], limits: Limits) -> Option<Damage> {
     let elements = limits.elements as usize;
-    let page = cell_pages(limits).saturating_add(node_pages(limits));
-    let record = bad_window(part, elements).map(|at| (
-        at / SESSIONS_ON_A_PAGE,
-        RecordOf::Window(at),
-    ));
-    of_part(page, record, bad_padding(part, SESSION_RECORD * elements))
+    let page = cell_pages(limits).saturating_add(version.node_pages(limits));
+    let size = version.session_record();
+    let record =
+        bad_window(version, part, elements).map(|at| (size * at / PAGE, RecordOf::Window(at)));
+    of_part(page, record, bad_padding(part, size * elements))
 }
 
 // What is wrong with the records of an area, each for itself.
-fn of_records(area: &[u8], limits: Limits) -> Option<Damage> {
+fn of_records(version: Version, area: &[u8], limits: Limits) -> Option<Damage> {
     let (cells, behind) = area.split_at_checked(cell_bytes(limits))?;
-    let (nodes, windows) = behind.split_at_checked(node_bytes(limits))?;
-    if let Some(damage) = of_cells(cells, limits) {
+    let (nodes, windows) = behind.split_at_checked(version.node_bytes(limits))?;
+    if let Some(damage) = of_cells(version, cells, limits) {
         return Some(damage);
     }
-    if let Some(damage) = of_nodes(nodes, limits) {
+    if let Some(damage) = of_nodes(version, nodes, limits) {
         return Some(damage);
     }
-    of_windows(windows, limits)
+    of_windows(version, windows, limits)
 }
 
 // What is wrong with an area that shows no memory.
-fn of_area(alloc: Global, area: &[u8], limits: Limits) -> Damage {
-    if let Some(damage) = of_records(area, limits) {
+fn of_area(alloc: Global, version: Version, area: &[u8], limits: Limits) -> Damage {
+    if let Some(damage) = of_records(version, area, limits) {
         return damage;
     }
-    if area.len() != PAGE * area_pages(limits) {
+    if area.len() != PAGE * version.area_pages(limits) {
         return Damage::Unknown;
     }
-    let Ok(records) = read_area(alloc, area, limits) else {
+    let Ok(records) = read_area(alloc, version, area, limits) else {
         return Damage::Unknown;
     };
     if let Some(at) = bad_block(records.cells()) {

@@ -3,19 +3,19 @@ use Rattle.std.proofs.Common.{◌≡◌, ◌∙◌, ℕ, Bool, true, false, List
 use Rattle.std.specs.Prelude.{◌==◌, Option, None, Some, Result, Ok, Err}
 use Rattle.std.specs.List.{list_any}
 use Rattle.im_types.specs.declared.operations.Op.{Op}
-use Rattle.im_types.specs.declared.operations.Op.TheVariants.{Alloc, Release, Fetch, Store, Take, Put}
+use Rattle.im_types.specs.declared.operations.Op.TheVariants.{Alloc, Release, Reset, Fetch, Store, Take, Put}
 use Rattle.im_types.specs.declared.operations.Kind.{Kind}
 use Rattle.im_types.specs.declared.operations.Kind.TheVariants.{I, M}
 use Rattle.im_types.specs.declared.operations.Reply.{Reply}
-use Rattle.im_types.specs.declared.operations.Reply.TheVariants.{BadLength, WrongKind, Released, StillWaiting}
+use Rattle.im_types.specs.declared.operations.Reply.TheVariants.{BadLength, WrongKind, Released, Cleared, StillWaiting}
 use Rattle.im_types.specs.declared.operations.Entry.TheVariants.{Answered}
 use Rattle.im_types.specs.declared.operations.Waiter.{Waiter}
 use Rattle.im_types.specs.declared.operations.Block.{Block}
 use Rattle.im_types.specs.declared.commands.Outcome.{Outcome}
 use Rattle.im_types.specs.declared.refusals.Refusal.{Refusal}
 use Rattle.im_types.specs.Contents.{CellState, Empty, Full, Clashed, Held, Contents, held_at}
-use Rattle.im_types.specs.Place.{place, fill}
-use Rattle.im_types.specs.Act.{Served, act, at_cell, allocate_at, release_block, block_with_base, is_waiting_cell, fetch, take_from, same_kind, serve_cell, only_tells}
+use Rattle.im_types.specs.Place.{place, fill, change_each}
+use Rattle.im_types.specs.Act.{Served, act, at_cell, allocate_at, unless_waited_for, release_block, emptied, reset_block, block_with_base, is_waiting_cell, fetch, take_from, same_kind, serve_cell, only_tells}
 use Rattle.im_dialogue.specs.declared.asking.Asked.{Asked}
 use Rattle.im_dialogue.specs.declared.asking.Asked.TheVariants as asks
 use Rattle.im_dialogue.specs.declared.answers.Answer.{Answer}
@@ -59,17 +59,18 @@ alloc_resumes cells kind n true found = refl
 alloc_resumes cells kind n false None = refl
 alloc_resumes cells kind n false (Some base) = refl
 
-release_resumes : (cells : List (Option Held)) (a : ℕ) (found : Option Block) → (release_block cells a found).resumed ≡ []
-release_resumes cells a None = refl
-release_resumes cells a (Some block) = by_test (list_any is_waiting_cell (take block.length (drop a cells)))
+whole_resumes : (after : Block → List (Option Held)) (reply : Reply) (cells : List (Option Held)) (a : ℕ) (found : Option Block) → (unless_waited_for after reply cells a found).resumed ≡ []
+whole_resumes after reply cells a None = refl
+whole_resumes after reply cells a (Some block) = by_test (list_any is_waiting_cell (take block.length (drop a cells)))
   where
-    by_test : (b : Bool) → (if b then only_tells cells StillWaiting else record { cells = fill cells a block.length None; entry = Answered Released; resumed = [] }).resumed ≡ []
+    by_test : (b : Bool) → (if b then only_tells cells StillWaiting else record { cells = after block; entry = Answered reply; resumed = [] }).resumed ≡ []
     by_test true = refl
     by_test false = refl
 
 pub quiet_resumes : (cells : List (Option Held)) (who : Waiter) (op : Op) → is_quiet op ≡ true → (act cells who op).resumed ≡ []
 quiet_resumes cells who (Alloc kind n) quiet = alloc_resumes cells kind n (n == 0) (place n cells)
-quiet_resumes cells who (Release a) quiet = release_resumes cells a (block_with_base a (held_at cells a))
+quiet_resumes cells who (Release a) quiet = whole_resumes (λ block. fill cells a block.length None) Released cells a (block_with_base a (held_at cells a))
+quiet_resumes cells who (Reset a) quiet = whole_resumes (λ block. change_each emptied cells a block.length) Cleared cells a (block_with_base a (held_at cells a))
 quiet_resumes cells who (Fetch a) quiet = none_resumed I (fetch who) cells a (held_at cells a) (fetch_resumes who)
 quiet_resumes cells who (Take a) quiet = none_resumed M (take_from who) cells a (held_at cells a) (take_resumes who)
 quiet_resumes cells who (Store a v) quiet = absurd (cc)

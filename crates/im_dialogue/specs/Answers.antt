@@ -57,7 +57,7 @@ turn_text Swept = codes "turn swept"
 -- what a line was expected to be
 abbrev pub expected_text : Expected → List ℕ
 expected_text expected.Line = codes "E.N and a request, collect E.N, confirm E UPTO, window E, room, turn, count or quit"
-expected_text expected.Request = codes "E.N with alloc i|m LENGTH, release A, fetch A, store A VALUE, take A or put A VALUE"
+expected_text expected.Request = codes "E.N with alloc i|m LENGTH, release A, reset A, fetch A, store A VALUE, take A or put A VALUE"
 expected_text expected.Collect = codes "collect E.N"
 expected_text expected.Confirm = codes "confirm E UPTO"
 expected_text expected.Window = codes "window E"

@@ -194,7 +194,7 @@ fn expected_words(expected: Expected) -> &'static str
         Expected::Line =>
             "E.N and a request, collect E.N, confirm E UPTO, window E, room, turn, count or quit",
         Expected::Request =>
-            "E.N with alloc i|m LENGTH, release A, fetch A, store A VALUE, take A or put A VALUE",
+            "E.N with alloc i|m LENGTH, release A, reset A, fetch A, store A VALUE, take A or put A VALUE",
         Expected::Collect => "collect E.N",
         Expected::Confirm => "confirm E UPTO",
         Expected::Window => "window E",

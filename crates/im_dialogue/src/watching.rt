@@ -78,7 +78,7 @@ fn add_resumed(out: &mut String, memory: &Memory, request: &Request) -> Result<(
     match request.op {
         Op::Store(a, value) => add_readers(out, memory, a, value),
         Op::Put(a, value) => add_taker(out, memory, a, value),
-        Op::Alloc(_, _) | Op::Release(_) | Op::Fetch(_) | Op::Take(_) => Ok(()),
+        Op::Alloc(_, _) | Op::Release(_) | Op::Reset(_) | Op::Fetch(_) | Op::Take(_) => Ok(()),
     }
 }
 

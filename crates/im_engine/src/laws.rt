@@ -6,7 +6,7 @@ ghost use Rattle.im_types.specs.declared.commands.Request.{Request};
 ghost use Rattle.im_types.specs.declared.commands.Command.{Command};
 ghost use Rattle.im_types.specs.Contents.{Contents, empty_contents};
 ghost use Rattle.im_types.specs.Sizes.{AreLimits};
-ghost use Rattle.im_types.specs.Layout.{Sizes, layout_1};
+ghost use Rattle.im_types.specs.Layout.{Sizes, layout_in_use};
 ghost use Rattle.im_types.specs.Step.{step};
 ghost use Rattle.im_types.specs.Meaning.{Means, Reached, Reads};
 ghost use Rattle.im_types.specs.Groups.{as_served, answers_of, puts_of};
@@ -18,7 +18,7 @@ ghost use Rattle.im_engine.specs.State.{IsFirstFault};
 /// A file means one thing: reading it comes to one memory, one count and one room, or to one first fault.
 pub fn files_mean_one_thing()
     ensures reads { (file : List ℕ) (one other : Result Reached Refusal)
-        → Reads layout_1 file one → Reads layout_1 file other → one ≡ other }
+        → Reads layout_in_use file one → Reads layout_in_use file other → one ≡ other }
     ensures memory { (file : List ℕ) (m n : Contents) (count other room more : ℕ)
         → Means m count room file → Means n other more file → (m ≡ n) × (count ≡ other) }
     ensures fault { (file : List ℕ) (fault : Refusal) (m : Contents) (count room : ℕ)

@@ -11,7 +11,7 @@ use Rattle.im_types.specs.declared.operations.Kept.{Kept}
 use Rattle.im_types.specs.Contents.{Window}
 use Rattle.im_types.specs.Agreement.{address_of}
 use Rattle.im_types.specs.Bytes.{zeros}
-use Rattle.im_types.specs.Layout.{Layout, layout_1}
+use Rattle.im_types.specs.Layout.{Layout, layout_2}
 use Rattle.im_types.specs.Header.{Header, header_body, header_in, spells_header}
 use Rattle.im_types.specs.declared.records.PresenceTag.{PresenceTag}
 use Rattle.im_types.specs.declared.records.PresenceTag.TheVariants.{Full as TagFull, Waiting as TagWaiting}
@@ -25,7 +25,7 @@ use Rattle.im_formats.specs.Reading.{place_in, read_place, cell_in, read_cell, n
 
 -- a header of a small image, of this generation and with so many elements
 abbrev header : ℕ → ℕ → Header
-header generation elements = record { version = 1; area = 0; generation = generation; count = 0; sizes = record { cells = 1; elements = elements; slots = 16 } }
+header generation elements = record { version = 2; area = 0; generation = generation; count = 0; sizes = record { cells = 1; elements = elements; slots = 16 } }
 
 -- `headers_read_back`: a header of 65,536 elements, which don't fit their two bytes, reads back with none.
 a_bit_too_many_does_not_read_back : ((gate : ℕ) (h : Header) → header_in (gate ∷ header_body h) ≡ h) → ⊥
@@ -34,12 +34,12 @@ a_bit_too_many_does_not_read_back law = differ 0 0x1_0000 refl (ap (λ (h : Head
 -- `headers_are_taken`: a header whose numbers fit their fields, but of generation 0, spells none.
 a_header_has_a_generation : ((l : Layout) (area gate : ℕ) (h : Header) → FitsHeader h → spells_header l area (gate ∷ header_body h) ≡ true) → ⊥
 a_header_has_a_generation law =
-    true_false (sym (law layout_1 0 0 (header 0 1)
+    true_false (sym (law layout_2 0 0 (header 0 1)
     (record { version = omega arith; generation = omega arith; count = omega arith; cells = omega arith; elements = omega arith; slots = omega arith })))
 
 -- `headers_read_nothing_else`: bytes that spell a header may have any gate.
 a_header_may_be_closed : ((l : Layout) (area : ℕ) (bytes : List ℕ) → spells_header l area bytes ≡ true → slice_range bytes 0 64 ≡ 0xA5 ∷ header_body (header_in bytes)) → ⊥
-a_header_may_be_closed law = differ 0 0xA5 refl (ap (λ (bytes : List ℕ). slice_index bytes 0) (law layout_1 0 (0 ∷ header_body (header 1 1)) refl))
+a_header_may_be_closed law = differ 0 0xA5 refl (ap (λ (bytes : List ℕ). slice_index bytes 0) (law layout_2 0 (0 ∷ header_body (header 1 1)) refl))
 
 -- the address of a place's operation
 abbrev address_in : Option (Option Kept) → ℕ
@@ -129,7 +129,7 @@ unfolding node_in
 fields_alone_are_no_node law = differ 7 0 refl (ap (λ (bytes : List ℕ). slice_index bytes 15) (law (zeros 15 ++ 7 ∷ []) (FreeNode 0) refl))
 
 -- `sessions_are_spelled_by_one_window`: a base of more than its eight bytes is spelled as another one.
-two_windows_may_share_a_spelling : ((w v : Window) → FitsWindow layout_1 w → session_bytes layout_1 w ≡ session_bytes layout_1 v → w ≡ v) → ⊥
+two_windows_may_share_a_spelling : ((w v : Window) → FitsWindow layout_2 w → session_bytes layout_2 w ≡ session_bytes layout_2 v → w ≡ v) → ⊥
 two_windows_may_share_a_spelling law =
     differ 1 (2 ^ 64 + 1) refl (ap (λ (w : Window). w.base) (law (record { base = 1; kept = [] }) (record { base = 2 ^ 64 + 1; kept = [] })
-    (record { base_from = omega arith; base_to = omega arith; few = omega arith; numbers = omega arith; fields = λ i k is. cc }) refl))
+    (record { base_from = omega arith; base_to = omega arith; few = omega arith; numbers = omega arith; known = refl; fields = λ i k is. cc }) refl))

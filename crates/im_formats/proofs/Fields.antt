@@ -2,9 +2,9 @@
 use Rattle.std.proofs.Common.{◌≡◌, ℕ, ◌<◌, ◌^◌, ◌==◌, Bool, true, false, None, Some, nat_lt, refl, ap, arith, if◌then◌else◌}
 use Rattle.std.proofs.lemmas.Bool.Decides.{nat_tests}
 use Rattle.im_types.specs.declared.operations.Op.{Op}
-use Rattle.im_types.specs.declared.operations.Op.TheVariants.{Alloc, Release, Fetch, Store, Take, Put}
+use Rattle.im_types.specs.declared.operations.Op.TheVariants.{Alloc, Release, Reset, Fetch, Store, Take, Put}
 use Rattle.im_types.specs.declared.operations.Kind.TheVariants.{I, M}
-use Rattle.im_types.specs.declared.operations.Reply.TheVariants.{Base, NoSpace, BadLength, Value, Stored, Clash, NoCell, WrongKind, Released, NoBlock, StillWaiting}
+use Rattle.im_types.specs.declared.operations.Reply.TheVariants.{Base, NoSpace, BadLength, Value, Stored, Clash, NoCell, WrongKind, Released, NoBlock, StillWaiting, Cleared}
 use Rattle.im_types.specs.declared.operations.Entry.{Entry}
 use Rattle.im_types.specs.declared.operations.Entry.TheVariants.{Waiting, Answered}
 use Rattle.im_types.specs.Agreement.{address_of}
@@ -16,6 +16,7 @@ pub op_of-spelled : (op : Op) → op_of (op_code op) (address_of op) (op_value o
 op_of-spelled (Alloc I n) = refl
 op_of-spelled (Alloc M n) = refl
 op_of-spelled (Release a) = refl
+op_of-spelled (Reset a) = refl
 op_of-spelled (Fetch a) = refl
 op_of-spelled (Store a v) = refl
 op_of-spelled (Take a) = refl
@@ -25,6 +26,7 @@ pub some_code : (op : Op) → (op_code op == 0) ≡ false
 some_code (Alloc I n) = refl
 some_code (Alloc M n) = refl
 some_code (Release a) = refl
+some_code (Reset a) = refl
 some_code (Fetch a) = refl
 some_code (Store a v) = refl
 some_code (Take a) = refl
@@ -46,6 +48,7 @@ entry_of-spelled (Answered WrongKind) fits = refl
 entry_of-spelled (Answered Released) fits = refl
 entry_of-spelled (Answered NoBlock) fits = refl
 entry_of-spelled (Answered StillWaiting) fits = refl
+entry_of-spelled (Answered Cleared) fits = refl
 
 pub number_fits : (entry : Entry) → FitsEntry entry → entry_number entry < 2 ^ 64
 number_fits Waiting fits = omega arith
@@ -60,3 +63,4 @@ number_fits (Answered WrongKind) fits = omega arith
 number_fits (Answered Released) fits = omega arith
 number_fits (Answered NoBlock) fits = omega arith
 number_fits (Answered StillWaiting) fits = omega arith
+number_fits (Answered Cleared) fits = omega arith

@@ -1,12 +1,12 @@
 -- Worked bytes, computed by the definitions alone.
 use Rattle.std.proofs.Common.{◌≡◌, ℕ, ◌-◌, List, [], ◌∷◌, ◌++◌, true, false, Some, None, refl}
-use Rattle.im_types.specs.declared.operations.Op.TheVariants.{Alloc, Store}
+use Rattle.im_types.specs.declared.operations.Op.TheVariants.{Alloc, Reset, Store}
 use Rattle.im_types.specs.declared.operations.Kind.TheVariants.{I}
 use Rattle.im_types.specs.declared.commands.Command.{Command}
 use Rattle.im_types.specs.declared.commands.Command.TheVariants.{Request as Asks, Confirm}
 use Rattle.im_types.specs.Bytes.{zeros}
 use Rattle.im_types.specs.Slot.{slot_body, read_slot, read_in, command_in, sequence_of}
-use Rattle.im_types.specs.Layout.{Sizes, layout_1, area_pages, journal_at, image_length}
+use Rattle.im_types.specs.Layout.{Sizes, layout_1, layout_2, area_pages, journal_at, image_length}
 use Rattle.im_types.specs.Header.{header_body}
 use Rattle.im_types.specs.Journal.{Ring, tail, slot, continues, run, is_boundary}
 
@@ -23,9 +23,19 @@ journals = refl
 lengths : image_length layout_1 (sizes 1 1 16) ∷ image_length layout_1 (sizes 4096 16 16) ∷ image_length layout_1 (sizes 4096 16 256) ∷ image_length layout_1 (sizes 65536 64 4096) ∷ [] ≡ 33792 ∷ 312320 ∷ 327680 ∷ 4628480 ∷ []
 lengths = refl
 
+-- in the second version: the default image, that of 65,536 cells, and the largest
+pages_of_two : area_pages layout_2 (sizes 4096 16 256) ∷ area_pages layout_2 (sizes 65536 64 4096) ∷ area_pages layout_2 (sizes 1048576 64 4096) ∷ [] ≡ 52 ∷ 592 ∷ 8272 ∷ []
+pages_of_two = refl
+
+journals_of_two : journal_at layout_2 (sizes 4096 16 256) ∷ journal_at layout_2 (sizes 4096 16 16) ∷ [] ≡ 434176 ∷ 434176 ∷ []
+journals_of_two = refl
+
+lengths_of_two : image_length layout_2 (sizes 4096 16 256) ∷ image_length layout_2 (sizes 65536 64 4096) ∷ [] ≡ 450560 ∷ 5120000 ∷ []
+lengths_of_two = refl
+
 -- the header of a new default image
-new_header : 0xA5 ∷ header_body (record { version = 1; area = 0; generation = 1; count = 0; sizes = sizes 4096 16 256 })
-    ≡ 0xA5 ∷ 0 ∷ 1 ∷ 0 ∷ 0x49 ∷ 0x4D ∷ 0x45 ∷ 0x4D ∷ 1 ∷ zeros 7 ++ zeros 8 ++ 0 ∷ 0x10 ∷ 0 ∷ 0 ∷ 0x10 ∷ 0 ∷ 0 ∷ 0 ∷ 0 ∷ 1 ∷ zeros 6 ++ zeros 24
+new_header : 0xA5 ∷ header_body (record { version = 2; area = 0; generation = 1; count = 0; sizes = sizes 4096 16 256 })
+    ≡ 0xA5 ∷ 0 ∷ 2 ∷ 0 ∷ 0x49 ∷ 0x4D ∷ 0x45 ∷ 0x4D ∷ 1 ∷ zeros 7 ++ zeros 8 ++ 0 ∷ 0x10 ∷ 0 ∷ 0 ∷ 0x10 ∷ 0 ∷ 0 ∷ 0 ∷ 0 ∷ 1 ∷ zeros 6 ++ zeros 24
 new_header = refl
 
 abbrev alloc_two : Command
@@ -46,6 +56,11 @@ slot_of_store = refl
 slot_of_confirmation : slot_body 1 16 (Confirm 1 17) ≡ 1 ∷ 8 ∷ 0 ∷ 1 ∷ 0 ∷ 0 ∷ 0 ∷ 16 ∷ zeros 7 ++ 17 ∷ zeros 7 ++ zeros 40
 slot_of_confirmation = refl
 
+-- a reset has code 9
+slot_of_reset : 0xA5 ∷ slot_body 1 3 (Asks (record { element = 0; number = 2; op = Reset 0 }))
+    ≡ 0xA5 ∷ 1 ∷ 9 ∷ zeros 5 ++ 3 ∷ zeros 7 ++ 2 ∷ zeros 7 ++ zeros 40
+slot_of_reset = refl
+
 store_reads_back : read_slot (0xA5 ∷ slot_body 1 2 store_42) ≡ Some store_42
 unfolding read_in command_in sequence_of
 store_reads_back = refl
@@ -56,7 +71,7 @@ unfolding read_in command_in sequence_of
 stray_value = refl
 
 -- a code past the last
-stray_code : read_slot (0xA5 ∷ 1 ∷ 9 ∷ 0 ∷ 2 ∷ zeros 3 ++ zeros 8 ++ 1 ∷ zeros 47) ≡ None
+stray_code : read_slot (0xA5 ∷ 1 ∷ 10 ∷ 0 ∷ 2 ∷ zeros 3 ++ zeros 8 ++ 1 ∷ zeros 47) ≡ None
 unfolding read_in command_in sequence_of
 stray_code = refl
 

@@ -3,7 +3,7 @@ use Rattle.std.specs.Prelude.{ℕ, List, Option, None, Some, ◌==◌, nat_lt, i
 use Rattle.im_types.specs.declared.operations.Op.{Op}
 use Rattle.im_types.specs.declared.operations.Kind.{Kind}
 use Rattle.im_types.specs.declared.operations.Kind.TheVariants.{I, M}
-use Rattle.im_types.specs.declared.operations.Reply.TheVariants.{Base, NoSpace, BadLength, Value, Stored, Clash, NoCell, WrongKind, Released, NoBlock, StillWaiting}
+use Rattle.im_types.specs.declared.operations.Reply.TheVariants.{Base, NoSpace, BadLength, Value, Stored, Clash, NoCell, WrongKind, Released, NoBlock, StillWaiting, Cleared}
 use Rattle.im_types.specs.declared.operations.Entry.{Entry}
 use Rattle.im_types.specs.declared.operations.Entry.TheVariants.{Waiting, Answered}
 use Rattle.im_types.specs.declared.operations.Kept.{Kept}
@@ -32,6 +32,7 @@ entry_of code n =
     else if code == 9 then Some (Answered Released)
     else if code == 10 then Some (Answered NoBlock)
     else if code == 11 then Some (Answered StillWaiting)
+    else if code == 12 then Some (Answered Cleared)
     else None
 
 -- what is kept, if the operation and the entry are read

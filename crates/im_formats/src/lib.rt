@@ -7,7 +7,8 @@
 ghost use Rattle.std.specs.Prelude.{◌≡◌, ◌≤◌, ◌<◌, ◌^◌, ◌∷◌, ℕ, List, Option, Some, true, slice_range};
 ghost use Rattle.im_types.specs.declared.operations.Kept.{Kept};
 ghost use Rattle.im_types.specs.Contents.{Window};
-ghost use Rattle.im_types.specs.Layout.{Layout, layout_1};
+ghost use Rattle.im_types.specs.declared.layout.Version.{Version};
+ghost use Rattle.im_types.specs.Layout.{Layout, layout_of};
 ghost use Rattle.im_types.specs.Header.{Header, header_body, header_in, is_header, spells_header};
 ghost use Rattle.im_types.specs.declared.records.CellRecord.{CellRecord};
 ghost use Rattle.im_types.specs.declared.records.NodeRecord.{NodeRecord};
@@ -65,8 +66,8 @@ pub fn nodes_read_nothing_else()
     ensures { (bytes : List ℕ) (node : NodeRecord) → read_node bytes ≡ Some node → bytes ≡ node_bytes node }
 {}
 
-/// A session record is spelled by one window alone.
+/// A session record of either version is spelled by one window alone.
 pub fn sessions_are_spelled_by_one_window()
-    ensures { (w v : Window) → FitsWindow layout_1 w → FitsWindow layout_1 v
-        → session_bytes layout_1 w ≡ session_bytes layout_1 v → w ≡ v }
+    ensures { (version : Version) (w v : Window) → FitsWindow (layout_of version) w → FitsWindow (layout_of version) v
+        → session_bytes (layout_of version) w ≡ session_bytes (layout_of version) v → w ≡ v }
 {}

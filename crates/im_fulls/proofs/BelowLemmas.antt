@@ -4,7 +4,7 @@ use Rattle.std.specs.Prelude.{Option, option_map, nat_lt, ◌==◌}
 use Rattle.std.specs.List.{AllByRecursion, list_any}
 use Rattle.std.proofs.lemmas.Bool.Decides.{nat_tests}
 use Rattle.im_types.specs.declared.operations.Op.{Op}
-use Rattle.im_types.specs.declared.operations.Op.TheVariants.{Alloc, Release, Fetch, Store, Take, Put}
+use Rattle.im_types.specs.declared.operations.Op.TheVariants.{Alloc, Release, Reset, Fetch, Store, Take, Put}
 use Rattle.im_types.specs.declared.operations.Kind.TheVariants.{I}
 use Rattle.im_types.specs.declared.operations.Block.{Block}
 use Rattle.im_types.specs.declared.commands.Command.{Command}
@@ -12,7 +12,7 @@ use Rattle.im_types.specs.declared.commands.Command.TheVariants.{Request as Asks
 use Rattle.im_types.specs.declared.changes.Change.TheVariants.{Same, Gone}
 use Rattle.im_types.specs.Contents.{CellState, Empty, Full, Clashed, Held, Contents, HasBlocks, held_at, full_in}
 use Rattle.im_types.specs.Act.{same_kind, block_with_base, is_waiting_cell}
-use Rattle.im_types.specs.Changes.{is_below, store_change, store_change_in, release_change, change_of, change_by, fill_at, fills_from, opening}
+use Rattle.im_types.specs.Changes.{is_below, store_change, store_change_in, emptying_change, change_of, change_by, fill_at, fills_from, opening}
 use Rattle.im_laws.proofs.AgreementLemmas.{held_at-within}
 
 below : (n a : ℕ) → a < n → nat_lt a n ≡ true
@@ -30,6 +30,26 @@ store-below n a v h (Empty readers) = below n a h
 store-below n a v h (Full w) = gone-below n a 1 (omega arith)
 store-below n a v h (Clashed w) = refl
 
+emptied-below : (cells : List (Option Held)) → HasBlocks cells → (a : ℕ) → is_below (length cells) (emptying_change cells a (block_with_base a (held_at cells a))) ≡ true
+emptied-below cells blocks a = by_held (held_at cells a) refl
+  where
+    by_waiters : (block : Block) → a + block.length ≤ length cells → (t : Bool) → is_below (length cells) (cond t Same (Gone a block.length)) ≡ true
+    by_waiters block h true = refl
+    by_waiters block h false = gone-below (length cells) a block.length h
+
+    by_base : (held : Held) → held_at cells a ≡ Some held → (t : Bool) → (held.block.base == a) ≡ t
+        → is_below (length cells) (emptying_change cells a (cond t (Some held.block) None)) ≡ true
+    by_base held e false is = refl
+    by_base held e true is =
+        let bounds = blocks.within a held.block (ap (λ (o : Option Held). option_map (λ (h : Held). h.block) o) e) in
+        let last = bounds.2 in
+        let same : held.block.base ≡ a = grind (arith, nat_tests) in
+        by_waiters held.block (omega (arith, last, same)) (list_any is_waiting_cell (take held.block.length (drop a cells)))
+
+    by_held : (o : Option Held) → held_at cells a ≡ o → is_below (length cells) (emptying_change cells a (block_with_base a o)) ≡ true
+    by_held None e = refl
+    by_held (Some held) e = by_base held e (held.block.base == a) refl
+
 op-below : (cells : List (Option Held)) → HasBlocks cells → (op : Op) → is_below (length cells) (change_of cells op) ≡ true
 op-below cells blocks (Alloc kind n) = refl
 op-below cells blocks (Fetch a) = refl
@@ -44,24 +64,8 @@ op-below cells blocks (Store a v) = by_held (held_at cells a) refl
     by_held : (o : Option Held) → held_at cells a ≡ o → is_below (length cells) (store_change_in a v o) ≡ true
     by_held None e = refl
     by_held (Some held) e = by_kind held e (same_kind I held.block.kind)
-op-below cells blocks (Release a) = by_held (held_at cells a) refl
-  where
-    by_waiters : (block : Block) → a + block.length ≤ length cells → (t : Bool) → is_below (length cells) (cond t Same (Gone a block.length)) ≡ true
-    by_waiters block h true = refl
-    by_waiters block h false = gone-below (length cells) a block.length h
-
-    by_base : (held : Held) → held_at cells a ≡ Some held → (t : Bool) → (held.block.base == a) ≡ t
-        → is_below (length cells) (release_change cells a (cond t (Some held.block) None)) ≡ true
-    by_base held e false is = refl
-    by_base held e true is =
-        let bounds = blocks.within a held.block (ap (λ (o : Option Held). option_map (λ (h : Held). h.block) o) e) in
-        let last = bounds.2 in
-        let same : held.block.base ≡ a = grind (arith, nat_tests) in
-        by_waiters held.block (omega (arith, last, same)) (list_any is_waiting_cell (take held.block.length (drop a cells)))
-
-    by_held : (o : Option Held) → held_at cells a ≡ o → is_below (length cells) (release_change cells a (block_with_base a o)) ≡ true
-    by_held None e = refl
-    by_held (Some held) e = by_base held e (held.block.base == a) refl
+op-below cells blocks (Release a) = emptied-below cells blocks a
+op-below cells blocks (Reset a) = emptied-below cells blocks a
 
 pub command-below : (m : Contents) (command : Command) → HasBlocks m.cells → is_below (length m.cells) (change_by m command) ≡ true
 command-below m (Asks r) blocks = op-below m.cells blocks r.op

@@ -6,12 +6,13 @@ use Rattle.std.proofs.lemmas.Bool.{cases_eq}
 use Rattle.std.proofs.lemmas.Bool.Decides.{nat_tests}
 use Rattle.im_types.proofs.Tests.{false_true}
 use Rattle.im_types.specs.declared.operations.Op.{Op}
-use Rattle.im_types.specs.declared.operations.Op.TheVariants.{Alloc, Release, Fetch, Store, Take, Put}
+use Rattle.im_types.specs.declared.operations.Op.TheVariants.{Alloc, Release, Reset, Fetch, Store, Take, Put}
 use Rattle.im_types.specs.declared.operations.Kind.{Kind}
 use Rattle.im_types.specs.declared.operations.Kind.TheVariants.{I, M}
 use Rattle.im_types.specs.declared.operations.Block.{Block}
 use Rattle.im_types.specs.declared.operations.Waiter.{Waiter}
-use Rattle.im_types.specs.declared.operations.Reply.TheVariants.{BadLength, WrongKind, StillWaiting, Released}
+use Rattle.im_types.specs.declared.operations.Reply.TheVariants.{BadLength, WrongKind, StillWaiting, Released, Cleared}
+use Rattle.im_types.specs.declared.operations.Reply.{Reply}
 use Rattle.im_types.specs.declared.operations.Entry.TheVariants.{Answered}
 use Rattle.im_types.specs.declared.commands.Command.{Command}
 use Rattle.im_types.specs.declared.commands.Command.TheVariants.{Request as Asks, Confirm}
@@ -19,20 +20,20 @@ use Rattle.im_types.specs.declared.commands.Call.{Call}
 use Rattle.im_types.specs.declared.commands.Call.TheVariants.{Command as Commands, Collect}
 use Rattle.im_types.specs.declared.commands.Line.{Line}
 use Rattle.im_types.specs.Contents.{CellState, Empty, Full, Clashed, Held, Contents, held_at, full_value, full_in, full_at}
-use Rattle.im_types.specs.Place.{place, fill}
-use Rattle.im_types.specs.Act.{Served, only_tells, fetch, store, take_from, put, same_kind, serve_cell, at_cell, new_cell, allocate, allocate_at, release_block, block_with_base, is_waiting_cell, act}
+use Rattle.im_types.specs.Place.{place, fill, change_each}
+use Rattle.im_types.specs.Act.{Served, only_tells, fetch, store, take_from, put, same_kind, serve_cell, at_cell, new_cell, allocate, allocate_at, unless_waited_for, release_block, emptied, reset_block, block_with_base, is_waiting_cell, act}
 use Rattle.im_types.specs.Step.{Stepped, asker, step, step_request, is_accepted}
 use Rattle.im_types.specs.Run.{accepted}
 use Rattle.im_types.specs.Trace.{contents_after, end_of}
 use Rattle.im_laws.specs.Traces.{command_in, commands_of}
 use Rattle.im_laws.proofs.OpLemmas.{same_kind-equal}
-use Rattle.im_laws.proofs.PlaceLemmas.{get_or-fill, place-free}
+use Rattle.im_laws.proofs.PlaceLemmas.{get_or-fill, get_or-change_each, place-free}
 use Rattle.im_laws.proofs.AgreementLemmas.{held_at-set, held_at-within}
 use Rattle.im_laws.proofs.AcceptLemmas.{accepted-fresh, unaccepted-leaves}
 use Rattle.im_laws.proofs.JudgeLemmas.{confirm-cells}
 use Rattle.im_types.specs.declared.changes.Change.{Change}
 use Rattle.im_types.specs.declared.changes.Change.TheVariants.{Same, Gone}
-use Rattle.im_types.specs.Changes.{is_among, changed, store_change, store_change_in, release_change, change_of, change_by, changes_at, changes_in, changes_of, value_after, fill_at, fills_from, opening, shown_by}
+use Rattle.im_types.specs.Changes.{is_among, changed, store_change, store_change_in, emptying_change, change_of, change_by, changes_at, changes_in, changes_of, value_after, fill_at, fills_from, opening, shown_by}
 
 -- the value at an address of these cells
 abbrev pub value_at : List (Option Held) → ℕ → Option ℕ
@@ -134,51 +135,70 @@ module _ (cells : List (Option Held)) (b : ℕ) where
       by_test true = refl
       by_test false = by_place (place n cells) refl
 
--- what is emptied from a base on, place by place
-module _ {X : Type 0} where
-  emptied : (xs : List (Option X)) (base n a : ℕ) → base ≤ a → a < base + n → get_or (fill xs base n None) a None ≡ None
-  emptied [] base n a lo hi = refl
-  emptied (x ∷ xs) zero zero a lo hi = absurd (omega arith)
-  emptied (x ∷ xs) zero (suc n) zero lo hi = refl
-  emptied (x ∷ xs) zero (suc n) (suc a) lo hi = emptied xs zero n a (omega arith) (omega arith)
-  emptied (x ∷ xs) (suc base) n zero lo hi = absurd (omega arith)
-  emptied (x ∷ xs) (suc base) n (suc a) lo hi = emptied xs base n a (omega arith) (omega arith)
+-- what is one thing among n addresses from a base on, and as it was elsewhere
+among-cases : {X : Type 0} (now was there : X) (base n a : ℕ) → (base ≤ a → a < base + n → now ≡ there) → ((a < base) ⊎ (base + n ≤ a) → now ≡ was)
+    → now ≡ cond (is_among base n a) there was
+among-cases now was there base n a inside outside = by_low (nat_lt a base) refl
+  where
+    by_high : base ≤ a → (t : Bool) → nat_lt a (base + n) ≡ t → now ≡ cond t there was
+    by_high low true t = inside low (grind (arith, nat_tests))
+    by_high low false t = outside (inr (grind (arith, nat_tests)))
 
-  pub get_or-emptied : (xs : List (Option X)) (base n a : ℕ) → get_or (fill xs base n None) a None ≡ cond (is_among base n a) None (get_or xs a None)
-  get_or-emptied xs base n a = by_low (nat_lt a base) refl
-    where
-      outside : (a < base) ⊎ (base + n ≤ a) → get_or (fill xs base n None) a None ≡ get_or xs a None
-      outside out = ⊎_elim
-          (λ same. same)
-          (λ h. let low = h.0 in let high = h.1 in absurd (⊎_elim (λ (x : a < base). omega arith) (λ (x : base + n ≤ a). omega arith) out))
-          (get_or-fill xs base n None a)
+    by_low : (t : Bool) → nat_lt a base ≡ t → now ≡ cond (cond t false (nat_lt a (base + n))) there was
+    by_low true t = outside (inl (grind (arith, nat_tests)))
+    by_low false t = by_high (grind (arith, nat_tests)) (nat_lt a (base + n)) refl
 
-      by_high : base ≤ a → (t : Bool) → nat_lt a (base + n) ≡ t → get_or (fill xs base n None) a None ≡ cond t None (get_or xs a None)
-      by_high low true t = emptied xs base n a low (grind (arith, nat_tests))
-      by_high low false t = outside (inr (grind (arith, nat_tests)))
+outside-is_not_within : (base n a : ℕ) → base ≤ a → a < base + n → (a < base) ⊎ (base + n ≤ a) → ⊥
+outside-is_not_within base n a low high = ⊎_elim (λ (x : a < base). omega arith) (λ (x : base + n ≤ a). omega arith)
 
-      by_low : (t : Bool) → nat_lt a base ≡ t → get_or (fill xs base n None) a None ≡ cond (cond t false (nat_lt a (base + n))) None (get_or xs a None)
-      by_low true t = outside (inl (grind (arith, nat_tests)))
-      by_low false t = by_high (grind (arith, nat_tests)) (nat_lt a (base + n)) refl
+-- what is freed from a base on, place by place
+freed : {X : Type 0} (xs : List (Option X)) (base n a : ℕ) → base ≤ a → a < base + n → get_or (fill xs base n None) a None ≡ None
+freed [] base n a lo hi = refl
+freed (x ∷ xs) zero zero a lo hi = absurd (omega arith)
+freed (x ∷ xs) zero (suc n) zero lo hi = refl
+freed (x ∷ xs) zero (suc n) (suc a) lo hi = freed xs zero n a (omega arith) (omega arith)
+freed (x ∷ xs) (suc base) n zero lo hi = absurd (omega arith)
+freed (x ∷ xs) (suc base) n (suc a) lo hi = freed xs base n a (omega arith) (omega arith)
 
 -- cells that are freed
 frees : (cells : List (Option Held)) (base n b : ℕ) → value_at (fill cells base n None) b ≡ cond (is_among base n b) None (value_at cells b)
-frees cells base n b = ap full_in (get_or-emptied cells base n b) ∙ by_test (is_among base n b)
-  where
-    by_test : (t : Bool) → full_in (cond t None (held_at cells b)) ≡ cond t None (value_at cells b)
-    by_test true = refl
-    by_test false = refl
+frees cells base n b = among-cases (value_at (fill cells base n None) b) (value_at cells b) None base n b
+    (λ low high. ap full_in (freed cells base n b low high))
+    (λ out. ⊎_elim (λ same. ap full_in same) (λ h. absurd (outside-is_not_within base n b h.0 h.1 out)) (get_or-fill cells base n None b))
 
-releases-block : (cells : List (Option Held)) (a b : ℕ) (o : Option Block)
-    → value_at (release_block cells a o).cells b ≡ changed b (value_at cells b) (release_change cells a o)
-releases-block cells a b None = refl
-releases-block cells a b (Some block) = by_test (list_any is_waiting_cell (take block.length (drop a cells)))
+-- cells that are emptied
+empties : (cells : List (Option Held)) (base n b : ℕ) → value_at (change_each emptied cells base n) b ≡ cond (is_among base n b) None (value_at cells b)
+empties cells base n b = among-cases (value_at (change_each emptied cells base n) b) (value_at cells b) None base n b
+    (λ low high. ap full_in (emptied_from cells base n b low high) ∙ no_value (held_at cells b))
+    (λ out. ⊎_elim (λ same. ap full_in same) (λ h. absurd (outside-is_not_within base n b h.0 h.1 out)) (get_or-change_each emptied cells base n b))
   where
-    by_test : (t : Bool)
-        → value_at (cond t (only_tells cells StillWaiting) (record { cells = fill cells a block.length None; entry = Answered Released; resumed = [] })).cells b
-        ≡ changed b (value_at cells b) (cond t Same (Gone a block.length))
-    by_test true = refl
-    by_test false = frees cells a block.length b
+    by_kind : (k : Kind) → full_value k (Empty []) ≡ None
+    by_kind I = refl
+    by_kind M = refl
+
+    no_value : (o : Option Held) → full_in (emptied o) ≡ None
+    no_value None = refl
+    no_value (Some held) = by_kind held.block.kind
+
+    emptied_from : (cells : List (Option Held)) (base n a : ℕ) → base ≤ a → a < base + n → get_or (change_each emptied cells base n) a None ≡ emptied (get_or cells a None)
+    emptied_from [] base n a lo hi = refl
+    emptied_from (x ∷ xs) zero zero a lo hi = absurd (omega arith)
+    emptied_from (x ∷ xs) zero (suc n) zero lo hi = refl
+    emptied_from (x ∷ xs) zero (suc n) (suc a) lo hi = emptied_from xs zero n a (omega arith) (omega arith)
+    emptied_from (x ∷ xs) (suc base) n zero lo hi = absurd (omega arith)
+    emptied_from (x ∷ xs) (suc base) n (suc a) lo hi = emptied_from xs base n a (omega arith) (omega arith)
+
+module _ (cells : List (Option Held)) (a b : ℕ) (after : Block → List (Option Held)) (reply : Reply)
+    (none : (block : Block) → value_at (after block) b ≡ cond (is_among a block.length b) None (value_at cells b)) where
+  empties-block : (o : Option Block) → value_at (unless_waited_for after reply cells a o).cells b ≡ changed b (value_at cells b) (emptying_change cells a o)
+  empties-block None = refl
+  empties-block (Some block) = by_test (list_any is_waiting_cell (take block.length (drop a cells)))
+    where
+      by_test : (t : Bool)
+          → value_at (cond t (only_tells cells StillWaiting) (record { cells = after block; entry = Answered reply; resumed = [] })).cells b
+          ≡ changed b (value_at cells b) (cond t Same (Gone a block.length))
+      by_test true = refl
+      by_test false = none block
 
 fetch-leaves : (who : Waiter) (s : CellState) → full_value I (fetch who s).state ≡ full_value I s
 fetch-leaves who (Empty waiters) = refl
@@ -189,7 +209,10 @@ fetch-leaves who (Clashed v) = refl
 pub act-changes : (cells : List (Option Held)) (who : Waiter) (op : Op) (b : ℕ)
     → value_at (act cells who op).cells b ≡ changed b (value_at cells b) (change_of cells op)
 act-changes cells who (Alloc kind n) b = allocates cells b kind n
-act-changes cells who (Release a) b = releases-block cells a b (block_with_base a (held_at cells a))
+act-changes cells who (Release a) b =
+    empties-block cells a b (λ block. fill cells a block.length None) Released (λ block. frees cells a block.length b) (block_with_base a (held_at cells a))
+act-changes cells who (Reset a) b =
+    empties-block cells a b (λ block. change_each emptied cells a block.length) Cleared (λ block. empties cells a block.length b) (block_with_base a (held_at cells a))
 act-changes cells who (Fetch a) b = leaves-cell cells b I (fetch who) (fetch-leaves who) a
 act-changes cells who (Store a v) b = stores-cell cells b a v
 act-changes cells who (Take a) b = leaves-cell cells b M (take_from who) (λ s. refl) a

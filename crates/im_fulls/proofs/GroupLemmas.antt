@@ -3,7 +3,7 @@ use Rattle.std.proofs.Common.{◌≡◌, ◌≢◌, ⊎_elim, ℕ, List, [], ◌
 use Rattle.std.specs.Prelude.{Option}
 use Rattle.std.proofs.lemmas.Bool.{cases_eq}
 use Rattle.im_types.specs.declared.operations.Op.{Op}
-use Rattle.im_types.specs.declared.operations.Op.TheVariants.{Alloc, Release, Fetch, Store, Take, Put}
+use Rattle.im_types.specs.declared.operations.Op.TheVariants.{Alloc, Release, Reset, Fetch, Store, Take, Put}
 use Rattle.im_types.specs.declared.operations.Kind.{Kind}
 use Rattle.im_types.specs.declared.operations.Kind.TheVariants.{I, M}
 use Rattle.im_types.specs.declared.operations.Reply.TheVariants.{WrongKind}
@@ -80,6 +80,7 @@ module _ (cells : List (Option Held)) (a v : ℕ) where
   act-keeps : (who : Waiter) (op : Op) → LeavesStores a op → Keeps (act cells who op).cells
   act-keeps who (Alloc kind n) leaves = absurd leaves
   act-keeps who (Release b) leaves = absurd leaves
+  act-keeps who (Reset b) leaves = absurd leaves
   act-keeps who (Fetch b) leaves = by_place I (fetch who) (fetch-keeps who) b
   act-keeps who (Store b w) leaves = elsewhere I (store w) b leaves
   act-keeps who (Take b) leaves = by_place M (take_from who) (λ s. refl) b
@@ -90,6 +91,7 @@ change-kept : (cells : List (Option Held)) (who : Waiter) (earlier later : Op) �
     → change_of (act cells who earlier).cells later ≡ change_of cells later
 change-kept cells who earlier (Alloc kind n) before = refl
 change-kept cells who earlier (Release a) before = absurd before
+change-kept cells who earlier (Reset a) before = absurd before
 change-kept cells who earlier (Fetch a) before = refl
 change-kept cells who earlier (Store a v) before = act-keeps cells a v who earlier before
 change-kept cells who earlier (Take a) before = refl

@@ -1,14 +1,14 @@
 -- A worked trace, and what is shown of it. (Own.)
 use Rattle.std.specs.Prelude.{List, [], ◌∷◌}
-use Rattle.im_types.specs.declared.operations.Op.TheVariants.{Alloc, Release, Store}
+use Rattle.im_types.specs.declared.operations.Op.TheVariants.{Alloc, Release, Reset, Store}
 use Rattle.im_types.specs.declared.operations.Kind.TheVariants.{I}
-use Rattle.im_types.specs.declared.operations.Reply.TheVariants.{Base, Stored, Clash, Released}
+use Rattle.im_types.specs.declared.operations.Reply.TheVariants.{Base, Stored, Clash, Released, Cleared}
 use Rattle.im_types.specs.declared.commands.Line.{Line}
 use Rattle.im_types.specs.declared.changes.Change.{Change}
 use Rattle.im_types.specs.declared.changes.Change.TheVariants.{Same, Full as Fills, Gone}
 use Rattle.im_laws.specs.Examples.{asks, collects, told}
 
--- two cells are stored to, one of them twice, and their block is released
+-- two cells are stored to, one of them twice; their block is reset, stored to again, and released
 abbrev pub stored_and_released : List Line
 stored_and_released =
     asks 0 1 (Alloc I 2) (told (Base 0))
@@ -16,9 +16,11 @@ stored_and_released =
     ∷ collects 1 1 (told Stored)
     ∷ asks 1 2 (Store 1 6) (told Stored)
     ∷ asks 2 1 (Store 0 5) (told Clash)
-    ∷ asks 0 2 (Release 0) (told Released)
+    ∷ asks 0 2 (Reset 0) (told Cleared)
+    ∷ asks 2 2 (Store 1 7) (told Stored)
+    ∷ asks 0 3 (Release 0) (told Released)
     ∷ []
 
 -- one change for each command: a question has none
-abbrev pub five_changes : List Change
-five_changes = Same ∷ Fills 0 5 ∷ Fills 1 6 ∷ Gone 0 1 ∷ Gone 0 2 ∷ []
+abbrev pub seven_changes : List Change
+seven_changes = Same ∷ Fills 0 5 ∷ Fills 1 6 ∷ Gone 0 1 ∷ Gone 0 2 ∷ Fills 1 7 ∷ Gone 0 2 ∷ []

@@ -3,25 +3,27 @@
 use Rattle.std.specs.Prelude.{◌≢◌, ℕ, List, map}
 use Rattle.std.specs.List.{AllByRecursion}
 use Rattle.im_types.specs.declared.operations.Op.{Op}
-use Rattle.im_types.specs.declared.operations.Op.TheVariants.{Alloc, Release, Fetch, Store, Take, Put}
+use Rattle.im_types.specs.declared.operations.Op.TheVariants.{Alloc, Release, Reset, Fetch, Store, Take, Put}
 use Rattle.im_types.specs.declared.commands.Request.{Request}
 use Rattle.im_types.specs.declared.commands.Command.TheVariants.{Request as Asks}
 use Rattle.im_types.specs.Contents.{Contents}
 use Rattle.im_types.specs.Run.{after}
 
--- before a store to an address: no other store there, and no block made or released
+-- before a store to an address: no other store there, and no block made, released or reset
 abbrev pub LeavesStores : ℕ → Op → Type 0
 LeavesStores a (Alloc kind n) = ⊥
 LeavesStores a (Release b) = ⊥
+LeavesStores a (Reset b) = ⊥
 LeavesStores a (Fetch b) = Unit {0}
 LeavesStores a (Store b v) = b ≢ a
 LeavesStores a (Take b) = Unit {0}
 LeavesStores a (Put b v) = Unit {0}
 
--- an earlier operation, and a later one: a release stands alone
+-- an earlier operation, and a later one: a release and a reset stand alone
 abbrev pub MayPrecede : Op → Op → Type 0
 MayPrecede earlier (Alloc kind n) = Unit {0}
 MayPrecede earlier (Release a) = ⊥
+MayPrecede earlier (Reset a) = ⊥
 MayPrecede earlier (Fetch a) = Unit {0}
 MayPrecede earlier (Store a v) = LeavesStores a earlier
 MayPrecede earlier (Take a) = Unit {0}

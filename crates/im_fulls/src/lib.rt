@@ -16,7 +16,7 @@ ghost use Rattle.im_types.specs.Changes.{value_after, is_below, change_by, chang
 ghost use Rattle.im_types.specs.Changes.{opening, shown_by};
 ghost use Rattle.im_laws.specs.Traces.{commands_of};
 ghost use Rattle.im_laws.specs.Examples.{sixteen_cells};
-ghost use Rattle.im_fulls.specs.Examples.{stored_and_released, five_changes};
+ghost use Rattle.im_fulls.specs.Examples.{stored_and_released, seven_changes};
 ghost use Rattle.im_fulls.specs.Groups.{AreBefore, after_requests};
 
 /// The full cells after a command, and after a trace, are those before it with its changes, one after another.
@@ -50,16 +50,17 @@ pub fn changes_are_of_the_cells()
     ensures opening { (m : Contents) → AllByRecursion (λ change. is_below (length m.cells) change ≡ true) (opening m) }
 {}
 
-/// A request changes the same after requests of other elements, where none of them is an allocation or a release before
-/// a store, nor a store to the same address, and where it is no release itself: so each change of a group is known
-/// before the group is served.
+/// A request changes the same after requests of other elements, where none of them is an allocation, a release or a
+/// reset before a store, nor a store to the same address, and where it is no release or reset itself: so each change of a
+/// group is known before the group is served.
 pub fn group_changes_are_known_before()
     ensures { (m : Contents) (earlier : List Request) (r : Request) → AreBefore earlier r
         → changes_at (after_requests m earlier) (Asks r) ≡ changes_at m (Asks r) }
 {}
 
-/// A worked trace: a store fills a cell, a second one of the same value empties it, and a release empties its block.
+/// A worked trace: a store fills a cell, a second one of the same value empties it, and a reset and a release empty
+/// its block.
 pub fn second_store_shows_nothing()
     ensures legal { IsLegal sixteen_cells stored_and_released }
-    ensures changes { changes_of sixteen_cells stored_and_released ≡ five_changes }
+    ensures changes { changes_of sixteen_cells stored_and_released ≡ seven_changes }
 {}

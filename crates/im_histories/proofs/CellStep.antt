@@ -6,26 +6,27 @@ use Rattle.std.proofs.lemmas.Option.{none-some, same_Some}
 use Rattle.std.proofs.lemmas.Bool.Decides.{nat_tests}
 use Rattle.im_types.proofs.Tests.{true_false}
 use Rattle.im_types.specs.declared.operations.Op.{Op}
-use Rattle.im_types.specs.declared.operations.Op.TheVariants.{Alloc, Release, Fetch, Store, Take, Put}
+use Rattle.im_types.specs.declared.operations.Op.TheVariants.{Alloc, Release, Reset, Fetch, Store, Take, Put}
 use Rattle.im_types.specs.declared.operations.Kind.{Kind}
 use Rattle.im_types.specs.declared.operations.Kind.TheVariants.{I, M}
 use Rattle.im_types.specs.declared.operations.Block.{Block}
 use Rattle.im_types.specs.declared.operations.Reply.{Reply}
-use Rattle.im_types.specs.declared.operations.Reply.TheVariants.{Value, BadLength, NoCell, WrongKind, Released, StillWaiting}
+use Rattle.im_types.specs.declared.operations.Reply.TheVariants.{Value, BadLength, NoCell, WrongKind, Released, Cleared, StillWaiting}
 use Rattle.im_types.specs.declared.operations.Entry.TheVariants.{Answered}
 use Rattle.im_types.specs.declared.operations.Waiter.{Waiter}
 use Rattle.im_types.specs.Contents.{CellState, Empty, Full, Clashed, Held, held_at, waiters_of, waiters_in, waiters_at, block_at, HasBlocks}
-use Rattle.im_types.specs.Place.{place, fill}
-use Rattle.im_types.specs.Act.{Served, Acted, tells, fetch, store, take_from, put, only_tells, same_kind, serve_cell, at_cell, new_cell, allocate, allocate_at, block_with_base, has_waiter, is_waiting_cell, release_block, act}
+use Rattle.im_types.specs.Place.{place, fill, change_each}
+use Rattle.im_types.specs.Act.{Served, Acted, tells, fetch, store, take_from, put, only_tells, same_kind, serve_cell, at_cell, new_cell, allocate, allocate_at, block_with_base, has_waiter, is_waiting_cell, release_block, emptied, reset_block, act}
 use Rattle.im_types.specs.Agreement.{same_waiter, times}
-use Rattle.im_types.specs.History.{releases}
+use Rattle.im_types.specs.History.{releases, clears, ends_life}
 use Rattle.im_histories.proofs.ListLemmas.{eq_by_test}
-use Rattle.im_histories.proofs.Given.{get_or-fill, place-free, held_at-set, held_at-within}
+use Rattle.im_histories.proofs.Given.{get_or-fill, get_or-change_each, get_or-change_each_in, place-free, held_at-set, held_at-within}
 
 -- the operation is for cells of this kind, and for this address
 abbrev pub is_for : Kind → ℕ → Op → Bool
 is_for kind a (Alloc k n) = false
 is_for kind a (Release b) = false
+is_for kind a (Reset b) = false
 is_for kind a (Fetch b) = same_kind I kind && (a == b)
 is_for kind a (Store b v) = same_kind I kind && (a == b)
 is_for kind a (Take b) = same_kind M kind && (a == b)
@@ -35,6 +36,7 @@ is_for kind a (Put b v) = same_kind M kind && (a == b)
 abbrev pub serve_op : Waiter → Op → CellState → Served
 serve_op who (Alloc k n) state = tells NoCell state
 serve_op who (Release b) state = tells NoCell state
+serve_op who (Reset b) state = tells NoCell state
 serve_op who (Fetch b) state = fetch who state
 serve_op who (Store b v) state = store v state
 serve_op who (Take b) state = take_from who state
@@ -54,6 +56,7 @@ given_by op = NoCell
 pub resumed_by_serve : (who : Waiter) (op : Op) (state : CellState) → (serve_op who op state).resumed ≡ map (λ w. (w, given_by op)) (answered_by op state)
 resumed_by_serve who (Alloc k n) state = refl
 resumed_by_serve who (Release b) state = refl
+resumed_by_serve who (Reset b) state = refl
 resumed_by_serve who (Fetch b) (Empty waiters) = refl
 resumed_by_serve who (Fetch b) (Full v) = refl
 resumed_by_serve who (Fetch b) (Clashed v) = refl
@@ -81,20 +84,26 @@ answered_have_waited (Store b v) (Empty readers) who some = some
 answered_have_waited (Put b v) (Empty (taker ∷ takers)) who some = first_waits who taker takers some
 answered_have_waited op state who some = absurd (omega arith)
 
--- an operation meets a cell: it leaves the cell; or it serves it; or it releases the cell's block, and nobody waits there
+-- an operation meets a cell: it leaves the cell; or it serves it; or it releases or empties the cell's block, and nobody waits there
 pub data Meets (a : ℕ) (held : Held) (who : Waiter) (op : Op) (cells : List (Option Held)) (acted : Acted) : Type 0 where
-  Passes : is_for held.block.kind a op ≡ false → releases held.block.base op acted.entry ≡ false → held_at acted.cells a ≡ Some held → Meets a held who op cells acted
-  Serves : is_for held.block.kind a op ≡ true → releases held.block.base op acted.entry ≡ false → acted ≡ serve_cell cells a held.block (serve_op who op held.state) → Meets a held who op cells acted
+  Passes : is_for held.block.kind a op ≡ false → ends_life held.block.base op acted.entry ≡ false → held_at acted.cells a ≡ Some held → Meets a held who op cells acted
+  Serves : is_for held.block.kind a op ≡ true → ends_life held.block.base op acted.entry ≡ false → acted ≡ serve_cell cells a held.block (serve_op who op held.state) → Meets a held who op cells acted
   Frees : releases held.block.base op acted.entry ≡ true → waiters_of held.state ≡ [] → Meets a held who op cells acted
+  Clears : releases held.block.base op acted.entry ≡ false → clears held.block.base op acted.entry ≡ true → waiters_of held.state ≡ []
+      → held_at acted.cells a ≡ emptied (Some held) → Meets a held who op cells acted
+
+neither : (a b : Bool) → a ≡ false → b ≡ false → (a || b) ≡ false
+neither true b e f = absurd (cc)
+neither false b e f = f
 
 self_test : (a : ℕ) → (a == a) ≡ true
 self_test a = grind (arith, nat_tests)
 
-or_left : (a b : Bool) → (a || b) ≡ false → a ≡ false
+pub or_left : (a b : Bool) → (a || b) ≡ false → a ≡ false
 or_left true b e = e
 or_left false b e = refl
 
-or_right : (a b : Bool) → (a || b) ≡ false → b ≡ false
+pub or_right : (a b : Bool) → (a || b) ≡ false → b ≡ false
 or_right true b e = absurd (cc)
 or_right false b e = e
 
@@ -176,20 +185,29 @@ module _ (cells : List (Option Held)) (blocks : HasBlocks cells) (a : ℕ) (held
   in_block : block_at cells a ≡ Some held.block
   in_block = ap blocks_of at
 
-  -- a block that is released is the cell's own, or elsewhere
+  -- a block that is released or emptied is the cell's own, or elsewhere
   module _ (who : Waiter) (b : ℕ) (other : Held) (there : held_at cells b ≡ Some other) (base : other.block.base ≡ b) where
     own_block : held.block.base ≡ b → held.block ≡ other.block
     own_block e =
         let w = blocks.within a held.block in_block in
         same_Some held.block other.block (sym (blocks.whole a held.block in_block b (omega arith) (omega arith)) ∙ ap blocks_of there)
 
-    stays : (held.block.base == b) ≡ false → held_at (fill cells b other.block.length None) a ≡ Some held
-    stays e = ⊎_elim
-        (λ same. same ∙ at)
-        (λ h. absurd (
+    elsewhere : (held.block.base == b) ≡ false → b ≤ a → a < b + other.block.length → ⊥
+    elsewhere e lo hi =
         let same = same_Some other.block held.block (sym (blocks.whole b other.block (ap blocks_of there) a (omega arith) (omega arith)) ∙ in_block) in
-        true_false (sym (self_test b) ∙ ap (λ c. c == b) (sym base ∙ ap (λ (block : Block). block.base) same) ∙ e)))
-        (get_or-fill cells b other.block.length None a)
+        true_false (sym (self_test b) ∙ ap (λ c. c == b) (sym base ∙ ap (λ (block : Block). block.base) same) ∙ e)
+
+    released_elsewhere : (held.block.base == b) ≡ false → held_at (fill cells b other.block.length None) a ≡ Some held
+    released_elsewhere e = ⊎_elim (λ same. same ∙ at) (λ h. absurd (elsewhere e h.0 h.1)) (get_or-fill cells b other.block.length None a)
+
+    emptied_elsewhere : (held.block.base == b) ≡ false → held_at (change_each emptied cells b other.block.length) a ≡ Some held
+    emptied_elsewhere e = ⊎_elim (λ same. same ∙ at) (λ h. absurd (elsewhere e h.0 h.1)) (get_or-change_each emptied cells b other.block.length a)
+
+    emptied_here : held.block.base ≡ b → held_at (change_each emptied cells b other.block.length) a ≡ emptied (Some held)
+    emptied_here e =
+        let w = blocks.within a held.block in_block in
+        let l = ap (λ (block : Block). block.length) (own_block e) in
+        get_or-change_each_in emptied cells b other.block.length a (omega arith) (omega arith) (held_at-within cells a held at) ∙ ap emptied at
 
     nobody : held.block.base ≡ b → list_any is_waiting_cell (take other.block.length (drop b cells)) ≡ false → waiters_of held.state ≡ []
     nobody e quiet =
@@ -197,25 +215,47 @@ module _ (cells : List (Option Held)) (blocks : HasBlocks cells) (a : ℕ) (held
         let l = ap (λ (block : Block). block.length) (own_block e) in
         sym (ap waiters_in at) ∙ nobody_waits cells b other.block.length quiet a (omega arith) (omega arith)
 
-    by_own : list_any is_waiting_cell (take other.block.length (drop b cells)) ≡ false → (t : Bool) → (held.block.base == b) ≡ t
+    released_own : list_any is_waiting_cell (take other.block.length (drop b cells)) ≡ false → (t : Bool) → (held.block.base == b) ≡ t
         → Meets a held who (Release b) cells (record { cells = fill cells b other.block.length None; entry = Answered Released; resumed = [] })
-    by_own quiet true e = Frees e (nobody (eq_by_test held.block.base b e) quiet)
-    by_own quiet false e = Passes refl e (stays e)
+    released_own quiet true e = Frees e (nobody (eq_by_test held.block.base b e) quiet)
+    released_own quiet false e = Passes refl (neither (held.block.base == b) false e refl) (released_elsewhere e)
 
-    by_waiting : (t : Bool) → list_any is_waiting_cell (take other.block.length (drop b cells)) ≡ t
+    released_unless : (t : Bool) → list_any is_waiting_cell (take other.block.length (drop b cells)) ≡ t
         → Meets a held who (Release b) cells (cond t (only_tells cells StillWaiting) (record { cells = fill cells b other.block.length None; entry = Answered Released; resumed = [] }))
-    by_waiting true e = Passes refl refl at
-    by_waiting false e = by_own e (held.block.base == b) refl
+    released_unless true e = Passes refl refl at
+    released_unless false e = released_own e (held.block.base == b) refl
+
+    cleared_own : list_any is_waiting_cell (take other.block.length (drop b cells)) ≡ false → (t : Bool) → (held.block.base == b) ≡ t
+        → Meets a held who (Reset b) cells (record { cells = change_each emptied cells b other.block.length; entry = Answered Cleared; resumed = [] })
+    cleared_own quiet true e = let same = eq_by_test held.block.base b e in Clears refl e (nobody same quiet) (emptied_here same)
+    cleared_own quiet false e = Passes refl e (emptied_elsewhere e)
+
+    cleared_unless : (t : Bool) → list_any is_waiting_cell (take other.block.length (drop b cells)) ≡ t
+        → Meets a held who (Reset b) cells (cond t (only_tells cells StillWaiting) (record { cells = change_each emptied cells b other.block.length; entry = Answered Cleared; resumed = [] }))
+    cleared_unless true e = Passes refl refl at
+    cleared_unless false e = cleared_own e (held.block.base == b) refl
 
   meets_release : (who : Waiter) (b : ℕ) → Meets a held who (Release b) cells (release_block cells b (block_with_base b (held_at cells b)))
   meets_release who b = by_held (held_at cells b) refl
     where
       by_base : (other : Held) → held_at cells b ≡ Some other → (t : Bool) → (other.block.base == b) ≡ t
           → Meets a held who (Release b) cells (release_block cells b (cond t (Some other.block) None))
-      by_base other there true e = by_waiting who b other there (eq_by_test other.block.base b e) (list_any is_waiting_cell (take other.block.length (drop b cells))) refl
+      by_base other there true e = released_unless who b other there (eq_by_test other.block.base b e) (list_any is_waiting_cell (take other.block.length (drop b cells))) refl
       by_base other there false e = Passes refl refl at
 
       by_held : (o : Option Held) → held_at cells b ≡ o → Meets a held who (Release b) cells (release_block cells b (block_with_base b o))
+      by_held None there = Passes refl refl at
+      by_held (Some other) there = by_base other there (other.block.base == b) refl
+
+  meets_reset : (who : Waiter) (b : ℕ) → Meets a held who (Reset b) cells (reset_block cells b (block_with_base b (held_at cells b)))
+  meets_reset who b = by_held (held_at cells b) refl
+    where
+      by_base : (other : Held) → held_at cells b ≡ Some other → (t : Bool) → (other.block.base == b) ≡ t
+          → Meets a held who (Reset b) cells (reset_block cells b (cond t (Some other.block) None))
+      by_base other there true e = cleared_unless who b other there (eq_by_test other.block.base b e) (list_any is_waiting_cell (take other.block.length (drop b cells))) refl
+      by_base other there false e = Passes refl refl at
+
+      by_held : (o : Option Held) → held_at cells b ≡ o → Meets a held who (Reset b) cells (reset_block cells b (block_with_base b o))
       by_held None there = Passes refl refl at
       by_held (Some other) there = by_base other there (other.block.base == b) refl
 
@@ -223,6 +263,7 @@ module _ (cells : List (Option Held)) (blocks : HasBlocks cells) (a : ℕ) (held
   pub meets : (who : Waiter) (op : Op) → Meets a held who op cells (act cells who op)
   meets who (Alloc kind n) = meets_allocate who kind n
   meets who (Release b) = meets_release who b
+  meets who (Reset b) = meets_reset who b
   meets who (Fetch b) = ⊎_elim (λ h. Passes h.0 refl h.1) (λ h. Serves h.0 refl h.1) (at_address I (fetch who) b)
   meets who (Store b v) = ⊎_elim (λ h. Passes h.0 refl h.1) (λ h. Serves h.0 refl h.1) (at_address I (store v) b)
   meets who (Take b) = ⊎_elim (λ h. Passes h.0 refl h.1) (λ h. Serves h.0 refl h.1) (at_address M (take_from who) b)

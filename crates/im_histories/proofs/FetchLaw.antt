@@ -6,7 +6,7 @@ use Rattle.std.proofs.lemmas.List.Elements.{filter_map-append}
 use Rattle.std.proofs.lemmas.Bool.Decides.{nat_tests}
 use Rattle.im_types.proofs.Tests.{false_true}
 use Rattle.im_types.specs.declared.operations.Op.{Op}
-use Rattle.im_types.specs.declared.operations.Op.TheVariants.{Alloc, Release, Fetch, Store, Take, Put}
+use Rattle.im_types.specs.declared.operations.Op.TheVariants.{Alloc, Release, Reset, Fetch, Store, Take, Put}
 use Rattle.im_types.specs.declared.operations.Kind.TheVariants.{I}
 use Rattle.im_types.specs.declared.operations.Reply.{Reply}
 use Rattle.im_types.specs.declared.operations.Reply.TheVariants.{Value, Clash}
@@ -34,6 +34,7 @@ module _ (a : ℕ) where
   no_store : (op : Op) → is_for I a op ≡ false → value_stored a op ≡ None
   no_store (Alloc kind n) e = refl
   no_store (Release b) e = refl
+  no_store (Reset b) e = refl
   no_store (Fetch b) e = refl
   no_store (Store b v) e = ap (λ t. cond t (Some v) None) e
   no_store (Take b) e = refl
@@ -116,6 +117,7 @@ module _ (a : ℕ) where
       → IsServedHere early (event_with e op) state
   serves_op early e (Alloc kind n) state mine agrees = absurd (false_true mine)
   serves_op early e (Release b) state mine agrees = absurd (false_true mine)
+  serves_op early e (Reset b) state mine agrees = absurd (false_true mine)
   serves_op early e (Fetch b) state mine agrees = serves_fetch early e b mine state agrees
   serves_op early e (Store b v) state mine agrees = serves_store early e b v mine state agrees
   serves_op early e (Take b) state mine agrees = absurd (false_true mine)

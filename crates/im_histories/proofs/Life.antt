@@ -1,10 +1,10 @@
 -- A law of one cell, said request by request, holds of the cell's whole life.
 use Rattle.std.proofs.Common.{◌≡◌, ⊎_elim, ℕ, ◌≤◌, List, [], ◌∷◌, ◌++◌, Some, None, true, false, cond, refl, sym, ap, ◌∙◌, subst, append_assoc, append-nil}
-use Rattle.std.specs.Prelude.{slice_get, IfSome}
+use Rattle.std.specs.Prelude.{slice_get, IfSome, ◌||◌}
 use Rattle.std.proofs.lemmas.List.{get_or-set_same}
 use Rattle.std.proofs.lemmas.Option.{none-some, IfSome_then, MatchOption-from_none}
 use Rattle.im_types.specs.declared.operations.Op.{Op}
-use Rattle.im_types.specs.declared.operations.Op.TheVariants.{Alloc, Release, Fetch, Store, Take, Put}
+use Rattle.im_types.specs.declared.operations.Op.TheVariants.{Alloc, Release, Reset, Fetch, Store, Take, Put}
 use Rattle.im_types.specs.declared.operations.Kind.{Kind}
 use Rattle.im_types.specs.declared.operations.Kind.TheVariants.{I, M}
 use Rattle.im_types.specs.declared.operations.Entry.{Entry}
@@ -18,10 +18,10 @@ use Rattle.im_types.specs.Agreement.{times, WaitingAgrees}
 use Rattle.im_types.specs.declared.operations.Reply.{Reply}
 use Rattle.im_types.specs.Act.{Served, Acted, serve_cell, act}
 use Rattle.im_types.specs.Step.{asker, step}
-use Rattle.im_types.specs.History.{Event, event_of, events, releases, until_release, stores, entry_of_fetch, entry_of_take, entry_of_put, lawful_entry}
+use Rattle.im_types.specs.History.{Event, event_of, events, clears, ends_life, until_end, stores, entry_of_fetch, entry_of_take, entry_of_put, lawful_entry}
 use Rattle.im_histories.proofs.Given.{IsNext, held_at-within, step-agrees}
 use Rattle.im_histories.proofs.EndEntry.{Ends, ends-answered, ends-now, ends-later}
-use Rattle.im_histories.proofs.CellStep.{is_for, serve_op, answered_by, given_by, Meets, Passes, Serves, Frees, meets}
+use Rattle.im_histories.proofs.CellStep.{is_for, serve_op, answered_by, given_by, Meets, Passes, Serves, Frees, Clears, meets}
 use Rattle.im_histories.proofs.OneStep.{contents_of, event_for, Takes, Silent, Asked, takes_command, IsSound, sound-step, times-get, waiting_kept}
 use Rattle.im_histories.proofs.NewEntry.{own_entry, resumed_entry}
 use Rattle.im_histories.proofs.CellLaw.{IsServed, CellLaw}
@@ -44,12 +44,14 @@ waiting_entry (Answered reply) e = absurd (cc)
 unsaid : (kind : Kind) (a : ℕ) (all before : List Event) (e : Event) (op : Op) → is_for kind a op ≡ false → lawful_entry kind a all before e op ≡ None
 unsaid I a all before e (Alloc k n) h = refl
 unsaid I a all before e (Release b) h = refl
+unsaid I a all before e (Reset b) h = refl
 unsaid I a all before e (Fetch b) h = ap (λ t. cond t (Some (entry_of_fetch (stores a before) (stores a all))) None) h
 unsaid I a all before e (Store b v) h = refl
 unsaid I a all before e (Take b) h = refl
 unsaid I a all before e (Put b v) h = refl
 unsaid M a all before e (Alloc k n) h = refl
 unsaid M a all before e (Release b) h = refl
+unsaid M a all before e (Reset b) h = refl
 unsaid M a all before e (Fetch b) h = refl
 unsaid M a all before e (Store b v) h = refl
 unsaid M a all before e (Take b) h = ap (λ t. cond t (Some (entry_of_take a before all)) None) h
@@ -70,7 +72,7 @@ module _ (kind : Kind) (a : ℕ) (law : CellLaw kind a) (base : ℕ) where
   -- each request of the life has in the end what the law says: who waits now, and the later ones
   pub record IsLawful (m : Contents) (commands : List Command) (held : Held) (early all : List Event) : Type 0 where
     pub waits : (k : ℕ) (who : Waiter) → slice_get (waiters_of held.state) k ≡ Some who → Ends m commands who (law.due all early k)
-    pub later : (before rest : List Event) (x : Event) → until_release base (events m commands) ≡ before ++ x ∷ rest
+    pub later : (before rest : List Event) (x : Event) → until_end base (events m commands) ≡ before ++ x ∷ rest
         → EndsAsSaid kind a m commands all (early ++ before) x
 
   -- no command is left
@@ -89,7 +91,7 @@ module _ (kind : Kind) (a : ℕ) (law : CellLaw kind a) (base : ℕ) where
     next = (step m command).contents
 
     abbrev more : List Event
-    more = until_release base (events next commands)
+    more = until_end base (events next commands)
 
     one_earlier : (before : List Event) (x : Event) → EndsAsSaid kind a next commands all before x → EndsAsSaid kind a m (command ∷ commands) all before x
     one_earlier before x h = IfSome_then (lawful_entry kind a all before x x.request.op) h (λ entry ends. ends-later m command commands (asker x.request) entry ends)
@@ -98,18 +100,18 @@ module _ (kind : Kind) (a : ℕ) (law : CellLaw kind a) (base : ℕ) where
     quiet : event_of m command ≡ [] → IsLawful next commands held early all → IsLawful m (command ∷ commands) held early all
     quiet none rest_of = record {
       waits = λ k who w. ends-later m command commands who (law.due all early k) (rest_of.waits k who w);
-      later = λ before rest x e. one_earlier (early ++ before) x (rest_of.later before rest x (ap (λ es. until_release base (es ++ events next commands)) (sym none) ∙ e));
+      later = λ before rest x e. one_earlier (early ++ before) x (rest_of.later before rest x (ap (λ es. until_end base (es ++ events next commands)) (sym none) ∙ e));
     }
 
     -- the command is one of them
-    module _ (e : Event) (one : event_of m command ≡ e ∷ []) (goes_on : releases base e.request.op e.entry ≡ false) where
-      life_from_here : until_release base (events m (command ∷ commands)) ≡ e ∷ more
-      life_from_here = ap (λ es. until_release base (es ++ events next commands)) one ∙ ap (λ t. cond t [] (e ∷ more)) goes_on
+    module _ (e : Event) (one : event_of m command ≡ e ∷ []) (goes_on : ends_life base e.request.op e.entry ≡ false) where
+      life_from_here : until_end base (events m (command ∷ commands)) ≡ e ∷ more
+      life_from_here = ap (λ es. until_end base (es ++ events next commands)) one ∙ ap (λ t. cond t [] (e ∷ more)) goes_on
 
-      early_and_more : all ≡ early ++ until_release base (events m (command ∷ commands)) → all ≡ early ++ e ∷ more
+      early_and_more : all ≡ early ++ until_end base (events m (command ∷ commands)) → all ≡ early ++ e ∷ more
       early_and_more is = is ∙ ap (λ es. early ++ es) life_from_here
 
-      then_more : all ≡ early ++ until_release base (events m (command ∷ commands)) → all ≡ (early ++ e ∷ []) ++ more
+      then_more : all ≡ early ++ until_end base (events m (command ∷ commands)) → all ≡ (early ++ e ∷ []) ++ more
       then_more is = early_and_more is ∙ sym (append_assoc early (e ∷ []) more)
 
       listed : (held' : Held) → IsLawful next commands held' (early ++ e ∷ []) all
@@ -135,7 +137,7 @@ module _ (kind : Kind) (a : ℕ) (law : CellLaw kind a) (base : ℕ) where
     -- it is for the cell
     module _ (r : Request) (new : IsNext m.windows r) (one : event_of m command ≡ event_for r (act m.cells (asker r) r.op) ∷ [])
         (is : next ≡ contents_of m r (act m.cells (asker r) r.op))
-        (mine : is_for kind a r.op ≡ true) (goes_on : releases base r.op (act m.cells (asker r) r.op).entry ≡ false)
+        (mine : is_for kind a r.op ≡ true) (goes_on : ends_life base r.op (act m.cells (asker r) r.op).entry ≡ false)
         (acts : act m.cells (asker r) r.op ≡ serve_cell m.cells a held.block (serve_op (asker r) r.op held.state)) where
       abbrev e : Event
       e = event_for r (act m.cells (asker r) r.op)
@@ -172,7 +174,7 @@ module _ (kind : Kind) (a : ℕ) (law : CellLaw kind a) (base : ℕ) where
           (ends-answered next commands (asker r) (record { op = r.op; entry = e.entry }) reply next_agrees (ap (λ (c : Contents). kept_for c.windows (asker r)) is ∙ own_entry m sound.agrees r new)
           (ap (λ (acted : Acted). acted.entry) acts ∙ told))
 
-      pub served_lawful : all ≡ early ++ until_release base (events m (command ∷ commands))
+      pub served_lawful : all ≡ early ++ until_end base (events m (command ∷ commands))
           → IsLawful next commands held_after (early ++ e ∷ []) all → IsLawful m (command ∷ commands) held early all
       served_lawful is_all rest_of = record {
         waits = λ k who w. ⊎_elim
@@ -187,16 +189,16 @@ module _ (kind : Kind) (a : ℕ) (law : CellLaw kind a) (base : ℕ) where
             before rest x (sym (life_from_here e one goes_on) ∙ f);
       }
 
-    -- it releases the block
-    freed : (e : Event) → event_of m command ≡ e ∷ [] → releases base e.request.op e.entry ≡ true → waiters_of held.state ≡ []
+    -- it releases or empties the block
+    freed : (e : Event) → event_of m command ≡ e ∷ [] → ends_life base e.request.op e.entry ≡ true → waiters_of held.state ≡ []
         → IsLawful m (command ∷ commands) held early all
     freed e one gone nobody = record {
       waits = λ k who w. absurd (none-some who (sym (ap (λ waiters. slice_get waiters k) nobody) ∙ w));
-      later = λ before rest x is. absurd (nil_split before x rest (sym (ap (λ es. until_release base (es ++ events next commands)) one ∙ ap (λ t. cond t [] (e ∷ more)) gone) ∙ is));
+      later = λ before rest x is. absurd (nil_split before x rest (sym (ap (λ es. until_end base (es ++ events next commands)) one ∙ ap (λ t. cond t [] (e ∷ more)) gone) ∙ is));
     }
 
     -- each command
-    one_more : all ≡ early ++ until_release base (events m (command ∷ commands))
+    one_more : all ≡ early ++ until_end base (events m (command ∷ commands))
         → ((held' : Held) (early' : List Event) → IsAt next held' early' → all ≡ early' ++ more → IsLawful next commands held' early' all)
         → IsLawful m (command ∷ commands) held early all
     one_more is_all rest_of = by_takes (takes_command m command)
@@ -207,29 +209,32 @@ module _ (kind : Kind) (a : ℕ) (law : CellLaw kind a) (base : ℕ) where
         by_meets r new one is (Passes other goes_on at) =
             let e = event_for r (act m.cells (asker r) r.op) in
             let not_mine : is_for kind a r.op ≡ false = sym (ap (λ k. is_for k a r.op) here.is_kind) ∙ other in
-            let on : releases base r.op e.entry ≡ false = sym (ap (λ b. releases b r.op e.entry) here.is_base) ∙ goes_on in
+            let on : ends_life base r.op e.entry ≡ false = sym (ap (λ b. ends_life b r.op e.entry) here.is_base) ∙ goes_on in
             passed e one on not_mine (rest_of held (early ++ e ∷ [])
             (record { at = ap (λ (c : Contents). held_at c.cells a) is ∙ at; is_kind = here.is_kind; is_base = here.is_base; agrees = law.passes early e held.state not_mine here.agrees })
             (then_more e one on is_all))
         by_meets r new one is (Serves mine goes_on acts) =
             let e = event_for r (act m.cells (asker r) r.op) in
             let yes_mine : is_for kind a r.op ≡ true = sym (ap (λ k. is_for k a r.op) here.is_kind) ∙ mine in
-            let on : releases base r.op e.entry ≡ false = sym (ap (λ b. releases b r.op e.entry) here.is_base) ∙ goes_on in
+            let on : ends_life base r.op e.entry ≡ false = sym (ap (λ b. ends_life b r.op e.entry) here.is_base) ∙ goes_on in
             served_lawful r new one is yes_mine on acts is_all
             (rest_of (held_after r new one is yes_mine on acts) (early ++ e ∷ []) (is_after r new one is yes_mine on acts) (then_more e one on is_all))
         by_meets r new one is (Frees gone nobody) =
             let e = event_for r (act m.cells (asker r) r.op) in
-            freed e one (sym (ap (λ b. releases b r.op e.entry) here.is_base) ∙ gone) nobody
+            freed e one (sym (ap (λ b. ends_life b r.op e.entry) here.is_base) ∙ ap (λ t. t || clears held.block.base r.op e.entry) gone) nobody
+        by_meets r new one is (Clears stays cleared nobody at) =
+            let e = event_for r (act m.cells (asker r) r.op) in
+            freed e one (sym (ap (λ b. ends_life b r.op e.entry) here.is_base) ∙ ap (λ t. t || clears held.block.base r.op e.entry) stays ∙ cleared) nobody
 
         by_takes : Takes m command → IsLawful m (command ∷ commands) held early all
         by_takes (Silent none same) = quiet none (rest_of held early
             (record { at = ap (λ cells. held_at cells a) same ∙ here.at; is_kind = here.is_kind; is_base = here.is_base; agrees = here.agrees })
-            (is_all ∙ ap (λ es. early ++ until_release base (es ++ events next commands)) none))
+            (is_all ∙ ap (λ es. early ++ until_end base (es ++ events next commands)) none))
         by_takes (Asked r new one is) = by_meets r new one is (meets m.cells sound.blocks a held here.at (asker r) r.op)
 
   -- any commands
   pub life_lawful : (commands : List Command) (m : Contents) (held : Held) (early all : List Event) → IsSound m → IsAt m held early
-      → all ≡ early ++ until_release base (events m commands)
+      → all ≡ early ++ until_end base (events m commands)
       → IsLawful m commands held early all
   life_lawful [] m held early all sound here is = finished m held early all sound here is
   life_lawful (command ∷ commands) m held early all sound here is = one_more m command commands held early all sound here is

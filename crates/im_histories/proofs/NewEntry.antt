@@ -4,21 +4,21 @@ use Rattle.std.specs.Prelude.{Option, ◌==◌, option_map}
 use Rattle.std.specs.List.{list_any}
 use Rattle.std.proofs.lemmas.Option.{none-some}
 use Rattle.im_types.specs.declared.operations.Op.{Op}
-use Rattle.im_types.specs.declared.operations.Op.TheVariants.{Alloc, Release, Fetch, Store, Take, Put}
+use Rattle.im_types.specs.declared.operations.Op.TheVariants.{Alloc, Release, Reset, Fetch, Store, Take, Put}
 use Rattle.im_types.specs.declared.operations.Kind.{Kind}
 use Rattle.im_types.specs.declared.operations.Kind.TheVariants.{I, M}
 use Rattle.im_types.specs.declared.operations.Block.{Block}
 use Rattle.im_types.specs.declared.operations.Reply.{Reply}
-use Rattle.im_types.specs.declared.operations.Reply.TheVariants.{BadLength, NoCell, WrongKind, Released, StillWaiting}
+use Rattle.im_types.specs.declared.operations.Reply.TheVariants.{BadLength, NoCell, WrongKind, Released, Cleared, StillWaiting}
 use Rattle.im_types.specs.declared.operations.Entry.{Entry}
 use Rattle.im_types.specs.declared.operations.Entry.TheVariants.{Answered}
 use Rattle.im_types.specs.declared.operations.Waiter.{Waiter}
 use Rattle.im_types.specs.declared.operations.Kept.{Kept}
 use Rattle.im_types.specs.declared.commands.Request.{Request}
 use Rattle.im_types.specs.Contents.{Held, Window, Contents, held_at, kept_for}
-use Rattle.im_types.specs.Place.{place, fill}
+use Rattle.im_types.specs.Place.{place, fill, change_each}
 use Rattle.im_types.specs.Window.{note, answer_each}
-use Rattle.im_types.specs.Act.{Acted, only_tells, same_kind, serve_cell, at_cell, allocate, allocate_at, block_with_base, is_waiting_cell, release_block, act}
+use Rattle.im_types.specs.Act.{Acted, only_tells, same_kind, serve_cell, at_cell, allocate, allocate_at, block_with_base, is_waiting_cell, unless_waited_for, release_block, emptied, reset_block, act}
 use Rattle.im_types.specs.Step.{asker}
 use Rattle.im_types.specs.Agreement.{same_waiter, times, WaitingAgrees}
 use Rattle.im_histories.proofs.Given.{answered_kept, kept_for-note, same_waiter-equal, same_waiter-self, IsNext, kept_for-next, AreKept, AfterAnswers, answer_each-AfterAnswers}
@@ -104,18 +104,18 @@ module _ (m : Contents) (agrees : WaitingAgrees m) where
       by_test true = nobody _ refl
       by_test false = by_place (place n m.cells)
 
-  resumes_release : (a : ℕ) (o : Option Block) → Resumes m (release_block m.cells a o)
-  resumes_release a None = nobody _ refl
-  resumes_release a (Some block) = by_test (list_any is_waiting_cell (take block.length (drop a m.cells)))
+  resumes_whole : (after : Block → List (Option Held)) (reply : Reply) (a : ℕ) (o : Option Block) → Resumes m (unless_waited_for after reply m.cells a o)
+  resumes_whole after reply a None = nobody _ refl
+  resumes_whole after reply a (Some block) = by_test (list_any is_waiting_cell (take block.length (drop a m.cells)))
     where
-      by_test : (t : Bool)
-          → Resumes m (cond t (only_tells m.cells StillWaiting) (record { cells = fill m.cells a block.length None; entry = Answered Released; resumed = [] }))
+      by_test : (t : Bool) → Resumes m (cond t (only_tells m.cells StillWaiting) (record { cells = after block; entry = Answered reply; resumed = [] }))
       by_test true = nobody _ refl
       by_test false = nobody _ refl
 
   resumes : (who : Waiter) (op : Op) → Resumes m (act m.cells who op)
   resumes who (Alloc kind n) = resumes_allocate kind n
-  resumes who (Release a) = resumes_release a (block_with_base a (held_at m.cells a))
+  resumes who (Release a) = resumes_whole (λ block. fill m.cells a block.length None) Released a (block_with_base a (held_at m.cells a))
+  resumes who (Reset a) = resumes_whole (λ block. change_each emptied m.cells a block.length) Cleared a (block_with_base a (held_at m.cells a))
   resumes who (Fetch a) = resumes_at I who (Fetch a) a
   resumes who (Store a v) = resumes_at I who (Store a v) a
   resumes who (Take a) = resumes_at M who (Take a) a

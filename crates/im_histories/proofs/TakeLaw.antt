@@ -8,7 +8,7 @@ use Rattle.std.proofs.lemmas.List.Sums.{sum_by-append}
 use Rattle.std.proofs.lemmas.Bool.Decides.{nat_tests}
 use Rattle.im_types.proofs.Tests.{false_true}
 use Rattle.im_types.specs.declared.operations.Op.{Op}
-use Rattle.im_types.specs.declared.operations.Op.TheVariants.{Alloc, Release, Fetch, Store, Take, Put}
+use Rattle.im_types.specs.declared.operations.Op.TheVariants.{Alloc, Release, Reset, Fetch, Store, Take, Put}
 use Rattle.im_types.specs.declared.operations.Kind.TheVariants.{M}
 use Rattle.im_types.specs.declared.operations.Reply.{Reply}
 use Rattle.im_types.specs.declared.operations.Reply.TheVariants.{Value, Stored, Clash}
@@ -68,6 +68,7 @@ module _ (a : ℕ) where
   no_put : (op : Op) → is_for M a op ≡ false → value_put a op ≡ None
   no_put (Alloc kind n) e = refl
   no_put (Release b) e = refl
+  no_put (Reset b) e = refl
   no_put (Fetch b) e = refl
   no_put (Store b v) e = refl
   no_put (Take b) e = refl
@@ -76,6 +77,7 @@ module _ (a : ℕ) where
   no_take : (op : Op) → is_for M a op ≡ false → is_take a op ≡ false
   no_take (Alloc kind n) e = refl
   no_take (Release b) e = refl
+  no_take (Reset b) e = refl
   no_take (Fetch b) e = refl
   no_take (Store b v) e = refl
   no_take (Take b) e = e
@@ -271,6 +273,7 @@ module _ (a : ℕ) where
       → IsServedHere early (event_with e op) state
   serves_op early e (Alloc kind n) state mine agrees = absurd (false_true mine)
   serves_op early e (Release b) state mine agrees = absurd (false_true mine)
+  serves_op early e (Reset b) state mine agrees = absurd (false_true mine)
   serves_op early e (Fetch b) state mine agrees = absurd (false_true mine)
   serves_op early e (Store b v) state mine agrees = absurd (false_true mine)
   serves_op early e (Take b) state mine agrees = serves_take early e b mine state agrees

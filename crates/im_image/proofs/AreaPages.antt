@@ -61,7 +61,7 @@ cells_enough n = omega arith
 nodes_enough : (n : ℕ) → n ≤ 256 * ((n + 256 - 1) / 256)
 nodes_enough n = omega arith
 
-sessions_enough : (n : ℕ) → n ≤ 4 * ((n + 4 - 1) / 4)
+sessions_enough : (n : ℕ) → n ≤ 1 * ((n + 1 - 1) / 1)
 sessions_enough n = omega arith
 
 by_record : (size per a b : ℕ) → size * per ≡ page_bytes → a ≡ page_bytes * b → a ≡ size * (per * b)
@@ -91,7 +91,7 @@ module _ (s : Sizes) (r : Records) (area : List ℕ) (long : length area ≡ are
     cells = λ below. page_spells 32 _ _ _ s.cells (128 * c) (cell_part s area) r.cells (cells_enough s.cells) cells_long spells.cells 128 c i refl (omega arith) (record_at page_bytes area i) (page_long i lt) (sym (page_of_take c i area below));
     nodes = λ k is below. page_spells 16 _ _ _ (node_count layout_in_use s) (256 * n) (node_part layout_in_use s area) r.nodes (nodes_enough (node_count layout_in_use s)) nodes_long spells.nodes 256 n k refl (omega arith) (record_at page_bytes area i) (page_long i lt)
         (ap (λ (j : ℕ). record_at page_bytes area j) is ∙ sym (page_of_take n k (drop (page_bytes * c) area) below ∙ page_of_drop c k area));
-    sessions = λ k is below. page_spells 1024 _ _ _ s.elements (4 * e) (session_part layout_in_use s area) r.windows (sessions_enough s.elements) sessions_long spells.sessions 4 e k refl (omega arith) (record_at page_bytes area i) (page_long i lt)
+    sessions = λ k is below. page_spells 4096 _ _ _ s.elements (1 * e) (session_part layout_in_use s area) r.windows (sessions_enough s.elements) sessions_long spells.sessions 1 e k refl (omega arith) (record_at page_bytes area i) (page_long i lt)
         (ap (λ (j : ℕ). record_at page_bytes area j) is ∙ sym (page_of_drop (c + n) k area));
   }
     where
@@ -101,5 +101,5 @@ module _ (s : Sizes) (r : Records) (area : List ℕ) (long : length area ≡ are
       nodes_long : length (node_part layout_in_use s area) ≡ 16 * (256 * n)
       nodes_long = by_record 16 256 (length (node_part layout_in_use s area)) n refl (length_of_take n (drop (page_bytes * c) area) (omega (arith, length-drop (page_bytes * c) area, long)))
 
-      sessions_long : length (session_part layout_in_use s area) ≡ 1024 * (4 * e)
-      sessions_long = by_record 1024 4 (length (session_part layout_in_use s area)) e refl (length-drop (page_bytes * (c + n)) area ∙ omega (arith, long))
+      sessions_long : length (session_part layout_in_use s area) ≡ 4096 * (1 * e)
+      sessions_long = by_record 4096 1 (length (session_part layout_in_use s area)) e refl (length-drop (page_bytes * (c + n)) area ∙ omega (arith, long))

@@ -32,7 +32,7 @@ abbrev confirmed : Window
 confirmed = record { base = 2; kept = [] }
 
 confirmed_fits : FitsWindow layout_in_use confirmed
-confirmed_fits = record { base_from = omega arith; base_to = omega arith; few = omega arith; numbers = omega arith; fields = λ i k e. absurd (no_kept i k e) }
+confirmed_fits = record { base_from = omega arith; base_to = omega arith; few = omega arith; numbers = omega arith; known = refl; fields = λ i k e. absurd (no_kept i k e) }
 
 confirmed_is_one : IsWindow confirmed
 confirmed_is_one = record { from_one = omega arith; few = omega arith; to_last = omega arith }

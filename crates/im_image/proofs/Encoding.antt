@@ -187,10 +187,10 @@ module _ (s : Sizes) (r : Records) (page : ℕ → List ℕ) (count : AreCounted
 
   session-fits : (j : ℕ) → j < s.elements → FitsWindow layout_in_use (slice_index_or r.windows j new_window)
   session-fits j lt =
-      let at : 4 * (j / 4) + j % 4 ≡ j = omega arith in
-      subst (λ j. FitsWindow layout_in_use (slice_index_or r.windows j new_window)) at ((session-page (j / 4) (within s.elements j lt)).fits (j % 4) (omega arith) (omega (arith, count.windows)))
+      let at : 1 * (j / 1) + j % 1 ≡ j = omega arith in
+      subst (λ j. FitsWindow layout_in_use (slice_index_or r.windows j new_window)) at ((session-page (j / 1) (within s.elements j lt)).fits (j % 1) (omega arith) (omega (arith, count.windows)))
     where
-      within : (n j : ℕ) → j < n → j / 4 < (n + 4 - 1) / 4
+      within : (n j : ℕ) → j < n → j / 1 < (n + 1 - 1) / 1
       within n j lt = omega arith
 
   pub they-fit : FitRecords s r

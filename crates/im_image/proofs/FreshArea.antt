@@ -88,7 +88,7 @@ cells_fit n = omega arith
 nodes_fit : (n : ℕ) → 16 * n ≤ 4096 * ((n + 256 - 1) / 256)
 nodes_fit n = omega arith
 
-sessions_fit : (n : ℕ) → 1024 * n ≤ 4096 * ((n + 4 - 1) / 4)
+sessions_fit : (n : ℕ) → 4096 * n ≤ 4096 * ((n + 1 - 1) / 1)
 sessions_fit n = omega arith
 
 abbrev cell_row : Sizes → List ℕ
@@ -111,7 +111,7 @@ length-nodes : (s : Sizes) → length (node_row s) ≡ 4096 * node_pages layout_
 length-nodes s = length-row (node_pages layout_in_use s) 16 (node_count layout_in_use s) (node_bytes new_node) refl (nodes_fit (node_count layout_in_use s))
 
 length-sessions : (s : Sizes) → length (window_row new_window s) ≡ 4096 * session_pages layout_in_use s
-length-sessions s = length-row (session_pages layout_in_use s) 1024 s.elements (session_bytes layout_in_use new_window) refl (sessions_fit s.elements)
+length-sessions s = length-row (session_pages layout_in_use s) 4096 s.elements (session_bytes layout_in_use new_window) refl (sessions_fit s.elements)
 
 pub length-area : (s : Sizes) → length (new_area s) ≡ area_bytes layout_in_use s
 length-area s = omega (arith, length-append (cell_row s ++ node_row s) (window_row new_window s), length-append (cell_row s) (node_row s), length-cells s, length-nodes s, length-sessions s)
@@ -141,9 +141,9 @@ no_kept i k e = none_some k e
     none_some k e = cc
 
 pub new_window_fits : FitsWindow layout_in_use new_window
-new_window_fits = record { base_from = omega arith; base_to = omega arith; few = omega arith; numbers = omega arith; fields = λ i k e. absurd (no_kept i k e) }
+new_window_fits = record { base_from = omega arith; base_to = omega arith; few = omega arith; numbers = omega arith; known = refl; fields = λ i k e. absurd (no_kept i k e) }
 
-pub area_spelled : (w : Window) (s : Sizes) → length (session_bytes layout_in_use w) ≡ 1024 → FitsWindow layout_in_use w → SpellsArea layout_in_use s (area_with w s) (records_with w s)
+pub area_spelled : (w : Window) (s : Sizes) → length (session_bytes layout_in_use w) ≡ 4096 → FitsWindow layout_in_use w → SpellsArea layout_in_use s (area_with w s) (records_with w s)
 unfolding records_with
 area_spelled w s long fits = record {
   cells = subst (λ (l : List ℕ). IsRow cell_record_bytes cell_bytes (FitsCell s.cells (node_count layout_in_use s)) (FreeCell 0 NONE) s.cells l (replicate s.cells new_cell)) (sym (cell_part-with w s))
@@ -151,7 +151,7 @@ area_spelled w s long fits = record {
   nodes = subst (λ (l : List ℕ). IsRow node_record_bytes node_bytes (FitsNode (node_count layout_in_use s)) (FreeNode NONE) (node_count layout_in_use s) l (replicate (node_count layout_in_use s) new_node)) (sym (node_part-with w s))
       (is_new_row (node_pages layout_in_use s) 16 (node_count layout_in_use s) node_bytes (FitsNode (node_count layout_in_use s)) (FreeNode NONE) new_node refl (inl refl));
   sessions = subst (λ (l : List ℕ). IsRow (session_record_bytes layout_in_use) (session_bytes layout_in_use) (FitsWindow layout_in_use) new_window s.elements l (replicate s.elements w)) (sym (session_part-with w s))
-      (is_new_row (session_pages layout_in_use s) 1024 s.elements (session_bytes layout_in_use) (FitsWindow layout_in_use) new_window w long fits);
+      (is_new_row (session_pages layout_in_use s) 4096 s.elements (session_bytes layout_in_use) (FitsWindow layout_in_use) new_window w long fits);
 }
   where
     none_yet : (n : ℕ) → 0 ≤ n

@@ -10,3 +10,4 @@ pub mod Outcomes
 pub mod Counterexamples
 pub mod Outside
 pub mod AreaPages
+pub mod ToOpen

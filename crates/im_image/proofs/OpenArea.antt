@@ -3,7 +3,7 @@ use Rattle.std.proofs.Common.{◌≡◌, ℕ, List, length, ◌==◌, nat_lt, Bo
 use Rattle.im_types.specs.declared.refusals.Refusal.{Refusal}
 use Rattle.im_types.specs.declared.refusals.Refusal.TheVariants.{WrongLength}
 use Rattle.im_types.specs.Contents.{Contents}
-use Rattle.im_types.specs.Layout.{layout_in_use, area_of, image_length}
+use Rattle.im_types.specs.Layout.{Layout, area_of, image_length}
 use Rattle.im_types.specs.Header.{Header, header_of, header_fault, header_place, place_fault, or_else}
 use Rattle.im_types.specs.Pages.{Shows}
 use Rattle.im_types.specs.Meaning.{IsShown}
@@ -13,13 +13,13 @@ eq_true : (m n : ℕ) → (m == n) ≡ true → m ≡ n
 eq_true m n is = grind (arith, nat_tests)
 
 -- what a file shows, the area of its header in force shows
-pub shown-in : (h : Header) (file area : List ℕ) (m : Contents) → h ≡ header_of file → area ≡ area_of layout_in_use h.sizes h.area file → IsShown layout_in_use file m → Shows layout_in_use h.sizes area m
-shown-in h file area m is read shown =
-    subst (λ (l : List ℕ). Shows layout_in_use h.sizes l m) (sym read) (subst (λ (k : Header). Shows layout_in_use k.sizes (area_of layout_in_use k.sizes k.area file) m) (sym is) shown)
+pub shown-in : (l : Layout) (h : Header) (file area : List ℕ) (m : Contents) → h ≡ header_of file → area ≡ area_of l h.sizes h.area file → IsShown l file m → Shows l h.sizes area m
+shown-in l h file area m is read shown =
+    subst (λ (a : List ℕ). Shows l h.sizes a m) (sym read) (subst (λ (k : Header). Shows l k.sizes (area_of l k.sizes k.area file) m) (sym is) shown)
 
 -- an image without fault has the length that its header says
-pub length_of_image : (file : List ℕ) → header_fault layout_in_use file ≡ None → length file ≡ image_length layout_in_use (header_of file).sizes
-length_of_image file good = by_length (nat_lt (length file) 8192) refl
+pub length_of_image : (l : Layout) (file : List ℕ) → header_fault l file ≡ None → length file ≡ image_length l (header_of file).sizes
+length_of_image l file good = by_length (nat_lt (length file) 8192) refl
   where
     none_some : (e : Refusal) → Some e ≡ None → ⊥
     none_some e h = cc
@@ -27,17 +27,17 @@ length_of_image file good = by_length (nat_lt (length file) 8192) refl
     rest : Bool → Option Refusal
     rest b = if b then None else Some WrongLength
 
-    by_same : (b : Bool) → (length file == image_length layout_in_use (header_of file).sizes) ≡ b → rest b ≡ None → length file ≡ image_length layout_in_use (header_of file).sizes
-    by_same true is none = eq_true (length file) (image_length layout_in_use (header_of file).sizes) is
+    by_same : (b : Bool) → (length file == image_length l (header_of file).sizes) ≡ b → rest b ≡ None → length file ≡ image_length l (header_of file).sizes
+    by_same true is none = eq_true (length file) (image_length l (header_of file).sizes) is
     by_same false is none = absurd (none_some WrongLength none)
 
-    by_places : (f : Option Refusal) → or_else f (rest (length file == image_length layout_in_use (header_of file).sizes)) ≡ None → length file ≡ image_length layout_in_use (header_of file).sizes
-    by_places None none = by_same (length file == image_length layout_in_use (header_of file).sizes) refl none
+    by_places : (f : Option Refusal) → or_else f (rest (length file == image_length l (header_of file).sizes)) ≡ None → length file ≡ image_length l (header_of file).sizes
+    by_places None none = by_same (length file == image_length l (header_of file).sizes) refl none
     by_places (Some e) none = absurd (none_some e none)
 
-    by_length : (b : Bool) → nat_lt (length file) 8192 ≡ b → length file ≡ image_length layout_in_use (header_of file).sizes
-    by_length true is = absurd (none_some WrongLength (sym (ap (λ (b : Bool). if b then Some WrongLength else or_else (place_fault layout_in_use (header_place 0 file) (header_place 1 file)) (rest (length file == image_length layout_in_use (header_of file).sizes))) is) ∙ good))
-    by_length false is = by_places (place_fault layout_in_use (header_place 0 file) (header_place 1 file)) (sym (ap (λ (b : Bool). if b then Some WrongLength else or_else (place_fault layout_in_use (header_place 0 file) (header_place 1 file)) (rest (length file == image_length layout_in_use (header_of file).sizes))) is) ∙ good)
+    by_length : (b : Bool) → nat_lt (length file) 8192 ≡ b → length file ≡ image_length l (header_of file).sizes
+    by_length true is = absurd (none_some WrongLength (sym (ap (λ (b : Bool). if b then Some WrongLength else or_else (place_fault l (header_place 0 file) (header_place 1 file)) (rest (length file == image_length l (header_of file).sizes))) is) ∙ good))
+    by_length false is = by_places (place_fault l (header_place 0 file) (header_place 1 file)) (sym (ap (λ (b : Bool). if b then Some WrongLength else or_else (place_fault l (header_place 0 file) (header_place 1 file)) (rest (length file == image_length l (header_of file).sizes))) is) ∙ good)
 
-pub length_by : (h : Header) (file : List ℕ) → header_fault layout_in_use file ≡ None → h ≡ header_of file → length file ≡ image_length layout_in_use h.sizes
-length_by h file good is = length_of_image file good ∙ ap (λ (k : Header). image_length layout_in_use k.sizes) (sym is)
+pub length_by : (l : Layout) (h : Header) (file : List ℕ) → header_fault l file ≡ None → h ≡ header_of file → length file ≡ image_length l h.sizes
+length_by l h file good is = length_of_image l file good ∙ ap (λ (k : Header). image_length l k.sizes) (sym is)

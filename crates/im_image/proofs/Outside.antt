@@ -30,7 +30,7 @@ one_way : (s : Sizes) (r q : Records) (p : ℕ) → AgreeOnPage s.cells s.elemen
 one_way s r q p agree bytes it = record {
   cells = λ lt. spells 32 128 _ _ _ r.cells q.cells p (λ k small. agree.cells_agree (128 * p + k) (omega arith)) bytes (it.cells lt);
   nodes = λ n is lt. spells 16 256 _ _ _ r.nodes q.nodes n (λ k small. agree.nodes_agree (256 * n + k) (omega (arith, is, small))) bytes (it.nodes n is lt);
-  sessions = λ n is lt. spells 1024 4 _ _ _ r.windows q.windows n (λ k small. agree.windows_agree (4 * n + k) (omega (arith, is, small))) bytes (it.sessions n is lt);
+  sessions = λ n is lt. spells 4096 1 _ _ _ r.windows q.windows n (λ k small. agree.windows_agree (1 * n + k) (omega (arith, is, small))) bytes (it.sessions n is lt);
 }
 
 pub outside-stays : (s : Sizes) (r q : Records) (p : ℕ) → AgreeOnPage s.cells s.elements r q p → SameOn s r q p

@@ -12,7 +12,9 @@ use Rattle.im_types.specs.declared.records.CellRecord.{CellRecord}
 use Rattle.im_types.specs.declared.records.NodeRecord.{NodeRecord}
 use Rattle.im_types.specs.Chains.{ShowLists}
 use Rattle.im_types.specs.Contents.{Window, Contents}
-use Rattle.im_types.specs.Layout.{Sizes, layout_in_use}
+use Rattle.im_types.specs.declared.layout.Version.{Version}
+use Rattle.im_types.specs.declared.layout.Version.TheVariants.{One, Two}
+use Rattle.im_types.specs.Layout.{Sizes, layout_of}
 use Rattle.im_types.specs.Memory.{IsMemory}
 use Rattle.im_types.specs.Pages.{Records, SpellsArea, ShowsRecords, Shows, cells_shown}
 use Rattle.im_types.specs.Sizes.{AreLimits}
@@ -88,15 +90,16 @@ pub records-fit : (elements cells : ℕ) (r : Records) (lists : List (List Waite
 records-fit elements cells r lists chained memory = omega (arith, lists-fit r.cells lists r.windows (complete-of elements cells r lists chained memory), memory.window_count)
 
 -- as many nodes as there may be
-pub few-nodes : (s : Sizes) (area : List ℕ) (r : Records) → AreLimits s.cells s.elements s.slots → SpellsArea layout_in_use s area r → length r.nodes ≤ NONE
-few-nodes s area r limits spelled = omega (arith, limits.few_elements, spelled.nodes.many)
+pub few-nodes : (version : Version) (s : Sizes) (area : List ℕ) (r : Records) → AreLimits s.cells s.elements s.slots → SpellsArea (layout_of version) s area r → length r.nodes ≤ NONE
+few-nodes One s area r limits spelled = omega (arith, limits.few_elements, spelled.nodes.many)
+few-nodes Two s area r limits spelled = omega (arith, limits.few_elements, spelled.nodes.many)
 
-pub one-memory : (s : Sizes) (area : List ℕ) (m other : Contents) → AreLimits s.cells s.elements s.slots → Shows layout_in_use s area m → Shows layout_in_use s area other → m ≡ other
-one-memory s area m other limits shows also =
-    let same : also.records ≡ shows.records = one_area s area also.records shows.records limits also.spelled shows.spelled in
-    memory_unique s shows.records m other (few-nodes s area shows.records limits shows.spelled) shows.shown (subst (λ (r : Records). ShowsRecords s r other) same also.shown)
+pub one-memory : (version : Version) (s : Sizes) (area : List ℕ) (m other : Contents) → AreLimits s.cells s.elements s.slots → Shows (layout_of version) s area m → Shows (layout_of version) s area other → m ≡ other
+one-memory version s area m other limits shows also =
+    let same : also.records ≡ shows.records = one_area version s area also.records shows.records limits also.spelled shows.spelled in
+    memory_unique s shows.records m other (few-nodes version s area shows.records limits shows.spelled) shows.shown (subst (λ (r : Records). ShowsRecords s r other) same also.shown)
 
 -- records that show no memory are those of an area that shows none
-pub shows-none : (s : Sizes) (area : List ℕ) (r : Records) → AreLimits s.cells s.elements s.slots → SpellsArea layout_in_use s area r → ((m : Contents) → ShowsRecords s r m → ⊥)
-    → (m : Contents) → Shows layout_in_use s area m → ⊥
-shows-none s area r limits spelled none m shows = none m (subst (λ (q : Records). ShowsRecords s q m) (one_area s area shows.records r limits shows.spelled spelled) shows.shown)
+pub shows-none : (version : Version) (s : Sizes) (area : List ℕ) (r : Records) → AreLimits s.cells s.elements s.slots → SpellsArea (layout_of version) s area r → ((m : Contents) → ShowsRecords s r m → ⊥)
+    → (m : Contents) → Shows (layout_of version) s area m → ⊥
+shows-none version s area r limits spelled none m shows = none m (subst (λ (q : Records). ShowsRecords s q m) (one_area version s area shows.records r limits shows.spelled spelled) shows.shown)

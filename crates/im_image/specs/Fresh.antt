@@ -37,7 +37,7 @@ new_area s =
 
 -- the header of a new image
 abbrev pub new_header : Sizes → Header
-new_header s = record { version = 1; area = 0; generation = 1; count = 0; sizes = s }
+new_header s = record { version = layout_in_use.version; area = 0; generation = 1; count = 0; sizes = s }
 
 -- a new image, with this byte as the gate of its first header: that header, the second one closed, the area, and zeros for the other area and the journal
 abbrev pub new_image : ℕ → Sizes → List ℕ

@@ -2,16 +2,16 @@
 use Rattle.std.specs.Prelude.{◌≡◌, ℕ, ◌≤◌, List, length, None, Ok}
 use Rattle.im_types.specs.declared.TheConstants.{LAST}
 use Rattle.im_types.specs.Contents.{Contents}
-use Rattle.im_types.specs.Header.{Header, header_of, header_fault}
-use Rattle.im_types.specs.Layout.{Sizes, layout_in_use, sizes_of, ring_of}
+use Rattle.im_types.specs.Header.{Header, header_of, header_fault, layout_in}
+use Rattle.im_types.specs.Layout.{Sizes, layout_named, sizes_of, ring_of}
 use Rattle.im_types.specs.Meaning.{Reached, IsShown, Reads}
 use Rattle.im_journal.specs.Holding.{JournalState, Holds}
 use Rattle.im_image.specs.Headers.{seen}
 use Rattle.im_image.specs.declared.reading.Image.{Image}
 
--- the journal is the one behind this header: its ring lies where the header's sizes say, and its run begins at the header's count
+-- the journal is the one behind this header: its ring lies where the header's version and sizes say, and its run begins at the header's count
 pub record JournalOf (h : Header) (j : JournalState) : Type 0 where
-  pub ring : j.ring ≡ ring_of layout_in_use h.sizes
+  pub ring : j.ring ≡ ring_of (layout_named h.version) h.sizes
   pub first : j.first ≡ h.count
   pub begun : h.count ≤ j.count
 
@@ -23,13 +23,13 @@ pub record HasSizes (s : Sizes) (m : Contents) : Type 0 where
 -- a file is sound up to its headers, of which this one is in force
 pub record HasHeader (h : Header) (file : List ℕ) : Type 0 where
   -- its length and its headers have no fault
-  pub good : header_fault layout_in_use file ≡ None
+  pub good : header_fault (layout_in file) file ≡ None
   pub is : h ≡ header_of file
 
 -- a file is sound up to its area in force, which shows this memory
 pub record HasArea (h : Header) (m : Contents) (file : List ℕ) : Type 0 where
   pub header : HasHeader h file
-  pub shown : IsShown layout_in_use file m
+  pub shown : IsShown (layout_in file) file m
 
 -- a header and a memory whose numbers fit
 pub record AreUnder (h : Header) (m : Contents) : Type 0 where
@@ -60,4 +60,4 @@ pub record IsImageOf (file : List ℕ) (i : Image) : Type 0 where
   -- the file holds its journal
   pub holds : Holds i.journal file
   -- reading the file comes to its memory, its count and its room
-  pub means : Reads layout_in_use file (Ok (reached i))
+  pub means : Reads (layout_in file) file (Ok (reached i))

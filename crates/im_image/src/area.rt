@@ -6,14 +6,16 @@ ghost use Rattle.im_types.specs.declared.TheConstants.{NONE, WINDOW};
 ghost use Rattle.im_types.specs.Chains.{ShowLists};
 ghost use Rattle.im_types.specs.Contents.{Window, Contents};
 ghost use Rattle.im_types.specs.Layout as layout;
-ghost use Rattle.im_types.specs.Layout.{Sizes, layout_in_use, sizes_of};
+ghost use Rattle.im_types.specs.Layout.{Sizes, layout_of, sizes_of};
 ghost use Rattle.im_types.specs.Memory.{IsMemory, IsWindow};
 ghost use Rattle.im_types.specs.Pages.{Records, SpellsArea, Shows, ShowsRecords, cells_shown};
 ghost use Rattle.im_types.specs.Sizes.{AreLimits};
+ghost use Rattle.im_types.specs.declared.layout.Version.{Version};
 
 use im_contents::{Lists, read_contents};
 use im_memory::{Memory, Restoring};
 use im_records::{AreaRecords, WindowRecord, read_area};
+use im_types::layout::Version;
 use im_types::{Limits, Refusal};
 use std::alloc::Global;
 
@@ -97,50 +99,65 @@ fn show(alloc: Global, limits: Limits, records: AreaRecords) -> Result<Memory, R
     }
 }
 
-/// The memory that the pages of an area show. `BadPage` exactly where they show none; `NoMemory` where there is no room
+/// The memory that the pages of an area of a version show. `BadPage` exactly where they show none; `NoMemory` where there is no room
 /// for the memory, or for what is read.
 ///
 /// It takes a step for each byte, each record, each waiter and each entry.
-pub fn decode(alloc: Global, area: &[u8], limits: Limits) -> Result<Memory, Refusal>
-    requires { length area.now ≡ layout.area_bytes layout_in_use (sizes_of limits) }
-    ensures found { IfOk result (λ m. Shows layout_in_use (sizes_of limits) area.now m.contents) }
-    ensures bad { IsErrOf result Refusal.BadPage → (m : Contents) → Shows layout_in_use (sizes_of limits) area.now m
+pub fn decode(
+    alloc: Global,
+    version: Version,
+    area: &[u8],
+    limits: Limits,
+) -> Result<Memory, Refusal>
+    requires { length area.now ≡ layout.area_bytes (layout_of version) (sizes_of limits) }
+    ensures found { IfOk result (λ m. Shows (layout_of version) (sizes_of limits) area.now m.contents) }
+    ensures bad { IsErrOf result Refusal.BadPage → (m : Contents) → Shows (layout_of version) (sizes_of limits) area.now m
         → ⊥ }
     ensures only { IfErr result (λ e. (e ≡ Refusal.BadPage) ⊎ (e ≡ Refusal.NoMemory)) }
 {
-    match read_area(alloc, area, limits) {
+    match read_area(alloc, version, area, limits) {
         Ok(records) => show(alloc, limits, records),
         Err(refusal) => Err(refusal),
     }
 }
 
 // The records of an area whose bytes are given back.
-fn read_own(alloc: Global, area: Vec<u8>, limits: Limits) -> Result<AreaRecords, Refusal>
-    requires { length area.items ≡ layout.area_bytes layout_in_use (sizes_of limits) }
-    ensures found { IfOk result (λ r. SpellsArea layout_in_use (sizes_of limits) area.items r) }
+fn read_own(
+    alloc: Global,
+    version: Version,
+    area: Vec<u8>,
+    limits: Limits,
+) -> Result<AreaRecords, Refusal>
+    requires { length area.items ≡ layout.area_bytes (layout_of version) (sizes_of limits) }
+    ensures found { IfOk result (λ r. SpellsArea (layout_of version) (sizes_of limits) area.items r) }
     ensures bad { IsErrOf result Refusal.BadPage → (r : Records)
-        → SpellsArea layout_in_use (sizes_of limits) area.items r → ⊥ }
+        → SpellsArea (layout_of version) (sizes_of limits) area.items r → ⊥ }
     ensures only { IfErr result (λ e. (e ≡ Refusal.BadPage) ⊎ (e ≡ Refusal.NoMemory)) }
 {
-    read_area(alloc, &area, limits)
+    read_area(alloc, version, &area, limits)
 }
 
 /// The same of bytes that nobody needs afterwards: they are given back before the memory is made.
-pub(crate) fn decode_own(alloc: Global, area: Vec<u8>, limits: Limits) -> Result<Memory, Refusal>
-    requires { length area.items ≡ layout.area_bytes layout_in_use (sizes_of limits) }
-    ensures found { IfOk result (λ m. Shows layout_in_use (sizes_of limits) area.items m.contents) }
-    ensures bad { IsErrOf result Refusal.BadPage → (m : Contents) → Shows layout_in_use (sizes_of limits) area.items m
+pub(crate) fn decode_own(
+    alloc: Global,
+    version: Version,
+    area: Vec<u8>,
+    limits: Limits,
+) -> Result<Memory, Refusal>
+    requires { length area.items ≡ layout.area_bytes (layout_of version) (sizes_of limits) }
+    ensures found { IfOk result (λ m. Shows (layout_of version) (sizes_of limits) area.items m.contents) }
+    ensures bad { IsErrOf result Refusal.BadPage → (m : Contents) → Shows (layout_of version) (sizes_of limits) area.items m
         → ⊥ }
     ensures only { IfErr result (λ e. (e ≡ Refusal.BadPage) ⊎ (e ≡ Refusal.NoMemory)) }
 {
-    match read_own(alloc, area, limits) {
+    match read_own(alloc, version, area, limits) {
         Ok(records) => show(alloc, limits, records),
         Err(refusal) => Err(refusal),
     }
 }
 
-/// The pages of an area show no two memories.
+/// The pages of an area of either version show no two memories.
 pub fn areas_show_one_memory()
-    ensures { (s : Sizes) (area : List ℕ) (m other : Contents) → AreLimits s.cells s.elements s.slots
-        → Shows layout_in_use s area m → Shows layout_in_use s area other → m ≡ other }
+    ensures { (version : Version) (s : Sizes) (area : List ℕ) (m other : Contents) → AreLimits s.cells s.elements s.slots
+        → Shows (layout_of version) s area m → Shows (layout_of version) s area other → m ≡ other }
 {}

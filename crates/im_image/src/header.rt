@@ -1,22 +1,21 @@
 //! Headers: one for each area. The open one with the greater generation is in force.
-ghost use Rattle.std.specs.Prelude.{◌≡◌, ◌↔◌, ◌≤◌, ◌∷◌, ◌&&◌, true, IfSome, IsSome, IsTrue, slice_range};
+ghost use Rattle.std.specs.Prelude.{◌≡◌, ◌↔◌, ◌≤◌, ◌∷◌, ◌&&◌, ◌==◌, true, IfSome, IsSome, IsTrue, slice_range};
 ghost use Rattle.im_types.specs.Bytes.{same_bytes};
 ghost use Rattle.im_types.specs.Sizes.{AreLimits};
-ghost use Rattle.im_types.specs.Layout.{layout_in_use};
-ghost use Rattle.im_types.specs.Layout.{sizes_of};
+ghost use Rattle.im_types.specs.Layout.{are_sizes, layout_named, layout_of, sizes_of};
 ghost use Rattle.im_types.specs.Header.{header_body, header_in, is_header, spells_header};
 
 use byteorder::{ByteOrder, LittleEndian};
-use im_types::layout::OPEN;
+use im_types::layout::{OPEN, Version};
 use im_types::{LAST, Limits};
 
-/// The version of the layout.
-pub const VERSION: u16 = 1;
+/// The version of the layout in use.
+pub const VERSION: u16 = 2;
 
 /// What stands in a header.
 #[derive(Clone, Copy, Debug, PartialEq, Eq)]
 pub struct Header {
-    /// The version of the layout, 1.
+    /// The version of the layout: 2, or 1 of an image that is only read.
     pub version: u16,
     /// The area that it is the header of, 0 or 1.
     pub area: u8,
@@ -51,22 +50,38 @@ impl Header {
         bytes
     }
 
+    /// The version of its image's layout.
+    pub fn layout(&self) -> Version
+        ensures { layout_of result ≡ layout_named self.now.version }
+    {
+        Version::named(self.version)
+    }
+
+    /// Whether it is of the first version, whose images are only read.
+    pub fn is_old(&self) -> bool
+        ensures { result ≡ (self.now.version == 1) }
+    {
+        self.version == 1
+    }
+
     // Whether its numbers may stand in the header of this area.
     fn is_of(&self, area: u8) -> bool
-        ensures is { result ≡ is_header layout_in_use area (seen self.now) }
+        ensures is { result ≡ is_header (layout_named self.now.version) area (seen self.now) }
         ensures range { IsTrue result → (self.now.area ≡ area) × (self.now.count ≤ LAST) }
     {
-        self.version == VERSION
+        let version = self.layout();
+        self.version == version.number()
             && self.area == area
             && self.generation >= 1
             && self.generation <= LAST
             && self.count <= LAST
+            && are_sizes(version, self.limits)
     }
 
     // Whether these bytes spell it for this area.
     fn is_spelled(&self, bytes: &[u8; 64], area: u8) -> bool
         ensures is { result ≡ (same_bytes (slice_range bytes.now 1 64) (header_body (seen self.now))
-            && is_header layout_in_use area (seen self.now)) }
+            && is_header (layout_named self.now.version) area (seen self.now)) }
         ensures range { IsTrue result → (self.now.area ≡ area) × (self.now.count ≤ LAST) }
     {
         bytes[1..] == self.spell()[1..] && self.is_of(area)
@@ -90,7 +105,8 @@ impl Header {
     pub fn read(bytes: &[u8; 64], area: u8) -> Option<Header>
         ensures found { IfSome result (λ h. seen h ≡ header_in bytes.now) }
         ensures range { IfSome result (λ h. (h.area ≡ area) × (h.count ≤ LAST)) }
-        ensures only { IsSome result ↔ (spells_header layout_in_use area bytes.now ≡ true) }
+        ensures only { IsSome result
+            ↔ (spells_header (layout_named (header_in bytes.now).version) area bytes.now ≡ true) }
     {
         let header = Header::with_limits(bytes, limits_in(bytes)?);
         if header.is_spelled(bytes, area) {
@@ -99,6 +115,13 @@ impl Header {
             None
         }
     }
+}
+
+// Whether these are the sizes of an image of a version.
+fn are_sizes(version: Version, limits: Limits) -> bool
+    ensures { result ≡ are_sizes (layout_of version) (sizes_of limits) }
+{
+    limits.cells <= version.most_cells()
 }
 
 // The limits that stand in these bytes, if they are in range.

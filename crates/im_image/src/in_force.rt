@@ -1,13 +1,14 @@
 //! Which header is in force.
-ghost use Rattle.std.specs.Prelude.{◌≡◌, ◌⊎◌, ◌↔◌, ◌≤◌, ◌||◌, not, true, Some, None, IfSome, IsSome, length, ◌<◌, IfOk};
+ghost use Rattle.std.specs.Prelude.{◌≡◌, ◌⊎◌, ◌↔◌, ◌≤◌, ◌||◌, ◌==◌, not, true, false, Some, None, Err, IfSome, IsSome, length, ◌<◌, IfOk};
 ghost use Rattle.std.specs.Prelude.{IfErr, OnOk, IsErrOf};
-ghost use Rattle.im_types.specs.declared.refusals.Refusal.TheVariants.{NoHeader, BadHeader, WrongLength, Device};
-ghost use Rattle.im_types.specs.Layout.{layout_in_use, image_length};
-ghost use Rattle.im_types.specs.Header.{header_in, header_of, header_fault, is_open_header, generation_in, is_second};
+ghost use Rattle.im_types.specs.declared.refusals.Refusal.TheVariants.{NoHeader, BadHeader, WrongLength, Device, OldVersion};
+ghost use Rattle.im_types.specs.Layout.{image_length};
+ghost use Rattle.im_types.specs.Header.{header_in, header_of, header_fault, layout_in, is_open_header, generation_in, is_second};
 ghost use Rattle.im_types.specs.Header.{are_ambiguous, number_in_force, place_in_force, place_fault, spells_header};
+ghost use Rattle.im_types.specs.Meaning.{Opens};
 ghost use Rattle.im_disk.specs.Moment.{Counts, Faults};
 ghost use Rattle.im_disk.specs.Since.{OnlyReads};
-ghost use Rattle.im_image.specs.Headers.{seen, IsHeaderFault, beginning_fault};
+ghost use Rattle.im_image.specs.Headers.{seen, IsHeaderFault, MayNotOpen, beginning_fault, layout_at};
 ghost use Rattle.im_image.specs.Beginning.{IsBeginning};
 ghost use Rattle.im_types.specs.declared.TheConstants.{LAST};
 
@@ -15,7 +16,7 @@ use crate::header::Header;
 use byteorder::{ByteOrder, LittleEndian};
 use im_disk::{DeviceFault, Disk};
 use im_types::Refusal;
-use im_types::layout::{OPEN, PAGE, image_length};
+use im_types::layout::{OPEN, PAGE};
 
 fn is_open(place: &[u8; 64]) -> bool
     ensures { result ≡ is_open_header place.now }
@@ -54,7 +55,7 @@ fn are_ambiguous(zero: &[u8; 64], one: &[u8; 64]) -> bool
 fn read_in_force(zero: &[u8; 64], one: &[u8; 64]) -> Option<Header>
     ensures found { IfSome result (λ h. seen h ≡ header_in (place_in_force zero.now one.now)) }
     ensures range { IfSome result (λ h. (h.area ≤ 1) × (h.count ≤ LAST)) }
-    ensures only { IsSome result ↔ (spells_header layout_in_use (number_in_force zero.now one.now)
+    ensures only { IsSome result ↔ (spells_header (layout_at zero.now one.now) (number_in_force zero.now one.now)
         (place_in_force zero.now one.now) ≡ true) }
 {
     if is_second(zero, one) {
@@ -76,8 +77,8 @@ struct Beginning {
 fn header_of_places(zero: &[u8; 64], one: &[u8; 64]) -> Result<Header, Refusal>
     ensures found { IfOk result (λ h. seen h ≡ header_in (place_in_force zero.now one.now)) }
     ensures range { IfOk result (λ h. (h.area ≤ 1) × (h.count ≤ LAST)) }
-    ensures good { OnOk result (place_fault layout_in_use zero.now one.now ≡ None) }
-    ensures fault { IfErr result (λ e. place_fault layout_in_use zero.now one.now ≡ Some e) }
+    ensures good { OnOk result (place_fault (layout_at zero.now one.now) zero.now one.now ≡ None) }
+    ensures fault { IfErr result (λ e. place_fault (layout_at zero.now one.now) zero.now one.now ≡ Some e) }
     ensures only { IfErr result (λ e. IsHeaderFault e) }
 {
     if are_closed(zero, one) {
@@ -96,15 +97,17 @@ fn header_of_places(zero: &[u8; 64], one: &[u8; 64]) -> Result<Header, Refusal>
 fn header_of(beginning: &Beginning) -> Result<Header, Refusal>
     ensures found { IfOk result (λ h. seen h ≡ header_in (place_in_force beginning.now.zero beginning.now.one)) }
     ensures range { IfOk result (λ h. (h.area ≤ 1) × (h.count ≤ LAST)) }
-    ensures good { OnOk result (beginning_fault layout_in_use beginning.now.length beginning.now.zero beginning.now.one
+    ensures good { OnOk result (beginning_fault (layout_at beginning.now.zero beginning.now.one)
+        beginning.now.length beginning.now.zero beginning.now.one
         ≡ None) }
     ensures fault { IfErr result
-        (λ e. beginning_fault layout_in_use beginning.now.length beginning.now.zero beginning.now.one ≡ Some e) }
+        (λ e. beginning_fault (layout_at beginning.now.zero beginning.now.one)
+        beginning.now.length beginning.now.zero beginning.now.one ≡ Some e) }
     ensures only { IfErr result (λ e. IsHeaderFault e) }
 {
     match header_of_places(&beginning.zero, &beginning.one) {
         Ok(header) => {
-            if beginning.length == image_length(header.limits) {
+            if beginning.length == header.layout().image_length(header.limits) {
                 Ok(header)
             } else {
                 Err(Refusal::WrongLength)
@@ -140,9 +143,9 @@ fn read_beginning<D: Disk>(disk: &mut D) -> Result<Option<Beginning>, DeviceFaul
 /// `WrongLength`, `NoHeader`, `BadHeader`: the first fault in the order of the definition. `Device`: a call failed.
 pub fn read_header<D: Disk>(disk: &mut D) -> Result<Header, Refusal>
     ensures found { IfOk result (λ h. D.honest disk.new → seen h ≡ header_of (D.now disk.old).bytes) }
-    ensures good { OnOk result (D.honest disk.new → header_fault layout_in_use (D.now disk.old).bytes ≡ None) }
+    ensures good { OnOk result (D.honest disk.new → header_fault (layout_in (D.now disk.old).bytes) (D.now disk.old).bytes ≡ None) }
     ensures fault { IfErr result (λ e. (e ≡ Device)
-        ⊎ (D.honest disk.new → header_fault layout_in_use (D.now disk.old).bytes ≡ Some e)) }
+        ⊎ (D.honest disk.new → header_fault (layout_in (D.now disk.old).bytes) (D.now disk.old).bytes ≡ Some e)) }
     ensures reads { D.honest disk.new → OnlyReads D.now D.past disk.old disk.new }
     ensures honest { D.honest disk.new → D.honest disk.old }
     ensures faults { Faults (λ e. (e ≡ Device) ⊎ IsHeaderFault e) result (D.failures disk.old) (D.failures disk.new) }
@@ -150,6 +153,52 @@ pub fn read_header<D: Disk>(disk: &mut D) -> Result<Header, Refusal>
 {
     match read_beginning(disk) {
         Ok(Some(beginning)) => header_of(&beginning),
+        Ok(None) => Err(Refusal::WrongLength),
+        Err(_) => Err(Refusal::Device),
+    }
+}
+
+// The header in force of an image that begins so, or why it isn't opened: a sound header of the first version is refused
+// before the length is compared.
+fn header_to_open(beginning: &Beginning) -> Result<Header, Refusal>
+    ensures found { IfOk result (λ h. seen h ≡ header_in (place_in_force beginning.now.zero beginning.now.one)) }
+    ensures range { IfOk result (λ h. (h.area ≤ 1) × (h.count ≤ LAST)) }
+    ensures young { IfOk result (λ h. (h.version == 1) ≡ false) }
+    ensures good { OnOk result (beginning_fault (layout_at beginning.now.zero beginning.now.one)
+        beginning.now.length beginning.now.zero beginning.now.one ≡ None) }
+    ensures fault { IfErr result (λ e. MayNotOpen beginning.now.length beginning.now.zero beginning.now.one e) }
+    ensures only { IfErr result (λ e. (e ≡ OldVersion) ⊎ IsHeaderFault e) }
+{
+    match header_of_places(&beginning.zero, &beginning.one) {
+        Ok(header) => {
+            if header.is_old() {
+                Err(Refusal::OldVersion)
+            } else if beginning.length == header.layout().image_length(header.limits) {
+                Ok(header)
+            } else {
+                Err(Refusal::WrongLength)
+            }
+        }
+        Err(refusal) => Err(refusal),
+    }
+}
+
+/// The header in force of an image that is to be opened: as [`read_header`], but that a sound header of the first
+/// version is refused `OldVersion`, whatever the file's length is.
+pub(crate) fn read_header_to_open<D: Disk>(disk: &mut D) -> Result<Header, Refusal>
+    ensures found { IfOk result (λ h. D.honest disk.new → seen h ≡ header_of (D.now disk.old).bytes) }
+    ensures young { IfOk result (λ h. (h.version == 1) ≡ false) }
+    ensures good { OnOk result
+        (D.honest disk.new → header_fault (layout_in (D.now disk.old).bytes) (D.now disk.old).bytes ≡ None) }
+    ensures fault { IfErr result (λ e. (e ≡ Device) ⊎ (D.honest disk.new → Opens (D.now disk.old).bytes (Err e))) }
+    ensures reads { D.honest disk.new → OnlyReads D.now D.past disk.old disk.new }
+    ensures honest { D.honest disk.new → D.honest disk.old }
+    ensures faults { Faults (λ e. (e ≡ Device) ⊎ (e ≡ OldVersion) ⊎ IsHeaderFault e) result
+        (D.failures disk.old) (D.failures disk.new) }
+    ensures range { IfOk result (λ h. (h.area ≤ 1) × (h.count ≤ LAST)) }
+{
+    match read_beginning(disk) {
+        Ok(Some(beginning)) => header_to_open(&beginning),
         Ok(None) => Err(Refusal::WrongLength),
         Err(_) => Err(Refusal::Device),
     }

@@ -49,8 +49,8 @@ fn node_at(records: &MemoryRecords<'_>, limits: Limits, n: usize) -> Option<Node
     }
 }
 
-// The window of an element; past the last element, one that is new.
-fn window_at(records: &MemoryRecords<'_>, element: u16) -> WindowRecord
+/// The window of an element; past the last element, one that is new.
+pub(crate) fn window_at(records: &MemoryRecords<'_>, element: u16) -> WindowRecord
     ensures window { result ≡ slice_index_or records.now.windows element new_window }
     ensures fits { element < length records.now.windows → FitsWindow layout_in_use result }
 {

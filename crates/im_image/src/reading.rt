@@ -2,22 +2,27 @@
 ghost use Rattle.std.specs.Prelude.{◌≡◌, ◌⊎◌, ◌+◌, ◌≤◌, false, None, Some, Ok, Err, IsTrue, IfOk, IfErr};
 ghost use Rattle.im_types.specs.declared.TheConstants.{LAST};
 ghost use Rattle.im_types.specs.declared.refusals.Refusal.TheVariants.{NoMemory, Device};
-ghost use Rattle.im_types.specs.Header.{header_of};
-ghost use Rattle.im_types.specs.Layout.{layout_in_use};
-ghost use Rattle.im_types.specs.Meaning.{Reads, accept_each};
+ghost use Rattle.im_types.specs.Header.{header_of, layout_in};
+ghost use Rattle.std.specs.List.{list_all};
+ghost use Rattle.im_types.specs.Layout.{layout_1, layout_in_use, layout_named, layout_of};
+ghost use Rattle.im_types.specs.Records.{has_room_for};
+ghost use Rattle.im_types.specs.Meaning.{Opens, Reads, accept_in, can_stand};
 ghost use Rattle.im_types.specs.Step.{is_accepted};
 ghost use Rattle.im_disk.specs.Moment.{Faults};
 ghost use Rattle.im_disk.specs.Since.{OnlyReads};
 ghost use Rattle.im_journal.specs.Holding.{Holds};
-ghost use Rattle.im_image.specs.Headers.{seen, MayRefuseImage};
+ghost use Rattle.im_image.specs.Headers.{seen, MayRefuseImage, MayRefuseOpening};
 ghost use Rattle.im_image.specs.Reading.{JournalOf, HasHeader, HasArea, AreUnder, AreParts, IsImageOf, reached};
 
 use crate::header::Header;
-use crate::in_force::read_header;
+use crate::in_force::{read_header, read_header_to_open};
 use crate::open_area::read_memory;
+use crate::pages::window_at;
 use im_disk::Disk;
 use im_journal::Journal;
 use im_memory::Memory;
+use im_records::has_room_for;
+use im_types::layout::Version;
 use im_types::{Command, Refusal};
 use std::alloc::Global;
 
@@ -55,17 +60,44 @@ fn accepts(memory: &Memory, command: &Command) -> bool
     }
 }
 
-/// Serves commands one after another, as long as the memory accepts each of them in its turn. Whether it accepts all;
-/// then it is the memory after all of them.
-pub fn replay(memory: &mut Memory, commands: &[Command]) -> bool
-    ensures yes { IsTrue result → accept_each memory.old.contents commands.now ≡ Some memory.new.contents }
-    ensures no { result ≡ false → accept_each memory.old.contents commands.now ≡ None }
+// Whether the first version has room for each window of a memory, and knows its entries.
+fn all_have_room(memory: &Memory) -> bool
+    ensures { result ≡ list_all (has_room_for layout_1) memory.now.contents.windows }
+{
+    let records = memory.records();
+    for element in 0..memory.elements() {
+        if !has_room_for(Version::One, &window_at(&records, element)) {
+            return false;
+        }
+    }
+    true
+}
+
+// Whether a memory can stand in an image of a version.
+fn can_stand(version: Version, memory: &Memory) -> bool
+    ensures { result ≡ can_stand (layout_of version) memory.now.contents }
+{
+    match version {
+        Version::One => all_have_room(memory),
+        Version::Two => true,
+    }
+}
+
+/// Serves commands one after another, as long as the memory accepts each of them in its turn and the next memory can
+/// stand in an image of the version. Whether all were served; then it is the memory after all of them.
+pub fn replay(version: Version, memory: &mut Memory, commands: &[Command]) -> bool
+    ensures yes { IsTrue result
+        → accept_in (layout_of version) memory.old.contents commands.now ≡ Some memory.new.contents }
+    ensures no { result ≡ false → accept_in (layout_of version) memory.old.contents commands.now ≡ None }
 {
     for command in commands {
         if !accepts(memory, command) {
             return false;
         }
         let _answer = memory.step(command);
+        if !can_stand(version, memory) {
+            return false;
+        }
     }
     true
 }
@@ -79,19 +111,27 @@ fn read_run<D: Disk>(
 ) -> Result<Image, Refusal>
     requires under { AreUnder (seen header) memory.contents }
     requires shown { D.honest disk.old → HasArea (seen header) memory.contents (D.now disk.old).bytes }
+    ensures same { IfOk result (λ i. i.header ≡ header) }
     ensures parts { IfOk result (λ i. AreParts i) }
     ensures means { IfOk result (λ i. D.honest disk.new → IsImageOf (D.now disk.old).bytes i) }
     ensures fault { IfErr result (λ e. (e ≡ NoMemory) ⊎ (e ≡ Device)
-        ⊎ (D.honest disk.new → Reads layout_in_use (D.now disk.old).bytes (Err e))) }
+        ⊎ (D.honest disk.new → Reads (layout_in (D.now disk.old).bytes) (D.now disk.old).bytes (Err e))) }
     ensures reads { D.honest disk.new → OnlyReads D.now D.past disk.old disk.new }
     ensures honest { D.honest disk.new → D.honest disk.old }
     ensures faults { Faults MayRefuseImage result (D.failures disk.old) (D.failures disk.new) }
 {
-    let (journal, commands) = match Journal::read_tail(alloc, disk, header.limits, header.count) {
+    let version = header.layout();
+    let (journal, commands) = match Journal::read_tail(
+        alloc,
+        disk,
+        version,
+        header.limits,
+        header.count,
+    ) {
         Ok(read) => read,
         Err(refusal) => return Err(refusal),
     };
-    if replay(&mut memory, &commands) {
+    if replay(version, &mut memory, &commands) {
         Ok(Image {
             header,
             journal,
@@ -106,10 +146,11 @@ fn read_run<D: Disk>(
 fn read_behind<D: Disk>(alloc: Global, disk: &mut D, header: Header) -> Result<Image, Refusal>
     requires range { (header.area ≤ 1) × (header.count ≤ LAST) }
     requires sound { D.honest disk.old → HasHeader (seen header) (D.now disk.old).bytes }
+    ensures same { IfOk result (λ i. i.header ≡ header) }
     ensures parts { IfOk result (λ i. AreParts i) }
     ensures means { IfOk result (λ i. D.honest disk.new → IsImageOf (D.now disk.old).bytes i) }
     ensures fault { IfErr result (λ e. (e ≡ NoMemory) ⊎ (e ≡ Device)
-        ⊎ (D.honest disk.new → Reads layout_in_use (D.now disk.old).bytes (Err e))) }
+        ⊎ (D.honest disk.new → Reads (layout_in (D.now disk.old).bytes) (D.now disk.old).bytes (Err e))) }
     ensures reads { D.honest disk.new → OnlyReads D.now D.past disk.old disk.new }
     ensures honest { D.honest disk.new → D.honest disk.old }
     ensures faults { Faults MayRefuseImage result (D.failures disk.old) (D.failures disk.new) }
@@ -131,9 +172,9 @@ pub fn read_image<D: Disk>(alloc: Global, disk: &mut D) -> Result<Image, Refusal
     ensures header { IfOk result (λ i. D.honest disk.new → seen i.header ≡ header_of (D.now disk.old).bytes) }
     ensures holds { IfOk result (λ i. D.honest disk.new → Holds i.journal (D.now disk.old).bytes) }
     ensures means { IfOk result (λ i. D.honest disk.new
-        → Reads layout_in_use (D.now disk.old).bytes (Ok (reached i))) }
+        → Reads (layout_in (D.now disk.old).bytes) (D.now disk.old).bytes (Ok (reached i))) }
     ensures fault { IfErr result (λ e. (e ≡ NoMemory) ⊎ (e ≡ Device)
-        ⊎ (D.honest disk.new → Reads layout_in_use (D.now disk.old).bytes (Err e))) }
+        ⊎ (D.honest disk.new → Reads (layout_in (D.now disk.old).bytes) (D.now disk.old).bytes (Err e))) }
     ensures reads { D.honest disk.new → OnlyReads D.now D.past disk.old disk.new }
     ensures honest { D.honest disk.new → D.honest disk.old }
     ensures faults { Faults MayRefuseImage result (D.failures disk.old) (D.failures disk.new) }
@@ -144,14 +185,35 @@ pub fn read_image<D: Disk>(alloc: Global, disk: &mut D) -> Result<Image, Refusal
     }
 }
 
+/// What an image of the layout in use means, or why it isn't opened: as [`read_image`], but that one whose header in
+/// force is a sound one of the first version is refused `OldVersion`, whatever else is wrong with it.
+pub fn read_to_open<D: Disk>(alloc: Global, disk: &mut D) -> Result<Image, Refusal>
+    ensures parts { IfOk result (λ i. AreParts i) }
+    ensures young { IfOk result (λ i. layout_named i.header.version ≡ layout_in_use) }
+    ensures header { IfOk result (λ i. D.honest disk.new → seen i.header ≡ header_of (D.now disk.old).bytes) }
+    ensures holds { IfOk result (λ i. D.honest disk.new → Holds i.journal (D.now disk.old).bytes) }
+    ensures means { IfOk result (λ i. D.honest disk.new
+        → Reads layout_in_use (D.now disk.old).bytes (Ok (reached i))) }
+    ensures fault { IfErr result (λ e. (e ≡ NoMemory) ⊎ (e ≡ Device)
+        ⊎ (D.honest disk.new → Opens (D.now disk.old).bytes (Err e))) }
+    ensures reads { D.honest disk.new → OnlyReads D.now D.past disk.old disk.new }
+    ensures honest { D.honest disk.new → D.honest disk.old }
+    ensures faults { Faults MayRefuseOpening result (D.failures disk.old) (D.failures disk.new) }
+{
+    match read_header_to_open(disk) {
+        Ok(header) => read_behind(alloc, disk, header),
+        Err(refusal) => Err(refusal),
+    }
+}
+
 /// Tells what an image means, or its first fault. It reads the bytes as they are now, and neither writes nor syncs. The
 /// refusals are those of [`read_image`].
 pub fn inspect<D: Disk>(alloc: Global, disk: &mut D) -> Result<Report, Refusal>
     ensures header { IfOk result (λ r. D.honest disk.new → seen r.header ≡ header_of (D.now disk.old).bytes) }
-    ensures means { IfOk result (λ r. D.honest disk.new → Reads layout_in_use (D.now disk.old).bytes
+    ensures means { IfOk result (λ r. D.honest disk.new → Reads (layout_in (D.now disk.old).bytes) (D.now disk.old).bytes
         (Ok (record { contents = r.memory.contents; count = r.header.count + r.run; room = r.room }))) }
     ensures fault { IfErr result (λ e. (e ≡ NoMemory) ⊎ (e ≡ Device)
-        ⊎ (D.honest disk.new → Reads layout_in_use (D.now disk.old).bytes (Err e))) }
+        ⊎ (D.honest disk.new → Reads (layout_in (D.now disk.old).bytes) (D.now disk.old).bytes (Err e))) }
     ensures reads { D.honest disk.new → OnlyReads D.now D.past disk.old disk.new }
     ensures honest { D.honest disk.new → D.honest disk.old }
     ensures faults { Faults MayRefuseImage result (D.failures disk.old) (D.failures disk.new) }

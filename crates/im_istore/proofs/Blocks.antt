@@ -6,9 +6,10 @@ use Rattle.std.proofs.lemmas.List.{length-replicate}
 use Rattle.im_types.specs.declared.operations.Block.{Block}
 use Rattle.im_types.specs.declared.operations.Kind.{Kind}
 use Rattle.im_types.specs.declared.operations.Waiter.{Waiter}
-use Rattle.im_types.specs.Place.{begins_free, fill, IsLeastFree}
+use Rattle.im_types.specs.Place.{begins_free, fill, change_each, IsLeastFree}
+use Rattle.im_types.specs.declared.cells.Cell.TheVariants.{Empty}
 use Rattle.im_cell.specs.declared.slots.Slot.{Slot}
-use Rattle.im_cell.specs.Slots.{slot_at, block_at, is_waiting, empty_slot, block_with_base, is_quiet_block, is_releasable, length_of, length_at}
+use Rattle.im_cell.specs.Slots.{slot_at, block_at, is_waiting, with_cell, empty_slot, block_with_base, is_quiet_block, is_releasable, length_of, length_at}
 use Rattle.im_arena.specs.Lists.{Shown}
 use Rattle.im_istore.specs.Agreement.{has_some, Agree}
 
@@ -80,6 +81,33 @@ pub Agree-released : (slots : List (Option Slot)) (arena : Shown) (base : ℕ) �
     → Agree (fill slots base (length_at slots base) None) arena
 Agree-released slots arena base e agree = Agree-filled slots arena base (length_at slots base) None refl (releasable-quiet slots base (block_at slots base) e) agree
 
+-- slots that nobody waits for are emptied
+emptied-quiet : (slots : List (Option Slot)) (base n : ℕ) → list_any is_waiting (take n (drop base slots)) ≡ false
+    → (a : ℕ) → is_waiting (slot_at (change_each (with_cell Empty) slots base n) a) ≡ is_waiting (slot_at slots a)
+emptied-quiet [] base n none a = refl
+emptied-quiet (old ∷ slots) zero zero none a = refl
+emptied-quiet (old ∷ slots) zero (suc n) none zero = quiet old ∙ sym (neither (is_waiting old) _ none).0
+  where
+    quiet : (o : Option Slot) → is_waiting (with_cell Empty o) ≡ false
+    quiet None = refl
+    quiet (Some slot) = refl
+emptied-quiet (old ∷ slots) zero (suc n) none (suc a) = emptied-quiet slots zero n (neither (is_waiting old) _ none).1 a
+emptied-quiet (old ∷ slots) (suc base) n none zero = refl
+emptied-quiet (old ∷ slots) (suc base) n none (suc a) = emptied-quiet slots base n none a
+
+length-change_each : (slots : List (Option Slot)) (base n : ℕ) → length (change_each (with_cell Empty) slots base n) ≡ length slots
+length-change_each [] base n = refl
+length-change_each (old ∷ slots) zero zero = refl
+length-change_each (old ∷ slots) zero (suc n) = ap suc (length-change_each slots zero n)
+length-change_each (old ∷ slots) (suc base) n = ap suc (length-change_each slots base n)
+
+pub Agree-emptied : (slots : List (Option Slot)) (arena : Shown) (base : ℕ) → is_releasable slots base ≡ true → Agree slots arena
+    → Agree (change_each (with_cell Empty) slots base (length_at slots base)) arena
+Agree-emptied slots arena base e agree = record {
+  lists = agree.lists ∙ sym (length-change_each slots base (length_at slots base));
+  each = λ a. emptied-quiet slots base (length_at slots base) (releasable-quiet slots base (block_at slots base) e) a ∙ agree.each a;
+}
+
 -- a call that makes a block, or doesn't
 pub Agree-place : (answer : Option ℕ) (slots new : List (Option Slot)) (arena : Shown) (n : ℕ) (kind : Kind) → IfSome answer (IsLeastFree slots n)
     → IfSome answer (λ base. new ≡ fill slots base n (empty_slot base n kind)) → (IsNone answer → new ≡ slots) → Agree slots arena → Agree new arena
@@ -91,3 +119,9 @@ pub Agree-release : (answer : Bool) (slots new : List (Option Slot)) (arena : Sh
     → (IsTrue answer → new ≡ fill slots base (length_at slots base) None) → (answer ≡ false → new ≡ slots) → Agree slots arena → Agree new arena
 Agree-release true slots new arena base done released same agree = subst (λ s. Agree s arena) (sym (released refl)) (Agree-released slots arena base (sym done) agree)
 Agree-release false slots new arena base done released same agree = subst (λ s. Agree s arena) (sym (same refl)) agree
+
+-- a call that resets a block, or doesn't
+pub Agree-reset : (answer : Bool) (slots new : List (Option Slot)) (arena : Shown) (base : ℕ) → answer ≡ is_releasable slots base
+    → (IsTrue answer → new ≡ change_each (with_cell Empty) slots base (length_at slots base)) → (answer ≡ false → new ≡ slots) → Agree slots arena → Agree new arena
+Agree-reset true slots new arena base done emptied same agree = subst (λ s. Agree s arena) (sym (emptied refl)) (Agree-emptied slots arena base (sym done) agree)
+Agree-reset false slots new arena base done emptied same agree = subst (λ s. Agree s arena) (sym (same refl)) agree

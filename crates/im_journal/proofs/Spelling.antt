@@ -6,7 +6,7 @@ use Rattle.im_types.proofs.Tests.{false_true}
 use Rattle.byteorder.specs.Endian.{little_number, little_bytes}
 use Rattle.byteorder.specs.Numbers.{little_number-reads_back}
 use Rattle.im_types.specs.declared.operations.Op.{Op}
-use Rattle.im_types.specs.declared.operations.Op.TheVariants.{Alloc, Release, Fetch, Store, Take, Put}
+use Rattle.im_types.specs.declared.operations.Op.TheVariants.{Alloc, Release, Reset, Fetch, Store, Take, Put}
 use Rattle.im_types.specs.declared.operations.Kind.TheVariants.{I, M}
 use Rattle.im_types.specs.declared.commands.Command.{Command}
 use Rattle.im_types.specs.declared.commands.Command.TheVariants.{Request as Asks, Confirm}
@@ -18,6 +18,7 @@ op_of-spelled : (op : Op) â†’ op_of (op_code op) (address_of op) (op_value op) â
 op_of-spelled (Alloc I n) = refl
 op_of-spelled (Alloc M n) = refl
 op_of-spelled (Release a) = refl
+op_of-spelled (Reset a) = refl
 op_of-spelled (Fetch a) = refl
 op_of-spelled (Store a v) = refl
 op_of-spelled (Take a) = refl

@@ -8,12 +8,17 @@ use Rattle.im_types.specs.declared.sizes.Limits.{Limits}
 use Rattle.im_types.specs.Bytes.{open_gate}
 use Rattle.im_types.specs.Slot.{is_open, sequence_of}
 use Rattle.im_types.specs.Journal.{Ring, slot, IsBoundary, Tail, tail}
-use Rattle.im_types.specs.Layout.{layout_in_use, ring_of}
+use Rattle.im_types.specs.declared.layout.Version.{Version}
+use Rattle.im_types.specs.Layout.{layout_in_use, layout_of, ring_of}
 use Rattle.im_disk.specs.Moment.{Moment, Left}
 use Rattle.im_disk.specs.Since.{SameBut, LeavesNow}
 use Rattle.im_journal.specs.Groups.{HasBodies, SameButGroup}
 
--- the ring of an image with these limits
+-- the ring of an image of a version with these limits
+abbrev pub ring_in : Version → Limits → Ring
+ring_in version limits = ring_of (layout_of version) (record { cells = limits.cells; elements = limits.elements; slots = limits.slots })
+
+-- the ring of an image of the layout in use with these limits
 abbrev pub ring_under : Limits → Ring
 ring_under limits = ring_of layout_in_use (record { cells = limits.cells; elements = limits.elements; slots = limits.slots })
 

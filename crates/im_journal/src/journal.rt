@@ -5,7 +5,7 @@ ghost use Rattle.std.specs.Prelude.{◌&&◌, nat_le, OnOk, IfOk, MatchResult};
 ghost use Rattle.im_types.specs.Journal.{IsBoundary, tail};
 ghost use Rattle.im_disk.specs.Moment.{Faults};
 ghost use Rattle.im_disk.specs.Since.{LeavesOnly, OnlyReads, Calls, CallsBy};
-ghost use Rattle.im_journal.specs.Holding.{ring_under, IsJournal, Holds, AllHold, AreClosed, IsTail};
+ghost use Rattle.im_journal.specs.Holding.{ring_in, ring_under, IsJournal, Holds, AllHold, AreClosed, IsTail};
 ghost use Rattle.im_journal.specs.Holding.{room_after, longer, MayAppend, Adds, IsFullBy};
 ghost use Rattle.im_journal.specs.Holding.{to_sweep, MaySweep, IsSwept, Sweeps};
 
@@ -14,7 +14,7 @@ use crate::gate::close_gates;
 use crate::group::write_bodies;
 use crate::ring::tail_in;
 use im_disk::{Disk, open_gate};
-use im_types::layout::journal_at;
+use im_types::layout::{Version, journal_at};
 use im_types::{Command, LAST, Limits, MAX_GROUP, Refusal};
 use std::alloc::Global;
 use std::cmp::min;
@@ -98,25 +98,26 @@ impl Journal {
     pub fn read_tail<D: Disk>(
         alloc: Global,
         disk: &mut D,
+        version: Version,
         limits: Limits,
         from: u64,
     ) -> Result<(Journal, Vec<Command>), Refusal>
         requires last { from ≤ LAST }
         requires inside { D.honest disk.old
-            → (ring_under limits).base + 64 * limits.slots ≤ length (D.now disk.old).bytes }
+            → (ring_in version limits).base + 64 * limits.slots ≤ length (D.now disk.old).bytes }
         ensures tail { MatchResult result (λ r. D.honest disk.new
-            → IsTail (ring_under limits) from r.0 r.1.items (D.now disk.old).bytes)
+            → IsTail (ring_in version limits) from r.0 r.1.items (D.now disk.old).bytes)
             (λ e. e ≡ Refusal.BadRecord → D.honest disk.new
-            → tail (ring_under limits) from (D.now disk.old).bytes ≡ None) }
+            → tail (ring_in version limits) from (D.now disk.old).bytes ≡ None) }
         ensures journal { IfOk result
-            (λ r. (r.0.ring ≡ ring_under limits) × (r.0.first ≡ from) × (r.0.count ≡ from + length r.1.items)) }
+            (λ r. (r.0.ring ≡ ring_in version limits) × (r.0.first ≡ from) × (r.0.count ≡ from + length r.1.items)) }
         ensures faults { Faults (λ e. (e ≡ Refusal.BadRecord) ⊎ (e ≡ Refusal.NoMemory) ⊎ (e ≡ Refusal.Device)) result
             (D.failures disk.old) (D.failures disk.new) }
         ensures reads { D.honest disk.new → OnlyReads D.now D.past disk.old disk.new }
         ensures calls { OnOk result (D.honest disk.new → Calls D.past disk.old disk.new 1) }
         ensures honest { D.honest disk.new → D.honest disk.old }
     {
-        let base = journal_at(limits);
+        let base = version.journal_at(limits);
         let slots = limits.slots as usize;
         let ring = match read_bytes(alloc, disk, base, 64 * slots) {
             Ok(ring) => ring,

@@ -13,10 +13,11 @@ use Rattle.im_types.specs.declared.operations.Kept.{Kept}
 use Rattle.im_types.specs.declared.operations.Entry.TheVariants.{Waiting}
 use Rattle.im_types.specs.Contents.{CellState, Empty, Held, held_at, waiters_of, waiters_in, waiters_at}
 use Rattle.im_types.specs.Window.{same_op, is_waiting}
-use Rattle.im_types.specs.Place.{fill}
+use Rattle.im_types.specs.Place.{fill, change_each}
+use Rattle.im_types.specs.Act.{emptied}
 use Rattle.im_laws.proofs.OpLemmas.{same_op-self, same_op-equal}
 use Rattle.im_laws.proofs.Tests.{and_both, and_false, eq_by_test, test-self, true_or_false, true_false}
-use Rattle.im_laws.proofs.PlaceLemmas.{get_or-fill}
+use Rattle.im_laws.proofs.PlaceLemmas.{get_or-fill, get_or-change_each}
 use Rattle.im_types.specs.Agreement.{same_waiter, times, awaiting, waits_for, waits_in, address_of, WaitersAgree}
 
 -- one, if the test is passed
@@ -284,3 +285,27 @@ release-agrees cells kept agrees base n nobody = record {
   where
     one_zero : one_if true ≡ zero → ⊥
     one_zero e = let h : one_if true ≡ zero = e in omega arith
+
+-- the cells of a block are empty, at which nobody waited
+pub reset-agrees : (cells : List (Option Held)) (kept : Waiter → Option Kept) → WaitersAgree cells kept → (base n : ℕ)
+    → ((a : ℕ) → base ≤ a → a < base + n → waiters_at cells a ≡ [])
+    → WaitersAgree (change_each emptied cells base n) kept
+reset-agrees cells kept agrees base n nobody = record {
+  listed = λ who a. ⊎_elim
+      (λ same. subst (λ c. times who (waiters_in c) ≡ one_if (waits_in a c (kept who))) (sym same) (agrees.listed who a))
+      (λ h. subst (λ c. times who (waiters_in c) ≡ one_if (waits_in a c (kept who))) (sym h.2)
+      (ap (times who) (none_left (held_at cells a)) ∙ sym (ap (times who) (nobody a h.0 h.1)) ∙ agrees.listed who a ∙ ap one_if (sym (same_wait a (held_at cells a) (kept who)))))
+      (get_or-change_each emptied cells base n a);
+  somewhere = λ who k is waiting. ⊎_elim
+      (λ same. ap (λ c. waits_in (address_of k.op) c (Some k)) same ∙ agrees.somewhere who k is waiting)
+      (λ h. ap (λ c. waits_in (address_of k.op) c (Some k)) h.2 ∙ same_wait (address_of k.op) (held_at cells (address_of k.op)) (Some k) ∙ agrees.somewhere who k is waiting)
+      (get_or-change_each emptied cells base n (address_of k.op));
+}
+  where
+    none_left : (o : Option Held) → waiters_in (emptied o) ≡ []
+    none_left None = refl
+    none_left (Some held) = refl
+
+    same_wait : (a : ℕ) (o : Option Held) (k : Option Kept) → waits_in a (emptied o) k ≡ waits_in a o k
+    same_wait a None k = refl
+    same_wait a (Some held) k = refl

@@ -1,23 +1,23 @@
--- What an allocation and a release come to.
+-- What an allocation, a release and a reset come to.
 use Rattle.std.proofs.Common.{◌≡◌, ℕ, ◌+◌, ◌<◌, ◌≤◌, List, [], length, take, drop, Some, None, Bool, true, false, cond, refl, sym, ap, ◌∙◌, arith}
 use Rattle.std.specs.Prelude.{Option, ◌==◌, option_map}
 use Rattle.std.specs.List.{list_any}
 use Rattle.std.proofs.lemmas.Bool.Decides.{nat_tests}
-use Rattle.im_types.specs.declared.operations.Op.TheVariants.{Alloc, Release}
+use Rattle.im_types.specs.declared.operations.Op.TheVariants.{Alloc, Release, Reset}
 use Rattle.im_types.specs.declared.operations.Kind.{Kind}
 use Rattle.im_types.specs.declared.operations.Reply.{Reply}
-use Rattle.im_types.specs.declared.operations.Reply.TheVariants.{Base, NoSpace, BadLength, Released, NoBlock, StillWaiting}
+use Rattle.im_types.specs.declared.operations.Reply.TheVariants.{Base, NoSpace, BadLength, Released, NoBlock, StillWaiting, Cleared}
 use Rattle.im_types.specs.declared.operations.Entry.TheVariants.{Answered}
 use Rattle.im_types.specs.declared.operations.Block.{Block}
 use Rattle.im_types.specs.declared.commands.Request.{Request}
 use Rattle.im_types.specs.Contents.{Held, Contents, held_at, waiters_at, block_at, HasBlocks}
-use Rattle.im_types.specs.Place.{is_free, place, fill, IsLeastFree}
-use Rattle.im_types.specs.Act.{only_tells, new_cell, allocate, allocate_at, release_block, block_with_base, is_waiting_cell}
+use Rattle.im_types.specs.Place.{is_free, place, fill, change_each, IsLeastFree}
+use Rattle.im_types.specs.Act.{only_tells, new_cell, allocate, allocate_at, unless_waited_for, release_block, emptied, reset_block, block_with_base, is_waiting_cell}
 use Rattle.im_types.specs.Step.{Stepped}
 use Rattle.im_laws.specs.Cells.{empty_cell}
 use Rattle.im_laws.specs.Requests.{after_request, IsServed}
-use Rattle.im_laws.proofs.Tests.{some_same}
-use Rattle.im_laws.proofs.PlaceLemmas.{place-least, place-none}
+use Rattle.im_laws.proofs.Tests.{some_none, some_same}
+use Rattle.im_laws.proofs.PlaceLemmas.{get_or-change_each_in, place-least, place-none}
 use Rattle.im_laws.proofs.BlockLemmas.{get_or-fill_in, place-fits}
 use Rattle.im_laws.proofs.StepAgrees.{nobody_waits}
 use Rattle.im_laws.proofs.ResumeLemmas.{new-served, served-entry}
@@ -98,76 +98,111 @@ module _ (m : Contents) (r : Request) (kind : Kind) (n : ℕ) where
   pub allocation-no_space : (base : ℕ) → IsServed m r (Alloc kind n) (Answered NoSpace) → is_free m.cells base n ≡ false
   allocation-no_space base served = allocate-no_space m.cells kind n (served-entry m r (Alloc kind n) (Answered NoSpace) served) base
 
--- a block that was released
-pub record IsReleased (cells : List (Option Held)) (a : ℕ) : Type 0 where
+-- a block whose cells became these
+pub record IsLeft (cells : List (Option Held)) (a : ℕ) (after : Block → List (Option Held)) (reply : Reply) : Type 0 where
   pub block : Block
   pub there : block_at cells a ≡ Some block
   pub nobody : list_any is_waiting_cell (take block.length (drop a cells)) ≡ false
-  pub gone : (release_block cells a (block_with_base a (held_at cells a))).cells ≡ fill cells a block.length None
+  pub left : (unless_waited_for after reply cells a (block_with_base a (held_at cells a))).cells ≡ after block
 
-release-released : (cells : List (Option Held)) (a : ℕ)
-    → (release_block cells a (block_with_base a (held_at cells a))).entry ≡ Answered Released → IsReleased cells a
-release-released cells a = by_held (held_at cells a) refl
+left-by : (cells : List (Option Held)) (a : ℕ) (after : Block → List (Option Held)) (reply : Reply) → (NoBlock ≡ reply → ⊥) → (StillWaiting ≡ reply → ⊥)
+    → (unless_waited_for after reply cells a (block_with_base a (held_at cells a))).entry ≡ Answered reply → IsLeft cells a after reply
+left-by cells a after reply no_block still_waiting = by_held (held_at cells a) refl
   where
-    not_told : (reply : Reply) → (reply ≡ Released → ⊥) → Answered reply ≡ Answered Released → ⊥
-    not_told reply other e = other (same_reply reply Released e)
-
-    no_block : NoBlock ≡ Released → ⊥
-    no_block e = cc
-
-    still_waiting : StillWaiting ≡ Released → ⊥
-    still_waiting e = cc
+    not_told : (told : Reply) → (told ≡ reply → ⊥) → Answered told ≡ Answered reply → ⊥
+    not_told told other e = other (same_reply told reply e)
 
     by_waiting : (held : Held) → held_at cells a ≡ Some held → block_with_base a (held_at cells a) ≡ Some held.block → (t : Bool)
         → list_any is_waiting_cell (take held.block.length (drop a cells)) ≡ t
-        → (cond t (only_tells cells StillWaiting) (record { cells = fill cells a held.block.length None; entry = Answered Released; resumed = [] })).entry ≡ Answered Released
-        → IsReleased cells a
+        → (cond t (only_tells cells StillWaiting) (record { cells = after held.block; entry = Answered reply; resumed = [] })).entry ≡ Answered reply
+        → IsLeft cells a after reply
     by_waiting held at is true t e = absurd (not_told StillWaiting still_waiting e)
     by_waiting held at is false t e = record {
       block = held.block;
       there = ap (option_map (λ (held : Held). held.block)) at;
       nobody = t;
-      gone = ap (λ o. (release_block cells a o).cells) is
-          ∙ ap (λ b. (cond b (only_tells cells StillWaiting) (record { cells = fill cells a held.block.length None; entry = Answered Released; resumed = [] })).cells) t;
+      left = ap (λ o. (unless_waited_for after reply cells a o).cells) is
+          ∙ ap (λ b. (cond b (only_tells cells StillWaiting) (record { cells = after held.block; entry = Answered reply; resumed = [] })).cells) t;
     }
 
     by_base : (held : Held) → held_at cells a ≡ Some held → (t : Bool) → (held.block.base == a) ≡ t
-        → (release_block cells a (cond t (Some held.block) None)).entry ≡ Answered Released → IsReleased cells a
+        → (unless_waited_for after reply cells a (cond t (Some held.block) None)).entry ≡ Answered reply → IsLeft cells a after reply
     by_base held at true t e =
         by_waiting held at (ap (block_with_base a) at ∙ ap (λ b. cond b (Some held.block) None) t) (list_any is_waiting_cell (take held.block.length (drop a cells))) refl e
     by_base held at false t e = absurd (not_told NoBlock no_block e)
 
-    by_held : (o : Option Held) → held_at cells a ≡ o → (release_block cells a (block_with_base a o)).entry ≡ Answered Released → IsReleased cells a
+    by_held : (o : Option Held) → held_at cells a ≡ o → (unless_waited_for after reply cells a (block_with_base a o)).entry ≡ Answered reply → IsLeft cells a after reply
     by_held None at e = absurd (not_told NoBlock no_block e)
     by_held (Some held) at e = by_base held at (held.block.base == a) refl e
 
--- a new request to release that is told so, and a cell of the block
-module _ (m : Contents) (r : Request) (a : ℕ) (blocks : HasBlocks m.cells) (served : IsServed m r (Release a) (Answered Released))
-    (b : ℕ) (block : Block) (here : block_at m.cells b ≡ Some block) (base : block.base ≡ a) where
-  released : IsReleased m.cells a
-  released = release-released m.cells a (served-entry m r (Release a) (Answered Released) served)
-
-  same_block : released.block ≡ block
+-- a cell of a block whose cells became others
+module _ (cells : List (Option Held)) (a : ℕ) (after : Block → List (Option Held)) (reply : Reply) (blocks : HasBlocks cells) (is_left : IsLeft cells a after reply)
+    (b : ℕ) (block : Block) (here : block_at cells b ≡ Some block) (base : block.base ≡ a) where
+  same_block : is_left.block ≡ block
   same_block =
       let within = blocks.within b block here in
       let low = within.0 in
       let high = within.1 in
-      some_same released.block block (sym released.there ∙ blocks.whole b block here a (omega arith) (omega arith))
+      some_same is_left.block block (sym is_left.there ∙ blocks.whole b block here a (omega arith) (omega arith))
 
-  in_range : (a ≤ b) × (b < a + released.block.length) × (b < length m.cells)
+  in_range : (a ≤ b) × (b < a + is_left.block.length) × (b < length cells)
   in_range =
       let within = blocks.within b block here in
       let low = within.0 in
       let high = within.1 in
       let top = within.2 in
-      let long : released.block.length ≡ block.length = ap (λ (block : Block). block.length) same_block in
+      let long : is_left.block.length ≡ block.length = ap (λ (block : Block). block.length) same_block in
       (omega arith, omega arith, omega arith)
+
+  nobody_left : waiters_at cells b ≡ []
+  nobody_left = nobody_waits cells a is_left.block.length is_left.nobody b in_range.0 in_range.1
+
+-- a new request to release that is told so, and a cell of the block
+module _ (m : Contents) (r : Request) (a : ℕ) (blocks : HasBlocks m.cells) (served : IsServed m r (Release a) (Answered Released))
+    (b : ℕ) (block : Block) (here : block_at m.cells b ≡ Some block) (base : block.base ≡ a) where
+  no_block : NoBlock ≡ Released → ⊥
+  no_block e = cc
+
+  still_waiting : StillWaiting ≡ Released → ⊥
+  still_waiting e = cc
+
+  released : IsLeft m.cells a (λ block. fill m.cells a block.length None) Released
+  released = left-by m.cells a (λ block. fill m.cells a block.length None) Released no_block still_waiting (served-entry m r (Release a) (Answered Released) served)
 
   pub release-frees : held_at (after_request m r).cells b ≡ None
   release-frees =
+      let range = in_range m.cells a _ Released blocks released b block here base in
       ap (λ (s : Stepped). held_at s.contents.cells b) (new-served m r (Release a) served.is_new)
-      ∙ ap (λ cells. held_at cells b) released.gone
-      ∙ get_or-fill_in m.cells a released.block.length None b in_range.0 in_range.1 in_range.2
+      ∙ ap (λ cells. held_at cells b) released.left
+      ∙ get_or-fill_in m.cells a released.block.length None b range.0 range.1 range.2
 
   pub release-nobody : waiters_at m.cells b ≡ []
-  release-nobody = nobody_waits m.cells a released.block.length released.nobody b in_range.0 in_range.1
+  release-nobody = nobody_left m.cells a _ Released blocks released b block here base
+
+-- a new request to reset that is told so, and a cell of the block
+module _ (m : Contents) (r : Request) (a : ℕ) (blocks : HasBlocks m.cells) (served : IsServed m r (Reset a) (Answered Cleared))
+    (b : ℕ) (block : Block) (here : block_at m.cells b ≡ Some block) (base : block.base ≡ a) where
+  none_to_clear : NoBlock ≡ Cleared → ⊥
+  none_to_clear e = cc
+
+  waited_for : StillWaiting ≡ Cleared → ⊥
+  waited_for e = cc
+
+  cleared : IsLeft m.cells a (λ block. change_each emptied m.cells a block.length) Cleared
+  cleared = left-by m.cells a (λ block. change_each emptied m.cells a block.length) Cleared none_to_clear waited_for (served-entry m r (Reset a) (Answered Cleared) served)
+
+  pub reset-empties : held_at (after_request m r).cells b ≡ Some (empty_cell block)
+  reset-empties =
+      let range = in_range m.cells a _ Cleared blocks cleared b block here base in
+      ap (λ (s : Stepped). held_at s.contents.cells b) (new-served m r (Reset a) served.is_new)
+      ∙ ap (λ cells. held_at cells b) cleared.left
+      ∙ get_or-change_each_in emptied m.cells a cleared.block.length b range.0 range.1 range.2
+      ∙ by_held (held_at m.cells b) refl
+    where
+      by_held : (o : Option Held) → held_at m.cells b ≡ o → emptied (held_at m.cells b) ≡ Some (empty_cell block)
+      by_held None at = absurd (some_none block (sym here ∙ ap (option_map (λ (held : Held). held.block)) at))
+      by_held (Some held) at =
+          ap emptied at ∙ ap (λ block. Some (empty_cell block)) (some_same held.block block (sym (ap (option_map (λ (held : Held). held.block)) at) ∙ here))
+
+  pub reset-nobody : waiters_at m.cells b ≡ []
+  reset-nobody = nobody_left m.cells a _ Cleared blocks cleared b block here base

@@ -4,22 +4,23 @@ use Rattle.std.specs.Prelude.{◌==◌}
 use Rattle.std.specs.List.{list_any}
 use Rattle.std.proofs.lemmas.Bool.Decides.{nat_tests}
 use Rattle.im_types.specs.declared.operations.Op.{Op}
-use Rattle.im_types.specs.declared.operations.Op.TheVariants.{Alloc, Release, Fetch, Store, Take, Put}
+use Rattle.im_types.specs.declared.operations.Op.TheVariants.{Alloc, Release, Reset, Fetch, Store, Take, Put}
 use Rattle.im_types.specs.declared.operations.Kind.{Kind}
 use Rattle.im_types.specs.declared.operations.Kind.TheVariants.{I, M}
 use Rattle.im_types.specs.declared.operations.Waiter.{Waiter}
 use Rattle.im_types.specs.declared.operations.Entry.TheVariants.{Answered}
-use Rattle.im_types.specs.declared.operations.Reply.TheVariants.{BadLength, WrongKind, StillWaiting, Released}
+use Rattle.im_types.specs.declared.operations.Reply.{Reply}
+use Rattle.im_types.specs.declared.operations.Reply.TheVariants.{BadLength, WrongKind, StillWaiting, Released, Cleared}
 use Rattle.im_types.specs.Contents.{Empty}
-use Rattle.im_types.specs.Act.{Served, only_tells, fetch, store, take_from, put, same_kind, serve_cell, at_cell, allocate, allocate_at, release_block, block_with_base, is_waiting_cell, act}
+use Rattle.im_types.specs.Act.{Served, only_tells, fetch, store, take_from, put, same_kind, serve_cell, at_cell, allocate, allocate_at, unless_waited_for, release_block, emptied, reset_block, block_with_base, is_waiting_cell, act}
 use Rattle.std.proofs.Common.{◌≡◌, ⊎_elim, ℕ, zero, suc, ◌+◌, ◌<◌, ◌≤◌, List, [], ◌∷◌, length, get_or, set, Some, None, Bool, true, false, cond, refl, sym, ap, ◌∙◌, subst, arith, length-set}
 use Rattle.std.specs.Prelude.{Option, option_map}
 use Rattle.im_types.specs.declared.operations.Block.{Block}
 use Rattle.im_types.specs.Contents.{CellState, Held, held_at, block_at, HasBlocks}
-use Rattle.im_types.specs.Place.{begins_free, place, fill}
+use Rattle.im_types.specs.Place.{begins_free, place, fill, change_each}
 use Rattle.im_laws.proofs.Tests.{some_none, some_same}
 use Rattle.im_laws.specs.Blocks.{LiesIn}
-use Rattle.im_laws.proofs.PlaceLemmas.{get_or-fill, place-free}
+use Rattle.im_laws.proofs.PlaceLemmas.{get_or-fill, get_or-change_each, place-free}
 use Rattle.im_laws.proofs.AgreementLemmas.{held_at-set, held_at-within}
 
 -- the same blocks at the same addresses
@@ -132,6 +133,23 @@ HasBlocks-release cells block at blocks = record {
     len : length (fill cells block.base block.length None) ≡ length cells
     len = length-fill cells block.base block.length None
 
+-- a block's cells are empty
+pub length-change_each : {X : Type 0} (change : Option X → Option X) (xs : List (Option X)) (base n : ℕ) → length (change_each change xs base n) ≡ length xs
+length-change_each change [] base n = refl
+length-change_each change (y ∷ xs) zero zero = refl
+length-change_each change (y ∷ xs) zero (suc n) = ap suc (length-change_each change xs zero n)
+length-change_each change (y ∷ xs) (suc base) n = ap suc (length-change_each change xs base n)
+
+pub HasBlocks-emptied : (cells : List (Option Held)) (base n : ℕ) → HasBlocks cells → HasBlocks (change_each emptied cells base n)
+HasBlocks-emptied cells base n blocks = HasBlocks-same cells _ same (length-change_each emptied cells base n) blocks
+  where
+    own : (o : Option Held) → blocks_of (emptied o) ≡ blocks_of o
+    own None = refl
+    own (Some held) = refl
+
+    same : (b : ℕ) → block_at (change_each emptied cells base n) b ≡ block_at cells b
+    same b = ⊎_elim (λ h. ap blocks_of h) (λ h. ap blocks_of h.2 ∙ own (held_at cells b)) (get_or-change_each emptied cells base n b)
+
 -- each operation
 module _ (cells : List (Option Held)) (blocks : HasBlocks cells) where
   at_cell-blocks : (kind : Kind) (f : CellState → Served) (a : ℕ) → HasBlocks (at_cell kind f cells a (held_at cells a)).cells
@@ -157,29 +175,39 @@ module _ (cells : List (Option Held)) (blocks : HasBlocks cells) where
       by_test true = blocks
       by_test false = by_place (place n cells) refl
 
+  -- of a block that isn't waited for
+  module _ (after : ℕ → Block → List (Option Held)) (reply : Reply)
+      (left : (a : ℕ) (held : Held) → held_at cells a ≡ Some held → held.block.base ≡ a → HasBlocks (after a held.block)) where
+    whole-blocks : (a : ℕ) → HasBlocks (unless_waited_for (after a) reply cells a (block_with_base a (held_at cells a))).cells
+    whole-blocks a = by_held (held_at cells a) refl
+      where
+        by_waiting : (held : Held) → held_at cells a ≡ Some held → held.block.base ≡ a → (b : Bool)
+            → HasBlocks (cond b (only_tells cells StillWaiting) (record { cells = after a held.block; entry = Answered reply; resumed = [] })).cells
+        by_waiting held at e true = blocks
+        by_waiting held at e false = left a held at e
+
+        by_base : (held : Held) → held_at cells a ≡ Some held → (b : Bool) → (held.block.base == a) ≡ b
+            → HasBlocks (unless_waited_for (after a) reply cells a (cond b (Some held.block) None)).cells
+        by_base held at true e = let same : held.block.base ≡ a = grind (arith, nat_tests) in by_waiting held at same (list_any is_waiting_cell (take held.block.length (drop a cells)))
+        by_base held at false e = blocks
+
+        by_held : (o : Option Held) → held_at cells a ≡ o → HasBlocks (unless_waited_for (after a) reply cells a (block_with_base a o)).cells
+        by_held None at = blocks
+        by_held (Some held) at = by_base held at (held.block.base == a) refl
+
   release-blocks : (a : ℕ) → HasBlocks (release_block cells a (block_with_base a (held_at cells a))).cells
-  release-blocks a = by_held (held_at cells a) refl
+  release-blocks a = whole-blocks (λ a block. fill cells a block.length None) Released gone a
     where
-      gone : (held : Held) → held_at cells a ≡ Some held → held.block.base ≡ a → HasBlocks (fill cells a held.block.length None)
-      gone held at e = subst (λ k. HasBlocks (fill cells k held.block.length None)) e (HasBlocks-release cells held.block (ap (block_at cells) e ∙ ap blocks_of at) blocks)
+      gone : (a : ℕ) (held : Held) → held_at cells a ≡ Some held → held.block.base ≡ a → HasBlocks (fill cells a held.block.length None)
+      gone a held at e = subst (λ k. HasBlocks (fill cells k held.block.length None)) e (HasBlocks-release cells held.block (ap (block_at cells) e ∙ ap blocks_of at) blocks)
 
-      by_waiting : (held : Held) → held_at cells a ≡ Some held → held.block.base ≡ a → (b : Bool)
-          → HasBlocks (cond b (only_tells cells StillWaiting) (record { cells = fill cells a held.block.length None; entry = Answered Released; resumed = [] })).cells
-      by_waiting held at e true = blocks
-      by_waiting held at e false = gone held at e
-
-      by_base : (held : Held) → held_at cells a ≡ Some held → (b : Bool) → (held.block.base == a) ≡ b
-          → HasBlocks (release_block cells a (cond b (Some held.block) None)).cells
-      by_base held at true e = let same : held.block.base ≡ a = grind (arith, nat_tests) in by_waiting held at same (list_any is_waiting_cell (take held.block.length (drop a cells)))
-      by_base held at false e = blocks
-
-      by_held : (o : Option Held) → held_at cells a ≡ o → HasBlocks (release_block cells a (block_with_base a o)).cells
-      by_held None at = blocks
-      by_held (Some held) at = by_base held at (held.block.base == a) refl
+  reset-blocks : (a : ℕ) → HasBlocks (reset_block cells a (block_with_base a (held_at cells a))).cells
+  reset-blocks a = whole-blocks (λ a block. change_each emptied cells a block.length) Cleared (λ a held at e. HasBlocks-emptied cells a held.block.length blocks) a
 
   pub act-blocks : (who : Waiter) (op : Op) → HasBlocks (act cells who op).cells
   act-blocks who (Alloc kind n) = allocate-blocks kind n
   act-blocks who (Release a) = release-blocks a
+  act-blocks who (Reset a) = reset-blocks a
   act-blocks who (Fetch a) = at_cell-blocks I (fetch who) a
   act-blocks who (Store a v) = at_cell-blocks I (store v) a
   act-blocks who (Take a) = at_cell-blocks M (take_from who) a
@@ -206,18 +234,20 @@ module _ (cells : List (Option Held)) where
       by_test true = refl
       by_test false = by_place (place n cells)
 
-  length-release_block : (a : ℕ) (o : Option Block) → length (release_block cells a o).cells ≡ length cells
-  length-release_block a None = refl
-  length-release_block a (Some block) = by_test (list_any is_waiting_cell (take block.length (drop a cells)))
+  length-whole_block : (after : Block → List (Option Held)) (reply : Reply) → ((block : Block) → length (after block) ≡ length cells) → (a : ℕ) (o : Option Block)
+      → length (unless_waited_for after reply cells a o).cells ≡ length cells
+  length-whole_block after reply same a None = refl
+  length-whole_block after reply same a (Some block) = by_test (list_any is_waiting_cell (take block.length (drop a cells)))
     where
       by_test : (b : Bool)
-          → length (cond b (only_tells cells StillWaiting) (record { cells = fill cells a block.length None; entry = Answered Released; resumed = [] })).cells ≡ length cells
+          → length (cond b (only_tells cells StillWaiting) (record { cells = after block; entry = Answered reply; resumed = [] })).cells ≡ length cells
       by_test true = refl
-      by_test false = length-fill cells a block.length None
+      by_test false = same block
 
   pub length-act : (who : Waiter) (op : Op) → length (act cells who op).cells ≡ length cells
   length-act who (Alloc kind n) = length-allocate kind n
-  length-act who (Release a) = length-release_block a (block_with_base a (held_at cells a))
+  length-act who (Release a) = length-whole_block (λ block. fill cells a block.length None) Released (λ block. length-fill cells a block.length None) a (block_with_base a (held_at cells a))
+  length-act who (Reset a) = length-whole_block (λ block. change_each emptied cells a block.length) Cleared (λ block. length-change_each emptied cells a block.length) a (block_with_base a (held_at cells a))
   length-act who (Fetch a) = length-at_cell I (fetch who) a (held_at cells a)
   length-act who (Store a v) = length-at_cell I (store v) a (held_at cells a)
   length-act who (Take a) = length-at_cell M (take_from who) a (held_at cells a)

@@ -1,13 +1,14 @@
 -- Which cells an operation leaves.
-use Rattle.std.proofs.Common.{◌≡◌, ◌≢◌, ⊎_elim, ℕ, List, [], take, drop, Some, None, Ok, Err, Bool, true, false, cond, refl, ap, arith}
+use Rattle.std.proofs.Common.{◌≡◌, ◌≢◌, ◌⊎◌, inl, inr, ◌+◌, ◌<◌, ◌≤◌, ⊎_elim, ℕ, List, [], take, drop, Some, None, Ok, Err, Bool, true, false, cond, refl, ap, arith}
 use Rattle.std.specs.Prelude.{Option, Result, ◌==◌, option_map}
 use Rattle.std.specs.List.{list_any}
 use Rattle.std.proofs.lemmas.Bool.Decides.{nat_tests}
 use Rattle.im_types.specs.declared.operations.Op.{Op}
-use Rattle.im_types.specs.declared.operations.Op.TheVariants.{Alloc, Release, Fetch, Store, Take, Put}
+use Rattle.im_types.specs.declared.operations.Op.TheVariants.{Alloc, Release, Reset, Fetch, Store, Take, Put}
 use Rattle.im_types.specs.declared.operations.Kind.{Kind}
 use Rattle.im_types.specs.declared.operations.Kind.TheVariants.{I, M}
-use Rattle.im_types.specs.declared.operations.Reply.TheVariants.{BadLength, WrongKind, Released, StillWaiting}
+use Rattle.im_types.specs.declared.operations.Reply.{Reply}
+use Rattle.im_types.specs.declared.operations.Reply.TheVariants.{BadLength, WrongKind, Released, StillWaiting, Cleared}
 use Rattle.im_types.specs.declared.operations.Entry.TheVariants.{Answered}
 use Rattle.im_types.specs.declared.operations.Waiter.{Waiter}
 use Rattle.im_types.specs.declared.operations.Block.{Block}
@@ -17,12 +18,12 @@ use Rattle.im_types.specs.declared.commands.Judged.{Judged}
 use Rattle.im_types.specs.declared.commands.Judged.TheVariants.{Fresh, Repeat}
 use Rattle.im_types.specs.declared.refusals.Refusal.{Refusal}
 use Rattle.im_types.specs.Contents.{CellState, Held, Contents, held_at, block_at, HasBlocks}
-use Rattle.im_types.specs.Place.{place, fill}
-use Rattle.im_types.specs.Act.{Served, only_tells, fetch, store, take_from, put, same_kind, serve_cell, at_cell, new_cell, allocate, allocate_at, release_block, block_with_base, is_waiting_cell, act}
+use Rattle.im_types.specs.Place.{place, fill, change_each}
+use Rattle.im_types.specs.Act.{Served, only_tells, fetch, store, take_from, put, same_kind, serve_cell, at_cell, new_cell, allocate, allocate_at, unless_waited_for, release_block, emptied, reset_block, block_with_base, is_waiting_cell, act}
 use Rattle.im_types.specs.Window.{judge}
 use Rattle.im_types.specs.Step.{asker, step, step_request}
 use Rattle.im_laws.specs.Cells.{MayChange}
-use Rattle.im_laws.proofs.PlaceLemmas.{get_or-fill, place-free}
+use Rattle.im_laws.proofs.PlaceLemmas.{get_or-fill, get_or-change_each, place-free}
 use Rattle.im_laws.proofs.AgreementLemmas.{held_at-set, held_at-within}
 
 module _ (cells : List (Option Held)) (b : ℕ) where
@@ -50,32 +51,44 @@ module _ (cells : List (Option Held)) (b : ℕ) where
       by_test true = refl
       by_test false = by_place (place n cells) refl
 
+  module _ (after : ℕ → Block → List (Option Held)) (reply : Reply)
+      (left : (a : ℕ) (block : Block) → (held_at (after a block) b ≡ held_at cells b) ⊎ (a ≤ b) × (b < a + block.length)) where
+    whole-other : HasBlocks cells → (a : ℕ) → ((block : Block) × (block_at cells b ≡ Some block) × (block.base ≡ a) → ⊥)
+        → held_at (unless_waited_for (after a) reply cells a (block_with_base a (held_at cells a))).cells b ≡ held_at cells b
+    whole-other blocks a other = by_held (held_at cells a) refl
+      where
+        by_waiting : (held : Held) → held_at cells a ≡ Some held → held.block.base ≡ a → (t : Bool)
+            → held_at (cond t (only_tells cells StillWaiting) (record { cells = after a held.block; entry = Answered reply; resumed = [] })).cells b ≡ held_at cells b
+        by_waiting held at base true = refl
+        by_waiting held at base false = ⊎_elim
+            (λ same. same)
+            (λ h.
+            let here : block_at cells a ≡ Some held.block = ap (option_map (λ (held : Held). held.block)) at in
+            absurd (other (held.block, blocks.whole a held.block here b (let low = h.0 in omega arith) (let high = h.1 in omega arith), base)))
+            (left a held.block)
+
+        by_base : (held : Held) → held_at cells a ≡ Some held → (t : Bool) → (held.block.base == a) ≡ t
+            → held_at (unless_waited_for (after a) reply cells a (cond t (Some held.block) None)).cells b ≡ held_at cells b
+        by_base held at true e = let base : held.block.base ≡ a = grind (arith, nat_tests) in by_waiting held at base (list_any is_waiting_cell (take held.block.length (drop a cells)))
+        by_base held at false e = refl
+
+        by_held : (o : Option Held) → held_at cells a ≡ o → held_at (unless_waited_for (after a) reply cells a (block_with_base a o)).cells b ≡ held_at cells b
+        by_held None at = refl
+        by_held (Some held) at = by_base held at (held.block.base == a) refl
+
   release-other : HasBlocks cells → (a : ℕ) → ((block : Block) × (block_at cells b ≡ Some block) × (block.base ≡ a) → ⊥)
       → held_at (release_block cells a (block_with_base a (held_at cells a))).cells b ≡ held_at cells b
-  release-other blocks a other = by_held (held_at cells a) refl
-    where
-      by_waiting : (held : Held) → held_at cells a ≡ Some held → held.block.base ≡ a → (t : Bool)
-          → held_at (cond t (only_tells cells StillWaiting) (record { cells = fill cells a held.block.length None; entry = Answered Released; resumed = [] })).cells b ≡ held_at cells b
-      by_waiting held at base true = refl
-      by_waiting held at base false = ⊎_elim
-          (λ same. same)
-          (λ h.
-          let here : block_at cells a ≡ Some held.block = ap (option_map (λ (held : Held). held.block)) at in
-          absurd (other (held.block, blocks.whole a held.block here b (let low = h.0 in omega arith) (let high = h.1 in omega arith), base)))
-          (get_or-fill cells a held.block.length None b)
+  release-other = whole-other (λ a block. fill cells a block.length None) Released (λ a block. ⊎_elim inl (λ h. inr (h.0, h.1)) (get_or-fill cells a block.length None b))
 
-      by_base : (held : Held) → held_at cells a ≡ Some held → (t : Bool) → (held.block.base == a) ≡ t
-          → held_at (release_block cells a (cond t (Some held.block) None)).cells b ≡ held_at cells b
-      by_base held at true e = let base : held.block.base ≡ a = grind (arith, nat_tests) in by_waiting held at base (list_any is_waiting_cell (take held.block.length (drop a cells)))
-      by_base held at false e = refl
-
-      by_held : (o : Option Held) → held_at cells a ≡ o → held_at (release_block cells a (block_with_base a o)).cells b ≡ held_at cells b
-      by_held None at = refl
-      by_held (Some held) at = by_base held at (held.block.base == a) refl
+  reset-other : HasBlocks cells → (a : ℕ) → ((block : Block) × (block_at cells b ≡ Some block) × (block.base ≡ a) → ⊥)
+      → held_at (reset_block cells a (block_with_base a (held_at cells a))).cells b ≡ held_at cells b
+  reset-other = whole-other (λ a block. change_each emptied cells a block.length) Cleared
+      (λ a block. ⊎_elim inl (λ h. inr (h.0, h.1)) (get_or-change_each emptied cells a block.length b))
 
   pub act-other : HasBlocks cells → (who : Waiter) (op : Op) → (MayChange op cells b → ⊥) → held_at (act cells who op).cells b ≡ held_at cells b
   act-other blocks who (Alloc kind n) other = allocate-other kind n other
   act-other blocks who (Release a) other = release-other blocks a other
+  act-other blocks who (Reset a) other = reset-other blocks a other
   act-other blocks who (Fetch a) other = at_cell-other I (fetch who) a other
   act-other blocks who (Store a v) other = at_cell-other I (store v) a other
   act-other blocks who (Take a) other = at_cell-other M (take_from who) a other

@@ -7,7 +7,7 @@ use Rattle.std.specs.Bool.{IsFalse}
 use Rattle.im_types.proofs.Tests.{differ}
 use Rattle.im_types.specs.declared.TheConstants.{WINDOW, LAST}
 use Rattle.im_types.specs.declared.operations.Op.{Op}
-use Rattle.im_types.specs.declared.operations.Op.TheVariants.{Alloc, Release, Fetch, Store, Take, Put}
+use Rattle.im_types.specs.declared.operations.Op.TheVariants.{Alloc, Release, Reset, Fetch, Store, Take, Put}
 use Rattle.im_types.specs.declared.operations.Kind.{Kind}
 use Rattle.im_types.specs.declared.operations.Kind.TheVariants.{I, M}
 use Rattle.im_types.specs.declared.operations.Reply.TheVariants.{Base, NoSpace, Value}
@@ -390,18 +390,18 @@ a_window_may_grow_shorter : ((m : Contents) (command : Command) (element base ne
 unfolding empty_contents
 a_window_may_grow_shorter law = exceeds 2 0 refl (law answered (Confirm 1 3) 1 1 3 3 3 refl refl)
 
--- `requests_are_judged_by_bounds`: a window has no room for a 17th entry.
-a_window_has_not_17_entries : ((m : Contents) (r : Request) (base : ℕ) → bounds m.windows r.element ≡ Ok (base, r.number) → r.number < base + (WINDOW + 1) → r.number ≤ LAST
+-- `requests_are_judged_by_bounds`: a window has no room for a 65th entry.
+a_window_has_not_65_entries : ((m : Contents) (r : Request) (base : ℕ) → bounds m.windows r.element ≡ Ok (base, r.number) → r.number < base + (WINDOW + 1) → r.number ≤ LAST
     → IsTrue (is_accepted m (Asks r))) → ⊥
 unfolding empty_contents
-a_window_has_not_17_entries law =
-    true_false (sym (law (end_of sixteen_cells (take 17 full_window)) (request 1 17 (Fetch 0)) 1 refl (omega arith) (omega arith)))
+a_window_has_not_65_entries law =
+    true_false (sym (law (end_of sixteen_cells (take 65 full_window)) (request 1 65 (Fetch 0)) 1 refl (omega arith) (omega arith)))
 
--- And it has room for a 16th.
-a_window_has_16_entries : ((m : Contents) (r : Request) (base : ℕ) → bounds m.windows r.element ≡ Ok (base, r.number) → base + 15 ≤ r.number
+-- And it has room for a 64th.
+a_window_has_64_entries : ((m : Contents) (r : Request) (base : ℕ) → bounds m.windows r.element ≡ Ok (base, r.number) → base + 63 ≤ r.number
     → IsFalse (is_accepted m (Asks r))) → ⊥
 unfolding empty_contents
-a_window_has_16_entries law = true_false (law (end_of sixteen_cells (take 16 full_window)) (request 1 16 (Fetch 0)) 1 refl (omega arith))
+a_window_has_64_entries law = true_false (law (end_of sixteen_cells (take 64 full_window)) (request 1 64 (Fetch 0)) 1 refl (omega arith))
 
 -- `confirmations_drop_what_is_answered`: the last entry that a confirmation would drop has to be answered as well.
 the_last_entry_has_to_be_answered : ((m : Contents) (element upto base next : ℕ) → bounds m.windows element ≡ Ok (base, next) → upto ≤ next

@@ -2,7 +2,7 @@
 use Rattle.std.proofs.Common.{◌≡◌, ℕ, ◌+◌, ◌<◌, ◌≤◌, List, [], ◌∷◌, take, Some, None, Ok, Err, true, false, refl, sym, ap, subst, arith}
 use Rattle.im_types.specs.declared.TheConstants.{WINDOW, LAST}
 use Rattle.im_types.specs.declared.operations.Op.{Op}
-use Rattle.im_types.specs.declared.operations.Op.TheVariants.{Alloc, Release, Fetch, Store, Take, Put}
+use Rattle.im_types.specs.declared.operations.Op.TheVariants.{Alloc, Release, Reset, Fetch, Store, Take, Put}
 use Rattle.im_types.specs.declared.operations.Kind.TheVariants.{I, M}
 use Rattle.im_types.specs.declared.operations.Reply.TheVariants.{Base, NoSpace, Value, Released}
 use Rattle.im_types.specs.declared.operations.Entry.TheVariants.{Waiting, Answered}
@@ -141,7 +141,7 @@ next_is_accepted : IsNextRequest waiting.windows (request 1 3 (Fetch 0))
 unfolding waiting request
 next_is_accepted = record { base = 1; are = refl; room = let h : 3 < 1 + WINDOW = omega arith in h; to_last = let h : 3 ≤ LAST = omega arith in h }
 
-full_has_no_room : bounds (end_of sixteen_cells (take 17 full_window)).windows 1 ≡ Ok (1, 1 + WINDOW)
+full_has_no_room : bounds (end_of sixteen_cells (take 65 full_window)).windows 1 ≡ Ok (1, 1 + WINDOW)
 unfolding empty_contents
 full_has_no_room = refl
 

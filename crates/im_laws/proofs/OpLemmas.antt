@@ -2,7 +2,7 @@
 use Rattle.std.proofs.Common.{◌≡◌, Bool, true, refl, ap, ◌∙◌}
 use Rattle.std.specs.Prelude.{◌==◌, ◌&&◌}
 use Rattle.im_types.specs.declared.operations.Op.{Op}
-use Rattle.im_types.specs.declared.operations.Op.TheVariants.{Alloc, Release, Fetch, Store, Take, Put}
+use Rattle.im_types.specs.declared.operations.Op.TheVariants.{Alloc, Release, Reset, Fetch, Store, Take, Put}
 use Rattle.im_types.specs.declared.operations.Kind.{Kind}
 use Rattle.im_types.specs.declared.operations.Kind.TheVariants.{I, M}
 use Rattle.im_types.specs.Act.{same_kind}
@@ -25,6 +25,7 @@ both_true a b p q = ap (λ a. a && b) p ∙ q
 pub same_op-self : (op : Op) → same_op op op ≡ true
 same_op-self (Alloc kind n) = both_true (same_kind kind kind) (n == n) (same_kind-self kind) (test-self n)
 same_op-self (Release a) = test-self a
+same_op-self (Reset a) = test-self a
 same_op-self (Fetch a) = test-self a
 same_op-self (Store a v) = both_true (a == a) (v == v) (test-self a) (test-self v)
 same_op-self (Take a) = test-self a
@@ -35,6 +36,7 @@ same_op-equal (Alloc kind n) (Alloc kind' n') e =
     let parts = and_both (same_kind kind kind') (n == n') e in
     ap (λ k. Alloc k n) (same_kind-equal kind kind' parts.0) ∙ ap (Alloc kind') (eq_by_test n n' parts.1)
 same_op-equal (Release a) (Release b) e = ap Release (eq_by_test a b e)
+same_op-equal (Reset a) (Reset b) e = ap Reset (eq_by_test a b e)
 same_op-equal (Fetch a) (Fetch b) e = ap Fetch (eq_by_test a b e)
 same_op-equal (Store a v) (Store b w) e =
     let parts = and_both (a == b) (v == w) e in

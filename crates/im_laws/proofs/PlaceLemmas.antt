@@ -1,7 +1,7 @@
 -- Where a block may stand, and what a fill leaves.
-use Rattle.std.proofs.Common.{◌≡◌, ◌⊎◌, inl, inr, ⊎_elim, ℕ, zero, suc, ◌+◌, ◌<◌, ◌≤◌, List, [], ◌∷◌, get_or, Some, None, Bool, true, false, cond, refl, sym, ap, ◌∙◌, subst, arith}
+use Rattle.std.proofs.Common.{◌≡◌, ◌⊎◌, inl, inr, ⊎_elim, ℕ, zero, suc, ◌+◌, ◌<◌, ◌≤◌, List, [], ◌∷◌, length, get_or, Some, None, Bool, true, false, cond, refl, sym, ap, ◌∙◌, subst, arith}
 use Rattle.std.specs.Prelude.{Option, option_map}
-use Rattle.im_types.specs.Place.{begins_free, is_free, place, fill, IsLeastFree}
+use Rattle.im_types.specs.Place.{begins_free, is_free, place, fill, change_each, IsLeastFree}
 use Rattle.im_laws.proofs.Tests.{true_false, below_or_from, some_none, some_same}
 
 -- a slot after a fill is the new one, within the range, or the old one
@@ -13,6 +13,25 @@ get_or-fill (y ∷ xs) zero (suc n) x zero = inr (omega arith, omega arith, refl
 get_or-fill (y ∷ xs) zero (suc n) x (suc a) = ⊎_elim inl (λ h. inr (omega arith, omega arith, h.2)) (get_or-fill xs zero n x a)
 get_or-fill (y ∷ xs) (suc base) n x zero = inl refl
 get_or-fill (y ∷ xs) (suc base) n x (suc a) = ⊎_elim inl (λ h. inr (omega arith, omega arith, h.2)) (get_or-fill xs base n x a)
+
+pub get_or-change_each : {X : Type 0} (change : Option X → Option X) (xs : List (Option X)) (base n a : ℕ)
+    → (get_or (change_each change xs base n) a None ≡ get_or xs a None)
+    ⊎ (base ≤ a) × (a < base + n) × (get_or (change_each change xs base n) a None ≡ change (get_or xs a None))
+get_or-change_each change [] base n a = inl refl
+get_or-change_each change (y ∷ xs) zero zero a = inl refl
+get_or-change_each change (y ∷ xs) zero (suc n) zero = inr (omega arith, omega arith, refl)
+get_or-change_each change (y ∷ xs) zero (suc n) (suc a) = ⊎_elim inl (λ h. inr (omega arith, omega arith, h.2)) (get_or-change_each change xs zero n a)
+get_or-change_each change (y ∷ xs) (suc base) n zero = inl refl
+get_or-change_each change (y ∷ xs) (suc base) n (suc a) = ⊎_elim inl (λ h. inr (omega arith, omega arith, h.2)) (get_or-change_each change xs base n a)
+
+pub get_or-change_each_in : {X : Type 0} (change : Option X → Option X) (xs : List (Option X)) (base n a : ℕ) → base ≤ a → a < base + n → a < length xs
+    → get_or (change_each change xs base n) a None ≡ change (get_or xs a None)
+get_or-change_each_in change [] base n a lo hi h = absurd (omega arith)
+get_or-change_each_in change (y ∷ xs) zero zero a lo hi h = absurd (omega arith)
+get_or-change_each_in change (y ∷ xs) zero (suc n) zero lo hi h = refl
+get_or-change_each_in change (y ∷ xs) zero (suc n) (suc a) lo hi h = get_or-change_each_in change xs zero n a (omega arith) (omega arith) (omega arith)
+get_or-change_each_in change (y ∷ xs) (suc base) n zero lo hi h = absurd (omega arith)
+get_or-change_each_in change (y ∷ xs) (suc base) n (suc a) lo hi h = get_or-change_each_in change xs base n a (omega arith) (omega arith) (omega arith)
 
 -- at a place that was found the slots are free
 begins_free-get : {X : Type 0} (n : ℕ) (xs : List (Option X)) → begins_free n xs ≡ true → (a : ℕ) → a < n → get_or xs a None ≡ None

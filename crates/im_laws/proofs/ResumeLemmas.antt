@@ -5,11 +5,11 @@ use Rattle.std.specs.Prelude.{Option, Result, ◌==◌}
 use Rattle.std.specs.List.{list_any}
 use Rattle.std.proofs.lemmas.List.{get_or-set_same}
 use Rattle.im_types.specs.declared.operations.Op.{Op}
-use Rattle.im_types.specs.declared.operations.Op.TheVariants.{Alloc, Release, Fetch, Store, Take, Put}
+use Rattle.im_types.specs.declared.operations.Op.TheVariants.{Alloc, Release, Reset, Fetch, Store, Take, Put}
 use Rattle.im_types.specs.declared.operations.Kind.{Kind}
 use Rattle.im_types.specs.declared.operations.Kind.TheVariants.{I, M}
 use Rattle.im_types.specs.declared.operations.Reply.{Reply}
-use Rattle.im_types.specs.declared.operations.Reply.TheVariants.{Base, NoSpace, BadLength, Value, Stored, Clash, NoCell, WrongKind, Released, NoBlock, StillWaiting}
+use Rattle.im_types.specs.declared.operations.Reply.TheVariants.{Base, NoSpace, BadLength, Value, Stored, Clash, NoCell, WrongKind, Released, NoBlock, StillWaiting, Cleared}
 use Rattle.im_types.specs.declared.operations.Entry.{Entry}
 use Rattle.im_types.specs.declared.operations.Entry.TheVariants.{Waiting, Answered}
 use Rattle.im_types.specs.declared.operations.Waiter.{Waiter}
@@ -21,8 +21,8 @@ use Rattle.im_types.specs.declared.commands.Outcome.{Outcome}
 use Rattle.im_types.specs.declared.commands.Outcome.TheVariants.{Entry as Tells}
 use Rattle.im_types.specs.declared.refusals.Refusal.{Refusal}
 use Rattle.im_types.specs.Contents.{CellState, Empty, Full, Clashed, Held, Contents, held_at, waiters_of, waiters_in, waiters_at, kept_for}
-use Rattle.im_types.specs.Place.{place, fill}
-use Rattle.im_types.specs.Act.{Served, only_tells, fetch, store, take_from, put, same_kind, serve_cell, at_cell, allocate, allocate_at, release_block, block_with_base, is_waiting_cell, act}
+use Rattle.im_types.specs.Place.{place, fill, change_each}
+use Rattle.im_types.specs.Act.{Served, only_tells, fetch, store, take_from, put, same_kind, serve_cell, at_cell, allocate, allocate_at, unless_waited_for, release_block, emptied, reset_block, block_with_base, is_waiting_cell, act}
 use Rattle.im_types.specs.Step.{Stepped, asker, serve, step, step_request}
 use Rattle.im_types.specs.Agreement.{times, awaiting, address_of, WaitingAgrees}
 use Rattle.im_laws.specs.Requests.{after_request, IsNew, IsServed}
@@ -177,20 +177,19 @@ module _ (cells : List (Option Held)) (who : Waiter) where
       by_test true waits = answered_waits BadLength waits
       by_test false waits = by_place (place n cells) waits
 
-  release-told : (a : ℕ) (o : Option Block) → (release_block cells a o).entry ≡ Waiting → ⊥
-  release-told a None waits = answered_waits NoBlock waits
-  release-told a (Some block) waits = by_test (list_any is_waiting_cell (take block.length (drop a cells))) waits
+  whole-told : (after : Block → List (Option Held)) (reply : Reply) (a : ℕ) (o : Option Block) → (unless_waited_for after reply cells a o).entry ≡ Waiting → ⊥
+  whole-told after reply a None waits = answered_waits NoBlock waits
+  whole-told after reply a (Some block) waits = by_test (list_any is_waiting_cell (take block.length (drop a cells))) waits
     where
-      by_test : (b : Bool)
-          → (cond b (only_tells cells StillWaiting) (record { cells = fill cells a block.length None; entry = Answered Released; resumed = [] })).entry ≡ Waiting
-          → ⊥
+      by_test : (b : Bool) → (cond b (only_tells cells StillWaiting) (record { cells = after block; entry = Answered reply; resumed = [] })).entry ≡ Waiting → ⊥
       by_test true waits = answered_waits StillWaiting waits
-      by_test false waits = answered_waits Released waits
+      by_test false waits = answered_waits reply waits
 
   act-defers : (op : Op) → (act cells who op).entry ≡ Waiting
       → waiters_at (act cells who op).cells (address_of op) ≡ waiters_at cells (address_of op) ++ who ∷ []
   act-defers (Alloc kind n) waits = absurd (allocate-told kind n waits)
-  act-defers (Release a) waits = absurd (release-told a (block_with_base a (held_at cells a)) waits)
+  act-defers (Release a) waits = absurd (whole-told (λ block. fill cells a block.length None) Released a (block_with_base a (held_at cells a)) waits)
+  act-defers (Reset a) waits = absurd (whole-told (λ block. change_each emptied cells a block.length) Cleared a (block_with_base a (held_at cells a)) waits)
   act-defers (Fetch a) waits = at_cell-defers I (fetch who) fetch-defers a waits
   act-defers (Store a v) waits = at_cell-defers I (store v) (store-defers v) a waits
   act-defers (Take a) waits = at_cell-defers M (take_from who) take-defers a waits

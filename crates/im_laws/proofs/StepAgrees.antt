@@ -4,28 +4,28 @@ use Rattle.std.proofs.Common.{◌≡◌, ◌⊎◌, inl, inr, ⊎_elim, ℕ, zer
 use Rattle.std.specs.Prelude.{Option, ◌==◌, map}
 use Rattle.std.specs.List.{list_any}
 use Rattle.im_types.specs.declared.operations.Op.{Op}
-use Rattle.im_types.specs.declared.operations.Op.TheVariants.{Alloc, Release, Fetch, Store, Take, Put}
+use Rattle.im_types.specs.declared.operations.Op.TheVariants.{Alloc, Release, Reset, Fetch, Store, Take, Put}
 use Rattle.im_types.specs.declared.operations.Kind.{Kind}
 use Rattle.im_types.specs.declared.operations.Kind.TheVariants.{I, M}
 use Rattle.im_types.specs.declared.operations.Block.{Block}
 use Rattle.im_types.specs.declared.operations.Reply.{Reply}
-use Rattle.im_types.specs.declared.operations.Reply.TheVariants.{Base, NoSpace, BadLength, Value, Stored, Clash, NoCell, WrongKind, Released, NoBlock, StillWaiting}
+use Rattle.im_types.specs.declared.operations.Reply.TheVariants.{Base, NoSpace, BadLength, Value, Stored, Clash, NoCell, WrongKind, Released, NoBlock, StillWaiting, Cleared}
 use Rattle.im_types.specs.declared.operations.Entry.{Entry}
 use Rattle.im_types.specs.declared.operations.Entry.TheVariants.{Waiting, Answered}
 use Rattle.im_types.specs.declared.operations.Waiter.{Waiter}
 use Rattle.im_types.specs.declared.operations.Kept.{Kept}
 use Rattle.im_types.specs.declared.commands.Request.{Request}
 use Rattle.im_types.specs.Contents.{CellState, Empty, Full, Clashed, Held, Window, held_at, waiters_of, waiters_in, waiters_at, kept_for}
-use Rattle.im_types.specs.Place.{place, fill}
+use Rattle.im_types.specs.Place.{place, fill, change_each}
 use Rattle.im_types.specs.Window.{note, answer_each, is_waiting}
-use Rattle.im_types.specs.Act.{Served, Acted, defers, only_tells, fetch, store, take_from, put, same_kind, serve_cell, at_cell, allocate, allocate_at, release_block, block_with_base, has_waiter, is_waiting_cell, act}
+use Rattle.im_types.specs.Act.{Served, Acted, defers, only_tells, fetch, store, take_from, put, same_kind, serve_cell, at_cell, allocate, allocate_at, unless_waited_for, release_block, emptied, reset_block, block_with_base, has_waiter, is_waiting_cell, act}
 use Rattle.im_types.specs.Step.{asker}
 use Rattle.im_types.specs.Agreement.{StaysOrIsAnswered, same_waiter, times, awaiting, waits_for, waits_in, WaitersAgree}
 use Rattle.im_laws.proofs.OpLemmas.{same_kind-equal}
 use Rattle.im_laws.proofs.Tests.{true_or_false, zero_or_more, or_left, or_right, some_same, some_none}
 use Rattle.im_laws.proofs.PlaceLemmas.{place-free}
 use Rattle.im_laws.proofs.WindowLemmas.{answered_kept, kept_for-note}
-use Rattle.im_laws.proofs.AgreementLemmas.{IsQuiet, one_if, same_waiter-equal, same_waiter-self, listed_at, no_quiet, with_waiting, defer-agrees, answer-agrees, serve-agrees, waits_for-kept, waits_in-other, waits_in-quiet, allocate-agrees, release-agrees}
+use Rattle.im_laws.proofs.AgreementLemmas.{IsQuiet, one_if, same_waiter-equal, same_waiter-self, listed_at, no_quiet, with_waiting, defer-agrees, answer-agrees, serve-agrees, waits_for-kept, waits_in-other, waits_in-quiet, allocate-agrees, release-agrees, reset-agrees}
 use Rattle.im_laws.proofs.StepLemmas.{answered_quiet, IsNext, kept_for-next, AreKept, AfterAnswers, answer_each-AfterAnswers}
 
 pub one_if-true : (b : Bool) → 1 ≤ one_if b → b ≡ true
@@ -263,19 +263,22 @@ module _ (windows : List Window) (cells : List (Option Held)) (r : Request) (fre
       by_test true = told-agrees cells agrees BadLength
       by_test false = by_place (place n cells) refl
 
-  release-agrees_after : (a : ℕ) (o : Option Block) → AgreesAfter (release_block cells a o)
-  release-agrees_after a None = told-agrees cells agrees NoBlock
-  release-agrees_after a (Some block) = by_test (list_any is_waiting_cell (take block.length (drop a cells))) refl
+  whole-agrees_after : (after : Block → List (Option Held)) (reply : Reply) (a : ℕ)
+      → ((block : Block) → ((b : ℕ) → a ≤ b → b < a + block.length → waiters_at cells b ≡ []) → WaitersAgree (after block) before)
+      → (o : Option Block) → AgreesAfter (unless_waited_for after reply cells a o)
+  whole-agrees_after after reply a left None = told-agrees cells agrees NoBlock
+  whole-agrees_after after reply a left (Some block) = by_test (list_any is_waiting_cell (take block.length (drop a cells))) refl
     where
       by_test : (b : Bool) → list_any is_waiting_cell (take block.length (drop a cells)) ≡ b
-          → AgreesAfter (cond b (only_tells cells StillWaiting) (record { cells = fill cells a block.length None; entry = Answered Released; resumed = [] }))
+          → AgreesAfter (cond b (only_tells cells StillWaiting) (record { cells = after block; entry = Answered reply; resumed = [] }))
       by_test true e = told-agrees cells agrees StillWaiting
-      by_test false e = told-agrees _ (release-agrees cells before agrees a block.length (nobody_waits cells a block.length e)) Released
+      by_test false e = told-agrees _ (left block (nobody_waits cells a block.length e)) reply
 
   -- each operation
   pub act-agrees : (op : Op) → r.op ≡ op → AgreesAfter (act cells (asker r) op)
   act-agrees (Alloc kind n) e = allocate-agrees_after kind n
-  act-agrees (Release a) e = release-agrees_after a (block_with_base a (held_at cells a))
+  act-agrees (Release a) e = whole-agrees_after (λ block. fill cells a block.length None) Released a (λ block nobody. release-agrees cells before agrees a block.length nobody) (block_with_base a (held_at cells a))
+  act-agrees (Reset a) e = whole-agrees_after (λ block. change_each emptied cells a block.length) Cleared a (λ block nobody. reset-agrees cells before agrees a block.length nobody) (block_with_base a (held_at cells a))
   act-agrees (Fetch a) e = by_cell I (fetch (asker r)) a (λ held at k. fetch-agrees a e held at (same_kind-equal I held.block.kind k))
   act-agrees (Store a v) e = by_cell I (store v) a (λ held at k. store-agrees a v held at)
   act-agrees (Take a) e = by_cell M (take_from (asker r)) a (λ held at k. take-agrees a e held at (same_kind-equal M held.block.kind k))

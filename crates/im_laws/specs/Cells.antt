@@ -1,14 +1,15 @@
 -- Which cells an operation may change. (Own.)
 use Rattle.std.specs.Prelude.{◌≡◌, ℕ, List, [], Option, None, Some}
 use Rattle.im_types.specs.declared.operations.Op.{Op}
-use Rattle.im_types.specs.declared.operations.Op.TheVariants.{Alloc, Release, Fetch, Store, Take, Put}
+use Rattle.im_types.specs.declared.operations.Op.TheVariants.{Alloc, Release, Reset, Fetch, Store, Take, Put}
 use Rattle.im_types.specs.declared.operations.Block.{Block}
 use Rattle.im_types.specs.Contents.{Empty, Held, held_at, block_at}
 
--- an allocation those in no block, a release those of the block with its base, the others the cell at their address
+-- an allocation those in no block, a release and a reset those of the block with its base, the others the cell at their address
 abbrev pub MayChange : Op → List (Option Held) → ℕ → Type 0
 MayChange (Alloc kind n) cells b = held_at cells b ≡ None
 MayChange (Release a) cells b = (block : Block) × (block_at cells b ≡ Some block) × (block.base ≡ a)
+MayChange (Reset a) cells b = (block : Block) × (block_at cells b ≡ Some block) × (block.base ≡ a)
 MayChange (Fetch a) cells b = b ≡ a
 MayChange (Store a v) cells b = b ≡ a
 MayChange (Take a) cells b = b ≡ a

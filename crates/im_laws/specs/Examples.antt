@@ -1,11 +1,11 @@
 -- Worked traces, and what the laws over histories say of them. (Own.)
-use Rattle.std.specs.Prelude.{ℕ, List, [], ◌∷◌, ◌++◌, map, Option, None, Some, Result, Ok, Err}
+use Rattle.std.specs.Prelude.{ℕ, zero, suc, ◌+◌, List, [], ◌∷◌, ◌++◌, map, Option, None, Some, Result, Ok, Err}
 use Rattle.im_types.specs.declared.operations.Op.{Op}
-use Rattle.im_types.specs.declared.operations.Op.TheVariants.{Alloc, Release, Fetch, Store, Take, Put}
+use Rattle.im_types.specs.declared.operations.Op.TheVariants.{Alloc, Release, Reset, Fetch, Store, Take, Put}
 use Rattle.im_types.specs.declared.operations.Kind.{Kind}
 use Rattle.im_types.specs.declared.operations.Kind.TheVariants.{I, M}
 use Rattle.im_types.specs.declared.operations.Reply.{Reply}
-use Rattle.im_types.specs.declared.operations.Reply.TheVariants.{Base, NoSpace, BadLength, Value, Stored, Clash, NoCell, WrongKind, Released, NoBlock, StillWaiting}
+use Rattle.im_types.specs.declared.operations.Reply.TheVariants.{Base, NoSpace, BadLength, Value, Stored, Clash, NoCell, WrongKind, Released, NoBlock, StillWaiting, Cleared}
 use Rattle.im_types.specs.declared.operations.Entry.{Entry}
 use Rattle.im_types.specs.declared.operations.Entry.TheVariants.{Waiting, Answered}
 use Rattle.im_types.specs.declared.operations.Waiter.{Waiter}
@@ -165,34 +165,38 @@ sent_again =
     ∷ asks 1 1 (Fetch 0) (told (Value 3))
     ∷ []
 
--- sixteen entries that wait are a full window, which nothing leaves before it is answered
+-- so many fetches of cell 0 by element 1, from this number on, each of which waits
+abbrev pub fetches_that_wait : ℕ → ℕ → List Line
+fetches_that_wait zero number = []
+fetches_that_wait (suc more) number = asks 1 number (Fetch 0) waits ∷ fetches_that_wait more (number + 1)
+
+-- sixty-four entries that wait are a full window, which nothing leaves before it is answered
 abbrev pub full_window : List Line
 full_window =
     asks 0 1 (Alloc I 1) (told (Base 0))
-    ∷ asks 1 1 (Fetch 0) waits
-    ∷ asks 1 2 (Fetch 0) waits
-    ∷ asks 1 3 (Fetch 0) waits
-    ∷ asks 1 4 (Fetch 0) waits
-    ∷ asks 1 5 (Fetch 0) waits
-    ∷ asks 1 6 (Fetch 0) waits
-    ∷ asks 1 7 (Fetch 0) waits
-    ∷ asks 1 8 (Fetch 0) waits
-    ∷ asks 1 9 (Fetch 0) waits
-    ∷ asks 1 10 (Fetch 0) waits
-    ∷ asks 1 11 (Fetch 0) waits
-    ∷ asks 1 12 (Fetch 0) waits
-    ∷ asks 1 13 (Fetch 0) waits
-    ∷ asks 1 14 (Fetch 0) waits
-    ∷ asks 1 15 (Fetch 0) waits
-    ∷ asks 1 16 (Fetch 0) waits
-    ∷ asks 1 17 (Fetch 0) (Err WindowFull)
+    ∷ fetches_that_wait 64 1
+    ++ asks 1 65 (Fetch 0) (Err WindowFull)
     ∷ confirms 1 2 (Err NotAnswered)
-    ∷ confirms 1 18 (Err Gap)
+    ∷ confirms 1 66 (Err Gap)
     ∷ asks 2 1 (Store 0 8) (told Stored)
-    ∷ confirms 1 17 confirmed
+    ∷ confirms 1 65 confirmed
     ∷ asks 1 1 (Fetch 0) (Err Forgotten)
-    ∷ asks 1 17 (Fetch 0) (told (Value 8))
+    ∷ asks 1 65 (Fetch 0) (told (Value 8))
     ∷ confirms 1 1 confirmed
+    ∷ []
+
+-- a block that is reset while a cell of it is waited for, and when none is
+abbrev pub block_reset : List Line
+block_reset =
+    asks 0 1 (Alloc I 2) (told (Base 0))
+    ∷ asks 1 1 (Store 0 5) (told Stored)
+    ∷ asks 1 2 (Store 0 6) (told Clash)
+    ∷ asks 0 2 (Reset 0) (told Cleared)
+    ∷ asks 1 3 (Fetch 0) waits
+    ∷ asks 0 3 (Reset 0) (told StillWaiting)
+    ∷ asks 1 4 (Store 0 6) (told Stored)
+    ∷ collects 1 3 (told (Value 6))
+    ∷ asks 0 4 (Reset 1) (told NoBlock)
     ∷ []
 
 -- one cell and one element

@@ -1,9 +1,9 @@
 //! Blocks.
 ghost use Rattle.std.specs.Prelude.{◌≡◌, ℕ, ◌+◌, ◌<◌, ◌≤◌, [], List, Option};
 ghost use Rattle.std.specs.Bool.{IsFalse};
-ghost use Rattle.im_types.specs.declared.operations.Op.TheVariants.{Alloc, Release};
+ghost use Rattle.im_types.specs.declared.operations.Op.TheVariants.{Alloc, Release, Reset};
 ghost use Rattle.im_types.specs.declared.operations.Kind.{Kind};
-ghost use Rattle.im_types.specs.declared.operations.Reply.TheVariants.{Base, NoSpace, Released};
+ghost use Rattle.im_types.specs.declared.operations.Reply.TheVariants.{Base, Cleared, NoSpace, Released};
 ghost use Rattle.im_types.specs.declared.operations.Entry.TheVariants.{Answered};
 ghost use Rattle.im_types.specs.declared.operations.Block.{Block};
 ghost use Rattle.im_types.specs.declared.commands.Request.{Request};
@@ -53,5 +53,16 @@ pub fn release_frees_the_block()
         → held_at (after_request m r).cells b ≡ None }
     ensures nobody { (m : Contents) (r : Request) (a b : ℕ) (block : Block)
         → HasBlocks m.cells → IsServed m r (Release a) (Answered Released)
+        → block_at m.cells b ≡ Some block → block.base ≡ a → waiters_at m.cells b ≡ [] }
+{}
+
+/// A new request for a reset that is told so empties each cell of the block with that base, and nobody waited for any.
+pub fn reset_empties_the_block()
+    ensures emptied { (m : Contents) (r : Request) (a b : ℕ) (block : Block)
+        → HasBlocks m.cells → IsServed m r (Reset a) (Answered Cleared)
+        → block_at m.cells b ≡ Some block → block.base ≡ a
+        → held_at (after_request m r).cells b ≡ Some (empty_cell block) }
+    ensures nobody { (m : Contents) (r : Request) (a b : ℕ) (block : Block)
+        → HasBlocks m.cells → IsServed m r (Reset a) (Answered Cleared)
         → block_at m.cells b ≡ Some block → block.base ≡ a → waiters_at m.cells b ≡ [] }
 {}

@@ -1,7 +1,7 @@
 //! Worked traces: the definitions compute each answer.
 ghost use Rattle.std.specs.Prelude.{◌≡◌, [], ◌∷◌, length, take};
 ghost use Rattle.im_types.specs.declared.operations.Kind.TheVariants.{I, M};
-ghost use Rattle.im_types.specs.declared.operations.Reply.TheVariants.{Value, Stored, Clash};
+ghost use Rattle.im_types.specs.declared.operations.Reply.TheVariants.{Value, Stored, Clash, NoBlock, StillWaiting};
 ghost use Rattle.im_types.specs.declared.operations.Entry.TheVariants.{Waiting, Answered};
 ghost use Rattle.im_types.specs.Contents.{Empty, Full, Clashed, held_at, waiters_at};
 ghost use Rattle.im_types.specs.Run.{accepted};
@@ -9,7 +9,8 @@ ghost use Rattle.im_types.specs.Trace.{IsLegal, end_of};
 ghost use Rattle.im_laws.specs.Traces.{commands_of};
 ghost use Rattle.im_laws.specs.Examples.{sixteen_cells, one_cell, waiter, three_readers, one_store, second_store};
 ghost use Rattle.im_laws.specs.Examples.{three_takers, second_put, edges, least_hole, waiting_block, sent_again};
-ghost use Rattle.im_laws.specs.Examples.{full_window, least_memory, fetches, takes_and_puts, two_lives, in_lives};
+ghost use Rattle.im_laws.specs.Examples.{full_window, least_memory, fetches, takes_and_puts, two_lives, block_reset};
+ghost use Rattle.im_laws.specs.Examples.{in_lives};
 ghost use Rattle.im_laws.specs.Examples.{lawful, unsaid};
 
 /// Three readers wait in the order of their arrival, and one store answers all of them.
@@ -66,10 +67,10 @@ pub fn repeat_acts_once()
     ensures accepts { length (accepted sixteen_cells (commands_of sent_again)) ≡ 3 }
 {}
 
-/// A window of sixteen waiting entries takes no more, and gives none up before it is answered.
+/// A window of sixty-four waiting entries takes no more, and gives none up before it is answered.
 pub fn full_window_is_answered_first()
     ensures legal { IsLegal sixteen_cells full_window }
-    ensures accepts { length (accepted sixteen_cells (commands_of full_window)) ≡ 20 }
+    ensures accepts { length (accepted sixteen_cells (commands_of full_window)) ≡ 68 }
 {}
 
 /// The least memory serves one element on one cell.
@@ -101,4 +102,14 @@ pub fn lives_are_apart()
     ensures law { in_lives sixteen_cells (commands_of two_lives) 0
         ≡ (unsaid (Answered Stored) ∷ lawful (Answered (Value 5)) ∷ [])
         ∷ (lawful Waiting ∷ unsaid Waiting ∷ []) ∷ [] }
+{}
+
+/// A reset begins a life of its block: the store before it is forgotten, and the fetch behind it has the store of its own
+/// life. A block that is waited for isn't reset, nor is one by an address inside it.
+pub fn a_reset_begins_a_life()
+    ensures legal { IsLegal sixteen_cells block_reset }
+    ensures law { in_lives sixteen_cells (commands_of block_reset) 0
+        ≡ (unsaid (Answered Stored) ∷ unsaid (Answered Clash) ∷ [])
+        ∷ (lawful (Answered (Value 6)) ∷ unsaid (Answered StillWaiting) ∷ unsaid (Answered Stored)
+        ∷ unsaid (Answered NoBlock) ∷ []) ∷ [] }
 {}

@@ -20,12 +20,13 @@ mod windows;
 pub use agreement::{waiting_agrees, waiting_entries_are_listed_once};
 pub use blocks::{
     allocation_takes_the_least_place, blocks_are_apart, blocks_stay_whole, release_frees_the_block,
+    reset_empties_the_block,
 };
 pub use cells::other_cells_stay;
 pub use entries::{entry_lasts, number_acts_once, read_back, repeat_is_told_again};
 pub use examples::{
-    fetches_have_the_first_value, full_window_is_answered_first, least_hole_is_taken,
-    least_memory_serves, lengths_and_addresses_have_edges, lives_are_apart,
+    a_reset_begins_a_life, fetches_have_the_first_value, full_window_is_answered_first,
+    least_hole_is_taken, least_memory_serves, lengths_and_addresses_have_edges, lives_are_apart,
     readers_wait_for_one_store, repeat_acts_once, second_put_clashes, second_store_clashes,
     takers_are_served_in_order, takes_match_puts, waiting_block_stays,
 };

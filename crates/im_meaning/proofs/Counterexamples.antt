@@ -16,7 +16,7 @@ use Rattle.im_types.specs.Contents.{Contents, empty_contents}
 use Rattle.im_types.specs.Bytes.{zeros}
 use Rattle.im_types.specs.Slot.{slot_body, read_in, command_in, sequence_of}
 use Rattle.im_types.specs.Journal.{Ring, Tail, tail, slot, continues, room_of}
-use Rattle.im_types.specs.Layout.{layout_1, image_length}
+use Rattle.im_types.specs.Layout.{layout_2, image_length}
 use Rattle.im_types.specs.Header.{header_of, header_place, is_open_header}
 use Rattle.im_types.specs.Meaning.{Reached, Reads, reached_after}
 
@@ -82,7 +82,7 @@ slots_in_the_room_need_not_be_stale law =
 -- what a journal comes to, if its run may be stopped at any command
 abbrev MayReach : Ring → Contents → List ℕ → Result Reached Refusal → Type 0
 MayReach r m file outcome =
-    (k : ℕ) × (end : Tail) × (tail r 0 file ≡ Some end) × (outcome ≡ reached_after 0 m (Some (record { commands = take k end.commands; room = end.room })))
+    (k : ℕ) × (end : Tail) × (tail r 0 file ≡ Some end) × (outcome ≡ reached_after layout_2 0 m (Some (record { commands = take k end.commands; room = end.room })))
 
 abbrev count_in : Result Reached Refusal → ℕ
 count_in (Ok reached) = reached.count
@@ -97,14 +97,14 @@ a_run_that_may_stop_early_has_two_meanings law =
     differ 0 1 refl (ap count_in (law two_slots (empty_contents 1 1) one_command _ _
     (0, record { commands = alloc ∷ []; room = 1 }, refl, refl) (1, record { commands = alloc ∷ []; room = 1 }, refl, refl)))
 
-the_whole_run_is_read : count_in (reached_after 0 (empty_contents 1 1) (tail two_slots 0 one_command)) ≡ 1
+the_whole_run_is_read : count_in (reached_after layout_2 0 (empty_contents 1 1) (tail two_slots 0 one_command)) ≡ 1
 unfolding empty_contents tail slot continues read_in command_in sequence_of
 the_whole_run_is_read = refl
 
 -- a fault of a file's length or of its headers, whichever is looked for first
 abbrev HasFault : List ℕ → Refusal → Type 0
 HasFault file fault =
-    (((length file == image_length layout_1 (header_of file).sizes) ≡ false) × (fault ≡ WrongLength))
+    (((length file == image_length layout_2 (header_of file).sizes) ≡ false) × (fault ≡ WrongLength))
     ⊎ ((is_open_header (header_place 0 file) ≡ false) × (is_open_header (header_place 1 file) ≡ false) × (fault ≡ NoHeader))
 
 -- A reading that tells any fault, and not the first one, gives an empty file two: its length is wrong, and it has no header.
@@ -113,5 +113,5 @@ any_fault_is_two_meanings law =
     differ 12 13 refl (ap number_of (law [] WrongLength NoHeader (inl (refl, refl)) (inr (refl, refl, refl))))
 
 -- The right reading tells the first: the length.
-the_first_fault_is_the_length : (outcome : Result Reached Refusal) → Reads layout_1 [] outcome → outcome ≡ Err WrongLength
+the_first_fault_is_the_length : (outcome : Result Reached Refusal) → Reads layout_2 [] outcome → outcome ≡ Err WrongLength
 the_first_fault_is_the_length outcome reads = reads

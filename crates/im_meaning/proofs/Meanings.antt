@@ -8,7 +8,7 @@ use Rattle.im_types.specs.Layout.{Layout, area_of, ring_of}
 use Rattle.im_types.specs.Header.{Header, header_of, header_fault, header_place, is_open_header}
 use Rattle.im_types.specs.Journal.{IsBoundary, Tail, tail}
 use Rattle.im_types.specs.Pages.{Shows}
-use Rattle.im_types.specs.Meaning.{Reached, IsShown, Reads, accept_each, reached_by, reached_after, read_journal}
+use Rattle.im_types.specs.Meaning.{Reached, IsShown, Reads, accept_in, reached_by, reached_after, read_journal}
 use Rattle.im_disk.specs.Since.{SameBut}
 use Rattle.im_meaning.specs.Images.{other, IsImage, IsRead, Follows, IsPrepared}
 use Rattle.im_meaning.proofs.Headers.{in_force, in_force_is, no_header_fault}
@@ -21,29 +21,29 @@ Outcome l file outcome fault = MatchOption fault
     (λ fault. outcome ≡ Err fault)
 
 pub image_reads : (l : Layout) (h : Header) (shown m : Contents) (commands : List Command) (room : ℕ) (c : List ℕ) → IsImage l h shown commands room c
-    → accept_each shown commands ≡ Some m → Reads l c (Ok (record { contents = m; count = h.count + length commands; room = room }))
+    → accept_in l shown commands ≡ Some m → Reads l c (Ok (record { contents = m; count = h.count + length commands; room = room }))
 image_reads l h shown m commands room c it accepts =
     let r : Reached = record { contents = m; count = h.count + length commands; room = room } in
     let is : header_of c ≡ h = in_force_is l h c it.in_force in
     let shows : IsShown l c shown = subst (λ (x : Header). Shows l x.sizes (area_of l x.sizes x.area c) shown) (sym is) it.shows in
     let reads : read_journal l c shown ≡ Ok r =
-    ap (λ (x : Header). reached_after x.count shown (tail (ring_of l x.sizes) x.count c)) is
-    ∙ ap (λ (t : Option Tail). reached_after h.count shown t) it.journal
+    ap (λ (x : Header). reached_after l x.count shown (tail (ring_of l x.sizes) x.count c)) is
+    ∙ ap (λ (t : Option Tail). reached_after l h.count shown t) it.journal
     ∙ ap (λ (o : Option Contents). reached_by (h.count + length commands) room o) accepts in
     subst (λ (o : Option Refusal). Outcome l c (Ok r) o) (sym (no_header_fault l h c it.in_force)) (inl (shown, shows, sym reads))
 
 -- the parts of what is read
 
-record Ran (first : ℕ) (m : Contents) (t : Option Tail) (r : Reached) : Type 0 where
+record Ran (l : Layout) (first : ℕ) (m : Contents) (t : Option Tail) (r : Reached) : Type 0 where
   end : Tail
   is : t ≡ Some end
-  accepts : accept_each m end.commands ≡ Some r.contents
+  accepts : accept_in l m end.commands ≡ Some r.contents
   count : r.count ≡ first + length end.commands
   room : r.room ≡ end.room
 
-ran_by : (first : ℕ) (m : Contents) (t : Tail) (r : Reached) (o : Option Contents) → accept_each m t.commands ≡ o → Ok r ≡ reached_by (first + length t.commands) t.room o → Ran first m (Some t) r
-ran_by first m t r None e is = absurd (cc)
-ran_by first m t r (Some m2) e is =
+ran_by : (l : Layout) (first : ℕ) (m : Contents) (t : Tail) (r : Reached) (o : Option Contents) → accept_in l m t.commands ≡ o → Ok r ≡ reached_by (first + length t.commands) t.room o → Ran l first m (Some t) r
+ran_by l first m t r None e is = absurd (cc)
+ran_by l first m t r (Some m2) e is =
     let same : r ≡ (let x : Reached = record { contents = m2; count = first + length t.commands; room = t.room } in x) = cc in
     record {
       end = t;
@@ -53,13 +53,13 @@ ran_by first m t r (Some m2) e is =
       room = ap (λ (x : Reached). x.room) same;
     }
 
-ran : (first : ℕ) (m : Contents) (t : Option Tail) (r : Reached) → Ok r ≡ reached_after first m t → Ran first m t r
-ran first m None r is = absurd (cc)
-ran first m (Some t) r is = ran_by first m t r (accept_each m t.commands) refl is
+ran : (l : Layout) (first : ℕ) (m : Contents) (t : Option Tail) (r : Reached) → Ok r ≡ reached_after l first m t → Ran l first m t r
+ran l first m None r is = absurd (cc)
+ran l first m (Some t) r is = ran_by l first m t r (accept_in l m t.commands) refl is
 
 read_by : (l : Layout) (c : List ℕ) (r : Reached) (o : Option Refusal) → header_fault l c ≡ o → Outcome l c (Ok r) o → IsRead l c r
 read_by l c r None good (inl it) =
-    let end : Ran (header_of c).count it.0 (tail (ring_of l (header_of c).sizes) (header_of c).count c) r = ran _ _ _ r it.2 in
+    let end : Ran l (header_of c).count it.0 (tail (ring_of l (header_of c).sizes) (header_of c).count c) r = ran l _ _ _ r it.2 in
     record {
       header = header_of c;
       shown = it.0;

@@ -7,7 +7,7 @@ use Rattle.im_types.specs.Header.{Header, header_in, header_place, header_body, 
 use Rattle.im_formats.specs.Fitting.{FitsHeader}
 use Rattle.im_types.specs.Journal.{tail}
 use Rattle.im_types.specs.Pages.{Shows}
-use Rattle.im_types.specs.Meaning.{Reached, accept_each}
+use Rattle.im_types.specs.Meaning.{Reached, accept_in}
 
 -- the number of the other header, and of the other area
 abbrev pub other : Header → ℕ
@@ -52,5 +52,5 @@ pub record IsRead (l : Layout) (file : List ℕ) (reached : Reached) : Type 0 wh
   pub shown : Contents
   pub commands : List Command
   pub image : IsImage l header shown commands reached.room file
-  pub accepts : accept_each shown commands ≡ Some reached.contents
+  pub accepts : accept_in l shown commands ≡ Some reached.contents
   pub count : reached.count ≡ header.count + length commands

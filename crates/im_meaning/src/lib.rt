@@ -14,7 +14,7 @@ ghost use Rattle.im_types.specs.Slot.{sequence_of};
 ghost use Rattle.im_types.specs.Journal.{Ring, IsBoundary, tail, slot, behind, room_of};
 ghost use Rattle.im_types.specs.Layout.{Layout, area_at, area_bytes, journal_at, ring_of};
 ghost use Rattle.im_types.specs.Header.{Header, header_place, is_open_header, generation_in};
-ghost use Rattle.im_types.specs.Meaning.{Reached, Reads, accept_each};
+ghost use Rattle.im_types.specs.Meaning.{Reached, Reads, accept_in};
 ghost use Rattle.im_disk.specs.Since.{SameBut};
 ghost use Rattle.im_journal.specs.Holding.{KeepsBoundaries};
 ghost use Rattle.im_meaning.specs.Images.{other, IsImage, IsRead, Follows, IsPrepared};
@@ -24,7 +24,7 @@ ghost use Rattle.im_meaning.specs.Rings.{HasStaleRest};
 pub fn images_are_read()
     ensures { (l : Layout) (h : Header) (shown m : Contents) (commands : List Command) (room : ℕ) (c : List ℕ)
         → IsImage l h shown commands room c
-        → accept_each shown commands ≡ Some m
+        → accept_in l shown commands ≡ Some m
         → Reads l c (Ok (record { contents = m; count = h.count + length commands; room = room })) }
 {}
 

@@ -7,22 +7,24 @@ use Rattle.im_types.specs.declared.operations.Block.{Block}
 use Rattle.im_types.specs.declared.operations.Kind.{Kind}
 use Rattle.im_types.specs.declared.operations.Entry.TheVariants.{Answered}
 use Rattle.im_types.specs.declared.operations.Reply.{Reply}
-use Rattle.im_types.specs.declared.operations.Reply.TheVariants.{Base, BadLength, NoSpace, NoBlock, StillWaiting, Released}
+use Rattle.im_types.specs.declared.operations.Reply.TheVariants.{Base, BadLength, NoSpace, NoBlock, StillWaiting, Released, Cleared}
 use Rattle.im_types.specs.Contents.{Held, held_at}
-use Rattle.im_types.specs.Act.{Acted as ActedCells, only_tells, new_cell, allocate, allocate_at, release_block, block_with_base}
-use Rattle.im_types.specs.Place.{place, fill, IsLeastFree}
+use Rattle.im_types.specs.Act.{Acted as ActedCells, only_tells, new_cell, allocate, allocate_at, unless_waited_for, release_block, emptied, reset_block, block_with_base}
+use Rattle.im_types.specs.Place.{place, fill, change_each, IsLeastFree}
 use Rattle.im_laws.proofs.PlaceLemmas.{place-free}
 use Rattle.im_cell.specs.declared.slots.Slot.{Slot}
-use Rattle.im_cell.specs.Slots.{is_waiting, empty_slot, block_at, is_quiet_block, is_releasable, length_of, length_at}
+use Rattle.im_cell.specs.Slots.{is_waiting, with_cell, empty_slot, block_at, is_quiet_block, is_releasable, length_of, length_at}
 use Rattle.im_cell.specs.Slots.{block_with_base as slot_with_base}
 use Rattle.im_arena.specs.Lists.{Shown}
 use Rattle.im_istore.specs.Joined.{held_of, cells_of}
 use Rattle.im_istore.specs.Agreement.{Agree}
-use Rattle.im_istore.proofs.Blocks.{Agree-placed, Agree-released}
+use Rattle.im_istore.proofs.Blocks.{Agree-placed, Agree-released, Agree-emptied}
+use Rattle.im_types.specs.declared.cells.Cell.TheVariants.{Empty}
+use Rattle.im_laws.specs.Blocks.{IsRefused}
 use Rattle.im_memory.specs.declared.acts.Resumed.TheVariants.{Nobody}
 use Rattle.im_memory.specs.declared.acts.Acted.{Acted}
 use Rattle.im_memory.specs.Resuming.{HasActed}
-use Rattle.im_memory.proofs.CellsLemmas.{place-cells, cells-fill, any_waiting-cells, with_base-cells, free-list}
+use Rattle.im_memory.proofs.CellsLemmas.{place-cells, cells-fill, cells-emptied, any_waiting-cells, with_base-cells, free-list}
 
 -- what is told at once, to the asker alone
 abbrev pub telling : Reply → Acted
@@ -74,48 +76,89 @@ module _ (slots : List (Option Slot)) (arena : Shown) (agree : Agree slots arena
       same : allocate cells kind n ≡ allocate_at cells kind n (Some base)
       same = allocate-placed kind n some (Some base) e
 
-  -- the end of a block
+  -- a block, or why its cells stay as they are
   module _ (a : ℕ) where
-    abbrev was : ActedCells
-    was = release_block cells a (block_with_base a (held_at cells a))
+    abbrev asked : Option Block
+    asked = block_with_base a (held_at cells a)
 
-    released-at : (o : Option Block) → slot_with_base a (block_at slots a) ≡ o → was ≡ release_block cells a o
-    released-at o e = ap (release_block cells a) (with_base-cells slots arena a ∙ e)
+    found-at : (o : Option Block) → slot_with_base a (block_at slots a) ≡ o → asked ≡ o
+    found-at o e = with_base-cells slots arena a ∙ e
 
-    pub absent-HasActed : None ≡ block_at slots a → HasActed slots arena (telling NoBlock) was
-    absent-HasActed e = tells-HasActed NoBlock was (released-at None (ap (slot_with_base a) (sym e)))
+    pub absent-refused : None ≡ block_at slots a → IsRefused cells a NoBlock
+    absent-refused e after reply = ap (unless_waited_for after reply cells a) (found-at None (ap (slot_with_base a) (sym e)))
 
-    pub inner-HasActed : (block : Block) → Some block ≡ block_at slots a → block.base ≢ a → HasActed slots arena (telling NoBlock) was
-    inner-HasActed block e inner =
+    pub inner-refused : (block : Block) → Some block ≡ block_at slots a → block.base ≢ a → IsRefused cells a NoBlock
+    inner-refused block e inner after reply =
         let t : (block.base == a) ≡ false = grind (arith, nat_tests) in
-        tells-HasActed NoBlock was (released-at None (ap (slot_with_base a) (sym e) ∙ ap (λ b. cond b (Some block) None) t))
+        ap (unless_waited_for after reply cells a) (found-at None (ap (slot_with_base a) (sym e) ∙ ap (λ b. cond b (Some block) None) t))
 
-    module _ (block : Block) (e : Some block ≡ block_at slots a) (base : block.base ≡ a) where
-      found : slot_with_base a (block_at slots a) ≡ Some block
-      found =
-          let t : (block.base == a) ≡ true = grind (arith, nat_tests) in
-          ap (slot_with_base a) (sym e) ∙ ap (λ b. cond b (Some block) None) t
+    own : (block : Block) → Some block ≡ block_at slots a → block.base ≡ a → slot_with_base a (block_at slots a) ≡ Some block
+    own block e base =
+        let t : (block.base == a) ≡ true = grind (arith, nat_tests) in
+        ap (slot_with_base a) (sym e) ∙ ap (λ b. cond b (Some block) None) t
 
-      quiet : (b : Bool) → b ≡ is_releasable slots a → b ≡ not (list_any is_waiting (take block.length (drop a slots)))
-      quiet b r = r ∙ ap (is_quiet_block slots a) found
+    becomes : (block : Block) → slot_with_base a (block_at slots a) ≡ Some block → (b : Bool) → list_any is_waiting (take block.length (drop a slots)) ≡ b
+        → (after : Block → List (Option Held)) (reply : Reply)
+        → unless_waited_for after reply cells a asked ≡ cond b (only_tells cells StillWaiting) (record { cells = after block; entry = Answered reply; resumed = [] })
+    becomes block found b w after reply =
+        ap (unless_waited_for after reply cells a) (found-at (Some block) found)
+        ∙ ap (λ b. cond b (only_tells cells StillWaiting) (record { cells = after block; entry = Answered reply; resumed = [] })) (any_waiting-cells slots arena agree a block.length ∙ w)
 
-      released : (b : Bool) → list_any is_waiting (take block.length (drop a slots)) ≡ b
-          → was ≡ cond b (only_tells cells StillWaiting) (record { cells = fill cells a block.length None; entry = Answered Released; resumed = [] })
-      released b w =
-          released-at (Some block) found
-          ∙ ap (λ b. cond b (only_tells cells StillWaiting) (record { cells = fill cells a block.length None; entry = Answered Released; resumed = [] })) (any_waiting-cells slots arena agree a block.length ∙ w)
+    pub waiting-refused : (block : Block) → Some block ≡ block_at slots a → block.base ≡ a → is_releasable slots a ≡ false → IsRefused cells a StillWaiting
+    waiting-refused block e base stays =
+        becomes block (own block e base) true (not_false _ (sym (ap (is_quiet_block slots a) (own block e base)) ∙ stays))
 
-      pub waiting-HasActed : false ≡ is_releasable slots a → HasActed slots arena (telling StillWaiting) was
-      waiting-HasActed r = tells-HasActed StillWaiting was (released true (not_false _ (sym (quiet false r))))
+    pub refused-HasActed : (reply : Reply) → IsRefused cells a reply → (after : Block → List (Option Held)) (meant : Reply)
+        → HasActed slots arena (telling reply) (unless_waited_for after meant cells a asked)
+    refused-HasActed reply refused after meant = tells-HasActed reply _ (refused after meant)
 
-      pub released-HasActed : true ≡ is_releasable slots a → HasActed (fill slots a (length_at slots a) None) arena (telling Released) was
-      released-HasActed r = record {
-        cells = cells-fill slots arena a (length_at slots a) None None (λ b lo hi. refl) ∙ ap (λ (o : Option Block). fill cells a (length_of o) None) (sym e) ∙ sym (ap (λ (acted : ActedCells). acted.cells) same);
+    -- the block whose cells may change
+    pub record IsFound : Type 0 where
+      pub block : Block
+      pub found : slot_with_base a (block_at slots a) ≡ Some block
+      pub at : Some block ≡ block_at slots a
+      pub base : block.base ≡ a
+      pub nobody : list_any is_waiting (take block.length (drop a slots)) ≡ false
+
+    pub releasable-found : true ≡ is_releasable slots a → IsFound
+    releasable-found r = by_block (block_at slots a) refl (sym r)
+      where
+        by_base : (block : Block) → block_at slots a ≡ Some block → (t : Bool) → (block.base == a) ≡ t
+            → is_quiet_block slots a (cond t (Some block) None) ≡ true → IsFound
+        by_base block e true t r =
+            let base : block.base ≡ a = grind (arith, nat_tests) in
+            record { block = block; found = own block (sym e) base; at = sym e; base = base; nobody = not_true _ r }
+        by_base block e false t r = absurd (cc)
+
+        by_block : (o : Option Block) → block_at slots a ≡ o → is_quiet_block slots a (slot_with_base a o) ≡ true → IsFound
+        by_block None e r = absurd (cc)
+        by_block (Some block) e r = by_base block e (block.base == a) refl r
+
+    module _ (r : true ≡ is_releasable slots a) where
+      abbrev it : IsFound
+      it = releasable-found r
+
+      pub released-HasActed : HasActed (fill slots a (length_at slots a) None) arena (telling Released) (release_block cells a asked)
+      released-HasActed = record {
+        cells = cells-fill slots arena a (length_at slots a) None None (λ b lo hi. refl) ∙ ap (λ (o : Option Block). fill cells a (length_of o) None) (sym it.at) ∙ sym (ap (λ (acted : ActedCells). acted.cells) same);
         told = sym (ap (λ (acted : ActedCells). acted.entry) same);
         replies = sym (ap (λ (acted : ActedCells). acted.resumed) same);
         listed = tt;
         agree = Agree-released slots arena a (sym r) agree;
       }
         where
-          same : was ≡ record { cells = fill cells a block.length None; entry = Answered Released; resumed = [] }
-          same = released false (not_true _ (sym (quiet true r)))
+          same : release_block cells a asked ≡ record { cells = fill cells a it.block.length None; entry = Answered Released; resumed = [] }
+          same = becomes it.block it.found false it.nobody (λ block. fill cells a block.length None) Released
+
+      pub reset-HasActed : HasActed (change_each (with_cell Empty) slots a (length_at slots a)) arena (telling Cleared) (reset_block cells a asked)
+      reset-HasActed = record {
+        cells = cells-emptied slots arena agree a (length_at slots a) (ap (λ (o : Option Block). list_any is_waiting (take (length_of o) (drop a slots))) (sym it.at) ∙ it.nobody)
+            ∙ ap (λ (o : Option Block). change_each emptied cells a (length_of o)) (sym it.at) ∙ sym (ap (λ (acted : ActedCells). acted.cells) same);
+        told = sym (ap (λ (acted : ActedCells). acted.entry) same);
+        replies = sym (ap (λ (acted : ActedCells). acted.resumed) same);
+        listed = tt;
+        agree = Agree-emptied slots arena a (sym r) agree;
+      }
+        where
+          same : reset_block cells a asked ≡ record { cells = change_each emptied cells a it.block.length; entry = Answered Cleared; resumed = [] }
+          same = becomes it.block it.found false it.nobody (λ block. change_each emptied cells a block.length) Cleared

@@ -3,21 +3,21 @@ use Rattle.std.proofs.Common.{◌≡◌, ⊎_elim, ℕ, suc, ◌≤◌, List, []
 use Rattle.std.specs.Prelude.{Option, ◌==◌, map}
 use Rattle.std.specs.List.{list_any}
 use Rattle.im_types.specs.declared.operations.Op.{Op}
-use Rattle.im_types.specs.declared.operations.Op.TheVariants.{Alloc, Release, Fetch, Store, Take, Put}
+use Rattle.im_types.specs.declared.operations.Op.TheVariants.{Alloc, Release, Reset, Fetch, Store, Take, Put}
 use Rattle.im_types.specs.declared.operations.Kind.{Kind}
 use Rattle.im_types.specs.declared.operations.Kind.TheVariants.{I, M}
 use Rattle.im_types.specs.declared.operations.Block.{Block}
 use Rattle.im_types.specs.declared.operations.Reply.{Reply}
-use Rattle.im_types.specs.declared.operations.Reply.TheVariants.{Value, Stored, BadLength, WrongKind, StillWaiting, Released}
+use Rattle.im_types.specs.declared.operations.Reply.TheVariants.{Value, Stored, BadLength, WrongKind, StillWaiting, Released, Cleared}
 use Rattle.im_types.specs.declared.operations.Entry.{Entry}
 use Rattle.im_types.specs.declared.operations.Entry.TheVariants.{Waiting, Answered}
 use Rattle.im_types.specs.declared.operations.Waiter.{Waiter}
 use Rattle.im_types.specs.declared.operations.Kept.{Kept}
 use Rattle.im_types.specs.declared.commands.Request.{Request}
 use Rattle.im_types.specs.Contents.{CellState, Empty, Full, Clashed, Held, Window, held_at, waiters_of, kept_for}
-use Rattle.im_types.specs.Place.{place, fill}
+use Rattle.im_types.specs.Place.{place, fill, change_each}
 use Rattle.im_types.specs.Window.{ask, answer, note, is_waiting}
-use Rattle.im_types.specs.Act.{Served, Acted, only_tells, fetch, store, take_from, put, same_kind, serve_cell, at_cell, allocate, allocate_at, release_block, block_with_base, is_waiting_cell, act}
+use Rattle.im_types.specs.Act.{Served, Acted, only_tells, fetch, store, take_from, put, same_kind, serve_cell, at_cell, allocate, allocate_at, unless_waited_for, release_block, emptied, reset_block, block_with_base, is_waiting_cell, act}
 use Rattle.im_types.specs.Step.{asker}
 use Rattle.im_types.specs.Agreement.{same_waiter, times, awaiting, waits_for, WaitersAgree}
 use Rattle.im_laws.proofs.Tests.{true_or_false, some_none}
@@ -157,17 +157,18 @@ module _ (windows : List Window) (cells : List (Option Held)) (r : Request) (fre
       by_test true = tt
       by_test false = by_place (place n cells)
 
-  release-ready : (a : ℕ) (o : Option Block) → AreReady (release_block cells a o)
-  release-ready a None = tt
-  release-ready a (Some block) = by_test (list_any is_waiting_cell (take block.length (drop a cells)))
+  whole-ready : (after : Block → List (Option Held)) (reply : Reply) (a : ℕ) (o : Option Block) → AreReady (unless_waited_for after reply cells a o)
+  whole-ready after reply a None = tt
+  whole-ready after reply a (Some block) = by_test (list_any is_waiting_cell (take block.length (drop a cells)))
     where
-      by_test : (b : Bool) → AreReady (cond b (only_tells cells StillWaiting) (record { cells = fill cells a block.length None; entry = Answered Released; resumed = [] }))
+      by_test : (b : Bool) → AreReady (cond b (only_tells cells StillWaiting) (record { cells = after block; entry = Answered reply; resumed = [] }))
       by_test true = tt
       by_test false = tt
 
   op-ready : (op : Op) → AreReady (act cells (asker r) op)
   op-ready (Alloc kind n) = allocate-ready kind n
-  op-ready (Release a) = release-ready a (block_with_base a (held_at cells a))
+  op-ready (Release a) = whole-ready (λ block. fill cells a block.length None) Released a (block_with_base a (held_at cells a))
+  op-ready (Reset a) = whole-ready (λ block. change_each emptied cells a block.length) Cleared a (block_with_base a (held_at cells a))
   op-ready (Fetch a) = by_cell I (fetch (asker r)) a (λ held at. fetch-ready a held)
   op-ready (Store a v) = by_cell I (store v) a (store-ready a v)
   op-ready (Take a) = by_cell M (take_from (asker r)) a (λ held at. take-ready a held)

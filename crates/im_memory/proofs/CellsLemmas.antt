@@ -1,15 +1,16 @@
 -- A table and an arena, seen as the cells of a memory.
-use Rattle.std.proofs.Common.{◌≡◌, ℕ, zero, suc, ◌+◌, ◌<◌, ◌≤◌, List, [], ◌∷◌, length, take, drop, Some, None, false, cond, refl, sym, ap, ◌∙◌, arith}
+use Rattle.std.proofs.Common.{◌≡◌, ℕ, zero, suc, ◌+◌, ◌<◌, ◌≤◌, List, [], ◌∷◌, length, take, drop, Some, None, Bool, true, false, cond, refl, sym, ap, ◌∙◌, arith}
 use Rattle.std.specs.Prelude.{Option, ◌||◌, option_map}
 use Rattle.std.specs.List.{list_any}
 use Rattle.im_types.specs.declared.operations.Waiter.{Waiter}
 use Rattle.im_types.specs.Contents.{Held, held_at, block_at}
-use Rattle.im_types.specs.Act.{has_waiter, is_waiting_cell, block_with_base}
-use Rattle.im_types.specs.Place.{begins_free, place, fill}
+use Rattle.im_types.specs.Contents.{Empty as IsEmpty}
+use Rattle.im_types.specs.Act.{has_waiter, is_waiting_cell, emptied, block_with_base}
+use Rattle.im_types.specs.Place.{begins_free, place, fill, change_each}
 use Rattle.im_types.specs.declared.cells.Cell.{Cell}
 use Rattle.im_types.specs.declared.cells.Cell.TheVariants.{Empty, Waiting, Full, Clashed}
 use Rattle.im_cell.specs.declared.slots.Slot.{Slot}
-use Rattle.im_cell.specs.Slots.{slot_at, block_in, is_waiting}
+use Rattle.im_cell.specs.Slots.{slot_at, block_in, with_cell, is_waiting}
 use Rattle.im_cell.specs.Slots.{block_at as block_at_slots, block_with_base as slot_with_base, is_waiting_cell as is_waiting_state}
 use Rattle.im_arena.specs.Lists.{Shown, list_at}
 use Rattle.im_istore.specs.Joined.{state_of, held_of, joined, cells_of}
@@ -54,6 +55,32 @@ joined-fill (s ∷ slots) [] (suc base) n slot held same =
 joined-fill (s ∷ slots) (waiters ∷ lists) (suc base) n slot held same =
     ap (λ cells. held_of s waiters ∷ cells) (joined-fill slots lists base n slot held (λ a lo hi. same (suc a) (omega arith) (omega arith)))
 
+pub no_list : (waiters : List Waiter) → has_some waiters ≡ false → waiters ≡ []
+no_list [] e = refl
+no_list (waiter ∷ waiters) e = absurd (cc)
+
+neither : (p q : Bool) → (p || q) ≡ false → (p ≡ false) × (q ≡ false)
+neither true q e = absurd (cc)
+neither false q e = (refl, e)
+
+emptied-held : (s : Option Slot) (waiters : List Waiter) → waiters ≡ [] → held_of (with_cell Empty s) waiters ≡ emptied (held_of s waiters)
+emptied-held None waiters none = refl
+emptied-held (Some slot) waiters none = ap (λ waiters. Some (record { block = slot.block; state = IsEmpty waiters })) none
+
+joined-emptied : (slots : List (Option Slot)) (lists : List (List Waiter)) (base n : ℕ) → list_any is_waiting (take n (drop base slots)) ≡ false
+    → ((a : ℕ) → is_waiting (slot_at slots a) ≡ has_some (list_of lists a)) → joined (change_each (with_cell Empty) slots base n) lists ≡ change_each emptied (joined slots lists) base n
+joined-emptied [] lists base n none agree = refl
+joined-emptied (s ∷ slots) [] zero zero none agree = refl
+joined-emptied (s ∷ slots) (waiters ∷ lists) zero zero none agree = refl
+joined-emptied (s ∷ slots) [] zero (suc n) none agree =
+    ap (λ h. h ∷ joined (change_each (with_cell Empty) slots zero n) []) (emptied-held s [] refl)
+    ∙ ap (λ cells. emptied (held_of s []) ∷ cells) (joined-emptied slots [] zero n (neither (is_waiting s) _ none).1 (λ a. agree (suc a)))
+joined-emptied (s ∷ slots) (waiters ∷ lists) zero (suc n) none agree =
+    ap (λ h. h ∷ joined (change_each (with_cell Empty) slots zero n) lists) (emptied-held s waiters (no_list waiters (sym (agree 0) ∙ (neither (is_waiting s) _ none).0)))
+    ∙ ap (λ cells. emptied (held_of s waiters) ∷ cells) (joined-emptied slots lists zero n (neither (is_waiting s) _ none).1 (λ a. agree (suc a)))
+joined-emptied (s ∷ slots) [] (suc base) n none agree = ap (λ cells. held_of s [] ∷ cells) (joined-emptied slots [] base n none (λ a. agree (suc a)))
+joined-emptied (s ∷ slots) (waiters ∷ lists) (suc base) n none agree = ap (λ cells. held_of s waiters ∷ cells) (joined-emptied slots lists base n none (λ a. agree (suc a)))
+
 -- a cell waits by the definitions exactly where it is marked as waiting
 waiting-state : (cell : Cell) (waiters : List Waiter) → is_waiting_state cell ≡ has_some waiters → has_waiter (state_of cell waiters) ≡ is_waiting_state cell
 waiting-state Empty [] e = refl
@@ -83,10 +110,6 @@ any_waiting-joined (s ∷ slots) (waiters ∷ lists) zero (suc n) agree =
 any_waiting-joined (s ∷ slots) [] (suc base) n agree = any_waiting-joined slots [] base n (λ a. agree (suc a))
 any_waiting-joined (s ∷ slots) (waiters ∷ lists) (suc base) n agree = any_waiting-joined slots lists base n (λ a. agree (suc a))
 
-pub no_list : (waiters : List Waiter) → has_some waiters ≡ false → waiters ≡ []
-no_list [] e = refl
-no_list (waiter ∷ waiters) e = absurd (cc)
-
 block_at-held : (slot : Option Slot) (waiters : List Waiter) → option_map (λ (held : Held). held.block) (held_of slot waiters) ≡ block_in slot
 block_at-held None waiters = refl
 block_at-held (Some slot) waiters = refl
@@ -105,6 +128,10 @@ module _ (slots : List (Option Slot)) (arena : Shown) where
   pub cells-fill : (base n : ℕ) (slot : Option Slot) (held : Option Held) → ((a : ℕ) → base ≤ a → a < base + n → held_of slot (list_at arena.held a) ≡ held)
       → cells_of (fill slots base n slot) arena ≡ fill (cells_of slots arena) base n held
   cells-fill base n slot held same = joined-fill slots arena.held.lists base n slot held same
+
+  pub cells-emptied : Agree slots arena → (base n : ℕ) → list_any is_waiting (take n (drop base slots)) ≡ false
+      → cells_of (change_each (with_cell Empty) slots base n) arena ≡ change_each emptied (cells_of slots arena) base n
+  cells-emptied agree base n none = joined-emptied slots arena.held.lists base n none agree.each
 
   pub any_waiting-cells : Agree slots arena → (base n : ℕ) → list_any is_waiting_cell (take n (drop base (cells_of slots arena))) ≡ list_any is_waiting (take n (drop base slots))
   any_waiting-cells agree base n = any_waiting-joined slots arena.held.lists base n agree.each

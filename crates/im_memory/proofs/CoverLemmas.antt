@@ -274,21 +274,21 @@ put-tells v (IsEmpty (w ∷ ws)) e = cc
 put-tells v (IsFull w) e = cc
 put-tells v (IsClashed w) e = cc
 
--- the cells of a block that is released, and of none
+-- the cells of a block that is released or reset, and of none
 module _ (slots : List (Option Slot)) (arena : Shown) (a n : ℕ) (set : List Bool) where
-  pub release-block : (block : Block) → Some block ≡ block_at slots a → block.base ≡ a → AreIn page_of_cell set (addresses block.base block.length)
-      → HasPlaces n (places_in slots arena (Release a)) set
-  release-block block e base among = subst (λ o. HasPlaces n (places_of o) set) (found-base slots arena a block e base) (record { of_cells = among; of_nodes = tt })
+  pub whole-block : (block : Block) → Some block ≡ block_at slots a → block.base ≡ a → AreIn page_of_cell set (addresses block.base block.length)
+      → HasPlaces n (places_of (block_with_base a (held_at (cells_of slots arena) a))) set
+  whole-block block e base among = subst (λ o. HasPlaces n (places_of o) set) (found-base slots arena a block e base) (record { of_cells = among; of_nodes = tt })
 
-  pub release-inner : (block : Block) → Some block ≡ block_at slots a → block.base ≢ a → HasPlaces n (places_in slots arena (Release a)) set
-  release-inner block e base =
+  pub whole-inner : (block : Block) → Some block ≡ block_at slots a → block.base ≢ a → HasPlaces n (places_of (block_with_base a (held_at (cells_of slots arena) a))) set
+  whole-inner block e base =
       let t : (block.base == a) ≡ false = grind (arith, nat_tests) in
       let none : None ≡ block_with_base a (held_at (cells_of slots arena) a) =
       sym (with_base-cells slots arena a ∙ ap (slot_with_base a) (sym e) ∙ ap (λ b. cond b (Some block) None) t) in
       subst (λ o. HasPlaces n (places_of o) set) none (record { of_cells = tt; of_nodes = tt })
 
-  pub release-none : None ≡ block_at slots a → HasPlaces n (places_in slots arena (Release a)) set
-  release-none e = subst (λ o. HasPlaces n (places_of o) set) (sym (with_base-cells slots arena a ∙ ap (slot_with_base a) (sym e))) (record { of_cells = tt; of_nodes = tt })
+  pub whole-none : None ≡ block_at slots a → HasPlaces n (places_of (block_with_base a (held_at (cells_of slots arena) a))) set
+  whole-none e = subst (λ o. HasPlaces n (places_of o) set) (sym (with_base-cells slots arena a ∙ ap (slot_with_base a) (sym e))) (record { of_cells = tt; of_nodes = tt })
 
 -- the cells of a new block, and of none
 module _ (slots : List (Option Slot)) (arena : Shown) (kind : Kind) (length n : ℕ) (set : List Bool) where

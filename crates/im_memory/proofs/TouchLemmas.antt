@@ -5,7 +5,7 @@ use Rattle.std.proofs.lemmas.Bool.Decides.{nat_tests}
 use Rattle.im_types.specs.declared.operations.Kind.{Kind}
 use Rattle.im_types.specs.declared.operations.Kind.TheVariants.{I, M}
 use Rattle.im_types.specs.declared.operations.Op.{Op}
-use Rattle.im_types.specs.declared.operations.Op.TheVariants.{Alloc, Release, Fetch, Store, Take, Put}
+use Rattle.im_types.specs.declared.operations.Op.TheVariants.{Alloc, Release, Reset, Fetch, Store, Take, Put}
 use Rattle.im_types.specs.declared.operations.Block.{Block}
 use Rattle.im_types.specs.declared.operations.Reply.{Reply}
 use Rattle.im_types.specs.declared.operations.Reply.TheVariants.{NoCell, WrongKind, Stored}
@@ -18,12 +18,12 @@ use Rattle.im_types.specs.declared.cells.Cell.{Cell}
 use Rattle.im_types.specs.declared.cells.Cell.TheVariants.{Empty, Waiting, Full, Clashed}
 use Rattle.im_types.specs.Contents.{CellState, Held, Window, held_at, new_window}
 use Rattle.im_types.specs.Contents.{Empty as IsEmpty, Full as IsFull, Clashed as IsClashed}
-use Rattle.im_types.specs.Place.{place, fill}
+use Rattle.im_types.specs.Place.{place, fill, change_each}
 use Rattle.im_types.specs.Records.{tag_first, tag_last}
 use Rattle.im_types.specs.Window.{with_window, answer, answer_each, answer_in}
 use Rattle.im_types.specs.Act.{Served, Acted as ActedCells, same_kind, only_tells, serve_cell, at_cell, fetch, take_from, store, put, block_with_base}
 use Rattle.im_cell.specs.declared.slots.Slot.{Slot}
-use Rattle.im_cell.specs.Slots.{slot_at, block_at, length_of, length_at, is_waiting, is_waiting_cell}
+use Rattle.im_cell.specs.Slots.{slot_at, block_at, with_cell, length_of, length_at, is_waiting, is_waiting_cell}
 use Rattle.im_cell.specs.Slots.{block_with_base as slot_with_base}
 use Rattle.im_arena.specs.declared.table.Ends.{Ends}
 use Rattle.im_arena.specs.Chain.{along, place_from}
@@ -49,6 +49,7 @@ pub places-rows : (slots : List (Option Slot)) (arena : Shown) (windows : List W
     → places (cells_of slots arena) (records_of slots arena windows) arena.links.spare op ≡ places_in slots arena op
 places-rows slots arena windows (Alloc kind n) = refl
 places-rows slots arena windows (Release a) = refl
+places-rows slots arena windows (Reset a) = refl
 places-rows slots arena windows (Fetch a) = refl
 places-rows slots arena windows (Store a v) = refl
 places-rows slots arena windows (Take a) = refl
@@ -78,6 +79,23 @@ fill-other (y ∷ ys) (suc base) n (suc b) x out = fill-other ys base n b x (λ 
 filled : (slots : List (Option Slot)) (arena : Shown) (base n : ℕ) (slot : Option Slot) → ChangesAt (record { cells = addresses base n; nodes = [] }) slots arena (fill slots base n slot) arena
 filled slots arena base n slot = record {
   cells = λ b other. fill-other slots base n b slot (addresses-other base n b other);
+  ends = λ b o. refl;
+  nodes = λ n o. refl;
+}
+
+change_each-other : {X : Type 0} (change : Option X → Option X) (xs : List (Option X)) (base n b : ℕ) → (base ≤ b → b < base + n → ⊥)
+    → slice_get (change_each change xs base n) b ≡ slice_get xs b
+change_each-other change [] base n b out = refl
+change_each-other change (y ∷ ys) zero zero b out = refl
+change_each-other change (y ∷ ys) zero (suc n) zero out = absurd (out (omega arith) (omega arith))
+change_each-other change (y ∷ ys) zero (suc n) (suc b) out = change_each-other change ys zero n b (λ lo hi. out (omega arith) (omega arith))
+change_each-other change (y ∷ ys) (suc base) n zero out = refl
+change_each-other change (y ∷ ys) (suc base) n (suc b) out = change_each-other change ys base n b (λ lo hi. out (omega arith) (omega arith))
+
+changed_each : (slots : List (Option Slot)) (arena : Shown) (base n : ℕ)
+    → ChangesAt (record { cells = addresses base n; nodes = [] }) slots arena (change_each (with_cell Empty) slots base n) arena
+changed_each slots arena base n = record {
+  cells = λ b other. change_each-other (with_cell Empty) slots base n b (addresses-other base n b other);
   ends = λ b o. refl;
   nodes = λ n o. refl;
 }
@@ -117,12 +135,21 @@ module _ (slots : List (Option Slot)) (arena : Shown) where
       let t : (block.base == a) ≡ true = grind (arith, nat_tests) in
       sym (with_base-cells slots arena a ∙ ap (slot_with_base a) (sym e) ∙ ap (λ b. cond b (Some block) None) t)
 
-  -- the end of a block
+  -- what becomes of the cells of a block alone
+  block-change : (by : ℕ → ℕ → List (Option Slot)) → ((base n : ℕ) → ChangesAt (record { cells = addresses base n; nodes = [] }) slots arena (by base n) arena)
+      → (a : ℕ) (block : Block) → Some block ≡ block_at slots a → block.base ≡ a
+      → ChangesAt (places_of (block_with_base a (held_at cells a))) slots arena (by a (length_at slots a)) arena
+  block-change by among a block e base =
+      subst (λ o. ChangesAt (places_of o) slots arena (by a (length_at slots a)) arena) (found-base a block e base)
+      (rw (sym base) (subst (λ n. ChangesAt (places_of (Some block)) slots arena (by block.base n) arena) (ap length_of e ∙ ap (λ x. length_at slots x) (sym base)) (among block.base block.length)))
+
   pub released-change : (a : ℕ) (block : Block) → Some block ≡ block_at slots a → block.base ≡ a
       → ChangesAt (places_in slots arena (Release a)) slots arena (fill slots a (length_at slots a) None) arena
-  released-change a block e base =
-      subst (λ o. ChangesAt (places_of o) slots arena (fill slots a (length_at slots a) None) arena) (found-base a block e base)
-      (rw (sym base) (subst (λ n. ChangesAt (places_of (Some block)) slots arena (fill slots block.base n None) arena) (ap length_of e ∙ ap (λ x. length_at slots x) (sym base)) (filled slots arena block.base block.length None)))
+  released-change = block-change (λ base n. fill slots base n None) (λ base n. filled slots arena base n None)
+
+  pub reset-change : (a : ℕ) (block : Block) → Some block ≡ block_at slots a → block.base ≡ a
+      → ChangesAt (places_in slots arena (Reset a)) slots arena (change_each (with_cell Empty) slots a (length_at slots a)) arena
+  reset-change = block-change (λ base n. change_each (with_cell Empty) slots base n) (λ base n. changed_each slots arena base n)
 
   -- an access of a cell that may not be made, or of one in this state
   pub data Look (kind : Kind) (a : ℕ) : Type 0 where

@@ -3,7 +3,7 @@ use Rattle.std.specs.Prelude.{◌≡◌, ℕ, ◌+◌, List, [], ◌∷◌, Bool
 use Rattle.im_types.specs.declared.operations.Kind.{Kind}
 use Rattle.im_types.specs.declared.operations.Kind.TheVariants.{I, M}
 use Rattle.im_types.specs.declared.operations.Op.{Op}
-use Rattle.im_types.specs.declared.operations.Op.TheVariants.{Alloc, Release, Fetch, Store, Take, Put}
+use Rattle.im_types.specs.declared.operations.Op.TheVariants.{Alloc, Release, Reset, Fetch, Store, Take, Put}
 use Rattle.im_types.specs.declared.commands.Command.{Command}
 use Rattle.im_types.specs.declared.commands.Command.TheVariants.{Request as Asks, Confirm}
 use Rattle.im_types.specs.Contents.{CellState, Empty, Full, Clashed, Held, Contents, held_at}
@@ -63,6 +63,7 @@ most_by_store all (Clashed v) = 1
 abbrev pub most_by : ℕ → List (Option Held) → Op → ℕ
 most_by all cells (Alloc kind n) = all
 most_by all cells (Release a) = all
+most_by all cells (Reset a) = all
 most_by all cells (Fetch a) = most_at I (λ state. 3) (held_at cells a)
 most_by all cells (Store a v) = most_at I (most_by_store all) (held_at cells a)
 most_by all cells (Take a) = most_at M (λ state. 3) (held_at cells a)

@@ -4,7 +4,7 @@ use Rattle.im_types.specs.declared.TheConstants.{NONE}
 use Rattle.im_types.specs.declared.operations.Kind.{Kind}
 use Rattle.im_types.specs.declared.operations.Kind.TheVariants.{I, M}
 use Rattle.im_types.specs.declared.operations.Op.{Op}
-use Rattle.im_types.specs.declared.operations.Op.TheVariants.{Alloc, Release, Fetch, Store, Take, Put}
+use Rattle.im_types.specs.declared.operations.Op.TheVariants.{Alloc, Release, Reset, Fetch, Store, Take, Put}
 use Rattle.im_types.specs.declared.operations.Block.{Block}
 use Rattle.im_types.specs.declared.operations.Waiter.{Waiter}
 use Rattle.im_types.specs.declared.operations.Reply.{Reply}
@@ -121,6 +121,7 @@ places_of (Some block) = record { cells = addresses block.base block.length; nod
 abbrev pub places : List (Option Held) → Records → ℕ → Op → Places
 places cells r spare (Alloc kind n) = places_from n (place n cells)
 places cells r spare (Release a) = places_of (block_with_base a (held_at cells a))
+places cells r spare (Reset a) = places_of (block_with_base a (held_at cells a))
 places cells r spare (Fetch a) = places_at I (by_fetch spare (last_at r a) a) (held_at cells a)
 places cells r spare (Store a v) = places_at I (by_store r.nodes (first_at r a) a) (held_at cells a)
 places cells r spare (Take a) = places_at M (by_take spare (last_at r a) a) (held_at cells a)

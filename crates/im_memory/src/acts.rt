@@ -1,10 +1,12 @@
 //! What an operation does to the cells, and who is answered by it.
-ghost use Rattle.std.specs.Prelude.{◌≡◌, ◌<◌, List, Option, length};
+ghost use Rattle.std.specs.Prelude.{◌≡◌, ◌<◌, false, List, Option, length};
 ghost use Rattle.im_types.specs.declared.operations.Kind.TheVariants.{I, M};
-ghost use Rattle.im_types.specs.Act.{act, allocate, at_cell, block_with_base, put, release_block, store};
+ghost use Rattle.im_types.specs.Act.{act, allocate, at_cell, block_with_base, put, release_block, reset_block, store};
 ghost use Rattle.im_types.specs.Contents.{held_at};
 ghost use Rattle.im_types.specs.Window.{answer_each};
+ghost use Rattle.im_laws.specs.Blocks.{IsRefused};
 ghost use Rattle.im_cell.specs.declared.slots.Slot.{Slot};
+ghost use Rattle.im_cell.specs.Slots.{is_releasable};
 ghost use Rattle.im_arena.specs.Lists.{list_at, free};
 ghost use Rattle.im_istore.specs.Joined.{cells_of};
 ghost use Rattle.im_istore.specs.Agreement.{Agree, AgreeBut};
@@ -103,6 +105,18 @@ fn allocate(table: &mut CellTable, arena: &Arena, kind: Kind, n: u32) -> Acted
     }
 }
 
+// Why the cells of the block with this base stay as they are.
+fn reason(table: &CellTable, arena: &Arena, a: u32) -> Reply
+    requires agree { Agree table.now arena.now }
+    requires stays { is_releasable table.now a ≡ false }
+    ensures { IsRefused (cells_of table.now arena.now) a result }
+{
+    match table.block_of(a) {
+        Some(block) if block.base == a => Reply::StillWaiting,
+        _ => Reply::NoBlock,
+    }
+}
+
 // The end of a block.
 fn release(table: &mut CellTable, arena: &Arena, a: u32) -> Acted
     requires { Agree table.old arena.now }
@@ -112,16 +126,26 @@ fn release(table: &mut CellTable, arena: &Arena, a: u32) -> Acted
         ChangesAt places table.old arena.now table.new arena.now }
     ensures nobody { result.resumed ≡ Resumed.Nobody }
 {
-    let Some(block) = table.block_of(a) else {
-        return told(Entry::Answered(Reply::NoBlock));
-    };
-    if block.base != a {
-        return told(Entry::Answered(Reply::NoBlock));
-    }
     if table.release(a) {
         told(Entry::Answered(Reply::Released))
     } else {
-        told(Entry::Answered(Reply::StillWaiting))
+        told(Entry::Answered(reason(table, arena, a)))
+    }
+}
+
+// A block whose cells are all empty from now on.
+fn reset(table: &mut CellTable, arena: &Arena, a: u32) -> Acted
+    requires { Agree table.old arena.now }
+    ensures acted { let cells = cells_of table.old arena.now in HasActed table.new arena.now result
+        (reset_block cells a (block_with_base a (held_at cells a))) }
+    ensures changes { let places = places_in table.old arena.now (Op.Reset a) in
+        ChangesAt places table.old arena.now table.new arena.now }
+    ensures nobody { result.resumed ≡ Resumed.Nobody }
+{
+    if table.reset(a) {
+        told(Entry::Answered(Reply::Cleared))
+    } else {
+        told(Entry::Answered(reason(table, arena, a)))
     }
 }
 
@@ -139,6 +163,7 @@ pub fn act(table: &mut CellTable, arena: &mut Arena, who: Waiter, op: Op) -> Act
     match op {
         Op::Alloc(kind, n) => allocate(table, arena, kind, n),
         Op::Release(a) => release(table, arena, a),
+        Op::Reset(a) => reset(table, arena, a),
         Op::Fetch(a) => told(fetch(table, arena, a, who)),
         Op::Store(a, value) => store(table, arena, a, value),
         Op::Take(a) => told(take(table, arena, a, who)),

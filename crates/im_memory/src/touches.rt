@@ -7,7 +7,7 @@ ghost use Rattle.im_types.specs.declared.operations.Reply.{Reply as Told};
 ghost use Rattle.im_types.specs.declared.operations.Reply.TheVariants.{NoCell};
 ghost use Rattle.im_types.specs.declared.operations.Entry.TheVariants.{Answered};
 ghost use Rattle.im_types.specs.Contents.{held_at};
-ghost use Rattle.im_types.specs.Act.{act, at_cell, put, store};
+ghost use Rattle.im_types.specs.Act.{act, at_cell, block_with_base, put, store};
 ghost use Rattle.im_arena.specs.Lists.{list_at, ends_at, first_in, last_in, IsThreaded};
 ghost use Rattle.im_cell.specs.Slots.{slot_at};
 ghost use Rattle.im_istore.specs.Joined.{cells_of};
@@ -15,7 +15,7 @@ ghost use Rattle.im_istore.specs.Agreement.{Agree};
 ghost use Rattle.im_istore.specs.Access.{access_in};
 ghost use Rattle.im_pages.specs.Places as pages_of;
 ghost use Rattle.im_pages.specs.PageSets.{has, with_page, size_of, IsWithin};
-ghost use Rattle.im_memory.specs.Touched.{addresses, next_at, nodes_from, elements_in};
+ghost use Rattle.im_memory.specs.Touched.{addresses, next_at, nodes_from, places_of, elements_in};
 ghost use Rattle.im_memory.specs.Changing.{places_in};
 ghost use Rattle.im_memory.specs.Covering.{AreIn, HasPlaces, Grows, Covers, KeepsOutside, IsAlone, most_by, most_pages};
 
@@ -271,11 +271,11 @@ fn touch_alloc(table: &CellTable, arena: &Arena, kind: Kind, n: u32, pages: &mut
     }
 }
 
-// The end of a block.
-fn touch_release(table: &CellTable, arena: &Arena, a: u32, pages: &mut PageSet)
+// A block that ends, or whose cells become empty.
+fn touch_block(table: &CellTable, arena: &Arena, a: u32, pages: &mut PageSet)
     requires { length table.now ≤ MAX_CELLS }
-    ensures places { let op = Op.Release a in
-        HasPlaces (length arena.now.held.lists) (places_in table.now arena.now op) pages.new }
+    ensures places { let cells = cells_of table.now arena.now in
+        HasPlaces (length arena.now.held.lists) (places_of (block_with_base a (held_at cells a))) pages.new }
     ensures grows { Grows pages.old pages.new }
 {
     if let Some(block) = table.block_of(a) {
@@ -302,7 +302,8 @@ fn touch_op(table: &CellTable, arena: &Arena, elements: u16, op: Op, pages: &mut
 {
     match op {
         Op::Alloc(kind, n) => touch_alloc(table, arena, kind, n, pages),
-        Op::Release(a) => touch_release(table, arena, a, pages),
+        Op::Release(a) => touch_block(table, arena, a, pages),
+        Op::Reset(a) => touch_block(table, arena, a, pages),
         Op::Fetch(a) => touch_fetch(table, arena, a, pages),
         Op::Store(a, value) => touch_store(table, arena, elements, a, value, pages),
         Op::Take(a) => touch_take(table, arena, a, pages),

@@ -14,11 +14,11 @@ use Rattle.im_types.specs.declared.operations.Kind.TheVariants.{I, M}
 use Rattle.im_types.specs.contracts.operations.Kind.{the_type as the_kind}
 use Rattle.im_types.specs.declared.operations.Entry.TheVariants.{Answered}
 use Rattle.im_types.specs.declared.operations.Reply.{Reply}
-use Rattle.im_types.specs.declared.operations.Reply.TheVariants.{Base, BadLength, NoCell, WrongKind, NoBlock, StillWaiting, Released}
+use Rattle.im_types.specs.declared.operations.Reply.TheVariants.{Base, BadLength, NoCell, WrongKind, NoBlock, StillWaiting, Released, Cleared}
 use Rattle.im_types.specs.Contents.{CellState, Held, held_at, HasBlocks}
-use Rattle.im_types.specs.Act.{Served as ServedCell, Acted as ActedCells, at_cell, serve_cell, only_tells, same_kind, allocate, allocate_at, release_block, block_with_base, is_waiting_cell}
-use Rattle.im_types.specs.Place.{place, fill}
-use Rattle.im_laws.proofs.PlaceLemmas.{get_or-fill, place-free}
+use Rattle.im_types.specs.Act.{Served as ServedCell, Acted as ActedCells, at_cell, serve_cell, only_tells, same_kind, allocate, allocate_at, unless_waited_for, release_block, emptied, reset_block, block_with_base, is_waiting_cell}
+use Rattle.im_types.specs.Place.{place, fill, change_each}
+use Rattle.im_laws.proofs.PlaceLemmas.{get_or-fill, get_or-change_each, place-free}
 use Rattle.im_plain.specs.declared.cells.State.{State}
 use Rattle.im_plain.specs.declared.cells.State.TheVariants.{Empty as HasNothing, Full as HasValue, Clashed as HasClash}
 use Rattle.im_plain.specs.declared.cells.Slot.{Slot}
@@ -26,10 +26,11 @@ use Rattle.im_plain.specs.declared.queue.Deferred.{Deferred}
 use Rattle.im_plain.specs.declared.acts.Served.{Served}
 use Rattle.im_plain.specs.declared.acts.Acted.{Acted}
 use Rattle.im_plain.specs.Waiting.{waiting_at, without, parked, with_asker, replies_to}
-use Rattle.im_plain.specs.Joined.{state_of, held_of, joined, is_open_state, is_open, Fits}
-use Rattle.im_plain.specs.Served.{AreWaiting, HasServed, HasActed}
+use Rattle.im_plain.specs.Joined.{state_of, emptied_slot, held_of, joined, is_open_state, is_open, Fits}
+use Rattle.im_laws.specs.Blocks.{IsRefused}
+use Rattle.im_plain.specs.Served.{AreWaiting, HasServed, HasActed, IsUnwaited}
 use Rattle.im_plain.proofs.QueueLemmas.{waiting_at-without, waiting_at-without_other, waiting_at-parked, waiting_at-parked_other}
-use Rattle.im_plain.proofs.JoinedLemmas.{NobodyWaits, held_at-joined, held_at-None, held_at-Some, length-joined, place-joined, joined-fill, joined-set}
+use Rattle.im_plain.proofs.JoinedLemmas.{NobodyWaits, held_at-joined, held_at-None, held_at-Some, length-joined, place-joined, joined-fill, joined-emptied, joined-set}
 
 -- a test that fails of all fails of each
 or_left : (a b : Bool) → (a || b) ≡ false → a ≡ false
@@ -142,50 +143,73 @@ module _ (slots : List (Option Slot)) (queue : List Deferred) (fits : Fits slots
       same : allocate cells kind n ≡ allocate_at cells kind n (Some base)
       same = allocate-placed kind n some (Some base) e
 
-  -- the end of a block
-  pub release-absent : (a : ℕ) → get_or slots a None ≡ None → release_block cells a (block_with_base a (held_at cells a)) ≡ only_tells cells NoBlock
-  release-absent a e = ap (λ held. release_block cells a (block_with_base a held)) (held_at-None slots queue a e)
+  -- a block at none of whose cells somebody waits, or why there is none
+  pub absent-refused : (a : ℕ) → get_or slots a None ≡ None → IsRefused cells a NoBlock
+  absent-refused a e after reply = ap (λ held. unless_waited_for after reply cells a (block_with_base a held)) (held_at-None slots queue a e)
 
-  pub release-held : (a : ℕ) (slot : Slot) → get_or slots a None ≡ Some slot → (b : Bool) → (slot.block.base == a) ≡ b
-      → release_block cells a (block_with_base a (held_at cells a)) ≡ cond b (release_block cells a (Some slot.block)) (only_tells cells NoBlock)
-  release-held a slot e b q = ap (λ held. release_block cells a (block_with_base a held)) (held_at-Some slots queue a slot e) ∙ by_test b q
-    where
-      by_test : (b : Bool) → (slot.block.base == a) ≡ b → release_block cells a (cond (slot.block.base == a) (Some slot.block) None) ≡ cond b (release_block cells a (Some slot.block)) (only_tells cells NoBlock)
-      by_test true q = ap (λ b. release_block cells a (cond b (Some slot.block) None)) q
-      by_test false q = ap (λ b. release_block cells a (cond b (Some slot.block) None)) q
+  block_found : (a : ℕ) (slot : Slot) → get_or slots a None ≡ Some slot → (b : Bool) → (slot.block.base == a) ≡ b → block_with_base a (held_at cells a) ≡ cond b (Some slot.block) None
+  block_found a slot e b q = ap (block_with_base a) (held_at-Some slots queue a slot e) ∙ ap (λ b. cond b (Some slot.block) None) q
 
-  released : (a : ℕ) (block : Block) (b : Bool) → list_any is_waiting_cell (take block.length (drop a cells)) ≡ b
-      → release_block cells a (Some block) ≡ cond b (only_tells cells StillWaiting) (record { cells = fill cells a block.length None; entry = Answered Released; resumed = [] })
-  released a block b w = ap (λ b. cond b (only_tells cells StillWaiting) (record { cells = fill cells a block.length None; entry = Answered Released; resumed = [] })) w
+  pub inner-refused : (a : ℕ) (slot : Slot) → get_or slots a None ≡ Some slot → (slot.block.base == a) ≡ false → IsRefused cells a NoBlock
+  inner-refused a slot e q after reply = ap (unless_waited_for after reply cells a) (block_found a slot e false q)
 
-  pub released-waiting : (a : ℕ) (block : Block) → list_any is_waiting_cell (take block.length (drop a cells)) ≡ true → release_block cells a (Some block) ≡ only_tells cells StillWaiting
-  released-waiting a block w = released a block true w
+  pub waiting-refused : (a : ℕ) (slot : Slot) → get_or slots a None ≡ Some slot → (slot.block.base == a) ≡ true
+      → list_any is_waiting_cell (take slot.block.length (drop a cells)) ≡ true → IsRefused cells a StillWaiting
+  waiting-refused a slot e q w after reply =
+      ap (unless_waited_for after reply cells a) (block_found a slot e true q)
+      ∙ ap (λ b. cond b (only_tells cells StillWaiting) (record { cells = after slot.block; entry = Answered reply; resumed = [] })) w
 
-  pub released-HasActed : (a : ℕ) (block : Block) → list_any is_waiting_cell (take block.length (drop a cells)) ≡ false → (was : ActedCells) → was ≡ release_block cells a (Some block)
-      → HasActed (fill slots a block.length None) queue (telling Released) was
-  released-HasActed a block w was e = record {
-    cells = joined-fill slots queue a block.length None nobody ∙ sym (ap (λ (acted : ActedCells). acted.cells) same);
-    fits = λ b closed. ⊎_elim (λ old. fits b (ap is_open (sym old) ∙ closed)) (λ h. nobody b h.0 h.1) (get_or-fill slots a block.length None b);
-    told = sym (ap (λ (acted : ActedCells). acted.entry) same);
-    replies = sym (ap (λ (acted : ActedCells). acted.resumed) same);
-  }
-    where
-      same : was ≡ record { cells = fill cells a block.length None; entry = Answered Released; resumed = [] }
-      same = e ∙ released a block false w
+  pub unwaited : (a : ℕ) (slot : Slot) → get_or slots a None ≡ Some slot → (slot.block.base == a) ≡ true
+      → list_any is_waiting_cell (take slot.block.length (drop a cells)) ≡ false → IsUnwaited cells a slot.block.length
+  unwaited a slot e q w = record { block = slot.block; found = block_found a slot e true q; long = refl; nobody = w }
 
-      by_state : (slot : Slot) (state : State) (waiters : List Waiter) → is_waiting_cell (Some (record { block = slot.block; state = state_of state waiters })) ≡ false
-          → (is_open_state state ≡ false → waiters ≡ []) → waiters ≡ []
-      by_state slot HasNothing [] e quiet = refl
-      by_state slot HasNothing (who ∷ waiters) e quiet = absurd (cc)
-      by_state slot (HasValue v) waiters e quiet = quiet refl
-      by_state slot (HasClash v) waiters e quiet = quiet refl
+  pub refused-HasActed : (a : ℕ) (reply : Reply) → IsRefused cells a reply → (after : Block → List (Option Held)) (meant : Reply)
+      → HasActed slots queue (telling reply) (unless_waited_for after meant cells a (block_with_base a (held_at cells a)))
+  refused-HasActed a reply refused after meant = tells-HasActed reply _ (refused after meant)
 
-      by_slot : (slot : Option Slot) (waiters : List Waiter) → is_waiting_cell (held_of slot waiters) ≡ false → (is_open slot ≡ false → waiters ≡ []) → waiters ≡ []
-      by_slot None waiters e quiet = quiet refl
-      by_slot (Some slot) waiters e quiet = by_state slot slot.state waiters e quiet
+  module _ (a n : ℕ) (is : IsUnwaited cells a n) where
+    by_state : (slot : Slot) (state : State) (waiters : List Waiter) → is_waiting_cell (Some (record { block = slot.block; state = state_of state waiters })) ≡ false
+        → (is_open_state state ≡ false → waiters ≡ []) → waiters ≡ []
+    by_state slot HasNothing [] e quiet = refl
+    by_state slot HasNothing (who ∷ waiters) e quiet = absurd (cc)
+    by_state slot (HasValue v) waiters e quiet = quiet refl
+    by_state slot (HasClash v) waiters e quiet = quiet refl
 
-      nobody : NobodyWaits queue a block.length
-      nobody b lo hi = by_slot (get_or slots b None) (waiting_at b queue) (ap is_waiting_cell (sym (held_at-joined slots queue b)) ∙ none_of is_waiting_cell None refl cells a block.length w b lo hi) (fits b)
+    by_slot : (slot : Option Slot) (waiters : List Waiter) → is_waiting_cell (held_of slot waiters) ≡ false → (is_open slot ≡ false → waiters ≡ []) → waiters ≡ []
+    by_slot None waiters e quiet = quiet refl
+    by_slot (Some slot) waiters e quiet = by_state slot slot.state waiters e quiet
+
+    nobody : NobodyWaits queue a n
+    nobody b lo hi = by_slot (get_or slots b None) (waiting_at b queue) (ap is_waiting_cell (sym (held_at-joined slots queue b)) ∙ none_of is_waiting_cell None refl cells a n is.nobody b lo hi) (fits b)
+
+    becomes : (after : Block → List (Option Held)) (reply : Reply)
+        → unless_waited_for after reply cells a (block_with_base a (held_at cells a)) ≡ record { cells = after is.block; entry = Answered reply; resumed = [] }
+    becomes after reply =
+        let quiet : list_any is_waiting_cell (take is.block.length (drop a cells)) ≡ false = ap (λ n. list_any is_waiting_cell (take n (drop a cells))) is.long ∙ is.nobody in
+        ap (unless_waited_for after reply cells a) is.found
+        ∙ ap (λ b. cond b (only_tells cells StillWaiting) (record { cells = after is.block; entry = Answered reply; resumed = [] })) quiet
+
+    pub released-HasActed : HasActed (fill slots a n None) queue (telling Released) (release_block cells a (block_with_base a (held_at cells a)))
+    released-HasActed = record {
+      cells = joined-fill slots queue a n None nobody ∙ ap (λ n. fill cells a n None) (sym is.long) ∙ sym (ap (λ (acted : ActedCells). acted.cells) same);
+      fits = λ b closed. ⊎_elim (λ old. fits b (ap is_open (sym old) ∙ closed)) (λ h. nobody b h.0 h.1) (get_or-fill slots a n None b);
+      told = sym (ap (λ (acted : ActedCells). acted.entry) same);
+      replies = sym (ap (λ (acted : ActedCells). acted.resumed) same);
+    }
+      where
+        same : release_block cells a (block_with_base a (held_at cells a)) ≡ record { cells = fill cells a is.block.length None; entry = Answered Released; resumed = [] }
+        same = becomes (λ block. fill cells a block.length None) Released
+
+    pub reset-HasActed : HasActed (change_each emptied_slot slots a n) queue (telling Cleared) (reset_block cells a (block_with_base a (held_at cells a)))
+    reset-HasActed = record {
+      cells = joined-emptied slots queue a n nobody ∙ ap (λ n. change_each emptied cells a n) (sym is.long) ∙ sym (ap (λ (acted : ActedCells). acted.cells) same);
+      fits = λ b closed. ⊎_elim (λ old. fits b (ap is_open (sym old) ∙ closed)) (λ h. nobody b h.0 h.1) (get_or-change_each emptied_slot slots a n b);
+      told = sym (ap (λ (acted : ActedCells). acted.entry) same);
+      replies = sym (ap (λ (acted : ActedCells). acted.resumed) same);
+    }
+      where
+        same : reset_block cells a (block_with_base a (held_at cells a)) ≡ record { cells = change_each emptied cells a is.block.length; entry = Answered Cleared; resumed = [] }
+        same = becomes (λ block. change_each emptied cells a block.length) Cleared
 
 -- one of these passes the test, or one of the rest
 pub any-step : {X : Type 0} (p : X → Bool) (d : X) → p d ≡ false → (xs : List X) (k m : ℕ) → list_any p (take (suc m) (drop k xs)) ≡ (p (get_or xs k d) || list_any p (take m (drop (suc k) xs)))

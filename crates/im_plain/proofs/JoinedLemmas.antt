@@ -4,14 +4,15 @@ use Rattle.std.specs.Prelude.{Option, option_map}
 use Rattle.std.proofs.lemmas.List.{get_or-set_same, get_or-set_other}
 use Rattle.std.proofs.lemmas.Bool.{cases_eq}
 use Rattle.im_types.specs.declared.operations.Waiter.{Waiter}
-use Rattle.im_types.specs.Contents.{Held, held_at, waiters_in, waiters_at}
-use Rattle.im_types.specs.Place.{begins_free, place, fill}
+use Rattle.im_types.specs.Contents.{Empty, Held, held_at, waiters_in, waiters_at}
+use Rattle.im_types.specs.Place.{begins_free, place, fill, change_each}
+use Rattle.im_types.specs.Act.{emptied}
 use Rattle.im_plain.specs.declared.cells.State.{State}
 use Rattle.im_plain.specs.declared.cells.State.TheVariants.{Empty as HasNothing, Full as HasValue, Clashed as HasClash}
 use Rattle.im_plain.specs.declared.cells.Slot.{Slot}
 use Rattle.im_plain.specs.declared.queue.Deferred.{Deferred}
 use Rattle.im_plain.specs.Waiting.{waiting_at}
-use Rattle.im_plain.specs.Joined.{state_of, held_of, joined_from, joined, is_open_state, is_open, Fits}
+use Rattle.im_plain.specs.Joined.{state_of, emptied_slot, held_of, joined_from, joined, is_open_state, is_open, Fits}
 
 get_or-joined_from : (k : ℕ) (slots : List (Option Slot)) (queue : List Deferred) (a : ℕ) → get_or (joined_from k slots queue) a None ≡ held_of (get_or slots a None) (waiting_at (k + a) queue)
 get_or-joined_from k [] queue a = refl
@@ -50,6 +51,20 @@ joined_from-fill k (s ∷ slots) queue zero (suc n) slot nobody =
 joined_from-fill k (s ∷ slots) queue (suc base) n slot nobody =
     ap (λ cells. held_of s (waiting_at k queue) ∷ cells) (joined_from-fill (suc k) slots queue base n slot (λ a lo hi. nobody a (omega arith) (omega arith)))
 
+joined_from-emptied : (k : ℕ) (slots : List (Option Slot)) (queue : List Deferred) (base n : ℕ) → NobodyWaits queue (k + base) n
+    → joined_from k (change_each emptied_slot slots base n) queue ≡ change_each emptied (joined_from k slots queue) base n
+joined_from-emptied k [] queue base n nobody = refl
+joined_from-emptied k (s ∷ slots) queue zero zero nobody = refl
+joined_from-emptied k (s ∷ slots) queue zero (suc n) nobody =
+    ap (λ cell. cell ∷ joined_from (suc k) (change_each emptied_slot slots zero n) queue) (empty_there s (waiting_at k queue) (nobody k (omega arith) (omega arith)))
+    ∙ ap (λ cells. emptied (held_of s (waiting_at k queue)) ∷ cells) (joined_from-emptied (suc k) slots queue zero n (λ a lo hi. nobody a (omega arith) (omega arith)))
+  where
+    empty_there : (s : Option Slot) (waiters : List Waiter) → waiters ≡ [] → held_of (emptied_slot s) waiters ≡ emptied (held_of s waiters)
+    empty_there None waiters none = refl
+    empty_there (Some slot) waiters none = ap (λ waiters. Some (record { block = slot.block; state = Empty waiters })) none
+joined_from-emptied k (s ∷ slots) queue (suc base) n nobody =
+    ap (λ cells. held_of s (waiting_at k queue) ∷ cells) (joined_from-emptied (suc k) slots queue base n (λ a lo hi. nobody a (omega arith) (omega arith)))
+
 -- cells that are the same at each address are the same
 same_cells : (xs ys : List (Option Held)) → length xs ≡ length ys → ((a : ℕ) → get_or xs a None ≡ get_or ys a None) → xs ≡ ys
 same_cells [] [] e same = refl
@@ -75,6 +90,9 @@ module _ (slots : List (Option Slot)) (queue : List Deferred) where
 
   pub joined-fill : (base n : ℕ) (slot : Option Slot) → NobodyWaits queue base n → joined (fill slots base n slot) queue ≡ fill (joined slots queue) base n (held_of slot [])
   joined-fill base n slot nobody = joined_from-fill 0 slots queue base n slot (λ a lo hi. nobody a (omega arith) (omega arith))
+
+  pub joined-emptied : (base n : ℕ) → NobodyWaits queue base n → joined (change_each emptied_slot slots base n) queue ≡ change_each emptied (joined slots queue) base n
+  joined-emptied base n nobody = joined_from-emptied 0 slots queue base n (λ a lo hi. nobody a (omega arith) (omega arith))
 
   -- one slot is written, and those that wait there change
   pub joined-set : (a : ℕ) (slot : Slot) (now : List Deferred) (held : Held) → a < length slots

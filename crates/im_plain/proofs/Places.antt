@@ -2,7 +2,7 @@
 use Rattle.std.proofs.Common.{◌≡◌, ℕ, zero, suc, ◌+◌, ◌-◌, ◌<◌, ◌≤◌, List, [], ◌∷◌, length, get_or, set, take, drop, Some, None, true, false, cond, refl, sym, ap, ◌∙◌, arith, add-one, length-drop, zero-add, suc-add}
 use Rattle.std.specs.Prelude.{Option, option_map, is_some}
 use Rattle.std.proofs.Math.Seq.{drop-cons}
-use Rattle.im_types.specs.Place.{begins_free, place, fill}
+use Rattle.im_types.specs.Place.{begins_free, place, fill, change_each}
 
 pub begins_free-nothing : (X : Type 0) (n : ℕ) → 0 < n → begins_free {X = X} n [] ≡ false
 begins_free-nothing X zero h = absurd (omega arith)
@@ -75,6 +75,38 @@ module _ {X : Type 0} where
   pub fill-more : (xs : List (Option X)) (base i : ℕ) (x : Option X) → set (fill xs base i x) (base + i) x ≡ fill xs base (i + 1) x
   fill-more xs base i x = fill-suc xs base i x ∙ ap (λ n. fill xs base n x) (sym (add-one i))
 
+  pub change_each-none : (change : Option X → Option X) (xs : List (Option X)) (base : ℕ) → xs ≡ change_each change xs base 0
+  change_each-none change [] base = refl
+  change_each-none change (y ∷ xs) zero = refl
+  change_each-none change (y ∷ xs) (suc base) = ap (λ ys. y ∷ ys) (change_each-none change xs base)
+
+  change_each-suc : (change : Option X → Option X) (xs : List (Option X)) (base i : ℕ)
+      → set (change_each change xs base i) (base + i) (change (get_or (change_each change xs base i) (base + i) None)) ≡ change_each change xs base (suc i)
+  change_each-suc change [] base i = refl
+  change_each-suc change (y ∷ xs) zero zero = ap (λ ys. change y ∷ ys) (change_each-none change xs zero)
+  change_each-suc change (y ∷ xs) zero (suc i) =
+      rw (zero-add (suc i)) (ap (λ ys. change y ∷ ys) (ap (λ k. set (change_each change xs zero i) k (change (get_or (change_each change xs zero i) k None))) (sym (zero-add i)) ∙ change_each-suc change xs zero i))
+  change_each-suc change (y ∷ xs) (suc base) i = rw (suc-add base i) (ap (λ ys. y ∷ ys) (change_each-suc change xs base i))
+
+  pub change_each-more : (change : Option X → Option X) (xs : List (Option X)) (base i : ℕ)
+      → set (change_each change xs base i) (base + i) (change (get_or (change_each change xs base i) (base + i) None)) ≡ change_each change xs base (i + 1)
+  change_each-more change xs base i = change_each-suc change xs base i ∙ ap (λ n. change_each change xs base n) (sym (add-one i))
+
+  length-change_each : (change : Option X → Option X) (xs : List (Option X)) (base n : ℕ) → length (change_each change xs base n) ≡ length xs
+  length-change_each change [] base n = refl
+  length-change_each change (y ∷ xs) zero zero = refl
+  length-change_each change (y ∷ xs) zero (suc n) = ap suc (length-change_each change xs zero n)
+  length-change_each change (y ∷ xs) (suc base) n = ap suc (length-change_each change xs base n)
+
+  set_past : (ys : List (Option X)) (k : ℕ) (x : Option X) → length ys ≤ k → set ys k x ≡ ys
+  set_past [] k x h = refl
+  set_past (y ∷ ys) zero x h = absurd (omega arith)
+  set_past (y ∷ ys) (suc k) x h = ap (λ zs. y ∷ zs) (set_past ys k x (omega arith))
+
+  pub change_each-past : (change : Option X → Option X) (xs : List (Option X)) (base i : ℕ) → length xs ≤ base + i → change_each change xs base i ≡ change_each change xs base (i + 1)
+  change_each-past change xs base i past =
+      sym (set_past (change_each change xs base i) (base + i) _ (omega (arith, length-change_each change xs base i))) ∙ change_each-more change xs base i
+
   pub length-fill : (xs : List (Option X)) (base n : ℕ) (x : Option X) → length (fill xs base n x) ≡ length xs
   length-fill [] base n x = refl
   length-fill (y ∷ xs) zero zero x = refl
@@ -83,8 +115,3 @@ module _ {X : Type 0} where
 
   pub fill-past : (xs : List (Option X)) (base i : ℕ) (x : Option X) → length xs ≤ base + i → fill xs base i x ≡ fill xs base (i + 1) x
   fill-past xs base i x past = sym (set_past (fill xs base i x) (base + i) x (omega (arith, length-fill xs base i x))) ∙ fill-more xs base i x
-    where
-      set_past : (ys : List (Option X)) (k : ℕ) (x : Option X) → length ys ≤ k → set ys k x ≡ ys
-      set_past [] k x h = refl
-      set_past (y ∷ ys) zero x h = absurd (omega arith)
-      set_past (y ∷ ys) (suc k) x h = ap (λ zs. y ∷ zs) (set_past ys k x (omega arith))

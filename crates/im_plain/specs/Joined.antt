@@ -14,6 +14,11 @@ state_of HasNothing waiters = Empty waiters
 state_of (HasValue v) waiters = Full v
 state_of (HasClash v) waiters = Clashed v
 
+-- a slot of a block, with nothing in its cell
+abbrev pub emptied_slot : Option Slot → Option Slot
+emptied_slot None = None
+emptied_slot (Some slot) = Some (record { block = slot.block; state = HasNothing })
+
 -- the cell that a slot and its waiters stand for
 abbrev pub held_of : Option Slot → List Waiter → Option Held
 held_of None waiters = None

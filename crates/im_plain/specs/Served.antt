@@ -1,11 +1,14 @@
 -- What an operation comes to on slots and a queue. (Own.)
-use Rattle.std.specs.Prelude.{◌≡◌, ℕ, List, [], false, Option, drop, take, length}
+use Rattle.std.specs.Prelude.{◌≡◌, ℕ, List, [], false, Option, Some, drop, take, length}
+use Rattle.std.specs.List.{list_any}
 use Rattle.im_types.specs.declared.operations.Waiter.{Waiter}
 use Rattle.im_types.specs.declared.operations.Op.{Op}
-use Rattle.im_types.specs.declared.operations.Op.TheVariants.{Alloc, Release, Fetch, Store, Take, Put}
+use Rattle.im_types.specs.declared.operations.Op.TheVariants.{Alloc, Release, Reset, Fetch, Store, Take, Put}
+use Rattle.im_types.specs.declared.operations.Reply.{Reply}
 use Rattle.im_types.specs.declared.operations.Reply.TheVariants.{NoCell}
-use Rattle.im_types.specs.Contents.{CellState}
-use Rattle.im_types.specs.Act.{Served as ServedCell, Acted as ActedCells, tells, fetch, store, take_from, put}
+use Rattle.im_types.specs.declared.operations.Block.{Block}
+use Rattle.im_types.specs.Contents.{CellState, Held, held_at}
+use Rattle.im_types.specs.Act.{Served as ServedCell, Acted as ActedCells, tells, fetch, store, take_from, put, only_tells, unless_waited_for, block_with_base, is_waiting_cell}
 use Rattle.im_plain.specs.declared.cells.State.{State}
 use Rattle.im_plain.specs.declared.cells.Slot.{Slot}
 use Rattle.im_plain.specs.declared.queue.Deferred.{Deferred}
@@ -18,6 +21,7 @@ use Rattle.im_plain.specs.Joined.{state_of, joined, is_open_state, Fits}
 abbrev pub access_of : Waiter → Op → CellState → ServedCell
 access_of who (Alloc kind n) = tells NoCell
 access_of who (Release a) = tells NoCell
+access_of who (Reset a) = tells NoCell
 access_of who (Fetch a) = fetch who
 access_of who (Store a v) = store v
 access_of who (Take a) = take_from who
@@ -46,3 +50,10 @@ pub record HasActed (slots : List (Option Slot)) (queue : List Deferred) (acted 
   pub fits : Fits slots (without acted.count acted.address queue)
   pub told : acted.entry ≡ was.entry
   pub replies : replies_to (take acted.count (waiting_at acted.address queue)) acted.value ≡ was.resumed
+
+-- at this address a block of n cells begins, at none of which somebody waits
+pub record IsUnwaited (cells : List (Option Held)) (a n : ℕ) : Type 0 where
+  pub block : Block
+  pub found : block_with_base a (held_at cells a) ≡ Some block
+  pub long : block.length ≡ n
+  pub nobody : list_any is_waiting_cell (take n (drop a cells)) ≡ false

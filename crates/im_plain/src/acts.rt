@@ -1,15 +1,16 @@
 //! What an operation does to the cells.
-ghost use Rattle.std.specs.Prelude.{◌≡◌, ℕ, ◌+◌, ◌<◌, ◌≤◌, length, List, take, drop, vec_len, vec_capacity};
+ghost use Rattle.std.specs.Prelude.{◌≡◌, ℕ, ◌+◌, ◌<◌, ◌≤◌, IfErr, IfOk, length, List, take, drop, vec_len, vec_capacity};
 ghost use Rattle.std.specs.List.{list_any};
-ghost use Rattle.im_types.specs.Act.{act, allocate, release_block, block_with_base, at_cell, fetch, store, take_from};
+ghost use Rattle.im_types.specs.Act.{act, allocate, release_block, reset_block, block_with_base, at_cell, fetch, store, take_from};
 ghost use Rattle.im_types.specs.Act.{put, has_waiter, is_waiting_cell};
 ghost use Rattle.im_types.specs.declared.operations.Waiter.{Waiter};
 ghost use Rattle.im_types.specs.Contents.{held_at, HasBlocks};
 ghost use Rattle.im_plain.specs.Waiting.{waiting_at};
 ghost use Rattle.im_plain.specs.Joined.{state_of, joined, Fits};
-ghost use Rattle.im_plain.specs.Served.{access_of, Serves, HasActed};
+ghost use Rattle.im_laws.specs.Blocks.{IsRefused};
+ghost use Rattle.im_plain.specs.Served.{access_of, Serves, HasActed, IsUnwaited};
 
-use crate::cells::{Slot, State, fill, place, slot_at};
+use crate::cells::{Slot, State, empty, fill, place, slot_at};
 use crate::queue::{Deferred, count_at, park};
 use im_types::{Block, Entry, Kind, MAX_CELLS, Op, Reply, Waiter};
 
@@ -109,7 +110,7 @@ fn access(state: State, waiting: usize, op: Op) -> Served
         Op::Store(_, value) => store(state, waiting, value),
         Op::Take(_) => take_from(state),
         Op::Put(_, value) => put(state, waiting, value),
-        Op::Alloc(..) | Op::Release(_) => told(state, Reply::NoCell),
+        Op::Alloc(..) | Op::Release(_) | Op::Reset(_) => told(state, Reply::NoCell),
     }
 }
 
@@ -227,6 +228,26 @@ fn any_waits(slots: &[Option<Slot>], queue: &[Deferred], base: u32, n: u32) -> b
     false
 }
 
+// The length of the block with this base, or why its cells stay as they are.
+fn unwaited_for(slots: &[Option<Slot>], queue: &[Deferred], a: u32) -> Result<u32, Reply>
+    requires fits { Fits slots.now queue.now }
+    requires blocks { HasBlocks (joined slots.now queue.now) }
+    requires few { length slots.now ≤ MAX_CELLS }
+    ensures ok { IfOk result (λ n. IsUnwaited (joined slots.now queue.now) a n) }
+    ensures err { IfErr result (λ reply. IsRefused (joined slots.now queue.now) a reply) }
+{
+    let Some(slot) = slot_at(slots, a) else {
+        return Err(Reply::NoBlock);
+    };
+    if slot.block.base != a {
+        return Err(Reply::NoBlock);
+    }
+    if any_waits(slots, queue, a, slot.block.length) {
+        return Err(Reply::StillWaiting);
+    }
+    Ok(slot.block.length)
+}
+
 /// The end of a block.
 fn release(slots: &mut [Option<Slot>], queue: &[Deferred], a: u32) -> Acted
     requires fits { Fits slots.old queue.now }
@@ -235,17 +256,30 @@ fn release(slots: &mut [Option<Slot>], queue: &[Deferred], a: u32) -> Acted
     ensures { let cells = joined slots.old queue.now in HasActed slots.new queue.now result
         (release_block cells a (block_with_base a (held_at cells a))) }
 {
-    let Some(slot) = slot_at(slots, a) else {
-        return tells(Reply::NoBlock);
-    };
-    if slot.block.base != a {
-        return tells(Reply::NoBlock);
+    match unwaited_for(slots, queue, a) {
+        Ok(n) => {
+            fill(slots, a, n, None);
+            tells(Reply::Released)
+        }
+        Err(reply) => tells(reply),
     }
-    if any_waits(slots, queue, a, slot.block.length) {
-        return tells(Reply::StillWaiting);
+}
+
+/// A block whose cells are all empty from now on.
+fn reset(slots: &mut [Option<Slot>], queue: &[Deferred], a: u32) -> Acted
+    requires fits { Fits slots.old queue.now }
+    requires blocks { HasBlocks (joined slots.old queue.now) }
+    requires few { length slots.old ≤ MAX_CELLS }
+    ensures { let cells = joined slots.old queue.now in HasActed slots.new queue.now result
+        (reset_block cells a (block_with_base a (held_at cells a))) }
+{
+    match unwaited_for(slots, queue, a) {
+        Ok(n) => {
+            empty(slots, a, n);
+            tells(Reply::Cleared)
+        }
+        Err(reply) => tells(reply),
     }
-    fill(slots, a, slot.block.length, None);
-    tells(Reply::Released)
 }
 
 /// An operation of an asker on the cells.
@@ -260,6 +294,7 @@ pub fn act(slots: &mut [Option<Slot>], queue: &mut Vec<Deferred>, who: Waiter, o
     match op {
         Op::Alloc(kind, n) => allocate(slots, queue.as_slice(), kind, n),
         Op::Release(a) => release(slots, queue.as_slice(), a),
+        Op::Reset(a) => reset(slots, queue.as_slice(), a),
         Op::Fetch(a) | Op::Store(a, _) => access_at(slots, queue, who, op, Kind::I, a),
         Op::Take(a) | Op::Put(a, _) => access_at(slots, queue, who, op, Kind::M, a),
     }

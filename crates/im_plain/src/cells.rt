@@ -1,9 +1,9 @@
 //! The cells by address, without those that wait for them.
 ghost use Rattle.std.specs.Prelude.{◌≡◌, ℕ, ◌+◌, ◌<◌, ◌≤◌, length, List, Some, None, IfSome, slice_index_or};
 ghost use Rattle.im_types.specs.declared.operations.Waiter.{Waiter};
-ghost use Rattle.im_plain.specs.Joined.{state_of};
+ghost use Rattle.im_plain.specs.Joined.{state_of, emptied_slot};
 ghost use Rattle.im_types.specs.Presences.{presence_of};
-ghost use Rattle.im_types.specs.Place.{begins_free, place, fill};
+ghost use Rattle.im_types.specs.Place.{begins_free, place, fill, change_each};
 
 use im_types::{Block, Cell, MAX_CELLS};
 
@@ -66,6 +66,31 @@ pub fn place(slots: &[Option<Slot>], n: u32) -> Option<u32>
         }
     }
     None
+}
+
+// A slot whose cell has nothing, where it is one of a block.
+fn emptied(slot: Option<Slot>) -> Option<Slot>
+    ensures { result ≡ emptied_slot slot }
+{
+    match slot {
+        Some(slot) => Some(Slot {
+            block: slot.block,
+            state: State::Empty,
+        }),
+        None => None,
+    }
+}
+
+/// Empties the cells of `n` slots from `base` on, as far as there are slots.
+pub fn empty(slots: &mut [Option<Slot>], base: u32, n: u32)
+    ensures { slots.new ≡ change_each emptied_slot slots.old base n }
+{
+    for i in 0..n {
+        let at = base as usize + i as usize;
+        if at < slots.len() {
+            slots[at] = emptied(slots[at]);
+        }
+    }
 }
 
 /// Sets `n` slots from `base` on, as far as there are slots.

@@ -3,7 +3,7 @@ use Rattle.std.proofs.Common.{◌≡◌, ⊎_elim, ℕ, zero, suc, List, [], ◌
 use Rattle.std.specs.Prelude.{Option, ◌↔◌, ◌==◌, ◌&&◌, ◌||◌, slice_get, is_some, drop}
 use Rattle.std.proofs.lemmas.Option.{none-some, same_Some}
 use Rattle.im_types.specs.declared.operations.Op.{Op}
-use Rattle.im_types.specs.declared.operations.Op.TheVariants.{Alloc, Release, Fetch, Store, Take, Put}
+use Rattle.im_types.specs.declared.operations.Op.TheVariants.{Alloc, Release, Reset, Fetch, Store, Take, Put}
 use Rattle.im_types.specs.declared.commands.Request.{Request}
 use Rattle.im_types.specs.Window.{same_op}
 use Rattle.im_types.specs.Step.{asker}

@@ -70,7 +70,7 @@ fn address(op: &Op) -> u32
 {
     match op {
         Op::Alloc(_, n) => *n,
-        Op::Release(a) | Op::Fetch(a) | Op::Take(a) => *a,
+        Op::Release(a) | Op::Reset(a) | Op::Fetch(a) | Op::Take(a) => *a,
         Op::Store(a, _) | Op::Put(a, _) => *a,
     }
 }

@@ -132,6 +132,7 @@ A script has one line for each request; '#' begins a line of comment:
   take PLACE            empty an m cell, or wait until it is full
   put PLACE VALUE       fill an m cell
   release PLACE         give a block back
+  reset PLACE           empty a block's cells
   alloc KIND LEN        make a block
 PLACE is an address, NAME or NAME+OFFSET.
 
@@ -170,7 +171,7 @@ const SERVE: &str = "Serve a dialogue: read a line, answer it by a line, until t
 const SERVE_EXAMPLES: &str =
     "Reads standard input line by line, and prints the answer to each once what it tells is on the disk.
 Requests have their numbers, and one that is sent again acts once:
-  E.N alloc i|m LENGTH, E.N release A, E.N fetch A, E.N store A VALUE, E.N take A, E.N put A VALUE
+  E.N alloc i|m LENGTH, E.N release A, E.N reset A, E.N fetch A, E.N store A VALUE, E.N take A, E.N put A VALUE
                         element E's request N: 'E.N REPLY' or 'E.N refused NUMBER NAME'
   collect E.N           what is kept for it now
   confirm E UPTO        drop E's entries below UPTO: 'E confirmed UPTO'
@@ -246,7 +247,7 @@ fn format_command<'a>(alloc: Global) -> Result<Command<'a>, AllocError>
     let cells = number_option(
         alloc,
         "cells",
-        "How many cells, 1 to 65,536 [default: 4096]",
+        "How many cells, 1 to 1,048,576 [default: 4096]",
     );
     let elements = number_option(
         alloc,

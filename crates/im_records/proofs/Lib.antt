@@ -2,6 +2,7 @@ pub mod Reading
 pub mod RowLemmas
 pub mod WindowLemmas
 pub mod SessionLemmas
+pub mod Parts
 pub mod Pieces
 pub mod Unique
 pub mod Joining

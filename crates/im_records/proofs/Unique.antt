@@ -1,15 +1,17 @@
 -- An area spells one list of records.
-use Rattle.std.proofs.Common.{◌≡◌, ℕ, ◌<◌, ◌≤◌, ◌^◌, List, get_or, sym, ap, ◌∙◌, arith}
+use Rattle.std.proofs.Common.{◌≡◌, ℕ, ◌*◌, ◌<◌, ◌≤◌, ◌^◌, List, get_or, sym, ap, ◌∙◌, arith}
 use Rattle.std.proofs.lemmas.List.{ext_get_or}
 use Rattle.im_types.specs.declared.records.CellRecord.{CellRecord}
 use Rattle.im_types.specs.declared.records.NodeRecord.{NodeRecord}
 use Rattle.im_types.specs.Sizes.{AreLimits}
-use Rattle.im_types.specs.Layout.{Sizes, layout_in_use, node_count}
+use Rattle.im_types.specs.Layout.{Sizes, layout_of, node_count}
 use Rattle.im_types.specs.Records.{cell_bytes, node_bytes, FitsCell, FitsNode}
 use Rattle.im_types.specs.Pages.{Records, IsRow, SpellsArea}
 use Rattle.im_formats.specs.Reading.{read_cell, read_node}
 use Rattle.im_formats.proofs.Records.{read_cell-spelled, read_node-spelled}
-use Rattle.im_formats.proofs.Sessions.{session_bytes-one}
+use Rattle.im_formats.proofs.Sessions.{ring_of_version, session_bytes-one}
+use Rattle.im_types.specs.declared.layout.Version.{Version}
+use Rattle.im_types.specs.declared.layout.Version.TheVariants.{One, Two}
 use Rattle.im_records.proofs.Reading.{some_inj}
 
 one_row : {X : Type 0} (size : ℕ) (spelled : X → List ℕ) (Fits : X → Type 0) (none : X) (count : ℕ) (bytes : List ℕ) (row other : List X) → ((x y : X) → Fits x → Fits y → spelled x ≡ spelled y → x ≡ y) → IsRow size spelled Fits none count bytes row → IsRow size spelled Fits none count bytes other → row ≡ other
@@ -24,9 +26,15 @@ one_cell cells nodes few_cells few_nodes a b fa fb e = some_inj a b (sym (read_c
 one_node : (nodes : ℕ) → nodes ≤ 2 ^ 32 → (a b : NodeRecord) → FitsNode nodes a → FitsNode nodes b → node_bytes a ≡ node_bytes b → a ≡ b
 one_node nodes few a b fa fb e = some_inj a b (sym (read_node-spelled nodes a few fa) ∙ ap read_node e ∙ read_node-spelled nodes b few fb)
 
-pub one_area : (s : Sizes) (area : List ℕ) (r q : Records) → AreLimits s.cells s.elements s.slots → SpellsArea layout_in_use s area r → SpellsArea layout_in_use s area q → r ≡ q
-one_area s area r q limits spells spells' =
-    let cells : r.cells ≡ q.cells = one_row _ _ _ _ _ _ r.cells q.cells (one_cell s.cells (node_count layout_in_use s) (omega (arith, limits.few_cells)) (omega (arith, limits.few_elements))) spells.cells spells'.cells in
-    let nodes : r.nodes ≡ q.nodes = one_row _ _ _ _ _ _ r.nodes q.nodes (one_node (node_count layout_in_use s) (omega (arith, limits.few_elements))) spells.nodes spells'.nodes in
-    let windows : r.windows ≡ q.windows = one_row _ _ _ _ _ _ r.windows q.windows session_bytes-one spells.sessions spells'.sessions in
+few_nodes : (version : Version) (n : ℕ) → n ≤ 64 → (layout_of version).window * n ≤ 2 ^ 32
+few_nodes One n few = omega arith
+few_nodes Two n few = omega arith
+
+pub one_area : (version : Version) (s : Sizes) (area : List ℕ) (r q : Records) → AreLimits s.cells s.elements s.slots → SpellsArea (layout_of version) s area r → SpellsArea (layout_of version) s area q → r ≡ q
+one_area version s area r q limits spells spells' =
+    let l = layout_of version in
+    let few = few_nodes version s.elements limits.few_elements in
+    let cells : r.cells ≡ q.cells = one_row _ _ _ _ _ _ r.cells q.cells (one_cell s.cells (node_count l s) (omega (arith, limits.few_cells)) few) spells.cells spells'.cells in
+    let nodes : r.nodes ≡ q.nodes = one_row _ _ _ _ _ _ r.nodes q.nodes (one_node (node_count l s) few) spells.nodes spells'.nodes in
+    let windows : r.windows ≡ q.windows = one_row _ _ _ _ _ _ r.windows q.windows (session_bytes-one l (ring_of_version version)) spells.sessions spells'.sessions in
     (λ i. record { cells = cells i; nodes = nodes i; windows = windows i })

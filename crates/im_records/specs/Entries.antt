@@ -1,9 +1,10 @@
 -- The entries of a window, in the array where they lie. (Own.)
-use Rattle.std.specs.Prelude.{◌≡◌, ℕ, ◌≤◌, List, Some, slice_get}
-use Rattle.im_types.specs.declared.TheConstants.{WINDOW}
+use Rattle.std.specs.Prelude.{◌≡◌, ℕ, ◌+◌, ◌≤◌, List, Some, slice_get}
+use Rattle.im_types.specs.declared.TheConstants.{LAST, WINDOW}
 use Rattle.im_types.specs.declared.operations.Kept.{Kept}
 use Rattle.im_types.specs.Contents.{Window}
-use Rattle.im_types.specs.Layout.{layout_in_use}
+use Rattle.im_types.specs.Window.{next_number}
+use Rattle.im_types.specs.Layout.{Layout}
 use Rattle.im_types.specs.Records.{session_bytes, FitsPlace, FitsWindow}
 use Rattle.im_records.specs.Rows.{Spells}
 
@@ -16,6 +17,12 @@ pub record AreEntries (count : ℕ) (entries : List Kept) : Type 0 where
   pub few : count ≤ WINDOW
   pub fit : FitEntries entries
 
--- bytes spell the session record of a window that is within its bounds
-abbrev pub SpellsSession : List ℕ → Window → Type 0
-SpellsSession bytes w = Spells (session_bytes layout_in_use) (FitsWindow layout_in_use) bytes w
+-- bytes spell the session record of a window that is within the bounds of a layout
+abbrev pub SpellsSession : Layout → List ℕ → Window → Type 0
+SpellsSession l bytes w = Spells (session_bytes l) (FitsWindow l) bytes w
+
+-- the base and the numbers of a window are in their ranges
+pub record AreNumbers (w : Window) : Type 0 where
+  pub from : 1 ≤ w.base
+  pub to : w.base ≤ LAST + 1
+  pub numbers : next_number w ≤ LAST + 1

@@ -2,7 +2,7 @@
 use Rattle.std.specs.Prelude.{◌≡◌, ℕ, ◌<◌, List, length, slice_index_or}
 use Rattle.im_types.specs.declared.TheConstants.{NONE}
 use Rattle.im_types.specs.Contents.{Window, new_window}
-use Rattle.im_types.specs.Layout.{layout_in_use, cell_record_bytes, node_record_bytes, session_record_bytes, record_at}
+use Rattle.im_types.specs.Layout.{Layout, cell_record_bytes, node_record_bytes, session_record_bytes, record_at}
 use Rattle.im_types.specs.declared.records.CellRecord.{CellRecord}
 use Rattle.im_types.specs.declared.records.CellRecord.TheVariants.{Free as FreeCell}
 use Rattle.im_types.specs.declared.records.NodeRecord.{NodeRecord}
@@ -29,8 +29,8 @@ abbrev pub BeginWithNodes : ℕ → ℕ → List ℕ → List NodeRecord → Typ
 BeginWithNodes count nodes bytes row = BeginWith node_record_bytes node_bytes (FitsNode nodes) (FreeNode NONE) count bytes row
 
 -- bytes begin with so many sessions
-abbrev pub BeginWithSessions : ℕ → List ℕ → List Window → Type 0
-BeginWithSessions count bytes row = BeginWith (session_record_bytes layout_in_use) (session_bytes layout_in_use) (FitsWindow layout_in_use) new_window count bytes row
+abbrev pub BeginWithSessions : Layout → ℕ → List ℕ → List Window → Type 0
+BeginWithSessions l count bytes row = BeginWith (session_record_bytes l) (session_bytes l) (FitsWindow l) new_window count bytes row
 
 -- bytes are the records of so many cells, of so many nodes, and zeros
 abbrev pub AreCells : ℕ → ℕ → List ℕ → List CellRecord → Type 0
@@ -41,5 +41,5 @@ abbrev pub AreNodes : ℕ → List ℕ → List NodeRecord → Type 0
 AreNodes nodes bytes row = IsRow node_record_bytes node_bytes (FitsNode nodes) (FreeNode NONE) nodes bytes row
 
 -- bytes are so many sessions, and zeros
-abbrev pub AreSessions : ℕ → List ℕ → List Window → Type 0
-AreSessions elements bytes row = IsRow (session_record_bytes layout_in_use) (session_bytes layout_in_use) (FitsWindow layout_in_use) new_window elements bytes row
+abbrev pub AreSessions : Layout → ℕ → List ℕ → List Window → Type 0
+AreSessions l elements bytes row = IsRow (session_record_bytes l) (session_bytes l) (FitsWindow l) new_window elements bytes row

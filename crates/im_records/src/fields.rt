@@ -22,6 +22,7 @@ pub(crate) fn entry_code(entry: Entry) -> u8
         Entry::Answered(Reply::Released) => 9,
         Entry::Answered(Reply::NoBlock) => 10,
         Entry::Answered(Reply::StillWaiting) => 11,
+        Entry::Answered(Reply::Cleared) => 12,
     }
 }
 
@@ -57,6 +58,7 @@ pub(crate) fn entry_of(code: u8, number: u64) -> Option<Entry>
         9 => Some(Entry::Answered(Reply::Released)),
         10 => Some(Entry::Answered(Reply::NoBlock)),
         11 => Some(Entry::Answered(Reply::StillWaiting)),
+        12 => Some(Entry::Answered(Reply::Cleared)),
         _ => None,
     }
 }

@@ -1,14 +1,15 @@
 //! Laws of areas, each the contract of a function that does nothing.
 ghost use Rattle.std.specs.Prelude.{◌≡◌, ℕ, List, length};
 ghost use Rattle.im_types.specs.Sizes.{AreLimits};
-ghost use Rattle.im_types.specs.Layout.{Sizes, layout_in_use, area_bytes, area_pages, record_at, page_bytes};
+ghost use Rattle.im_types.specs.Layout.{Sizes, layout_in_use, layout_of, area_bytes, area_pages, record_at, page_bytes};
+ghost use Rattle.im_types.specs.declared.layout.Version.{Version};
 ghost use Rattle.im_types.specs.Pages.{Records, SpellsArea};
 ghost use Rattle.im_records.specs.Paging.{ArePages, FitRecords, joined};
 
-/// An area spells one list of records.
+/// An area of either version spells one list of records.
 pub fn areas_spell_one_list_of_records()
-    ensures { (s : Sizes) (area : List ℕ) (r q : Records) → AreLimits s.cells s.elements s.slots
-        → SpellsArea layout_in_use s area r → SpellsArea layout_in_use s area q → r ≡ q }
+    ensures { (version : Version) (s : Sizes) (area : List ℕ) (r q : Records) → AreLimits s.cells s.elements s.slots
+        → SpellsArea (layout_of version) s area r → SpellsArea (layout_of version) s area q → r ≡ q }
 {}
 
 /// An area whose pages have the records, and zeros where there is none, spells these records.

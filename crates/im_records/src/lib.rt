@@ -36,6 +36,6 @@ pub use im_types::layout::{
 pub use laws::{areas_spell_one_list_of_records, joined_pages_are_an_area, pages_are_an_area};
 pub use page::{put_cell, put_node, put_session};
 pub use read::{read_cell, read_node, read_place};
-pub use session::{read_session, spell_session};
+pub use session::{has_room_for, read_session, spell_session};
 pub use spell::{spell_cell, spell_node, spell_place};
 pub use window::WindowRecord;

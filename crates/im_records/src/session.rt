@@ -1,22 +1,23 @@
-//! How a session record is spelled and read.
-ghost use Rattle.std.specs.Prelude.{◌≡◌, ◌↔◌, ◌⊎◌, ◌<◌, ◌≤◌, ◌*◌, ◌∷◌, ◌++◌, List, length, slice_get, Some, IfSome};
+//! How a session record is spelled and read, in each version of the layout.
+ghost use Rattle.std.specs.Prelude.{◌≡◌, ◌↔◌, ◌⊎◌, ◌<◌, ◌≤◌, ◌*◌, ◌-◌, ◌∷◌, ◌++◌, List, length, slice_get, Some, IfSome};
 ghost use Rattle.std.specs.Prelude.{IfOk, IfErr, IsErrOf, IsTrue};
+ghost use Rattle.std.specs.List.{list_any};
 ghost use Rattle.im_types.specs.Contents.{Window};
 ghost use Rattle.byteorder.specs.Endian.{little_bytes};
 ghost use Rattle.im_types.specs.Bytes.{zeros};
-ghost use Rattle.im_types.specs.Layout.{layout_in_use};
-ghost use Rattle.im_types.specs.Records.{session_bytes, FitsWindow};
+ghost use Rattle.im_types.specs.Layout.{layout_in_use, layout_of, session_record_bytes};
+ghost use Rattle.im_types.specs.Records.{session_bytes, FitsWindow, has_room_for, is_of_reset};
 ghost use Rattle.im_records.specs.Rows.{Spells, BeginWithSessions, AreSessions};
-ghost use Rattle.im_records.specs.Entries.{SpellsSession};
+ghost use Rattle.im_records.specs.Entries.{AreNumbers, SpellsSession};
 
 use crate::bounds::are_zero;
 use crate::put::put;
 use crate::read::read_place;
 use crate::spell::spell_place;
-use crate::window::{PLACES, WindowRecord};
+use crate::window::{WindowRecord, place_of};
 use byteorder::{ByteOrder, LittleEndian};
-use im_types::layout::{PLACE, SESSION_RECORD};
-use im_types::{Kept, LAST, Refusal, WINDOW};
+use im_types::layout::{PLACE, SESSION_RECORD, Version};
+use im_types::{Entry, Kept, LAST, Op, Refusal, Reply};
 use std::alloc::Global;
 
 // What stands before the places of a session record.
@@ -29,30 +30,39 @@ fn spell_head(window: &WindowRecord) -> [u8; PLACE]
     bytes
 }
 
-/// The bytes of a session record: the base, how many entries there are, and each entry at the place that its number,
-/// divided by [`WINDOW`](im_types::WINDOW), leaves.
-pub fn spell_session(window: &WindowRecord) -> [u8; SESSION_RECORD]
-    ensures { result ≡ session_bytes layout_in_use window.now }
+// The bytes of a session record of a version, and zeros behind them.
+fn spell_in(version: Version, window: &WindowRecord) -> [u8; SESSION_RECORD]
+    ensures { result ≡ session_bytes (layout_of version) window.now
+        ++ zeros (SESSION_RECORD - session_record_bytes (layout_of version)) }
 {
     let mut bytes = [0; SESSION_RECORD];
     put(&mut bytes, 0, &spell_head(window));
-    for place in 0..PLACES {
+    for place in 0..version.window() {
         put(
             &mut bytes,
             PLACE + PLACE * place,
-            &spell_place(window.entry_at(place)),
+            &spell_place(window.entry_at(version, place)),
         );
     }
     bytes
 }
 
-// The entry that stands so many numbers past the base.
-fn entry_past(bytes: &[u8], base: u64, past: usize) -> Option<Kept>
-    requires length { length bytes.now ≡ SESSION_RECORD }
-    requires few { past < WINDOW }
-    ensures { (w : Window) → SpellsSession bytes.now w → base ≡ w.base → result ≡ slice_get w.kept past }
+/// The bytes of a session record of the layout in use: the base, how many entries there are, and each entry at the
+/// place that its number, divided by [`WINDOW`](im_types::WINDOW), leaves.
+pub fn spell_session(window: &WindowRecord) -> [u8; SESSION_RECORD]
+    ensures { result ≡ session_bytes layout_in_use window.now }
 {
-    let place = ((base % WINDOW) as usize + past) % PLACES;
+    spell_in(Version::Two, window)
+}
+
+// The entry that stands so many numbers past the base.
+fn entry_past(version: Version, bytes: &[u8], base: u64, past: usize) -> Option<Kept>
+    requires length { length bytes.now ≡ session_record_bytes (layout_of version) }
+    requires few { past < (layout_of version).window }
+    ensures { (w : Window) → SpellsSession (layout_of version) bytes.now w → base ≡ w.base
+        → result ≡ slice_get w.kept past }
+{
+    let place = place_of(version, base, past);
     match read_place(&bytes[PLACE + PLACE * place..2 * PLACE + PLACE * place]) {
         Some(entry) => entry,
         None => None,
@@ -60,60 +70,103 @@ fn entry_past(bytes: &[u8], base: u64, past: usize) -> Option<Kept>
 }
 
 // The window that the fields stand for, whatever the other bytes are.
-fn window_in(bytes: &[u8]) -> Option<WindowRecord>
-    requires { length bytes.now ≡ SESSION_RECORD }
-    ensures { (w : Window) → SpellsSession bytes.now w → result ≡ Some w }
+fn window_in(version: Version, bytes: &[u8]) -> Option<WindowRecord>
+    requires length { length bytes.now ≡ session_record_bytes (layout_of version) }
+    ensures { (w : Window) → SpellsSession (layout_of version) bytes.now w → result ≡ Some w }
 {
     let base = LittleEndian::read_u64(&bytes[0..8]);
     let count = bytes[8] as usize;
-    if count > PLACES {
+    if count > version.window() {
         return None;
     }
     let mut window = WindowRecord::new(base);
     for past in 0..count {
-        window.push(entry_past(bytes, base, past)?);
+        window.push(entry_past(version, bytes, base, past)?);
     }
     Some(window)
 }
 
+// Whether what is kept is of a reset.
+fn is_of_reset(kept: &Kept) -> bool
+    ensures { result ≡ is_of_reset kept.now }
+{
+    matches!(kept.op, Op::Reset(_)) || matches!(kept.entry, Entry::Answered(Reply::Cleared))
+}
+
+// Whether something of a reset is kept.
+fn has_reset(kept: &[Kept]) -> bool
+    ensures { result ≡ list_any is_of_reset kept.now }
+{
+    kept.iter().any(|kept| is_of_reset(kept))
+}
+
+/// Whether a version has room for a window, and knows each of its entries: the first one has 16 places, and no reset.
+pub fn has_room_for(version: Version, window: &WindowRecord) -> bool
+    ensures { result ≡ has_room_for (layout_of version) window.now }
+{
+    match version {
+        Version::One => window.kept().len() <= 16 && !has_reset(window.kept()),
+        Version::Two => true,
+    }
+}
+
 // Whether a window's numbers are in their ranges.
-fn fits_window(window: &WindowRecord) -> bool
-    ensures { IsTrue result ↔ FitsWindow layout_in_use window.now }
+fn are_numbers(window: &WindowRecord) -> bool
+    ensures { IsTrue result ↔ AreNumbers window.now }
 {
     let count = window.kept().len() as u64;
     1 <= window.base() && window.base() <= LAST + 1 && window.base() + count <= LAST + 1
 }
 
-/// The window that these bytes spell as a session record, if they spell one: its base is 1 to
-/// [`LAST`](im_types::LAST) + 1, and no entry is past the last number.
-pub fn read_session(bytes: &[u8]) -> Option<WindowRecord>
-    ensures found { IfSome result (λ w. SpellsSession bytes.now w) }
-    ensures only { (w : Window) → SpellsSession bytes.now w → result ≡ Some w }
+// Whether a window is within the bounds of a version.
+fn fits_window(version: Version, window: &WindowRecord) -> bool
+    ensures { IsTrue result ↔ FitsWindow (layout_of version) window.now }
 {
-    if bytes.len() != SESSION_RECORD {
+    window.kept().len() <= version.window() && are_numbers(window) && has_room_for(version, window)
+}
+
+// Whether bytes spell a window as a session record of a version.
+fn is_spelled(version: Version, window: &WindowRecord, bytes: &[u8]) -> bool
+    ensures { IsTrue result ↔ SpellsSession (layout_of version) bytes.now window.now }
+{
+    fits_window(version, window) && bytes == &spell_in(version, window)[..version.session_record()]
+}
+
+/// The window that these bytes spell as a session record of a version, if they spell one: its base is 1 to
+/// [`LAST`](im_types::LAST) + 1, no entry is past the last number, and the first version has none of a reset.
+pub fn read_session(version: Version, bytes: &[u8]) -> Option<WindowRecord>
+    ensures found { IfSome result (λ w. SpellsSession (layout_of version) bytes.now w) }
+    ensures only { (w : Window) → SpellsSession (layout_of version) bytes.now w → result ≡ Some w }
+{
+    if bytes.len() != version.session_record() {
         return None;
     }
-    let window = window_in(bytes)?;
-    if fits_window(&window) && bytes == &spell_session(&window)[..] {
+    let window = window_in(version, bytes)?;
+    if is_spelled(version, &window, bytes) {
         Some(window)
     } else {
         None
     }
 }
 
-fn first_sessions(alloc: Global, elements: u16, bytes: &[u8]) -> Result<Vec<WindowRecord>, Refusal>
-    requires { SESSION_RECORD * elements ≤ length bytes.now }
-    ensures found { IfOk result (λ row. BeginWithSessions elements bytes.now row.items) }
-    ensures bad { IsErrOf result Refusal.BadPage → (row : List Window) → BeginWithSessions elements bytes.now row → ⊥ }
+fn first_sessions(
+    alloc: Global,
+    version: Version,
+    elements: u16,
+    bytes: &[u8],
+) -> Result<Vec<WindowRecord>, Refusal>
+    requires { session_record_bytes (layout_of version) * elements ≤ length bytes.now }
+    ensures found { IfOk result (λ row. BeginWithSessions (layout_of version) elements bytes.now row.items) }
+    ensures bad { IsErrOf result Refusal.BadPage → (row : List Window)
+        → BeginWithSessions (layout_of version) elements bytes.now row → ⊥ }
     ensures only { IfErr result (λ e. (e ≡ Refusal.BadPage) ⊎ (e ≡ Refusal.NoMemory)) }
 {
     let Ok(mut row) = Vec::with_capacity(alloc, elements as usize) else {
         return Err(Refusal::NoMemory);
     };
+    let size = version.session_record();
     for i in 0..elements as usize {
-        let Some(window) = read_session(
-            &bytes[SESSION_RECORD * i..SESSION_RECORD * i + SESSION_RECORD],
-        ) else {
+        let Some(window) = read_session(version, &bytes[size * i..size * i + size]) else {
             return Err(Refusal::BadPage);
         };
         if let Err(_) = row.push(window) {
@@ -127,16 +180,18 @@ fn first_sessions(alloc: Global, elements: u16, bytes: &[u8]) -> Result<Vec<Wind
 /// byte behind the records isn't zero.
 pub(crate) fn read_sessions(
     alloc: Global,
+    version: Version,
     elements: u16,
     part: &[u8],
 ) -> Result<Vec<WindowRecord>, Refusal>
-    requires { SESSION_RECORD * elements ≤ length part.now }
-    ensures found { IfOk result (λ row. AreSessions elements part.now row.items) }
-    ensures bad { IsErrOf result Refusal.BadPage → (row : List Window) → AreSessions elements part.now row → ⊥ }
+    requires { session_record_bytes (layout_of version) * elements ≤ length part.now }
+    ensures found { IfOk result (λ row. AreSessions (layout_of version) elements part.now row.items) }
+    ensures bad { IsErrOf result Refusal.BadPage → (row : List Window)
+        → AreSessions (layout_of version) elements part.now row → ⊥ }
     ensures only { IfErr result (λ e. (e ≡ Refusal.BadPage) ⊎ (e ≡ Refusal.NoMemory)) }
 {
-    if !are_zero(&part[SESSION_RECORD * elements as usize..]) {
+    if !are_zero(&part[version.session_record() * elements as usize..]) {
         return Err(Refusal::BadPage);
     }
-    first_sessions(alloc, elements, part)
+    first_sessions(alloc, version, elements, part)
 }

@@ -1,8 +1,10 @@
 //! An element's window of kept entries, and the session record that it is spelled as.
-ghost use Rattle.std.specs.Prelude.{◌≡◌, ◌<◌, ◌≤◌, ◌∷◌, ◌++◌, [], length};
+ghost use Rattle.std.specs.Prelude.{◌≡◌, ◌<◌, ◌≤◌, ◌+◌, ◌-◌, ◌%◌, ◌∷◌, ◌++◌, [], length};
+ghost use Rattle.im_types.specs.Layout.{layout_of};
 ghost use Rattle.im_types.specs.Records.{entry_at};
 ghost use Rattle.im_records.specs.Entries.{FitEntries};
 
+use im_types::layout::Version;
 use im_types::{Entry, Kept, Op, WINDOW};
 use std::marker::Model;
 
@@ -72,12 +74,35 @@ impl WindowRecord {
         &self.entries[..self.count]
     }
 
-    /// The entry at a place of the ring.
-    pub(crate) fn entry_at(&self, place: usize) -> Option<Kept>
-        requires { place < WINDOW }
-        ensures { result ≡ entry_at WINDOW self.now place }
+    /// The entry at a place of the ring that a version has.
+    pub(crate) fn entry_at(&self, version: Version, place: usize) -> Option<Kept>
+        requires { place < (layout_of version).window }
+        ensures { result ≡ entry_at (layout_of version).window self.now place }
     {
-        let past = (place + PLACES - (self.base % WINDOW) as usize) % PLACES;
-        self.kept().get(past).copied()
+        self.kept().get(past_of(version, self.base, place)).copied()
+    }
+}
+
+// How many numbers past the base those of this place of a version's ring are.
+fn past_of(version: Version, base: u64, place: usize) -> usize
+    requires { place < (layout_of version).window }
+    ensures { result
+        ≡ (place + (layout_of version).window - base % (layout_of version).window) % (layout_of version).window }
+{
+    match version {
+        Version::One => (place + 16 - (base % 16) as usize) % 16,
+        Version::Two => (place + PLACES - (base % WINDOW) as usize) % PLACES,
+    }
+}
+
+/// At which place of a version's ring the number stands that is so many past the base.
+pub(crate) fn place_of(version: Version, base: u64, past: usize) -> usize
+    requires { past < (layout_of version).window }
+    ensures at { result ≡ (base % (layout_of version).window + past) % (layout_of version).window }
+    ensures below { result < (layout_of version).window }
+{
+    match version {
+        Version::One => ((base % 16) as usize + past) % 16,
+        Version::Two => ((base % WINDOW) as usize + past) % PLACES,
     }
 }

@@ -5,7 +5,7 @@ use Rattle.std.specs.Option.{option_map, option_and_then}
 use Rattle.std.specs.Str.{bytes_eq}
 use Rattle.im_script.specs.declared.places.Place.{Place}
 use Rattle.im_script.specs.declared.places.Action.{Action}
-use Rattle.im_script.specs.declared.places.Action.TheVariants.{Alloc, Release, Fetch, Store, Take, Put}
+use Rattle.im_script.specs.declared.places.Action.TheVariants.{Alloc, Release, Reset, Fetch, Store, Take, Put}
 use Rattle.im_script.specs.declared.script.Allocation.{Allocation}
 use Rattle.im_script.specs.Grammar.{number_up_to, kind_of, is_name, place_of}
 
@@ -17,7 +17,8 @@ block_of kind len = option_and_then (λ k. option_map (λ n. record { kind = k; 
 abbrev pub plain_action : List ℕ → Place → Option Action
 plain_action word place = if bytes_eq word (codes "fetch") then Some (Fetch place)
     else (if bytes_eq word (codes "take") then Some (Take place)
-    else (if bytes_eq word (codes "release") then Some (Release place) else None))
+    else (if bytes_eq word (codes "release") then Some (Release place)
+    else (if bytes_eq word (codes "reset") then Some (Reset place) else None)))
 
 -- what a word asks for at a place, with a value
 abbrev pub valued_action : List ℕ → Place → ℕ → Option Action

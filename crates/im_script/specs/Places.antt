@@ -21,6 +21,7 @@ address_of bases (Named index offset) = option_and_then (λ base. as_u32 (base +
 abbrev pub op_of : List ℕ → Action → Option Op
 op_of bases (Alloc kind length) = Some (op.Alloc kind length)
 op_of bases (Release place) = option_map op.Release (address_of bases place)
+op_of bases (Reset place) = option_map op.Reset (address_of bases place)
 op_of bases (Fetch place) = option_map op.Fetch (address_of bases place)
 op_of bases (Store place value) = option_map (λ a. op.Store a value) (address_of bases place)
 op_of bases (Take place) = option_map op.Take (address_of bases place)

@@ -31,6 +31,7 @@ fn behind_request(word: &[u8]) -> Option<&'static [Expected]> {
     } else if word == b"fetch".as_slice()
         || word == b"take".as_slice()
         || word == b"release".as_slice()
+        || word == b"reset".as_slice()
     {
         Some(&[Expected::Place])
     } else {

@@ -47,9 +47,9 @@ impl Expected {
         match self {
             Expected::Start => "setup or element",
             Expected::Setup => "alloc or element",
-            Expected::Request => "element, alloc, fetch, store, take, put or release",
+            Expected::Request => "element, alloc, fetch, store, take, put, release or reset",
             Expected::RequestOrGlance => {
-                "element, alloc, fetch, store, take, put, release or glance"
+                "element, alloc, fetch, store, take, put, release, reset or glance"
             }
             Expected::Element => "an element's number from 0 to 63",
             Expected::Name => "a name of 1 to 16 characters a to z and 0 to 9, the first a letter",

@@ -32,6 +32,8 @@ fn read_plain(word: &[u8], place: Place) -> Option<Action>
         Some(Action::Take(place))
     } else if word == b"release".as_slice() {
         Some(Action::Release(place))
+    } else if word == b"reset".as_slice() {
+        Some(Action::Reset(place))
     } else {
         None
     }

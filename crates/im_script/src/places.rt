@@ -38,6 +38,8 @@ pub enum Action {
     Alloc(Kind, u32),
     /// Gives back the block with this base.
     Release(Place),
+    /// Empties the cells of the block with this base.
+    Reset(Place),
     /// Reads an I cell.
     Fetch(Place),
     /// Writes an I cell.
@@ -57,6 +59,7 @@ impl Action {
         Some(match *self {
             Action::Alloc(kind, length) => Op::Alloc(kind, length),
             Action::Release(place) => Op::Release(place.address(bases)?),
+            Action::Reset(place) => Op::Reset(place.address(bases)?),
             Action::Fetch(place) => Op::Fetch(place.address(bases)?),
             Action::Store(place, value) => Op::Store(place.address(bases)?, value),
             Action::Take(place) => Op::Take(place.address(bases)?),

@@ -1,11 +1,11 @@
 -- An entry on one level, and what it shows.
 use Rattle.std.specs.Prelude.{◌≡◌, refl, Option, None, Some}
 use Rattle.im_types.specs.declared.operations.Reply.{Reply}
-use Rattle.im_types.specs.declared.operations.Reply.TheVariants.{Base, NoSpace, BadLength, Value, Stored, Clash, NoCell, WrongKind, Released, NoBlock, StillWaiting}
+use Rattle.im_types.specs.declared.operations.Reply.TheVariants.{Base, NoSpace, BadLength, Value, Stored, Clash, NoCell, WrongKind, Released, NoBlock, StillWaiting, Cleared}
 use Rattle.im_types.specs.declared.operations.Entry.{Entry}
 use Rattle.im_types.specs.declared.operations.Entry.TheVariants.{Waiting, Answered}
 use Rattle.im_sessions.specs.declared.place.Held.{Held}
-use Rattle.im_sessions.specs.declared.place.Held.TheVariants.{Waiting as HeldWaiting, Base as HeldBase, NoSpace as HeldNoSpace, BadLength as HeldBadLength, Value as HeldValue, Stored as HeldStored, Clash as HeldClash, NoCell as HeldNoCell, WrongKind as HeldWrongKind, Released as HeldReleased, NoBlock as HeldNoBlock, StillWaiting as HeldStillWaiting}
+use Rattle.im_sessions.specs.declared.place.Held.TheVariants.{Waiting as HeldWaiting, Base as HeldBase, NoSpace as HeldNoSpace, BadLength as HeldBadLength, Value as HeldValue, Stored as HeldStored, Clash as HeldClash, NoCell as HeldNoCell, WrongKind as HeldWrongKind, Released as HeldReleased, NoBlock as HeldNoBlock, StillWaiting as HeldStillWaiting, Cleared as HeldCleared}
 
 -- an answer as it is held
 abbrev pub held_by : Reply → Held
@@ -20,6 +20,7 @@ held_by WrongKind = HeldWrongKind
 held_by Released = HeldReleased
 held_by NoBlock = HeldNoBlock
 held_by StillWaiting = HeldStillWaiting
+held_by Cleared = HeldCleared
 
 -- an entry as it is held
 abbrev pub held_of : Entry → Held
@@ -40,6 +41,7 @@ reply_of HeldWrongKind = Some WrongKind
 reply_of HeldReleased = Some Released
 reply_of HeldNoBlock = Some NoBlock
 reply_of HeldStillWaiting = Some StillWaiting
+reply_of HeldCleared = Some Cleared
 
 -- an entry with this answer, or with none
 abbrev pub entry_with : Option Reply → Entry
@@ -64,3 +66,4 @@ held_of-entry_of HeldWrongKind = refl
 held_of-entry_of HeldReleased = refl
 held_of-entry_of HeldNoBlock = refl
 held_of-entry_of HeldStillWaiting = refl
+held_of-entry_of HeldCleared = refl

@@ -22,6 +22,7 @@ enum Held {
     Released,
     NoBlock,
     StillWaiting,
+    Cleared,
 }
 
 /// An operation, and what is kept for it, in 32 bytes. Contracts see the two as they are shown.
@@ -62,6 +63,7 @@ fn held_by(reply: Reply) -> Held
         Reply::Released => Held::Released,
         Reply::NoBlock => Held::NoBlock,
         Reply::StillWaiting => Held::StillWaiting,
+        Reply::Cleared => Held::Cleared,
     }
 }
 
@@ -92,6 +94,7 @@ fn entry_of(held: Held) -> Entry
         Held::Released => Entry::Answered(Reply::Released),
         Held::NoBlock => Entry::Answered(Reply::NoBlock),
         Held::StillWaiting => Entry::Answered(Reply::StillWaiting),
+        Held::Cleared => Entry::Answered(Reply::Cleared),
     }
 }
 

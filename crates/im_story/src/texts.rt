@@ -17,6 +17,7 @@ pub fn add_reply(said: &mut String, reply: Reply) -> Result<(), AllocError> {
         Reply::Released => said.push_str("released"),
         Reply::NoBlock => said.push_str("noblock"),
         Reply::StillWaiting => said.push_str("stillwaiting"),
+        Reply::Cleared => said.push_str("cleared"),
     }
 }
 

@@ -59,11 +59,12 @@ fn kind(word: &str) -> Result<Kind> {
     }
 }
 
-/// An operation: `alloc i N`, `alloc m N`, `release A`, `fetch A`, `store A V`, `take A` or `put A V`.
+/// An operation: `alloc i N`, `alloc m N`, `release A`, `reset A`, `fetch A`, `store A V`, `take A` or `put A V`.
 pub fn op(words: &[&str]) -> Result<Op> {
     match words {
         ["alloc", of, length] => Ok(Op::Alloc(kind(of)?, address(length)?)),
         ["release", a] => Ok(Op::Release(address(a)?)),
+        ["reset", a] => Ok(Op::Reset(address(a)?)),
         ["fetch", a] => Ok(Op::Fetch(address(a)?)),
         ["store", a, value] => Ok(Op::Store(address(a)?, number(value)?)),
         ["take", a] => Ok(Op::Take(address(a)?)),

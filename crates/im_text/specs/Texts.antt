@@ -3,9 +3,9 @@ use Rattle.std.specs.Prelude.{ℕ, zero, suc, List, [], ◌∷◌, ◌++◌, cod
 use Rattle.im_types.specs.declared.operations.Kind.{Kind}
 use Rattle.im_types.specs.declared.operations.Kind.TheVariants.{I, M}
 use Rattle.im_types.specs.declared.operations.Op.{Op}
-use Rattle.im_types.specs.declared.operations.Op.TheVariants.{Alloc, Release, Fetch, Store, Take, Put}
+use Rattle.im_types.specs.declared.operations.Op.TheVariants.{Alloc, Release, Reset, Fetch, Store, Take, Put}
 use Rattle.im_types.specs.declared.operations.Reply.{Reply}
-use Rattle.im_types.specs.declared.operations.Reply.TheVariants.{Base, NoSpace, BadLength, Value, Stored, Clash, NoCell, WrongKind, Released, NoBlock, StillWaiting}
+use Rattle.im_types.specs.declared.operations.Reply.TheVariants.{Base, NoSpace, BadLength, Value, Stored, Clash, NoCell, WrongKind, Released, NoBlock, StillWaiting, Cleared}
 use Rattle.im_types.specs.declared.operations.Entry.{Entry}
 use Rattle.im_types.specs.declared.operations.Entry.TheVariants.{Waiting, Answered}
 
@@ -27,6 +27,7 @@ kind_text M = codes "m"
 abbrev pub op_text : Op → List ℕ
 op_text (Alloc kind n) = codes "alloc " ++ kind_text kind ++ codes " " ++ decimal n
 op_text (Release a) = codes "release " ++ decimal a
+op_text (Reset a) = codes "reset " ++ decimal a
 op_text (Fetch a) = codes "fetch " ++ decimal a
 op_text (Store a v) = codes "store " ++ decimal a ++ codes " " ++ decimal v
 op_text (Take a) = codes "take " ++ decimal a
@@ -45,6 +46,7 @@ reply_text WrongKind = codes "wrongkind"
 reply_text Released = codes "released"
 reply_text NoBlock = codes "noblock"
 reply_text StillWaiting = codes "stillwaiting"
+reply_text Cleared = codes "cleared"
 
 -- what is kept for a request
 abbrev pub entry_text : Entry → List ℕ

@@ -37,6 +37,7 @@ pub fn add_op(out: &mut String, op: Op) -> Result<(), AllocError>
             write!(out, "alloc {kind} {length}")
         }
         Op::Release(a) => write!(out, "release {a}"),
+        Op::Reset(a) => write!(out, "reset {a}"),
         Op::Fetch(a) => write!(out, "fetch {a}"),
         Op::Store(a, value) => write!(out, "store {a} {value}"),
         Op::Take(a) => write!(out, "take {a}"),
@@ -60,6 +61,7 @@ fn add_reply(out: &mut String, reply: Reply) -> Result<(), AllocError>
         Reply::Released => out.push_str("released"),
         Reply::NoBlock => out.push_str("noblock"),
         Reply::StillWaiting => out.push_str("stillwaiting"),
+        Reply::Cleared => out.push_str("cleared"),
     }
 }
 

@@ -4,17 +4,17 @@
 use Rattle.std.specs.Prelude.{ℕ, List, [], ◌∷◌, ◌++◌, map, Bool, true, false, Option, None, Some, slice_set, take, drop, if◌then◌else◌, ◌==◌}
 use Rattle.std.specs.List.{list_any}
 use Rattle.im_types.specs.declared.operations.Op.{Op}
-use Rattle.im_types.specs.declared.operations.Op.TheVariants.{Alloc, Release, Fetch, Store, Take, Put}
+use Rattle.im_types.specs.declared.operations.Op.TheVariants.{Alloc, Release, Reset, Fetch, Store, Take, Put}
 use Rattle.im_types.specs.declared.operations.Kind.{Kind}
 use Rattle.im_types.specs.declared.operations.Kind.TheVariants.{I, M}
 use Rattle.im_types.specs.declared.operations.Reply.{Reply}
-use Rattle.im_types.specs.declared.operations.Reply.TheVariants.{Base, NoSpace, BadLength, Value, Stored, Clash, NoCell, WrongKind, Released, NoBlock, StillWaiting}
+use Rattle.im_types.specs.declared.operations.Reply.TheVariants.{Base, NoSpace, BadLength, Value, Stored, Clash, NoCell, WrongKind, Released, NoBlock, StillWaiting, Cleared}
 use Rattle.im_types.specs.declared.operations.Entry.{Entry}
 use Rattle.im_types.specs.declared.operations.Entry.TheVariants.{Waiting, Answered}
 use Rattle.im_types.specs.declared.operations.Waiter.{Waiter}
 use Rattle.im_types.specs.declared.operations.Block.{Block}
 use Rattle.im_types.specs.Contents.{CellState, Empty, Full, Clashed, Held, held_at}
-use Rattle.im_types.specs.Place.{place, fill}
+use Rattle.im_types.specs.Place.{place, fill, change_each}
 
 -- what one cell becomes, what the asker is told, and the replies to requests that waited
 pub record Served : Type 0 where
@@ -115,18 +115,32 @@ abbrev pub is_waiting_cell : Option Held → Bool
 is_waiting_cell None = false
 is_waiting_cell (Some held) = has_waiter held.state
 
--- the block gone, unless one of its cells is waited for
-abbrev pub release_block : List (Option Held) → ℕ → Option Block → Acted
-release_block cells a None = only_tells cells NoBlock
-release_block cells a (Some block) =
+-- what becomes of the cells by their block, with this reply, unless one of the block's cells is waited for
+abbrev pub unless_waited_for : (Block → List (Option Held)) → Reply → List (Option Held) → ℕ → Option Block → Acted
+unless_waited_for after reply cells a None = only_tells cells NoBlock
+unless_waited_for after reply cells a (Some block) =
     if list_any is_waiting_cell (take block.length (drop a cells))
     then only_tells cells StillWaiting
-    else record { cells = fill cells a block.length None; entry = Answered Released; resumed = [] }
+    else record { cells = after block; entry = Answered reply; resumed = [] }
+
+-- the block gone
+abbrev pub release_block : List (Option Held) → ℕ → Option Block → Acted
+release_block cells a = unless_waited_for (λ block. fill cells a block.length None) Released cells a
+
+-- a cell of a block, empty
+abbrev pub emptied : Option Held → Option Held
+emptied None = None
+emptied (Some held) = Some (record { block = held.block; state = Empty [] })
+
+-- the block's cells empty
+abbrev pub reset_block : List (Option Held) → ℕ → Option Block → Acted
+reset_block cells a = unless_waited_for (λ block. change_each emptied cells a block.length) Cleared cells a
 
 -- an operation of an asker on the cells
 abbrev pub act : List (Option Held) → Waiter → Op → Acted
 act cells who (Alloc kind n) = allocate cells kind n
 act cells who (Release a) = release_block cells a (block_with_base a (held_at cells a))
+act cells who (Reset a) = reset_block cells a (block_with_base a (held_at cells a))
 act cells who (Fetch a) = at_cell I (fetch who) cells a (held_at cells a)
 act cells who (Store a v) = at_cell I (store v) cells a (held_at cells a)
 act cells who (Take a) = at_cell M (take_from who) cells a (held_at cells a)

@@ -1,7 +1,7 @@
 -- Who waits at a cell is who has a waiting entry. (Own.)
 use Rattle.std.specs.Prelude.{◌≡◌, ℕ, suc, List, [], ◌∷◌, Bool, true, false, Option, None, Some, ◌&&◌, ◌==◌, ◌⊎◌, nat_lt, if◌then◌else◌}
 use Rattle.im_types.specs.declared.operations.Op.{Op}
-use Rattle.im_types.specs.declared.operations.Op.TheVariants.{Alloc, Release, Fetch, Store, Take, Put}
+use Rattle.im_types.specs.declared.operations.Op.TheVariants.{Alloc, Release, Reset, Fetch, Store, Take, Put}
 use Rattle.im_types.specs.declared.operations.Kind.{Kind}
 use Rattle.im_types.specs.declared.operations.Kind.TheVariants.{I, M}
 use Rattle.im_types.specs.declared.operations.Waiter.{Waiter}
@@ -41,6 +41,7 @@ waits_in a (Some held) kept = waits_for (awaiting held.block.kind a) kept
 abbrev pub address_of : Op → ℕ
 address_of (Alloc kind n) = n
 address_of (Release a) = a
+address_of (Reset a) = a
 address_of (Fetch a) = a
 address_of (Store a v) = a
 address_of (Take a) = a

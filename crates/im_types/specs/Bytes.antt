@@ -3,11 +3,11 @@ use Rattle.std.specs.Prelude.{ℕ, List, replicate, Bool, ◌+◌, ◌^◌, ◌<
 use Rattle.std.specs.Cmp.Lexicographic.{pointwise}
 use Rattle.byteorder.specs.Endian.{little_number}
 use Rattle.im_types.specs.declared.operations.Op.{Op}
-use Rattle.im_types.specs.declared.operations.Op.TheVariants.{Alloc, Release, Fetch, Store, Take, Put}
+use Rattle.im_types.specs.declared.operations.Op.TheVariants.{Alloc, Release, Reset, Fetch, Store, Take, Put}
 use Rattle.im_types.specs.declared.operations.Kind.{Kind}
 use Rattle.im_types.specs.declared.operations.Kind.TheVariants.{I, M}
 use Rattle.im_types.specs.declared.operations.Reply.{Reply}
-use Rattle.im_types.specs.declared.operations.Reply.TheVariants.{Base, NoSpace, BadLength, Value, Stored, Clash, NoCell, WrongKind, Released, NoBlock, StillWaiting}
+use Rattle.im_types.specs.declared.operations.Reply.TheVariants.{Base, NoSpace, BadLength, Value, Stored, Clash, NoCell, WrongKind, Released, NoBlock, StillWaiting, Cleared}
 use Rattle.im_types.specs.declared.operations.Entry.{Entry}
 use Rattle.im_types.specs.declared.operations.Entry.TheVariants.{Waiting, Answered}
 use Rattle.im_types.specs.Agreement.{address_of}
@@ -37,6 +37,7 @@ op_code (Fetch a) = 4
 op_code (Store a v) = 5
 op_code (Take a) = 6
 op_code (Put a v) = 7
+op_code (Reset a) = 9
 
 -- the value that an operation writes
 abbrev pub op_value : Op → ℕ
@@ -57,6 +58,7 @@ reply_code WrongKind = 8
 reply_code Released = 9
 reply_code NoBlock = 10
 reply_code StillWaiting = 11
+reply_code Cleared = 12
 
 -- the number that a reply carries
 abbrev pub reply_number : Reply → ℕ

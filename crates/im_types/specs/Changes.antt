@@ -2,7 +2,7 @@
 use Rattle.std.specs.Prelude.{ℕ, suc, ◌+◌, List, [], ◌∷◌, ◌++◌, Bool, true, false, Option, None, Some, fold, take, drop, nat_lt, ◌==◌, if◌then◌else◌}
 use Rattle.std.specs.List.{list_any}
 use Rattle.im_types.specs.declared.operations.Op.{Op}
-use Rattle.im_types.specs.declared.operations.Op.TheVariants.{Alloc, Release, Fetch, Store, Take, Put}
+use Rattle.im_types.specs.declared.operations.Op.TheVariants.{Alloc, Release, Reset, Fetch, Store, Take, Put}
 use Rattle.im_types.specs.declared.operations.Kind.TheVariants.{I}
 use Rattle.im_types.specs.declared.operations.Block.{Block}
 use Rattle.im_types.specs.declared.commands.Command.{Command}
@@ -48,15 +48,16 @@ abbrev pub store_change_in : ℕ → ℕ → Option Held → Change
 store_change_in a v None = Same
 store_change_in a v (Some held) = if same_kind I held.block.kind then store_change a v held.state else Same
 
--- a release that is answered with Released takes the block's cells
-abbrev pub release_change : List (Option Held) → ℕ → Option Block → Change
-release_change cells a None = Same
-release_change cells a (Some block) = if list_any is_waiting_cell (take block.length (drop a cells)) then Same else Gone a block.length
+-- a release that is answered with Released takes the block's cells, and a reset that is answered with Cleared empties them
+abbrev pub emptying_change : List (Option Held) → ℕ → Option Block → Change
+emptying_change cells a None = Same
+emptying_change cells a (Some block) = if list_any is_waiting_cell (take block.length (drop a cells)) then Same else Gone a block.length
 
 -- by an operation that is served
 abbrev pub change_of : List (Option Held) → Op → Change
 change_of cells (Alloc kind n) = Same
-change_of cells (Release a) = release_change cells a (block_with_base a (held_at cells a))
+change_of cells (Release a) = emptying_change cells a (block_with_base a (held_at cells a))
+change_of cells (Reset a) = emptying_change cells a (block_with_base a (held_at cells a))
 change_of cells (Fetch a) = Same
 change_of cells (Store a v) = store_change_in a v (held_at cells a)
 change_of cells (Take a) = Same

@@ -1,11 +1,11 @@
 -- The headers of an image, and which of them is in force. (Own.)
-use Rattle.std.specs.Prelude.{ℕ, ◌+◌, List, ◌∷◌, ◌++◌, length, Bool, ◌&&◌, ◌||◌, ◌==◌, nat_lt, nat_le, not, Option, None, Some, if◌then◌else◌, slice_index, slice_range}
+use Rattle.std.specs.Prelude.{ℕ, ◌+◌, List, ◌∷◌, ◌++◌, length, Bool, ◌&&◌, ◌||◌, ◌==◌, nat_lt, nat_le, not, Option, None, Some, is_none, if◌then◌else◌, slice_index, slice_range}
 use Rattle.byteorder.specs.Endian.{little_bytes}
 use Rattle.im_types.specs.declared.TheConstants.{LAST}
 use Rattle.im_types.specs.declared.refusals.Refusal.{Refusal}
 use Rattle.im_types.specs.declared.refusals.Refusal.TheVariants.{WrongLength, NoHeader, BadHeader}
 use Rattle.im_types.specs.Bytes.{open_gate, zeros, same_bytes, number_at}
-use Rattle.im_types.specs.Layout.{Layout, Sizes, are_sizes, page_bytes, header_at, image_length}
+use Rattle.im_types.specs.Layout.{Layout, layout_named, Sizes, are_sizes, page_bytes, header_at, image_length}
 
 -- the layout's version, the area that the header is of, how often an area was written, how many commands that area holds, and the sizes
 pub record Header : Type 0 where
@@ -89,3 +89,13 @@ header_fault l file =
     if nat_lt (length file) (page_bytes + page_bytes) then Some WrongLength
     else or_else (place_fault l (header_place 0 file) (header_place 1 file))
     (if length file == image_length l (header_of file).sizes then None else Some WrongLength)
+
+-- the layout of an image, by the number in its header in force
+abbrev pub layout_in : List ℕ → Layout
+layout_in file = layout_named (header_of file).version
+
+-- the header in force is a sound one of the first version, whatever the file's length is
+abbrev pub is_old : List ℕ → Bool
+is_old file =
+    not (nat_lt (length file) (page_bytes + page_bytes)) && ((header_of file).version == 1)
+    && is_none (place_fault (layout_in file) (header_place 0 file) (header_place 1 file))

@@ -3,10 +3,10 @@
 use Rattle.std.specs.Prelude.{◌≡◌, ℕ, ◌+◌, ◌<◌, ◌≤◌, List, [], ◌∷◌, ◌++◌, length, Bool, false, ◌||◌, ◌&&◌, Option, None, Some, slice_get, nat_lt, ◌==◌, if◌then◌else◌, filter_map, count_by, is_some, option_map, IfSome}
 use Rattle.std.specs.List.{AllByRecursion}
 use Rattle.im_types.specs.declared.operations.Op.{Op}
-use Rattle.im_types.specs.declared.operations.Op.TheVariants.{Alloc, Release, Fetch, Store, Take, Put}
+use Rattle.im_types.specs.declared.operations.Op.TheVariants.{Alloc, Release, Reset, Fetch, Store, Take, Put}
 use Rattle.im_types.specs.declared.operations.Kind.{Kind}
 use Rattle.im_types.specs.declared.operations.Kind.TheVariants.{I, M}
-use Rattle.im_types.specs.declared.operations.Reply.TheVariants.{Base, Value, Stored, Clash, Released}
+use Rattle.im_types.specs.declared.operations.Reply.TheVariants.{Base, Value, Stored, Clash, Released, Cleared}
 use Rattle.im_types.specs.declared.operations.Entry.{Entry}
 use Rattle.im_types.specs.declared.operations.Entry.TheVariants.{Waiting, Answered}
 use Rattle.im_types.specs.declared.operations.Waiter.{Waiter}
@@ -39,27 +39,48 @@ abbrev pub releases : ℕ → Op → Entry → Bool
 releases base (Release a) (Answered Released) = base == a
 releases base op entry = false
 
--- what comes before the block's release
-abbrev pub until_release : ℕ → List Event → List Event
-until_release base [] = []
-until_release base (event ∷ events) = if releases base event.request.op event.entry then [] else event ∷ until_release base events
+-- the cells of the block with this base were emptied
+abbrev pub clears : ℕ → Op → Entry → Bool
+clears base (Reset a) (Answered Cleared) = base == a
+clears base op entry = false
 
--- the life of a block: its kind, its cells, and the requests from its allocation to its release
+-- a life of the block with this base ends: it was released, or its cells were emptied
+abbrev pub ends_life : ℕ → Op → Entry → Bool
+ends_life base op entry = releases base op entry || clears base op entry
+
+-- what comes before the end of the block's life
+abbrev pub until_end : ℕ → List Event → List Event
+until_end base [] = []
+until_end base (event ∷ events) = if ends_life base event.request.op event.entry then [] else event ∷ until_end base events
+
+-- a life of a block: its kind, its cells, and the requests from its allocation, or from its reset, to its release or its next reset
 pub record Life : Type 0 where
   pub kind : Kind
   pub base : ℕ
   pub cells : ℕ
   pub requests : List Event
 
--- the life that begins with this event, if it is an allocation that was answered with a base
-abbrev pub life_from : Op → Entry → List Event → List Life
-life_from (Alloc kind n) (Answered (Base base)) later = record { kind = kind; base = base; cells = n; requests = until_release base later } ∷ []
-life_from op entry later = []
+-- the life of a block from these events on
+abbrev pub life_of : Kind → ℕ → ℕ → List Event → Life
+life_of kind base n later = record { kind = kind; base = base; cells = n; requests = until_end base later }
 
--- the lives of all blocks, in the order of their allocation
+-- the lives of a block that begin with a reset, up to its release
+abbrev pub lives_by_reset : Kind → ℕ → ℕ → List Event → List Life
+lives_by_reset kind base n [] = []
+lives_by_reset kind base n (event ∷ events) =
+    if releases base event.request.op event.entry then []
+    else if clears base event.request.op event.entry then life_of kind base n events ∷ lives_by_reset kind base n events
+    else lives_by_reset kind base n events
+
+-- the lives of the block that this event allocates, if it was answered with a base
+abbrev pub lives_from : Op → Entry → List Event → List Life
+lives_from (Alloc kind n) (Answered (Base base)) later = life_of kind base n later ∷ lives_by_reset kind base n later
+lives_from op entry later = []
+
+-- the lives of all blocks, those of each block together, in the order of their allocation
 abbrev pub lives : List Event → List Life
 lives [] = []
-lives (event ∷ events) = life_from event.request.op event.entry events ++ lives events
+lives (event ∷ events) = lives_from event.request.op event.entry events ++ lives events
 
 -- what is kept now, else what was kept before
 abbrev pub latest : Option Kept → Option Kept → Option Kept

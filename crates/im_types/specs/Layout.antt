@@ -1,22 +1,38 @@
 -- Where things stand in an image. (Own.)
-use Rattle.std.specs.Prelude.{ℕ, ◌+◌, ◌*◌, ◌/◌, ◌-◌, List, take, drop, Bool, ◌&&◌, nat_le, slice_range}
+use Rattle.std.specs.Prelude.{ℕ, ◌+◌, ◌*◌, ◌/◌, ◌-◌, List, take, drop, Bool, true, false, ◌&&◌, nat_le, ◌==◌, if◌then◌else◌, slice_range}
 use Rattle.im_types.specs.declared.TheConstants.{MAX_ELEMENTS, MIN_SLOTS, MAX_SLOTS}
+use Rattle.im_types.specs.declared.layout.Version.{Version}
+use Rattle.im_types.specs.declared.layout.Version.TheVariants.{One, Two}
 use Rattle.im_types.specs.declared.sizes.Limits.{Limits}
 use Rattle.im_types.specs.Journal.{Ring}
 
--- a version of the layout: how many entries a window keeps, and how many cells there may be
+-- a version of the layout: how many entries a window keeps, how many cells there may be, and whether it knows a reset
 pub record Layout : Type 0 where
   pub version : ℕ
   pub window : ℕ
   pub most_cells : ℕ
+  pub resets : Bool
 
 -- the first version of the layout
 abbrev pub layout_1 : Layout
-layout_1 = record { version = 1; window = 16; most_cells = 65536 }
+layout_1 = record { version = 1; window = 16; most_cells = 65536; resets = false }
 
--- the layout in use: that of each image that is made, read and written
+-- the second version of the layout
+abbrev pub layout_2 : Layout
+layout_2 = record { version = 2; window = 64; most_cells = 1048576; resets = true }
+
+-- the layout of a version
+abbrev pub layout_of : Version → Layout
+layout_of One = layout_1
+layout_of Two = layout_2
+
+-- the layout of an image whose header has this number: the first one's is 1, and any other is taken for the second one's
+abbrev pub layout_named : ℕ → Layout
+layout_named number = if number == 1 then layout_1 else layout_2
+
+-- the layout in use: that of each image that is made, served and written
 abbrev pub layout_in_use : Layout
-layout_in_use = layout_1
+layout_in_use = layout_2
 
 -- how many cells, elements and journal slots an image has
 pub record Sizes : Type 0 where

@@ -1,13 +1,15 @@
 -- What an image means: the memory of the area in force, after the run of commands in the journal. (Own.)
-use Rattle.std.specs.Prelude.{◌≡◌, ℕ, ◌+◌, ◌≤◌, ◌⊎◌, List, [], ◌∷◌, length, Option, None, Some, Result, Ok, Err, MatchOption, if◌then◌else◌}
+use Rattle.std.specs.Prelude.{◌≡◌, ℕ, ◌+◌, ◌≤◌, ◌⊎◌, List, [], ◌∷◌, length, Bool, true, false, Option, None, Some, Result, Ok, Err, MatchOption, if◌then◌else◌, ◌||◌, ◌&&◌}
+use Rattle.std.specs.List.{list_all}
 use Rattle.im_types.specs.declared.commands.Command.{Command}
 use Rattle.im_types.specs.declared.refusals.Refusal.{Refusal}
-use Rattle.im_types.specs.declared.refusals.Refusal.TheVariants.{BadPage, BadRecord}
+use Rattle.im_types.specs.declared.refusals.Refusal.TheVariants.{BadPage, BadRecord, OldVersion}
 use Rattle.im_types.specs.Contents.{Contents}
 use Rattle.im_types.specs.Step.{step, is_accepted}
 use Rattle.im_types.specs.Layout.{Layout, layout_in_use, area_of, ring_of}
-use Rattle.im_types.specs.Header.{header_of, header_fault}
+use Rattle.im_types.specs.Header.{header_of, header_fault, layout_in, is_old}
 use Rattle.im_types.specs.Journal.{Tail, tail}
+use Rattle.im_types.specs.Records.{has_room_for}
 use Rattle.im_types.specs.Pages.{Shows}
 
 -- what an image comes to: the memory, the count of all its commands, and the room for more
@@ -16,10 +18,18 @@ pub record Reached : Type 0 where
   pub count : ℕ
   pub room : ℕ
 
--- the memory after commands each of which is accepted in its turn; None where one isn't
+-- whether a memory can stand in an image of a layout
+abbrev pub can_stand : Layout → Contents → Bool
+can_stand l m = l.resets || list_all (has_room_for l) m.windows
+
+-- the memory after commands each of which is accepted in its turn, where each memory on the way can stand in the layout; None where one isn't or can't
+abbrev pub accept_in : Layout → Contents → List Command → Option Contents
+accept_in l m [] = Some m
+accept_in l m (command ∷ commands) = if can_stand l (step m command).contents && is_accepted m command then accept_in l (step m command).contents commands else None
+
+-- the same in the layout in use, in which each memory can stand
 abbrev pub accept_each : Contents → List Command → Option Contents
-accept_each m [] = Some m
-accept_each m (command ∷ commands) = if is_accepted m command then accept_each (step m command).contents commands else None
+accept_each = accept_in layout_in_use
 
 -- what is reached with this count and this room
 abbrev pub reached_by : ℕ → ℕ → Option Contents → Result Reached Refusal
@@ -27,13 +37,13 @@ reached_by count room None = Err BadRecord
 reached_by count room (Some m) = Ok (record { contents = m; count = count; room = room })
 
 -- what is reached from a memory through the rest of the journal
-abbrev pub reached_after : ℕ → Contents → Option Tail → Result Reached Refusal
-reached_after count m None = Err BadRecord
-reached_after count m (Some t) = reached_by (count + length t.commands) t.room (accept_each m t.commands)
+abbrev pub reached_after : Layout → ℕ → Contents → Option Tail → Result Reached Refusal
+reached_after l count m None = Err BadRecord
+reached_after l count m (Some t) = reached_by (count + length t.commands) t.room (accept_in l m t.commands)
 
 -- the memory of the area in force, after the journal's run
 abbrev pub read_journal : Layout → List ℕ → Contents → Result Reached Refusal
-read_journal l file m = let h = header_of file in reached_after h.count m (tail (ring_of l h.sizes) h.count file)
+read_journal l file m = let h = header_of file in reached_after l h.count m (tail (ring_of l h.sizes) h.count file)
 
 -- the pages of the area in force show a memory
 abbrev pub IsShown : Layout → List ℕ → Contents → Type 0
@@ -44,6 +54,15 @@ abbrev pub Reads : Layout → List ℕ → Result Reached Refusal → Type 0
 Reads l file outcome = MatchOption (header_fault l file)
     (((m : Contents) × IsShown l file m × (outcome ≡ read_journal l file m)) ⊎ (((m : Contents) → IsShown l file m → ⊥) × (outcome ≡ Err BadPage)))
     (λ fault. outcome ≡ Err fault)
+
+-- opening an image comes to this, by whether it is old: one that is old is refused, another is read
+abbrev pub OpensBy : Bool → List ℕ → Result Reached Refusal → Type 0
+OpensBy true file outcome = outcome ≡ Err OldVersion
+OpensBy false file outcome = Reads (layout_in file) file outcome
+
+-- opening an image comes to this
+abbrev pub Opens : List ℕ → Result Reached Refusal → Type 0
+Opens file outcome = OpensBy (is_old file) file outcome
 
 -- an image of the layout in use means this memory after so many commands, with room for so many more at the least
 abbrev pub Means : Contents → ℕ → ℕ → List ℕ → Type 0

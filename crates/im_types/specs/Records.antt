@@ -1,7 +1,13 @@
 -- The records of an area: cells, waiter nodes and sessions, and how each is spelled. (Own.)
-use Rattle.std.specs.Prelude.{◌≡◌, ℕ, ◌+◌, ◌*◌, ◌%◌, ◌-◌, ◌^◌, ◌<◌, ◌≤◌, ◌⊎◌, List, [], ◌∷◌, ◌++◌, length, replicate, Option, None, Some, slice_get}
+use Rattle.std.specs.Prelude.{◌≡◌, ℕ, ◌+◌, ◌*◌, ◌%◌, ◌-◌, ◌^◌, ◌<◌, ◌≤◌, ◌⊎◌, List, [], ◌∷◌, ◌++◌, length, replicate, Option, None, Some, slice_get, Bool, true, false, ◌&&◌, ◌||◌, not, nat_le}
+use Rattle.std.specs.List.{list_any}
 use Rattle.byteorder.specs.Endian.{little_bytes}
 use Rattle.im_types.specs.declared.TheConstants.{LAST, NONE}
+use Rattle.im_types.specs.declared.operations.Op.{Op}
+use Rattle.im_types.specs.declared.operations.Op.TheVariants.{Reset}
+use Rattle.im_types.specs.declared.operations.Reply.TheVariants.{Cleared}
+use Rattle.im_types.specs.declared.operations.Entry.{Entry}
+use Rattle.im_types.specs.declared.operations.Entry.TheVariants.{Answered}
 use Rattle.im_types.specs.declared.operations.Kept.{Kept}
 use Rattle.im_types.specs.declared.records.PresenceTag.{PresenceTag}
 use Rattle.im_types.specs.declared.records.PresenceTag.TheVariants.{Empty as TagEmpty, Waiting as TagWaiting, Full as TagFull, Clashed as TagClashed}
@@ -96,10 +102,29 @@ abbrev pub session_bytes : Layout → Window → List ℕ
 session_bytes l w =
     little_bytes 8 w.base ++ length w.kept ∷ zeros 23 ++ places_from l.window w 0 (replicate l.window 0) ++ zeros (32 * l.window - 32)
 
+-- whether an operation is a reset
+abbrev pub is_reset : Op → Bool
+is_reset (Reset a) = true
+is_reset op = false
+
+-- whether an entry is a reset's
+abbrev pub is_cleared : Entry → Bool
+is_cleared (Answered Cleared) = true
+is_cleared entry = false
+
+-- whether what is kept is of a reset
+abbrev pub is_of_reset : Kept → Bool
+is_of_reset k = is_reset k.op || is_cleared k.entry
+
+-- whether a layout has room for a window, and knows each of its entries
+abbrev pub has_room_for : Layout → Window → Bool
+has_room_for l w = l.resets || (nat_le (length w.kept) l.window && not (list_any is_of_reset w.kept))
+
 -- a window within the bounds of a layout, each of its entries within its own
 pub record FitsWindow (l : Layout) (w : Window) : Type 0 where
   pub base_from : 1 ≤ w.base
   pub base_to : w.base ≤ LAST + 1
   pub few : length w.kept ≤ l.window
   pub numbers : next_number w ≤ LAST + 1
+  pub known : has_room_for l w ≡ true
   pub fields : (i : ℕ) (k : Kept) → slice_get w.kept i ≡ Some k → FitsPlace (Some k)

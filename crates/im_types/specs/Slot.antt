@@ -2,7 +2,7 @@
 use Rattle.std.specs.Prelude.{ℕ, ◌<◌, ◌^◌, List, ◌∷◌, ◌++◌, drop, Bool, ◌==◌, Option, None, Some, if◌then◌else◌, slice_index, option_and_then}
 use Rattle.byteorder.specs.Endian.{little_bytes}
 use Rattle.im_types.specs.declared.operations.Op.{Op}
-use Rattle.im_types.specs.declared.operations.Op.TheVariants.{Alloc, Release, Fetch, Store, Take, Put}
+use Rattle.im_types.specs.declared.operations.Op.TheVariants.{Alloc, Release, Reset, Fetch, Store, Take, Put}
 use Rattle.im_types.specs.declared.operations.Kind.TheVariants.{I, M}
 use Rattle.im_types.specs.declared.commands.Command.{Command}
 use Rattle.im_types.specs.declared.commands.Command.TheVariants.{Request as Asks, Confirm}
@@ -29,6 +29,7 @@ op_of code a v =
     else if code == 5 then Some (Store a v)
     else if code == 6 then Some (Take a)
     else if code == 7 then Some (Put a v)
+    else if code == 9 then Some (Reset a)
     else None
 
 -- the command that the fields of a slot stand for, whatever its other bytes are

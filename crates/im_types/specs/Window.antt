@@ -3,7 +3,7 @@ use Rattle.std.specs.Prelude.{ℕ, ◌+◌, ◌-◌, max, zero, suc, List, [], �
 use Rattle.std.specs.List.{list_any}
 use Rattle.im_types.specs.declared.TheConstants.{WINDOW, LAST}
 use Rattle.im_types.specs.declared.operations.Op.{Op}
-use Rattle.im_types.specs.declared.operations.Op.TheVariants.{Alloc, Release, Fetch, Store, Take, Put}
+use Rattle.im_types.specs.declared.operations.Op.TheVariants.{Alloc, Release, Reset, Fetch, Store, Take, Put}
 use Rattle.im_types.specs.declared.operations.Reply.{Reply}
 use Rattle.im_types.specs.declared.operations.Entry.{Entry}
 use Rattle.im_types.specs.declared.operations.Entry.TheVariants.{Waiting, Answered}
@@ -25,6 +25,7 @@ next_number w = w.base + length w.kept
 abbrev pub same_op : Op → Op → Bool
 same_op (Alloc kind n) (Alloc kind' n') = same_kind kind kind' && (n == n')
 same_op (Release a) (Release a') = a == a'
+same_op (Reset a) (Reset a') = a == a'
 same_op (Fetch a) (Fetch a') = a == a'
 same_op (Store a v) (Store a' v') = (a == a') && (v == v')
 same_op (Take a) (Take a') = a == a'

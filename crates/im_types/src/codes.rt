@@ -6,7 +6,7 @@ ghost use Rattle.im_types.specs.Slot.{op_of};
 
 use crate::{Kind, Op};
 
-/// The code of an operation, 1 to 7.
+/// The code of an operation, 1 to 7 or 9; 8 is a confirmation's.
 pub fn op_code(op: Op) -> u8
     ensures { result ≡ op_code op }
 {
@@ -18,6 +18,7 @@ pub fn op_code(op: Op) -> u8
         Op::Store(_, _) => 5,
         Op::Take(_) => 6,
         Op::Put(_, _) => 7,
+        Op::Reset(_) => 9,
     }
 }
 
@@ -27,7 +28,12 @@ pub fn address_of(op: Op) -> u32
 {
     match op {
         Op::Alloc(_, n) => n,
-        Op::Release(a) | Op::Fetch(a) | Op::Store(a, _) | Op::Take(a) | Op::Put(a, _) => a,
+        Op::Release(a)
+        | Op::Reset(a)
+        | Op::Fetch(a)
+        | Op::Store(a, _)
+        | Op::Take(a)
+        | Op::Put(a, _) => a,
     }
 }
 
@@ -37,7 +43,7 @@ pub fn op_value(op: Op) -> u64
 {
     match op {
         Op::Store(_, v) | Op::Put(_, v) => v,
-        Op::Alloc(_, _) | Op::Release(_) | Op::Fetch(_) | Op::Take(_) => 0,
+        Op::Alloc(_, _) | Op::Release(_) | Op::Reset(_) | Op::Fetch(_) | Op::Take(_) => 0,
     }
 }
 
@@ -53,6 +59,7 @@ pub fn op_of(code: u8, address: u32, value: u64) -> Option<Op>
         5 => Some(Op::Store(address, value)),
         6 => Some(Op::Take(address)),
         7 => Some(Op::Put(address, value)),
+        9 => Some(Op::Reset(address)),
         _ => None,
     }
 }

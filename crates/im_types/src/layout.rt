@@ -1,11 +1,11 @@
 //! Where things stand in an image, in bytes from the file's start: two header places, two areas of pages, the journal.
 //!
-//! This is the layout in use, `layout_in_use` of `specs/Layout.antt`, and no other file computes with its sizes. A page
-//! of an area has records of one kind: cells come first, then waiter nodes, then sessions, and no record crosses a
-//! page.
+//! This is the layout in use, `layout_in_use` of `specs/Layout.antt`, and, by a [`Version`], the one before it. No other
+//! file computes with their sizes. A page of an area has records of one kind: cells come first, then waiter nodes, then
+//! sessions, and no record crosses a page.
 ghost use Rattle.std.specs.Prelude.{◌≡◌, ◌*◌, ◌≤◌};
 ghost use Rattle.im_types.specs.Layout as layout;
-ghost use Rattle.im_types.specs.Layout.{layout_in_use, sizes_of};
+ghost use Rattle.im_types.specs.Layout.{layout_in_use, layout_of, sizes_of};
 
 use crate::{Limits, MAX_CELLS, MAX_ELEMENTS, MAX_SLOTS, WINDOW};
 
@@ -53,11 +53,151 @@ pub const FARTHEST_JOURNAL: usize = 2 * PAGE + 2 * PAGE * MOST_AREA_PAGES;
 /// The length of an image at the largest sizes.
 pub const LONGEST_IMAGE: usize = FARTHEST_JOURNAL + SLOT * MAX_SLOTS as usize;
 
-/// How many waiter nodes there are: as many as windows have entries.
-pub fn node_count(limits: Limits) -> usize
-    ensures { result ≡ layout.node_count layout_in_use (sizes_of limits) }
-{
-    WINDOW as usize * limits.elements as usize
+/// A version of the layout. Images of the first one are read; those of the second one are in use.
+#[derive(Clone, Copy, Debug, PartialEq, Eq)]
+pub enum Version {
+    /// Windows of 16 entries, at most 65,536 cells, and no reset.
+    One,
+    /// Windows of 64 entries, at most 1,048,576 cells, and resets.
+    Two,
+}
+
+impl Version {
+    /// The version of an image whose header has this number: 1 is the first one's, and any other is taken for the second
+    /// one's.
+    pub fn named(number: u16) -> Version
+        ensures { layout_of result ≡ layout.layout_named number }
+    {
+        if number == 1 {
+            Version::One
+        } else {
+            Version::Two
+        }
+    }
+
+    /// The number that stands for it in a header.
+    pub fn number(self) -> u16
+        ensures { result ≡ (layout_of self).version }
+    {
+        match self {
+            Version::One => 1,
+            Version::Two => 2,
+        }
+    }
+
+    /// How many entries a window keeps.
+    pub fn window(self) -> usize
+        ensures window { result ≡ (layout_of self).window }
+        ensures few { (1 ≤ result) × (result ≤ WINDOW) }
+    {
+        match self {
+            Version::One => 16,
+            Version::Two => WINDOW as usize,
+        }
+    }
+
+    /// Whether it knows a reset.
+    pub fn has_resets(self) -> bool
+        ensures { result ≡ (layout_of self).resets }
+    {
+        match self {
+            Version::One => false,
+            Version::Two => true,
+        }
+    }
+
+    /// How many cells there may be.
+    pub fn most_cells(self) -> u32
+        ensures most { result ≡ (layout_of self).most_cells }
+        ensures few { result ≤ MAX_CELLS }
+    {
+        match self {
+            Version::One => 65_536,
+            Version::Two => MAX_CELLS,
+        }
+    }
+
+    /// The bytes of a session record: its head, a place for each entry of a window, and zeros up to twice as many bytes.
+    pub fn session_record(self) -> usize
+        ensures bytes { result ≡ layout.session_record_bytes (layout_of self) }
+        ensures few { (1 ≤ result) × (result ≤ SESSION_RECORD) }
+    {
+        match self {
+            Version::One => 1_024,
+            Version::Two => SESSION_RECORD,
+        }
+    }
+
+    /// How many waiter nodes there are: as many as windows have entries.
+    pub fn node_count(self, limits: Limits) -> usize
+        ensures { result ≡ layout.node_count (layout_of self) (sizes_of limits) }
+    {
+        match self {
+            Version::One => 16 * limits.elements as usize,
+            Version::Two => WINDOW as usize * limits.elements as usize,
+        }
+    }
+
+    /// The pages of waiter nodes of an area.
+    pub fn node_pages(self, limits: Limits) -> usize
+        ensures { result ≡ layout.node_pages (layout_of self) (sizes_of limits) }
+    {
+        match self {
+            Version::One => (16 * limits.elements as usize + NODES_ON_A_PAGE - 1) / NODES_ON_A_PAGE,
+            Version::Two => (WINDOW as usize * limits.elements as usize + NODES_ON_A_PAGE - 1)
+                / NODES_ON_A_PAGE,
+        }
+    }
+
+    /// The pages of sessions of an area.
+    pub fn session_pages(self, limits: Limits) -> usize
+        ensures { result ≡ layout.session_pages (layout_of self) (sizes_of limits) }
+    {
+        match self {
+            Version::One => (limits.elements as usize + 3) / 4,
+            Version::Two => limits.elements as usize,
+        }
+    }
+
+    /// The pages of an area.
+    pub fn area_pages(self, limits: Limits) -> usize
+        ensures pages { result ≡ layout.area_pages (layout_of self) (sizes_of limits) }
+        ensures few { result ≤ MOST_AREA_PAGES }
+    {
+        cell_pages(limits) + self.node_pages(limits) + self.session_pages(limits)
+    }
+
+    /// The bytes of the pages of waiter nodes.
+    pub fn node_bytes(self, limits: Limits) -> usize
+        ensures { result ≡ layout.page_bytes * layout.node_pages (layout_of self) (sizes_of limits) }
+    {
+        PAGE * self.node_pages(limits)
+    }
+
+    /// Where an area begins.
+    pub fn area_at(self, limits: Limits, area: usize) -> usize
+        requires { area ≤ 2 }
+        ensures at { result ≡ layout.area_at (layout_of self) (sizes_of limits) area }
+        ensures near { result ≤ FARTHEST_JOURNAL }
+    {
+        2 * PAGE + PAGE * self.area_pages(limits) * area
+    }
+
+    /// Where the journal begins.
+    pub fn journal_at(self, limits: Limits) -> usize
+        ensures at { result ≡ layout.journal_at (layout_of self) (sizes_of limits) }
+        ensures near { result ≤ FARTHEST_JOURNAL }
+    {
+        self.area_at(limits, 2)
+    }
+
+    /// The length of an image.
+    pub fn image_length(self, limits: Limits) -> usize
+        ensures length { result ≡ layout.image_length (layout_of self) (sizes_of limits) }
+        ensures near { result ≤ LONGEST_IMAGE }
+    {
+        self.journal_at(limits) + SLOT * limits.slots as usize
+    }
 }
 
 /// The pages of cells of an area.
@@ -67,28 +207,6 @@ pub fn cell_pages(limits: Limits) -> usize
     (limits.cells as usize + CELLS_ON_A_PAGE - 1) / CELLS_ON_A_PAGE
 }
 
-/// The pages of waiter nodes of an area.
-pub fn node_pages(limits: Limits) -> usize
-    ensures { result ≡ layout.node_pages layout_in_use (sizes_of limits) }
-{
-    (node_count(limits) + NODES_ON_A_PAGE - 1) / NODES_ON_A_PAGE
-}
-
-/// The pages of sessions of an area.
-pub fn session_pages(limits: Limits) -> usize
-    ensures { result ≡ layout.session_pages layout_in_use (sizes_of limits) }
-{
-    (limits.elements as usize + SESSIONS_ON_A_PAGE - 1) / SESSIONS_ON_A_PAGE
-}
-
-/// The pages of an area.
-pub fn area_pages(limits: Limits) -> usize
-    ensures pages { result ≡ layout.area_pages layout_in_use (sizes_of limits) }
-    ensures few { result ≤ MOST_AREA_PAGES }
-{
-    cell_pages(limits) + node_pages(limits) + session_pages(limits)
-}
-
 /// The bytes of the pages of cells.
 pub fn cell_bytes(limits: Limits) -> usize
     ensures { result ≡ layout.page_bytes * layout.cell_pages (sizes_of limits) }
@@ -96,34 +214,63 @@ pub fn cell_bytes(limits: Limits) -> usize
     PAGE * cell_pages(limits)
 }
 
-/// The bytes of the pages of waiter nodes.
+/// How many waiter nodes there are in the layout in use.
+pub fn node_count(limits: Limits) -> usize
+    ensures { result ≡ layout.node_count layout_in_use (sizes_of limits) }
+{
+    Version::Two.node_count(limits)
+}
+
+/// The pages of waiter nodes of an area of the layout in use.
+pub fn node_pages(limits: Limits) -> usize
+    ensures { result ≡ layout.node_pages layout_in_use (sizes_of limits) }
+{
+    Version::Two.node_pages(limits)
+}
+
+/// The pages of sessions of an area of the layout in use.
+pub fn session_pages(limits: Limits) -> usize
+    ensures { result ≡ layout.session_pages layout_in_use (sizes_of limits) }
+{
+    Version::Two.session_pages(limits)
+}
+
+/// The pages of an area of the layout in use.
+pub fn area_pages(limits: Limits) -> usize
+    ensures pages { result ≡ layout.area_pages layout_in_use (sizes_of limits) }
+    ensures few { result ≤ MOST_AREA_PAGES }
+{
+    Version::Two.area_pages(limits)
+}
+
+/// The bytes of the pages of waiter nodes in the layout in use.
 pub fn node_bytes(limits: Limits) -> usize
     ensures { result ≡ layout.page_bytes * layout.node_pages layout_in_use (sizes_of limits) }
 {
-    PAGE * node_pages(limits)
+    Version::Two.node_bytes(limits)
 }
 
-/// Where an area begins.
+/// Where an area begins in the layout in use.
 pub fn area_at(limits: Limits, area: usize) -> usize
     requires { area ≤ 2 }
     ensures at { result ≡ layout.area_at layout_in_use (sizes_of limits) area }
     ensures near { result ≤ FARTHEST_JOURNAL }
 {
-    2 * PAGE + PAGE * area_pages(limits) * area
+    Version::Two.area_at(limits, area)
 }
 
-/// Where the journal begins.
+/// Where the journal begins in the layout in use.
 pub fn journal_at(limits: Limits) -> usize
     ensures at { result ≡ layout.journal_at layout_in_use (sizes_of limits) }
     ensures near { result ≤ FARTHEST_JOURNAL }
 {
-    area_at(limits, 2)
+    Version::Two.journal_at(limits)
 }
 
-/// The length of an image.
+/// The length of an image of the layout in use.
 pub fn image_length(limits: Limits) -> usize
     ensures length { result ≡ layout.image_length layout_in_use (sizes_of limits) }
     ensures near { result ≤ LONGEST_IMAGE }
 {
-    journal_at(limits) + SLOT * limits.slots as usize
+    Version::Two.image_length(limits)
 }

@@ -24,7 +24,7 @@ pub use refusals::Refusal;
 pub use sizes::Limits;
 
 /// The most cells of a memory.
-pub const MAX_CELLS: u32 = 65_536;
+pub const MAX_CELLS: u32 = 1_048_576;
 
 /// The most elements of a memory.
 pub const MAX_ELEMENTS: u16 = 64;
@@ -39,7 +39,7 @@ pub const MAX_SLOTS: u32 = 4_096;
 pub const MAX_GROUP: usize = 16;
 
 /// The most entries that a window keeps.
-pub const WINDOW: u64 = 16;
+pub const WINDOW: u64 = 64;
 
 /// Request numbers, sequence numbers, counts of commands and generations go no further.
 pub const LAST: u64 = 1 << 62;

@@ -17,6 +17,8 @@ pub enum Op {
     Alloc(Kind, u32),
     /// Gives back the block with this base, unless one of its cells is waited for.
     Release(u32),
+    /// Empties the cells of the block with this base, unless one of them is waited for.
+    Reset(u32),
     /// Reads an I cell, or is deferred until it is written.
     Fetch(u32),
     /// Writes an I cell, and answers each read that was deferred.
@@ -40,7 +42,7 @@ pub enum Reply {
     Value(u64),
     /// The value was written, or given to who waited for it.
     Stored,
-    /// The cell was written while it was full, and stays so marked until its block is released.
+    /// The cell was written while it was full, and stays so marked until its block is released or reset.
     Clash,
     /// The address lies in no block.
     NoCell,
@@ -52,6 +54,8 @@ pub enum Reply {
     NoBlock,
     /// A cell of the block is waited for.
     StillWaiting,
+    /// The block's cells are empty.
+    Cleared,
 }
 
 /// What is kept for a request.

@@ -7,7 +7,7 @@ use crate::{MAX_CELLS, MAX_ELEMENTS, MAX_SLOTS, MIN_SLOTS};
 /// How many cells, elements and journal slots there are, each number within its range.
 #[derive(Clone, Copy, Debug, PartialEq, Eq)]
 pub struct Limits {
-    /// Cells, numbered from 0: 1 to 65,536.
+    /// Cells, numbered from 0: 1 to 1,048,576.
     pub cells: u32,
     /// Processing elements, numbered from 0: 1 to 64.
     pub elements: u16,

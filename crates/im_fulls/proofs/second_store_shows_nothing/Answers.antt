@@ -4,7 +4,7 @@ use Rattle.im_fulls.proofs.second_store_shows_nothing.Goals as goal
 
 pub returns-clause-legal : goal.returns-clause-legal
 unfolding empty_contents
-returns-clause-legal c = (refl, (refl, (refl, (refl, (refl, (refl, tt))))))
+returns-clause-legal c = (refl, (refl, (refl, (refl, (refl, (refl, (refl, (refl, tt))))))))
 
 pub returns-clause-changes : goal.returns-clause-changes
 unfolding empty_contents

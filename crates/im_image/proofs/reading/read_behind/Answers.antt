@@ -1,7 +1,7 @@
 use Rattle.std.proofs.Common.{inl, inr, Err, sym, ap, subst}
 use Rattle.im_types.specs.declared.refusals.Refusal.{Refusal}
 use Rattle.im_types.specs.Meaning.{Reads}
-use Rattle.im_types.specs.Layout.{layout_in_use}
+use Rattle.im_types.specs.Header.{layout_in}
 use Rattle.im_disk.specs.Moment.{Moment}
 use Rattle.im_disk.proofs.SinceLemmas.{reads_then}
 use Rattle.im_image.specs.Headers.{seen}
@@ -32,7 +32,7 @@ pub returns-in-Err-clause-fault : goal.returns-in-Err-clause-fault
 returns-in-Err-clause-fault g c =
     elim c.in-Err.ensures.faults.0 [
       | inl is ↦ inr (inr (λ h.
-          subst (λ (e : Refusal). Reads layout_in_use (g.D.Disk.now c.args.disk.now).bytes (Err e)) (sym is)
-          (reads-no-page (g.D.Disk.now c.args.disk.now).bytes (c.requires.sound (c.read_memory.ensures.honest h)).good (c.in-Err.ensures.bad (ap (λ (e : Refusal). Err e) is) h))))
+          subst (λ (e : Refusal). Reads (layout_in (g.D.Disk.now c.args.disk.now).bytes) (g.D.Disk.now c.args.disk.now).bytes (Err e)) (sym is)
+          (reads-no-page (layout_in (g.D.Disk.now c.args.disk.now).bytes) (g.D.Disk.now c.args.disk.now).bytes (c.requires.sound (c.read_memory.ensures.honest h)).good (c.in-Err.ensures.bad (ap (λ (e : Refusal). Err e) is) h))))
       | inr more ↦ elim more [ inl none ↦ inl none | inr device ↦ inr (inl device) ]
     ]

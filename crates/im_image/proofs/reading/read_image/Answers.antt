@@ -1,6 +1,5 @@
 use Rattle.std.proofs.Common.{◌≡◌, inl, inr, ⊎_elim, Ok, sym, subst}
-use Rattle.im_types.specs.Header.{header_of}
-use Rattle.im_types.specs.Layout.{layout_in_use}
+use Rattle.im_types.specs.Header.{header_of, layout_in}
 use Rattle.im_types.specs.Meaning.{Reads}
 use Rattle.im_disk.specs.Moment.{Moment}
 use Rattle.im_disk.proofs.SinceLemmas.{reads_then}
@@ -26,7 +25,7 @@ returns-in-Ok-clause-holds g c =
 
 pub returns-in-Ok-clause-means : goal.returns-in-Ok-clause-means
 returns-in-Ok-clause-means g c =
-    read-ok c.read_behind.result IsImageOf (λ i. Reads layout_in_use (g.D.Disk.now c.args.disk.now).bytes (Ok (reached i))) (g.D.Disk.now c.args.disk.now) (g.D.Disk.now c.read_header.new.disk) (g.D.Disk.honest c.read_behind.new.disk)
+    read-ok c.read_behind.result IsImageOf (λ i. Reads (layout_in (g.D.Disk.now c.args.disk.now).bytes) (g.D.Disk.now c.args.disk.now).bytes (Ok (reached i))) (g.D.Disk.now c.args.disk.now) (g.D.Disk.now c.read_header.new.disk) (g.D.Disk.honest c.read_behind.new.disk)
     (λ h. (c.read_header.ensures.reads (c.read_behind.ensures.honest h)).now) (λ i it. it.means) c.read_behind.ensures.means
 
 pub returns-in-Ok-clause-fault : goal.returns-in-Ok-clause-fault
@@ -40,4 +39,4 @@ returns-in-Ok-clause-reads g c = λ h.
 
 pub returns-in-Err-clause-fault : goal.returns-in-Err-clause-fault
 returns-in-Err-clause-fault g c =
-    ⊎_elim (λ device. inr (inl device)) (λ fault. inr (inr (λ h. reads-fault (g.D.Disk.now c.args.disk.now).bytes c.in-Err.refusal (fault h)))) c.in-Err.ensures.fault
+    ⊎_elim (λ device. inr (inl device)) (λ fault. inr (inr (λ h. reads-fault (layout_in (g.D.Disk.now c.args.disk.now).bytes) (g.D.Disk.now c.args.disk.now).bytes c.in-Err.refusal (fault h)))) c.in-Err.ensures.fault

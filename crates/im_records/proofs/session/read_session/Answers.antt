@@ -1,6 +1,7 @@
-use Rattle.std.proofs.Common.{◌≡◌, length, arith}
-use Rattle.im_records.proofs.SessionLemmas.{length-session}
+use Rattle.std.proofs.Common.{ap, sym, ◌∙◌, length}
+use Rattle.im_types.specs.Layout.{layout_of}
+use Rattle.im_records.proofs.SessionLemmas.{length-session, has_place}
 use Rattle.im_records.proofs.session.read_session.Goals as goal
 
-pub returns-then-bytes-ne-SESSION_RECORD-clause-only : goal.returns-then-bytes-ne-SESSION_RECORD-clause-only
-returns-then-bytes-ne-SESSION_RECORD-clause-only c = λ w spells. absurd (let long : length c.args.bytes.now ≡ 1024 = length-session c.args.bytes.now w spells in omega (arith, c.if-bytes-ne-SESSION_RECORD.true, long))
+pub returns-then-bytes-session_record-clause-only : goal.returns-then-bytes-session_record-clause-only
+returns-then-bytes-session_record-clause-only c = λ w spells. absurd (c.if-bytes-session_record.true (ap length spells.is ∙ length-session (layout_of c.args.version) (has_place c.args.version) w ∙ sym c.session_record.ensures.bytes))

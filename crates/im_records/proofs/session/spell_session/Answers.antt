@@ -1,9 +1,0 @@
-use Rattle.std.proofs.Common.{◌++◌, ◌∷◌, length, refl, ap, ◌∙◌}
-use Rattle.byteorder.specs.Endian.{little_bytes}
-use Rattle.im_types.specs.Bytes.{zeros}
-use Rattle.im_types.specs.Records.{place_bytes}
-use Rattle.im_records.proofs.SessionLemmas.{place_more}
-use Rattle.im_records.proofs.session.spell_session.Goals as goal
-
-pub loop-place-preserved : goal.loop-place-preserved
-loop-place-preserved c = place_more c.args.window.now (little_bytes 8 c.args.window.now.base ++ length c.args.window.now.kept ∷ zeros 23) c.loop-place.bytes c.put-in-loop-place.new.bytes c.spell_place.result c.loop-place.place refl c.loop-place-test.true c.loop-place.invariant (c.spell_place.ensures ∙ ap place_bytes c.entry_at.ensures) c.put-in-loop-place.ensures
