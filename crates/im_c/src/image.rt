@@ -285,7 +285,7 @@ fn copy(bytes: &[u8], buffer: &mut [u8]) -> u8
     0
 }
 
-/// Makes the image of an empty memory of so many cells, 1 to 65,536, elements, 1 to 64, and journal slots, 16 to 4,096:
+/// Makes the image of an empty memory of so many cells, 1 to 1,048,576, elements, 1 to 64, and journal slots, 16 to 4,096:
 /// 0, and `next` holds it. Else the number of the refusal, and `next` is as it was: `BadLimits` where a number is out of
 /// its range, `NoMemory`, or `Device` where the list of steps couldn't grow. The caller's file has the length of
 /// [`lt_image_length`].

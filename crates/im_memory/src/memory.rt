@@ -114,7 +114,7 @@ impl Memory {
     /// One command: what it comes to, or why it is refused, and then nothing changes. Refused are, with `NoElement`, a
     /// command of an element that isn't there; a request with `Forgotten` below its window, with `Mismatch` under a
     /// number that is kept for another operation, with `Gap` past the next number and past the last that there is, and
-    /// with `WindowFull` where 16 entries are kept; a confirmation with `Gap` past the next number, and with
+    /// with `WindowFull` where 64 entries are kept; a confirmation with `Gap` past the next number, and with
     /// `NotAnswered` where an entry that it would drop still waits. It takes no memory.
     pub fn step(&mut self, command: &Command) -> Result<Outcome, Refusal>
         ensures answer { result ≡ (step self.old.contents command.now).answer }
@@ -213,7 +213,7 @@ impl Memory {
         self.sessions.window(element)
     }
 
-    /// How many cells there are, at most 65,536.
+    /// How many cells there are, at most 1,048,576.
     pub fn cells(&self) -> u32
         ensures count { result ≡ length self.now.contents.cells }
         ensures few { result ≤ MAX_CELLS }
