@@ -1,6 +1,7 @@
 -- What is read by the rules of the first version.
-use Rattle.std.proofs.Common.{◌≡◌, ◌⊎◌, inl, inr, ⊎_elim, ℕ, ◌≤◌, nat_le, nat_lt, ◌==◌, Bool, true, false, not, ◌&&◌, ◌||◌, List, length, slice_range, Option, None, Some, Result, Ok, Err, OnOk, refl, sym, ap, ◌∙◌, subst, if◌then◌else◌}
+use Rattle.std.proofs.Common.{◌≡◌, ◌⊎◌, inl, inr, ⊎_elim, ℕ, ◌≤◌, nat_le, nat_lt, ◌==◌, Bool, true, false, not, ◌&&◌, ◌||◌, List, length, slice_range, Option, None, Some, Result, Ok, Err, OnOk, refl, sym, ap, ◌∙◌, subst, arith, if◌then◌else◌}
 use Rattle.std.specs.Prelude.{IfOk, IfErr}
+use Rattle.std.proofs.lemmas.Bool.Decides.{nat_tests}
 use Rattle.im_types.specs.declared.TheConstants.{LAST}
 use Rattle.im_types.specs.declared.refusals.Refusal.{Refusal}
 use Rattle.im_types.specs.declared.refusals.Refusal.TheVariants.{WrongLength, NoHeader, BadHeader, NoMemory, Device}
@@ -73,9 +74,31 @@ module _ (zero one : List ℕ) where
   pub places_first : (n : ℕ) (e : Refusal) → place_fault layout_1 zero one ≡ Some e → beginning_fault layout_1 n zero one ≡ Some e
   places_first n e fault = ap (λ (o : Option Refusal). or_else o (if n == image_length layout_1 (header_in (place_in_force zero one)).sizes then None else Some WrongLength)) fault
 
-  -- what is known by the rules of its own version is known by those of the first one, if that is its own
-  pub old_beginning : (n : ℕ) (o : Option Refusal) → (version == 1) ≡ true → beginning_fault (layout_at zero one) n zero one ≡ o → beginning_fault layout_1 n zero one ≡ o
-  old_beginning n o is fault = subst (λ (l : Layout). beginning_fault l n zero one ≡ o) (old_named version is) fault
+  -- a header of the first version, and a file that has its length or another one
+  module _ (n : ℕ) (h : Header) (is : h ≡ header_in (place_in_force zero one)) (first : (h.version == 1) ≡ true) (good : place_fault (layout_at zero one) zero one ≡ None) where
+    first_here : (version == 1) ≡ true
+    first_here = sym (ap (λ (x : Header). x.version == 1) is) ∙ first
+
+    no_place_fault : place_fault layout_1 zero one ≡ None
+    no_place_fault = subst (λ (l : Layout). place_fault l zero one ≡ None) (old_named version first_here) good
+
+    by_length : beginning_fault layout_1 n zero one ≡ (if n == image_length (layout_named h.version) h.sizes then None else Some WrongLength)
+    by_length =
+        ap (λ (o : Option Refusal). or_else o (if n == image_length layout_1 (header_in (place_in_force zero one)).sizes then None else Some WrongLength)) no_place_fault
+        ∙ ap (λ (x : Header). if n == image_length layout_1 x.sizes then None else Some WrongLength) (sym is)
+        ∙ ap (λ (l : Layout). if n == image_length l h.sizes then None else Some WrongLength) (sym (old_named h.version first))
+
+    pub its_length : n ≡ image_length (layout_named h.version) h.sizes → beginning_fault layout_1 n zero one ≡ None
+    its_length same = by_length ∙ ap (λ (b : Bool). if b then None else Some WrongLength) (is_same n (image_length (layout_named h.version) h.sizes) same)
+      where
+        is_same : (a b : ℕ) → a ≡ b → (a == b) ≡ true
+        is_same a b e = grind (arith, nat_tests)
+
+    pub other_length : (n ≡ image_length (layout_named h.version) h.sizes → ⊥) → beginning_fault layout_1 n zero one ≡ Some WrongLength
+    other_length differ = by_length ∙ ap (λ (b : Bool). if b then None else Some WrongLength) (isnt_same n (image_length (layout_named h.version) h.sizes) differ)
+      where
+        isnt_same : (a b : ℕ) → (a ≡ b → ⊥) → (a == b) ≡ false
+        isnt_same a b e = grind (arith, nat_tests)
 
 -- the file's first fault, by the rules of the first version, is the one of its beginning
 fault-beginning : (b : Beginning) (file : List ℕ) → IsBeginning b file → beginning_fault layout_1 b.length b.zero b.one ≡ header_fault layout_1 file
@@ -100,9 +123,9 @@ fault_of_old (Err e) b file is fault = inr (λ honest. sym (fault-beginning b fi
 pub old_layout : (h : Header) (file : List ℕ) → h ≡ header_of file → (h.version == 1) ≡ true → layout_in file ≡ layout_1
 old_layout h file is first = old_named (header_of file).version (sym (ap (λ (x : Header). x.version == 1) is) ∙ first)
 
-pub old_named_result : (r : Result Image Refusal) (version : ℕ) → (version == 1) ≡ true → IfOk r (λ i. i.header.version ≡ version) → IfOk r (λ i. layout_named i.header.version ≡ layout_1)
-old_named_result (Ok i) version first same = ap layout_named same ∙ old_named version first
-old_named_result (Err e) version first same = tt
+pub old_named_result : (r : Result Image Refusal) (n : ℕ) → (n == 1) ≡ true → IfOk r (λ i. i.header.version ≡ n) → IfOk r (λ i. layout_named i.header.version ≡ layout_1)
+old_named_result (Ok i) n first same = ap layout_named same ∙ old_named n first
+old_named_result (Err e) n first same = tt
 
 pub old_means : {H : Type 0} (r : Result Image Refusal) (old mid : Moment) (h : Header) → (H → mid ≡ old) → (h.version == 1) ≡ true → (H → h ≡ header_of old.bytes) → IfOk r (λ i. H → IsImageOf mid.bytes i)
     → IfOk r (λ i. H → Reads layout_1 old.bytes (Ok (reached i)))
