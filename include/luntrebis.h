@@ -30,7 +30,8 @@ enum lt_tag {
     LT_STORE = 5,
     LT_TAKE = 6,
     LT_PUT = 7,
-    LT_CONFIRM = 8 /* the entries below `number` may be forgotten */
+    LT_CONFIRM = 8, /* the entries below `number` may be forgotten */
+    LT_RESET = 9    /* the cells of the block with the base `address` are emptied */
 };
 
 /* What a command came to, by `tag`. */
@@ -47,6 +48,7 @@ enum lt_answer {
     LT_RELEASED = 9,
     LT_NO_BLOCK = 10,
     LT_STILL_WAITING = 11,
+    LT_CLEARED = 12,
     LT_CONFIRMED = 128
 };
 
@@ -55,7 +57,7 @@ enum lt_refusal {
     LT_OK = 0,
     LT_GAP = 1,           /* a number beyond the next one */
     LT_FORGOTTEN = 2,     /* a number below the window */
-    LT_WINDOW_FULL = 3,   /* 16 entries are kept: confirm some */
+    LT_WINDOW_FULL = 3,   /* 64 entries are kept: confirm some */
     LT_MISMATCH = 4,      /* a number that was used, for another request */
     LT_NO_ELEMENT = 5,
     LT_NOT_ANSWERED = 6,  /* a confirmation of an entry that waits */
@@ -69,6 +71,7 @@ enum lt_refusal {
     LT_BAD_PAGE = 15,
     LT_BAD_RECORD = 16,
     LT_BAD_LIMITS = 17,   /* of lt_memory_new and lt_format */
+    LT_OLD_VERSION = 21,  /* of lt_open: an image of the first layout, which `imem migrate` makes one of this layout of */
     LT_NO_CALL = 255      /* an unknown tag, no such step, or no group */
 };
 
@@ -93,8 +96,8 @@ struct lt_memory {
     void *block;
 };
 
-/* A memory of 1 to 65,536 cells and 1 to 64 elements: 0, and `next` holds it; else the refusal, and `next` is as it
- * was. */
+/* A memory of 1 to 1,048,576 cells and 1 to 64 elements: 0, and `next` holds it; else the refusal, and `next` is as
+ * it was. */
 uint8_t lt_memory_new(uint32_t cells, uint16_t elements, struct lt_memory *next);
 
 /* Each of these takes a memory that is held. One command: what it comes to, at `outcome`. */
@@ -152,8 +155,8 @@ enum lt_turn_tag {
     LT_SWEPT = 5
 };
 
-/* The length of an image of 1 to 65,536 cells, 1 to 64 elements and 16 to 4,096 slots of its journal; 0 where a number
- * is out of its range. */
+/* The length of an image of 1 to 1,048,576 cells, 1 to 64 elements and 16 to 4,096 slots of its journal; 0 where a
+ * number is out of its range. */
 uint64_t lt_image_length(uint32_t cells, uint16_t elements, uint32_t slots);
 
 /* Makes the image of an empty memory: 0, and `next` holds it; else the refusal, and `next` is as it was. The caller's

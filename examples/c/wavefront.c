@@ -4,7 +4,7 @@
  * data. Each answer is printed as the file has it.
  *
  * usage: wavefront IMAGE      It makes the image where there is none. A run that was stopped is simply run again: what
- * was asked before is answered as before, as each element asks the same under the same numbers, 16 at most. */
+ * was asked before is answered as before, as each element asks the same under the same numbers, 64 at most. */
 #include <inttypes.h>
 #include <stdio.h>
 #include <unistd.h>

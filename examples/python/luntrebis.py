@@ -5,9 +5,9 @@ import os
 
 from calls import SIZE, Command, Handle, Outcome, Step, Window, load
 
-TAGS = {"alloc i": 1, "alloc m": 2, "release": 3, "fetch": 4, "store": 5, "take": 6, "put": 7, "confirm": 8}
+TAGS = {"alloc i": 1, "alloc m": 2, "release": 3, "fetch": 4, "store": 5, "take": 6, "put": 7, "confirm": 8, "reset": 9}
 ANSWERS = ("waiting base no-space bad-length value stored clash no-cell wrong-kind released no-block "
-           "still-waiting").split()
+           "still-waiting cleared").split()
 TURNS = ("idle", "began", "page", "synced", "in-force", "swept")
 CONFIRMED, WRITE = 128, 1
 LIBRARY = None

@@ -2,7 +2,7 @@
 that is away is waited for. Each answer is printed as the file has it.
 
 usage: words.py LIBRARY IMAGE      It makes the image where there is none. A run that was stopped is simply run again: each
-element asks the same under the same numbers, 16 at most, and what was asked before is answered as before.
+element asks the same under the same numbers, 64 at most, and what was asked before is answered as before.
 """
 import os
 import sys

@@ -1,7 +1,7 @@
 //! A counter in an image file, from Rust. Each answer is printed as the file has it.
 //!
 //! usage: counter IMAGE      It makes the image where there is none. A run that was stopped is simply run again: what was
-//! asked before is answered as before, as the same is asked under the same numbers, 16 at most.
+//! asked before is answered as before, as the same is asked under the same numbers, 64 at most.
 
 use std::io::{Result, Write};
 

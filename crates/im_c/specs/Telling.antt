@@ -40,5 +40,6 @@ refusal_name number =
     else if number == 15 then codes "BadPage"
     else if number == 16 then codes "BadRecord"
     else if number == 17 then codes "BadLimits"
+    else if number == 21 then codes "OldVersion"
     else if number == 255 then codes "NoCall"
     else codes ""

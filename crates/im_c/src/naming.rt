@@ -25,6 +25,7 @@ fn name_of(number: u8) -> &'static str
         15 => "BadPage",
         16 => "BadRecord",
         17 => "BadLimits",
+        21 => "OldVersion",
         255 => "NoCall",
         _ => "",
     }

@@ -14,11 +14,11 @@ const CONFIRMED: u8 = 128;
 
 /// A command. The tag is the code that the journal has for it: 1 and 2 an allocation of `address` cells of kind I and
 /// M, 3 a release of the block with the base `address`, 4 a fetch, 5 a store, 6 a take and 7 a put at `address`, 8 a
-/// confirmation of all below `number`. Any other tag is no command.
+/// confirmation of all below `number`, 9 a reset of the block with the base `address`. Any other tag is no command.
 #[repr(C)]
 #[derive(Clone, Copy)]
 pub struct LtCommand {
-    /// What is asked, 1 to 8.
+    /// What is asked, 1 to 9.
     pub tag: u8,
     /// The element that asks, from 0.
     pub element: u16,
@@ -32,8 +32,8 @@ pub struct LtCommand {
 
 /// What a call came to. `refusal` is 0, or the number of the refusal, or 255 for what is no call; then the rest is 0.
 /// The tag is the code that the image has for an entry: 0 it waits, 1 a base in `value`, 2 no space, 3 bad length, 4 a
-/// value in `value`, 5 stored, 6 clash, 7 no cell, 8 wrong kind, 9 released, 10 no block, 11 still waiting; or 128,
-/// confirmed.
+/// value in `value`, 5 stored, 6 clash, 7 no cell, 8 wrong kind, 9 released, 10 no block, 11 still waiting, 12 cleared;
+/// or 128, confirmed.
 #[repr(C)]
 #[derive(Clone, Copy, Default)]
 pub struct LtOutcome {

@@ -21,7 +21,7 @@ use Rattle.im_types.specs.declared.commands.Call.TheVariants.{Command as Command
 use Rattle.im_types.specs.declared.commands.Line.{Line}
 use Rattle.im_types.specs.Contents.{CellState, Empty, Full, Clashed, Held, Contents, held_at, full_value, full_in, full_at}
 use Rattle.im_types.specs.Place.{place, fill, change_each}
-use Rattle.im_types.specs.Act.{Served, only_tells, fetch, store, take_from, put, same_kind, serve_cell, at_cell, new_cell, allocate, allocate_at, unless_waited_for, release_block, emptied, reset_block, block_with_base, is_waiting_cell, act}
+use Rattle.im_types.specs.Act.{Served, only_tells, fetch, store, take_from, put, same_kind, serve_cell, at_cell, new_cell, allocate, allocate_at, unless_waited_for, emptied, block_with_base, is_waiting_cell, act}
 use Rattle.im_types.specs.Step.{Stepped, asker, step, step_request, is_accepted}
 use Rattle.im_types.specs.Run.{accepted}
 use Rattle.im_types.specs.Trace.{contents_after, end_of}
@@ -160,11 +160,18 @@ freed (x ∷ xs) zero (suc n) (suc a) lo hi = freed xs zero n a (omega arith) (o
 freed (x ∷ xs) (suc base) n zero lo hi = absurd (omega arith)
 freed (x ∷ xs) (suc base) n (suc a) lo hi = freed xs base n a (omega arith) (omega arith)
 
+pub get_or-emptied : {X : Type 0} (xs : List (Option X)) (base n a : ℕ) → get_or (fill xs base n None) a None ≡ cond (is_among base n a) None (get_or xs a None)
+get_or-emptied xs base n a = among-cases (get_or (fill xs base n None) a None) (get_or xs a None) None base n a
+    (λ low high. freed xs base n a low high)
+    (λ out. ⊎_elim (λ same. same) (λ h. absurd (outside-is_not_within base n a h.0 h.1 out)) (get_or-fill xs base n None a))
+
 -- cells that are freed
 frees : (cells : List (Option Held)) (base n b : ℕ) → value_at (fill cells base n None) b ≡ cond (is_among base n b) None (value_at cells b)
-frees cells base n b = among-cases (value_at (fill cells base n None) b) (value_at cells b) None base n b
-    (λ low high. ap full_in (freed cells base n b low high))
-    (λ out. ⊎_elim (λ same. ap full_in same) (λ h. absurd (outside-is_not_within base n b h.0 h.1 out)) (get_or-fill cells base n None b))
+frees cells base n b = ap full_in (get_or-emptied cells base n b) ∙ by_test (is_among base n b)
+  where
+    by_test : (t : Bool) → full_in (cond t None (held_at cells b)) ≡ cond t None (value_at cells b)
+    by_test true = refl
+    by_test false = refl
 
 -- cells that are emptied
 empties : (cells : List (Option Held)) (base n b : ℕ) → value_at (change_each emptied cells base n) b ≡ cond (is_among base n b) None (value_at cells b)
