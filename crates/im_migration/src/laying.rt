@@ -1,6 +1,7 @@
 //! How a memory is laid down as a new image: what stands behind the closed gate of its header, and then the gate.
 ghost use Rattle.std.specs.Prelude.{◌≡◌, ◌⊎◌, ◌+◌, ◌*◌, ◌≤◌, ℕ, length, OnOk};
 ghost use Rattle.im_types.specs.declared.TheConstants.{LAST};
+ghost use Rattle.im_types.specs.Header.{header_body};
 ghost use Rattle.im_types.specs.Layout as layout;
 ghost use Rattle.im_types.specs.Layout.{layout_in_use, sizes_of};
 ghost use Rattle.im_types.specs.Pages.{Records};
@@ -71,6 +72,19 @@ fn close_slots<N: Disk>(new: &mut N, limits: Limits) -> Result<(), DeviceFault>
     Ok(())
 }
 
+// Writes a header behind its gate.
+fn write_header<N: Disk>(new: &mut N, header: &Header) -> Result<(), DeviceFault>
+    requires { N.honest new.old → 64 ≤ length (N.now new.old).bytes }
+    ensures blank { N.honest new.new → StaysBlank N.now N.past new.old new.new }
+    ensures written { OnOk result (N.honest new.new
+        → (N.now new.new).bytes ≡ overlaid (N.now new.old).bytes 1 (header_body (seen header.now))) }
+    ensures honest { N.honest new.new → N.honest new.old }
+    ensures failures { Counts result (N.failures new.old) (N.failures new.new) }
+{
+    let bytes = header.spell();
+    write_beside(new, 1, &bytes[1..]) // The gate is closed, whatever a stop leaves behind it.
+}
+
 /// Lays a memory down as a new image, with this header, in a file of its length in which no header is open.
 ///
 /// A crash at any moment of it leaves a file in which no header is open, or the image. Once it has answered `Ok`, the image
@@ -93,10 +107,10 @@ pub(crate) fn lay_down<N: Disk>(
     ensures honest { N.honest new.new → N.honest new.old }
     ensures failures { Counts result (N.failures new.old) (N.failures new.new) }
 {
-    let bytes = header.spell();
+    let _records = memory.records();
     write_pages(new, memory, header.limits)?; // A stop in it leaves no header open, and so in the next two.
     close_slots(new, header.limits)?;
-    write_beside(new, 1, &bytes[1..])?;
+    write_header(new, header)?;
     // A stop leaves the gate closed, or open over what is on the disk then. Once this is done it is open for good.
     open_gate(new, 0)
 }

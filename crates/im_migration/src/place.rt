@@ -4,7 +4,7 @@ ghost use Rattle.im_types.specs.declared.refusals.Refusal.TheVariants.{Device, N
 ghost use Rattle.im_types.specs.Layout.{sizes_of};
 ghost use Rattle.im_disk.specs.Moment.{Counts, Faults, Left, synced};
 ghost use Rattle.im_disk.specs.Since.{LeavesWithin};
-ghost use Rattle.im_migration.specs.Migration.{HasLength, IsBlank, IsNoPlace, IsPlace};
+ghost use Rattle.im_migration.specs.Migration.{IsBlank, IsNoPlace, IsPlace};
 
 use im_disk::{DeviceFault, Disk};
 use im_types::layout::{OPEN, PAGE, image_length};
