@@ -30,23 +30,14 @@ use Rattle.im_checkpoint.proofs.Headers.{good, follows}
 use Rattle.im_types.specs.Meaning.{Means}
 use Rattle.im_engine.specs.State.{IsFirstFault}
 use Rattle.im_engine.proofs.Making.{length_new_image}
-use Rattle.im_engine.proofs.FilesMean.{Outcome_by, no_fault_and_meaning, new_image_is_one}
+use Rattle.im_image.proofs.ToOpen.{not_open_in, place_fault_first}
+use Rattle.im_engine.proofs.FilesMean.{no_fault_and_meaning, new_image_is_one}
 
-long : (n : ℕ) → 8192 ≤ n → nat_lt n 8192 ≡ false
-long n enough = grind (arith, nat_tests)
-
--- In a new image whose gate is closed neither header is open.
-closed_fault : (s : Sizes) → header_fault layout_in_use (new_image 0 s) ≡ Some NoHeader
-closed_fault s =
-    let file : List ℕ = new_image 0 s in
-    ap (λ (b : Bool). if b then Some WrongLength else or_else (place_fault layout_in_use (header_place 0 file) (header_place 1 file))
-    (if length file == image_length layout_in_use (header_of file).sizes then None else Some WrongLength)) (long (length file) (omega (arith, length_new_image s)))
-
--- So its first fault is that there is no header.
+-- In a new image whose gate is closed neither header is open: its first fault is that there is no header.
 a_closed_image_has_no_header : (s : Sizes) → IsFirstFault NoHeader (new_image 0 s)
 a_closed_image_has_no_header s =
-    let none : Refusal = NoHeader in
-    subst (λ (o : Option Refusal). Outcome_by (new_image 0 s) (Err none) o) (sym (closed_fault s)) refl
+    let file : List ℕ = new_image 0 s in
+    not_open_in file NoHeader (omega (arith, length_new_image s)) (place_fault_first (length file) (header_place 0 file) (header_place 1 file) NoHeader refl)
 
 -- `new_images_mean_the_empty_memory`: not with its gate closed.
 a_closed_image_means_no_memory : ((s : Sizes) → AreLimits s.cells s.elements s.slots → Means (empty_contents s.cells s.elements) 0 s.slots (new_image 0 s)) → ⊥

@@ -1,23 +1,25 @@
 -- A file means one thing, and a new image the empty memory.
-use Rattle.std.proofs.Common.{◌≡◌, ◌⊎◌, inl, inr, ℕ, ◌<◌, Bool, true, false, List, [], Option, None, Some, Result, Ok, Err, MatchOption, refl, sym, ap, ◌∙◌, subst, arith}
+use Rattle.std.proofs.Common.{◌≡◌, ◌⊎◌, inl, inr, ℕ, ◌<◌, ◌==◌, Bool, true, false, List, [], Option, None, Some, Result, Ok, Err, MatchOption, refl, sym, ap, ◌∙◌, subst, arith}
 use Rattle.im_types.proofs.Tests.{true_false}
 use Rattle.im_types.specs.declared.refusals.Refusal.{Refusal}
 use Rattle.im_types.specs.declared.refusals.Refusal.TheVariants.{BadPage}
 use Rattle.im_types.specs.Contents.{Contents, empty_contents}
 use Rattle.im_types.specs.Sizes.{AreLimits}
 use Rattle.im_types.specs.Header.{Header, header_place, header_of, header_fault}
-use Rattle.im_types.specs.Layout.{Sizes, layout_in_use, area_of, ring_of}
+use Rattle.im_types.specs.Layout.{Layout, Sizes, layout_in_use, area_of, ring_of}
 use Rattle.im_types.specs.Pages.{Shows}
-use Rattle.im_types.specs.Meaning.{Means, Reached, IsShown, Reads, read_journal}
+use Rattle.im_types.specs.Meaning.{Means, Reached, IsShown, Reads, Opens, read_journal}
 use Rattle.im_image.specs.Fresh.{new_header, new_image}
 use Rattle.im_image.proofs.FreshImage.{new_image_good, new_image_shows, new_header_of}
 use Rattle.im_image.proofs.Headers.{limits_of_spelled}
 use Rattle.im_image.proofs.Restored.{one-memory}
 use Rattle.im_journal.proofs.Tails.{tail_closed}
 use Rattle.im_laws.proofs.MemoryLemmas.{empty-memory}
-use Rattle.im_meaning.specs.Images.{InForce, IsImage}
-use Rattle.im_meaning.proofs.Headers.{in_force}
-use Rattle.im_meaning.proofs.Meanings.{image_reads}
+use Rattle.im_meaning.specs.Images.{InForce, IsImage, IsRead}
+use Rattle.im_image.proofs.ToOpen.{named_by, young_opens}
+use Rattle.im_meaning.proofs.Headers.{in_force, in_force_is}
+use Rattle.im_meaning.proofs.Meanings.{image_reads, read_image}
+use Rattle.im_checkpoint.proofs.Headers.{good}
 use Rattle.im_engine.specs.State.{IsFirstFault}
 use Rattle.im_engine.proofs.Making.{new_image_closed}
 
@@ -67,8 +69,18 @@ means_one file m n c d r s x y =
     let same : read_as m c x.0 ≡ read_as n d y.0 = reads_one file (read_as m c x.0) (read_as n d y.0) x.2 y.2 in
     (ap (λ (z : Result Reached Refusal). (ok_or (reached m c x.0) z).contents) same, ap (λ (z : Result Reached Refusal). (ok_or (reached m c x.0) z).count) same)
 
+-- a file that means a memory isn't of the first version
+version_young : (file : List ℕ) (r : Reached) → Reads layout_in_use file (Ok r) → ((header_of file).version == 1) ≡ false
+version_young file r reads =
+    let it : IsRead layout_in_use file r = read_image layout_in_use file r reads in
+    let is : header_of file ≡ it.header = in_force_is layout_in_use it.header file it.image.in_force in
+    ap (λ (h : Header). h.version == 1) is ∙ ap (λ (n : ℕ). n == 1) (good it.header file it.image.in_force).version
+
 pub no_fault_and_meaning : (file : List ℕ) (e : Refusal) (m : Contents) (c r : ℕ) → IsFirstFault e file → Means m c r file → ⊥
-no_fault_and_meaning file e m c r x y = true_false (ap fails_as (reads_one file (fault_as e) (read_as m c y.0) x y.2))
+no_fault_and_meaning file e m c r x y =
+    let young = version_young file (reached m c y.0) y.2 in
+    let reads = subst (λ (l : Layout). Reads l file (fault_as e)) (named_by ((header_of file).version == 1) young) (young_opens file (fault_as e) young x) in
+    true_false (ap fails_as (reads_one file (fault_as e) (read_as m c y.0) reads y.2))
 
 -- ---- a new image
 

@@ -1,7 +1,7 @@
 -- What is read of an image.
 use Rattle.std.proofs.Common.{ℕ, ◌+◌, List, length, replicate, true, Ok, ◌≡◌, sym, ◌∙◌, ap, subst}
 use Rattle.im_types.specs.Contents.{Contents}
-use Rattle.im_types.specs.Layout.{layout_in_use, area_pages}
+use Rattle.im_types.specs.Layout.{Layout, layout_in_use, layout_named, ring_of, area_pages}
 use Rattle.im_types.specs.Header.{Header, header_of}
 use Rattle.im_types.specs.Meaning.{Reached, Reads}
 use Rattle.im_disk.specs.Moment.{Moment, Left, Shaken, MayTick, synced}
@@ -30,10 +30,14 @@ opens_leaves m0 m1 m2 p0 p1 p2 tick reads =
     (λ c left. left)
     (λ c left. left_sync m0 m1 p0 p1 tick c left)
 
+-- the journal of an image of the layout in use lies where that layout says
+pub ring_young : (h : Header) (j : JournalState) → layout_named h.version ≡ layout_in_use → JournalOf h j → j.ring ≡ ring_of layout_in_use h.sizes
+ring_young h j young journal = journal.ring ∙ ap (λ (l : Layout). ring_of l h.sizes) young
+
 -- with no checkpoint under way, what is read of a file is kept in it
-pub keeps_read : (h : Header) (m : Contents) (j : JournalState) (file : List ℕ) → h ≡ header_of file → JournalOf h j → Holds j file
+pub keeps_read : (h : Header) (m : Contents) (j : JournalState) (file : List ℕ) → h ≡ header_of file → layout_named h.version ≡ layout_in_use → JournalOf h j → Holds j file
     → Reads layout_in_use file (Ok (record { contents = m; count = j.count; room = j.room })) → Keeps h m j file
-keeps_read h m j file is journal holds reads =
+keeps_read h m j file is young journal holds reads =
     let r : Reached = record { contents = m; count = j.count; room = j.room } in
     let read : IsRead layout_in_use file r = read_image layout_in_use file r reads in
     let same : read.header ≡ h = sym (in_force_is layout_in_use read.header file read.image.in_force) ∙ sym is in
@@ -44,14 +48,14 @@ keeps_read h m j file is journal holds reads =
       image = subst (λ (x : Header). IsImage layout_in_use x read.shown read.commands j.room file) same read.image;
       accepts = read.accepts;
       count = subst (λ (x : Header). j.count ≡ x.count + length read.commands) same read.count;
-      ring = journal.ring;
+      ring = ring_young h j young journal;
       first = journal.first;
       journal = holds;
     }
 
 -- and after a sync, and calls that only read, the disk keeps it
-pub kept_read : (old mid new : Moment) (h : Header) (x : Paged) (m : Contents) (j : JournalState) → x.recent ≡ replicate (area_pages layout_in_use h.sizes) true → mid ≡ synced old → new ≡ mid → h ≡ header_of mid.bytes → JournalOf h j → Holds j mid.bytes
+pub kept_read : (old mid new : Moment) (h : Header) (x : Paged) (m : Contents) (j : JournalState) → x.recent ≡ replicate (area_pages layout_in_use h.sizes) true → mid ≡ synced old → new ≡ mid → h ≡ header_of mid.bytes → layout_named h.version ≡ layout_in_use → JournalOf h j → Holds j mid.bytes
     → Reads layout_in_use mid.bytes (Ok (record { contents = m; count = j.count; room = j.room })) → IsKept (record { header = h; step = NoCheckpoint }) x m j new
-kept_read old mid new h x m j all done same is journal holds reads =
+kept_read old mid new h x m j all done same is young journal holds reads =
     subst (λ (y : Moment). IsKept (record { header = h; step = NoCheckpoint }) x m j y) (sym same)
-    (kept_calm (record { header = h; step = NoCheckpoint }) x m j mid (ap (λ (y : Moment). y.ranges) done) (keeps_read h m j mid.bytes is journal holds reads) (rests h x mid.bytes all))
+    (kept_calm (record { header = h; step = NoCheckpoint }) x m j mid (ap (λ (y : Moment). y.ranges) done) (keeps_read h m j mid.bytes is young journal holds reads) (rests h x mid.bytes all))

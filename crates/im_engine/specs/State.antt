@@ -7,7 +7,7 @@ use Rattle.im_types.specs.Contents.{Contents, empty_contents}
 use Rattle.im_types.specs.Step.{step}
 use Rattle.im_types.specs.Layout.{layout_in_use, ring_of}
 use Rattle.im_types.specs.Header.{Header, header_of}
-use Rattle.im_types.specs.Meaning.{Means, Reads}
+use Rattle.im_types.specs.Meaning.{Means, Opens, Reads}
 use Rattle.im_journal.specs.Holding.{JournalState, room_after}
 use Rattle.im_memory.specs.State.{MemoryState, empty_records}
 use Rattle.im_checkpoint.specs.Step.{Step, CheckpointState}
@@ -50,9 +50,9 @@ journal_in s = journal_of s.header s.count s.room
 abbrev pub checkpoint_in : {D : Type 0} → EngineState D → CheckpointState
 checkpoint_in s = record { header = s.header; step = s.step }
 
--- reading the file comes to this fault first
+-- opening the file comes to this fault first
 abbrev pub IsFirstFault : Refusal → List ℕ → Type 0
-IsFirstFault fault file = Reads layout_in_use file (Err fault)
+IsFirstFault fault file = Opens file (Err fault)
 
 -- reading the file comes to what the engine is: its header, its memory, its count, and just its room
 abbrev pub IsFound : {D : Type 0} → EngineState D → List ℕ → Type 0

@@ -6,7 +6,7 @@ ghost use Rattle.im_disk.specs.Since.{LeavesWithin, LeavesNow};
 ghost use Rattle.im_types.specs.Layout.{layout_in_use, area_pages};
 ghost use Rattle.im_types.specs.Header.{header_of};
 ghost use Rattle.im_types.specs.Meaning.{Reads};
-ghost use Rattle.im_image.specs.Headers.{seen, MayRefuseImage};
+ghost use Rattle.im_image.specs.Headers.{seen, MayRefuseOpening};
 ghost use Rattle.im_checkpoint.specs.Step.{NoCheckpoint};
 ghost use Rattle.im_checkpoint.specs.Keeping.{Paged, Fits, IsKept};
 ghost use Rattle.im_engine.specs.State.{MeansState, IsFirstFault, IsFound};
@@ -14,7 +14,7 @@ ghost use Rattle.im_engine.specs.State.{MeansState, IsFirstFault, IsFound};
 use crate::engine::Engine;
 use im_checkpoint::Checkpoint;
 use im_disk::Disk;
-use im_image::{Image, read_image};
+use im_image::{Image, read_to_open};
 use im_types::Refusal;
 use std::alloc::Global;
 
@@ -34,7 +34,7 @@ fn read_synced<D: Disk>(alloc: Global, disk: &mut D) -> Result<Image, Refusal>
     ensures leaves { D.honest disk.new → LeavesWithin D.now D.past disk.old disk.new (Left (D.now disk.old)) }
     ensures fault { IfErr result (λ e. (e ≡ NoMemory) ⊎ (e ≡ Device)
         ⊎ (D.honest disk.new → LeavesNow (D.now disk.new) (IsFirstFault e))) }
-    ensures faults { Faults MayRefuseImage result (D.failures disk.old) (D.failures disk.new) }
+    ensures faults { Faults MayRefuseOpening result (D.failures disk.old) (D.failures disk.new) }
     ensures honest { D.honest disk.new → D.honest disk.old }
 {
     // A crash after a write that wasn't synced may leave less than is read: a sync makes it sure. A stop in it leaves
@@ -42,7 +42,7 @@ fn read_synced<D: Disk>(alloc: Global, disk: &mut D) -> Result<Image, Refusal>
     if let Err(_) = disk.sync() {
         return Err(Refusal::Device);
     }
-    match read_image(alloc, disk) {
+    match read_to_open(alloc, disk) {
         Ok(image) => Ok(image),
         Err(refusal) => Err(refusal),
     }
@@ -53,8 +53,9 @@ impl<D: Disk> Engine<D> {
     ///
     /// Each refusal gives the disk back. The first fault of the file: `WrongLength`, `NoHeader`, `BadHeader`, `BadPage`
     /// where the pages in force show no memory, `BadRecord` where the journal's run is at fault, or a command in it
-    /// isn't accepted where it stands. `NoMemory` where `alloc` refused the room for the memory, for what is read, or
-    /// for the pages of a checkpoint. `Device` where a call of the disk failed.
+    /// isn't accepted where it stands. Before a wrong length for its sizes comes `OldVersion`: the header in force is a
+    /// sound one of the first version, whatever else is wrong with the image. `NoMemory` where `alloc` refused the room
+    /// for the memory, for what is read, or for the pages of a checkpoint. `Device` where a call of the disk failed.
     pub fn open(alloc: Global, mut disk: D) -> Result<Engine<D>, (Refusal, D)>
         // Each file that a crash may leave means what the engine is, and could have been left before.
         ensures means { IfOk result (λ e. D.honest e.disk → LeavesNow (D.now e.disk) (MeansState e)) }
@@ -68,7 +69,7 @@ impl<D: Disk> Engine<D> {
         ensures fault { IfErr result (λ e. (e.0 ≡ NoMemory) ⊎ (e.0 ≡ Device)
             ⊎ (D.honest e.1 → LeavesNow (D.now e.1) (IsFirstFault e.0))) }
         ensures faults { MatchResult result (λ e. D.failures e.disk ≡ D.failures disk)
-            (λ e. Fault MayRefuseImage (D.failures disk) (D.failures e.1) e.0) }
+            (λ e. Fault MayRefuseOpening (D.failures disk) (D.failures e.1) e.0) }
         ensures honest { MatchResult result (λ e. D.honest e.disk → D.honest disk) (λ e. D.honest e.1 → D.honest disk) }
     {
         match read_synced(alloc, &mut disk) {

@@ -45,6 +45,10 @@ all_three a v n e f g = cc
 pub opens_young : (file : List ℕ) (outcome : Result Reached Refusal) → ((header_of file).version == 1) ≡ false → Reads (layout_in file) file outcome → Opens file outcome
 opens_young file outcome other reads = opens_by (is_old file) false file outcome (young (not (nat_lt (length file) 8192)) ((header_of file).version == 1) (is_none (place_fault (layout_in file) (header_place 0 file) (header_place 1 file))) other) reads
 
+-- and what opening it comes to is what reading it does
+pub young_opens : (file : List ℕ) (outcome : Result Reached Refusal) → ((header_of file).version == 1) ≡ false → Opens file outcome → Reads (layout_in file) file outcome
+young_opens file outcome other opens = opens_by false (is_old file) file outcome (sym (young (not (nat_lt (length file) 8192)) ((header_of file).version == 1) (is_none (place_fault (layout_in file) (header_place 0 file) (header_place 1 file))) other)) opens
+
 -- a short file
 pub opens_short : (file : List ℕ) → length file < 8192 → Opens file (Err WrongLength)
 opens_short file lt =
@@ -55,7 +59,7 @@ opens_short file lt =
     less n le = grind (arith, nat_tests)
 
 -- a file whose beginning isn't that of one to open
-not_open_in : (file : List ℕ) (e : Refusal) → 8192 ≤ length file → MayNotOpen (length file) (header_place 0 file) (header_place 1 file) e → Opens file (Err e)
+pub not_open_in : (file : List ℕ) (e : Refusal) → 8192 ≤ length file → MayNotOpen (length file) (header_place 0 file) (header_place 1 file) e → Opens file (Err e)
 not_open_in file e room (inl (first, good, is)) =
     opens_by (is_old file) true file (Err e) (all_three (not (nat_lt (length file) 8192)) ((header_of file).version == 1) (is_none (place_fault (layout_in file) (header_place 0 file) (header_place 1 file))) (ap not (long (length file) room)) first (ap is_none good))
     (ap (λ (x : Refusal). Err x) is)
