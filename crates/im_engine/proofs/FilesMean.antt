@@ -6,12 +6,12 @@ use Rattle.im_types.specs.declared.refusals.Refusal.TheVariants.{BadPage}
 use Rattle.im_types.specs.Contents.{Contents, empty_contents}
 use Rattle.im_types.specs.Sizes.{AreLimits}
 use Rattle.im_types.specs.Header.{Header, header_place, header_of, header_fault}
+use Rattle.im_types.specs.declared.layout.Version.TheVariants.{Two}
 use Rattle.im_types.specs.Layout.{Layout, Sizes, layout_in_use, area_of, ring_of}
 use Rattle.im_types.specs.Pages.{Shows}
 use Rattle.im_types.specs.Meaning.{Means, Reached, IsShown, Reads, Opens, read_journal}
 use Rattle.im_image.specs.Fresh.{new_header, new_image}
 use Rattle.im_image.proofs.FreshImage.{new_image_good, new_image_shows, new_header_of}
-use Rattle.im_image.proofs.Headers.{limits_of_spelled}
 use Rattle.im_image.proofs.Restored.{one-memory}
 use Rattle.im_journal.proofs.Tails.{tail_closed}
 use Rattle.im_laws.proofs.MemoryLemmas.{empty-memory}
@@ -24,10 +24,7 @@ use Rattle.im_engine.specs.State.{IsFirstFault}
 use Rattle.im_engine.proofs.Making.{new_image_closed}
 
 limits_in : (file : List ℕ) → header_fault layout_in_use file ≡ None → AreLimits (header_of file).sizes.cells (header_of file).sizes.elements (header_of file).sizes.slots
-limits_in file good =
-    let it : InForce layout_in_use (header_of file) file = in_force layout_in_use file good in
-    subst (λ (h : Header). AreLimits h.sizes.cells h.sizes.elements h.sizes.slots) it.fields
-    (limits_of_spelled (header_of file).area (header_place (header_of file).area file) it.spelled)
+limits_in file none = (good (header_of file) file (in_force layout_in_use file none)).limits
 
 abbrev pub Outcome_by : List ℕ → Result Reached Refusal → Option Refusal → Type 0
 Outcome_by file outcome fault = MatchOption fault
@@ -35,13 +32,13 @@ Outcome_by file outcome fault = MatchOption fault
     (λ fault. outcome ≡ Err fault)
 
 one_by : (file : List ℕ) (a b : Result Reached Refusal) (o : Option Refusal) → header_fault layout_in_use file ≡ o → Outcome_by file a o → Outcome_by file b o → a ≡ b
-one_by file a b None good (inl x) (inl y) =
-    let same : x.0 ≡ y.0 = one-memory (header_of file).sizes (area_of layout_in_use (header_of file).sizes (header_of file).area file) x.0 y.0 (limits_in file good) x.1 y.1 in
+one_by file a b None none (inl x) (inl y) =
+    let same : x.0 ≡ y.0 = one-memory Two (header_of file).sizes (area_of layout_in_use (header_of file).sizes (header_of file).area file) x.0 y.0 (limits_in file none) x.1 y.1 in
     x.2 ∙ ap (λ (m : Contents). read_journal layout_in_use file m) same ∙ sym y.2
-one_by file a b None good (inl x) (inr y) = absurd (y.0 x.0 x.1)
-one_by file a b None good (inr x) (inl y) = absurd (x.0 y.0 y.1)
-one_by file a b None good (inr x) (inr y) = x.1 ∙ sym y.1
-one_by file a b (Some fault) good x y = x ∙ sym y
+one_by file a b None none (inl x) (inr y) = absurd (y.0 x.0 x.1)
+one_by file a b None none (inr x) (inl y) = absurd (x.0 y.0 y.1)
+one_by file a b None none (inr x) (inr y) = x.1 ∙ sym y.1
+one_by file a b (Some fault) is x y = x ∙ sym y
 
 -- reading a file comes to one thing
 pub reads_one : (file : List ℕ) (a b : Result Reached Refusal) → Reads layout_in_use file a → Reads layout_in_use file b → a ≡ b
@@ -90,10 +87,10 @@ new_image_is_one s limits =
     let file : List ℕ = new_image 0xA5 s in
     let m : Contents = empty_contents s.cells s.elements in
     let some : 0 < s.slots = omega (arith, limits.enough_slots) in
-    let good : header_fault layout_in_use file ≡ None = new_image_good s limits in
+    let none : header_fault layout_in_use file ≡ None = new_image_good s limits in
     let shows : IsShown layout_in_use file m = new_image_shows s limits (empty-memory s.cells s.elements) in
     record {
-      in_force = subst (λ (h : Header). InForce layout_in_use h file) (new_header_of s limits) (in_force layout_in_use file good);
+      in_force = subst (λ (h : Header). InForce layout_in_use h file) (new_header_of s limits) (in_force layout_in_use file none);
       shows = subst (λ (h : Header). Shows layout_in_use h.sizes (area_of layout_in_use h.sizes h.area file) m) (new_header_of s limits) shows;
       journal = tail_closed (ring_of layout_in_use s) file some (new_image_closed s);
     }

@@ -67,7 +67,7 @@ not_open_in file e room (inr (other, fault)) =
     opens_by (is_old file) false file (Err e) (at_fault (not (nat_lt (length file) 8192)) ((header_of file).version == 1) (is_none (place_fault (layout_in file) (header_place 0 file) (header_place 1 file))) other)
     (reads-fault (layout_in file) file e (fault_of_long file room ∙ fault))
 
-pub not_open : {H : Type 0} (r : Result Header Refusal) (b : Beginning) (file : List ℕ) → (H → IsBeginning b file) → IfErr r (λ e. MayNotOpen b.length b.zero b.one e) → IfErr r (λ e. (e ≡ Device) ⊎ (H → Opens file (Err e)))
+pub not_open : {H : Type 0} (r : Result CodeHeader Refusal) (b : Beginning) (file : List ℕ) → (H → IsBeginning b file) → IfErr r (λ e. MayNotOpen b.length b.zero b.one e) → IfErr r (λ e. (e ≡ Device) ⊎ (H → Opens file (Err e)))
 not_open (Ok h) b file is may = tt
 not_open (Err e) b file is may = inr (λ honest.
     let it = is honest in
