@@ -37,9 +37,6 @@ module _ {D : Type 0} (now : D → Moment) (past : D → List Moment) where
         after = after;
       }
 
-  pub blank_start : (d : D) → StaysBlank now past d d
-  blank_start d blank = record { within = leaves_start (now d) (past d) IsBlank; after = blank }
-
   pub blank_then : (old mid new : D) → StaysBlank now past old mid → StaysBlank now past mid new → StaysBlank now past old new
   blank_then old mid new first second blank =
       let a : LeavesOnly now past old mid IsBlank = first blank in
@@ -48,14 +45,6 @@ module _ {D : Type 0} (now : D → Moment) (past : D → List Moment) where
         within = leaves_then (now old) (now mid) (now new) (past old) (past mid) (past new) IsBlank IsBlank IsBlank a.within b.within (λ c is. is) (λ c is. is);
         after = b.after;
       }
-
--- a sync, and then calls that only read, leave no file more
-pub settled_leaves : (m0 m1 m2 : Moment) (p0 p1 p2 : List Moment) → MayTick Shaken m0 m1 p0 p1 → ReadsOnly m1 m2 p1 p2 → Leaves m0 m2 p0 p2 (Left m0)
-settled_leaves m0 m1 m2 p0 p1 p2 tick reads =
-    let settled : (c : List ℕ) → Left m1 c → Left m0 c = left_sync m0 m1 p0 p1 tick in
-    leaves_then m0 m1 m2 p0 p1 p2 (Left m0) (Left m1) (Left m0)
-    (leaves_step m0 m0 m1 p0 p0 p1 (Left m0) Shaken (leaves_start m0 p0 (Left m0)) tick settled)
-    reads.leaves (λ c left. left) settled
 
 -- a run that leaves no file more leaves only what has any property, those aside that could be left before
 pub leaves_none : (old new : Moment) (past past' : List Moment) (P : List ℕ → Type 0) → Leaves old new past past' (Left old) → Leaves old new past past' P

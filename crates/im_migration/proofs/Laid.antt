@@ -13,8 +13,10 @@ use Rattle.im_records.proofs.Pieces.{record_is}
 use Rattle.im_records.proofs.Places.{here_is}
 use Rattle.im_migration.specs.Laying.{IsLaid}
 
-pub but_overlaid : (c : List ℕ) (at : ℕ) (bytes : List ℕ) → at + length bytes ≤ length c → SameBut at (length bytes) c (overlaid c at bytes)
-but_overlaid c at bytes fits = record { size = length-overlaid c at bytes fits; same = λ i out. overlaid_outside c at bytes fits i out }
+-- a part of so many bytes that was written
+pub but_part : (c : List ℕ) (at n : ℕ) (part : List ℕ) → length part ≡ n → at + n ≤ length c → SameBut at n c (overlaid c at part)
+but_part c at n part long fits = subst (λ (k : ℕ). SameBut at k c (overlaid c at part)) long
+    (record { size = length-overlaid c at part (omega (arith, long, fits)); same = λ i out. overlaid_outside c at part (omega (arith, long, fits)) i out })
 
 -- a page outside the range
 page_stays : (at n k : ℕ) (c d : List ℕ) → SameBut at n c d → (page_bytes * k + page_bytes ≤ at) ⊎ (at + n ≤ page_bytes * k) → record_at page_bytes d k ≡ record_at page_bytes c k
@@ -49,7 +51,7 @@ module _ (s : Sizes) (r : Records) where
   laid_page i at page c at_is long few here it = record {
     size = but.size ∙ it.size;
     paged = λ k lt. ⊎_elim
-        (λ (before : k < i). subst (IsAreaPage s r k) (sym (page_stays at (length page) (2 + k) c (overlaid c at page) but (inl (omega (arith, before, at_is))))) (it.paged k before))
+        (λ (before : k < i). subst (IsAreaPage s r k) (sym (page_stays at page_bytes (2 + k) c (overlaid c at page) but (inl (omega (arith, before, at_is))))) (it.paged k before))
         (λ (from : i ≤ k). let same : i ≡ k = omega (arith, from, lt) in subst (λ (j : ℕ). IsAreaPage s r j (record_at page_bytes (overlaid c at page) (2 + j))) same (subst (IsAreaPage s r i) (sym there) here))
         (cases_lt k i);
     closed = λ k lt. absurd (omega (arith, lt));
@@ -58,8 +60,8 @@ module _ (s : Sizes) (r : Records) where
       room : page_bytes * (2 + i) + page_bytes ≤ length c
       room = omega (arith, it.size, few, journal_is s, length_is s)
 
-      but : SameBut at (length page) c (overlaid c at page)
-      but = but_overlaid c at page (omega (arith, at_is, long, room))
+      but : SameBut at page_bytes c (overlaid c at page)
+      but = but_part c at page_bytes page long (omega (arith, at_is, room))
 
       there : record_at page_bytes (overlaid c at page) (2 + i) ≡ page
       there = here_is page_bytes (2 + i) page c (overlaid c at page) long room (ap (λ (n : ℕ). overlaid c n page) at_is)
@@ -79,7 +81,7 @@ module _ (s : Sizes) (r : Records) where
       room = omega (arith, at_is, few, it.size, length_is s)
 
       but : SameBut at 1 c (overlaid c at (0 ∷ []))
-      but = but_overlaid c at (0 ∷ []) room
+      but = but_part c at 1 (0 ∷ []) refl room
 
       here : get_or (overlaid c at (0 ∷ [])) at 0 ≡ 0
       here =

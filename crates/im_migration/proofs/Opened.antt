@@ -37,7 +37,7 @@ use Rattle.im_meaning.proofs.Headers.{in_force_is}
 use Rattle.im_meaning.proofs.Meanings.{image_reads}
 use Rattle.im_migration.specs.Migration.{IsBlank, IsLaidDown, moved_header, whole_room}
 use Rattle.im_migration.specs.Laying.{IsLaid}
-use Rattle.im_migration.proofs.Laid.{but_overlaid, journal_is, length_is, laid_stays}
+use Rattle.im_migration.proofs.Laid.{but_part, journal_is, length_is, laid_stays}
 
 -- a journal all of whose gates are closed has no command, whatever the first one's number would be
 module _ (r : Ring) (first : ℕ) (file : List ℕ) (some : 0 < r.slots) (closed : AreClosed r file) where
@@ -70,12 +70,9 @@ module _ (r : Ring) (first : ℕ) (file : List ℕ) (some : 0 < r.slots) (closed
       over : r.slots - 0 - gates ≡ 0
       over = omega (arith, all)
 
--- the byte of a header's gate
-gate_byte : (k : ℕ) (file : List ℕ) → is_open_header (header_place k file) ≡ (get_or file (4096 * k) 0 == open_gate)
-gate_byte k file = ap (λ (b : ℕ). b == open_gate) (
-    get_or-take (4096 * k + 64 - 4096 * k) (drop (4096 * k) file) 0 0 (omega arith)
-    ∙ get_or-drop (4096 * k) file 0 0
-    ∙ ap (λ (n : ℕ). get_or file n 0) (omega arith))
+-- the byte of the second header's gate
+second_gate : (file : List ℕ) → is_open_header (header_place 1 file) ≡ (get_or file 4096 0 == open_gate)
+second_gate file = ap (λ (b : ℕ). b == open_gate) (get_or-take 64 (drop 4096 file) 0 0 (omega arith) ∙ get_or-drop 4096 file 0 0)
 
 moved_fits : (s : Sizes) (count : ℕ) → AreLimits s.cells s.elements s.slots → count ≤ LAST → FitsHeader (moved_header s count)
 moved_fits s count limits last = record {
@@ -113,7 +110,7 @@ module _ (s : Sizes) (limits : AreLimits s.cells s.elements s.slots) (count : �
   fits = omega (arith, long)
 
   but : SameBut 0 64 file opened
-  but = but_overlaid file 0 spelled fits
+  but = but_part file 0 64 spelled refl fits
 
   still : IsLaid s r (area_pages layout_in_use s) s.slots opened
   still = laid_stays s r (area_pages layout_in_use s) s.slots 0 64 file opened (omega arith) (omega arith) but laid
@@ -122,7 +119,7 @@ module _ (s : Sizes) (limits : AreLimits s.cells s.elements s.slots) (count : �
   place = overlaid_part file 0 spelled fits
 
   below : is_open_header (header_place 1 opened) ≡ false
-  below = gate_byte 1 opened ∙ other_number (get_or opened 4096 0) open_gate (λ is. apart (sym (but.same 4096 (inr (omega arith))) ∙ is))
+  below = second_gate opened ∙ other_number (get_or opened 4096 0) open_gate (λ is. apart (sym (but.same 4096 (inr (omega arith))) ∙ is))
 
   in_force : InForce layout_in_use h opened
   in_force = record {

@@ -1,1 +1,2 @@
 pub mod Crosses
+pub mod MovedLemmas

@@ -1,2 +1,3 @@
 pub mod Words
 pub mod Working
+pub mod Moving

@@ -5,7 +5,7 @@ use Rattle.std.specs.Str.{bytes_eq}
 use Rattle.clap.specs.declared.builder.action.ArgAction.TheVariants.{SetTrue}
 use Rattle.clap.specs.Words.{App, Row, Rule, Text, first_of, new_app, new_rule, subcommand_of, with_rule, with_subcommand}
 use Rattle.im_program.specs.declared.words.Work.{Work}
-use Rattle.im_program.specs.declared.words.Work.TheVariants.{Alone, Run}
+use Rattle.im_program.specs.declared.words.Work.TheVariants.{Alone, Run, Migrate}
 use Rattle.im_program.specs.declared.words.Job.{Job}
 use Rattle.im_program.specs.declared.words.Job.TheVariants.{Demonstration, Format, Serial, Serve, Inspect}
 use Rattle.im_script.specs.Grammar.{number_up_to}
@@ -44,6 +44,10 @@ serve_app = with_rule (with_rule (new_app (codes "serve")) (path_rule (codes "IM
 abbrev pub inspect_app : App
 inspect_app = with_rule (new_app (codes "inspect")) (path_rule (codes "IMAGE"))
 
+-- migrate OLD NEW
+abbrev pub migrate_app : App
+migrate_app = with_rule (with_rule (new_app (codes "migrate")) (path_rule (codes "OLD"))) (path_rule (codes "NEW"))
+
 -- a command that has a version to tell
 abbrev pub with_version : App → App
 with_version app = record app { top = record app.top { has_version = true } }
@@ -54,7 +58,7 @@ top_app = with_version (new_app (codes "imem"))
 
 -- imem, alone or with one of its subcommands
 abbrev pub imem_app : App
-imem_app = with_subcommand (with_subcommand (with_subcommand (with_subcommand (with_subcommand top_app format_app.top) (script_app (codes "serial")).top) run_app.top) serve_app.top) inspect_app.top
+imem_app = with_subcommand (with_subcommand (with_subcommand (with_subcommand (with_subcommand (with_subcommand top_app format_app.top) (script_app (codes "serial")).top) run_app.top) serve_app.top) inspect_app.top) migrate_app.top
 
 -- ---- what is asked for
 
@@ -66,6 +70,7 @@ pub data Task : Type 0 where
   run : (image script : List ℕ) (planned : Bool) → Task
   serve : (image : List ℕ) (watch : Bool) → Task
   inspect : (image : List ℕ) → Task
+  migrate : (old new : List ℕ) → Task
 
 -- the task that a Job is
 abbrev pub task_of_job : Job → Task
@@ -79,6 +84,7 @@ task_of_job (Inspect image) = inspect image.now
 abbrev pub task_of : Work → Task
 task_of (Alone job) = task_of_job job
 task_of (Run image script planned) = run image.now script.now planned
+task_of (Migrate old new) = migrate old.now new.now
 
 -- an option's number, in decimal digits below 2^32, or `fallback` where the option is not given
 abbrev pub number_in : List Row → Text → ℕ → Option ℕ
@@ -114,10 +120,14 @@ serve_task rows = serve (path_in rows (codes "IMAGE")) (is_given rows (codes "wa
 abbrev pub inspect_task : List Row → Task
 inspect_task rows = inspect (path_in rows (codes "IMAGE"))
 
+-- the task of migrate, by its two paths
+abbrev pub migrate_task : List Row → Task
+migrate_task rows = migrate (path_in rows (codes "OLD")) (path_in rows (codes "NEW"))
+
 -- the subcommand that was met, with what was found of its arguments
 abbrev pub task_in : Option (Text × List Row) → Option Task
 task_in None = Some demonstration
-task_in (Some met) = if bytes_eq met.0 (codes "format") then format_task met.1 else if bytes_eq met.0 (codes "serial") then Some (serial_task met.1) else if bytes_eq met.0 (codes "run") then Some (run_task met.1) else if bytes_eq met.0 (codes "serve") then Some (serve_task met.1) else Some (inspect_task met.1)
+task_in (Some met) = if bytes_eq met.0 (codes "format") then format_task met.1 else if bytes_eq met.0 (codes "serial") then Some (serial_task met.1) else if bytes_eq met.0 (codes "run") then Some (run_task met.1) else if bytes_eq met.0 (codes "serve") then Some (serve_task met.1) else if bytes_eq met.0 (codes "migrate") then Some (migrate_task met.1) else Some (inspect_task met.1)
 
 -- what the words ask for, as clap walks them
 abbrev pub asked : List Text → Option Task

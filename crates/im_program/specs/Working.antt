@@ -8,10 +8,11 @@ use Rattle.im_report.specs.Inspecting.{Tells}
 use Rattle.im_serial.specs.Serving.{ServedFrom}
 use Rattle.im_dialogue.specs.Dialogue.{TalkedFrom}
 use Rattle.im_run.specs.Running.{RanFrom}
-use Rattle.im_program.specs.Words.{Task, demonstration, format, serial, run, serve, inspect}
+use Rattle.im_program.specs.Words.{Task, demonstration, format, serial, run, serve, inspect, migrate}
 
 -- A task was done on this disk, with this status: its file held the first moment when it was opened, and the writer held
--- these bytes before, and holds those now. No file is opened for the demonstration.
+-- these bytes before, and holds those now. No file is opened for the demonstration; what a migration comes to is said apart,
+-- as two files are opened for it.
 abbrev pub DoneOn : {D : Type 0} → (D → Moment) → (D → List Moment) → (D → ℕ) → Moment → Task → Option (List ℕ) → Option (List ℕ) → ℕ → D → Type 0
 DoneOn now past failures first demonstration was is status disk = ⊥
 DoneOn now past failures first (format image cells elements slots) was is status disk =
@@ -20,3 +21,14 @@ DoneOn now past failures first (serial image script) was is status disk = Served
 DoneOn now past failures first (run image script planned) was is status disk = RanFrom now past failures first disk was is status
 DoneOn now past failures first (serve image watch) was is status disk = TalkedFrom watch now past first disk was is status
 DoneOn now past failures first (inspect image) was is status disk = (status ≡ 0 → Tells first.bytes was is) × ReadsOnly first (now disk) [] (past disk)
+DoneOn now past failures first (migrate old new) was is status disk = Unit {0}
+
+-- the task is a migration
+abbrev pub IsMigration : Task → Type 0
+IsMigration demonstration = ⊥
+IsMigration (format image cells elements slots) = ⊥
+IsMigration (serial image script) = ⊥
+IsMigration (run image script planned) = ⊥
+IsMigration (serve image watch) = ⊥
+IsMigration (inspect image) = ⊥
+IsMigration (migrate old new) = Unit {0}

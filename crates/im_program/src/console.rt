@@ -20,12 +20,13 @@ pub struct Console<'a, R> {
     rt: &'a R,
     alloc: Global,
     image: &'a str,
+    // The second file: a script, or the new file of a migration.
     script: &'a str,
     is_watched: bool,
 }
 
 impl<'a, R: Eprint + AllocGlobal> Console<'a, R> {
-    /// For an image and a script. Progress is told where somebody watches.
+    /// For an image, and a script or the new file of a migration. Progress is told where somebody watches.
     pub fn of(rt: &'a R, image: &'a str, script: &'a str, is_watched: bool) -> Console<'a, R> {
         Console {
             rt,
@@ -49,7 +50,7 @@ impl<'a, R: Eprint + AllocGlobal> Console<'a, R> {
 
     // Which file the reason speaks of.
     fn path(&self, reason: Reason) -> &'a str {
-        if reason.is_of_script() {
+        if reason.is_of_second() {
             if self.script == "-" {
                 "standard input"
             } else {
@@ -90,7 +91,7 @@ impl<R: Eprint + AllocGlobal> Observer for Console<'_, R> {
     fn refused(&mut self, reason: Reason) {
         let path = self.path(reason);
         let _printed = match reason {
-            Reason::File(OpenFault::InUse, _) => {
+            Reason::File(OpenFault::InUse, _) | Reason::NewFile(OpenFault::InUse, _) => {
                 eprintln!(self.rt; "imem: {path} is in use by another program")
             }
             Reason::Output(_) | Reason::Memory => eprintln!(self.rt; "imem: {reason}"),

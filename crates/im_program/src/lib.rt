@@ -1,11 +1,13 @@
 //! What the program is asked by the words of its command line, and the work that it does: it makes images, serves
-//! scripts, and tells what an image means.
+//! scripts, moves images on, and tells what an image means.
 #![tactic(auto)]
 
 mod console;
+mod moving;
 mod words;
 mod work;
 
+pub use moving::{migrate_file, migrate_on};
 pub use words::{DEFAULT_CELLS, DEFAULT_ELEMENTS, DEFAULT_SLOTS, Job, WordFault, Work, read_words};
 pub use work::{
     act, act_alone, format_file, inspect_file, refuse, run_file, serve_file, talk_file,

@@ -5,7 +5,7 @@ ghost use Rattle.clap.specs.Words.{app_of, fault_of, found_of, kind_of, rows_of,
 ghost use Rattle.clap.specs.declared.builder.command.Command.TheViews.{out-Command};
 ghost use Rattle.im_script.specs.Grammar.{texts};
 ghost use Rattle.im_program.specs.Words.{asked, flag_rule, format_app, format_task, imem_app, inspect_app, inspect_task};
-ghost use Rattle.im_program.specs.Words.{is_given, number_in, option_rule, path_in, path_rule, run_app, run_task, script_app};
+ghost use Rattle.im_program.specs.Words.{is_given, migrate_app, migrate_task, number_in, option_rule, path_in, path_rule, run_app, run_task, script_app};
 ghost use Rattle.im_program.specs.Words.{serial_task, serve_app, serve_task, task_in, task_of, top_app};
 
 use clap::error::ErrorKind;
@@ -35,6 +35,13 @@ pub enum Work<'a> {
         script: &'a str,
         /// Whether its requests are a plan.
         planned: bool,
+    },
+    /// Move an image of the first version on to a new file.
+    Migrate {
+        /// The path of the image.
+        old: &'a str,
+        /// The path of the new file.
+        new: &'a str,
     },
 }
 
@@ -85,7 +92,7 @@ pub enum WordFault {
 }
 
 /// What `--version` prints behind the program's name: its version, and that of the layout which it writes.
-const VERSION: &str = "0.1.0, image layout 1";
+const VERSION: &str = "0.1.0, image layout 2";
 
 const ABOUT: &str = "A durable memory of I-structure and M-structure cells, kept in an image file.";
 
@@ -96,6 +103,8 @@ Example:
   imem format a.img
   imem run a.img fetch.script
   imem inspect a.img
+
+An image of layout version 1 is inspected, and refused 21 OldVersion elsewhere: imem migrate moves it on.
 
 While imem works on an image it holds the file's lock: another imem is refused 8 Device, and a line on
 standard error says that the image is in use. Any number may inspect it at the same time. The lock is
@@ -148,8 +157,8 @@ const RUN: &str =
 
 const RUN_EXAMPLES: &str =
     "SCRIPT is what 'imem serial' reads, or - for standard input. Its setup is served first, and prints its
-lines. Then a thread for each element sends its requests, another serves them and waits for each
-answer, and one more keeps checkpoints. At the end each request that was sent prints 'K.N REPLY', by
+lines. Then a thread for each element sends its requests, another serves them and waits for an answer
+where the element's window is full and at its end, and one more keeps checkpoints. At the end each request that was sent prints 'K.N REPLY', by
 elements and then by numbers, with what it was answered in the end.
 
 With --planned the script is a plan: its parts have only fetches, stores and glances, with at most one
@@ -207,6 +216,23 @@ Example: the image a.img after 'imem format a.img'
 
 Exit status: 0 all was told; 1 refused, with 'refused N NAME' as the last line; 2 a bad command line.
 Standard error says where an image is damaged.";
+
+const MIGRATE: &str = "Move an image of layout version 1 on to a new file, in the version in use";
+
+const MIGRATE_EXAMPLES: &str =
+    "OLD is read and never changed. NEW is the new image: a file that is there is used as it is, and has to have
+the right length, with no image in it; where there is none, it is made. Prints 'migrated COUNT', COUNT being
+the number of commands that the image has had. Its cells, its blocks and all that is kept for its elements
+are those of OLD. A migration that was stopped is begun again by the same command: until it is done, NEW is
+refused 13 NoHeader by every other one.
+
+Example: a copy is never needed, as the old image stays
+  imem migrate old.img new.img
+  imem inspect new.img
+
+Exit status: 0 the image is moved on; 1 refused, with 'refused N NAME' as the last line: 14 BadHeader where OLD
+is of the version in use, 12 WrongLength where NEW has another length, 22 NotBlank where NEW is an image already;
+2 a bad command line. Standard error has one line more about a refusal.";
 
 /// An option that takes a number.
 fn number_option<'a>(alloc: Global, id: &'a str, help: &'a str) -> Arg<'a>
@@ -335,6 +361,21 @@ fn inspect_command<'a>(alloc: Global) -> Result<Command<'a>, AllocError>
     Ok(one)
 }
 
+/// The subcommand `migrate`.
+fn migrate_command<'a>(alloc: Global) -> Result<Command<'a>, AllocError>
+    ensures app { IfOk result (λ c. app_of c ≡ migrate_app) }
+    ensures local { IfOk result (λ c. (out-Command c).has_globals ≡ false) }
+{
+    let empty = Command::new(alloc, "migrate")
+        .about(MIGRATE)
+        .after_help(MIGRATE_EXAMPLES);
+    let old = path_argument(alloc, "OLD", "The image of layout version 1");
+    let new = path_argument(alloc, "NEW", "The new file");
+    let one = empty.arg(old)?;
+    let two = one.arg(new)?;
+    Ok(two)
+}
+
 /// The program with no subcommand.
 fn top_command<'a>(alloc: Global) -> Command<'a>
     ensures app { app_of result ≡ top_app }
@@ -355,12 +396,14 @@ fn imem_command<'a>(alloc: Global) -> Result<Command<'a>, AllocError>
     let run = run_command(alloc)?;
     let serve = serve_command(alloc)?;
     let inspect = inspect_command(alloc)?;
+    let migrate = migrate_command(alloc)?;
     let one = empty.subcommand(format)?;
     let two = one.subcommand(serial)?;
     let three = two.subcommand(run)?;
     let four = three.subcommand(serve)?;
     let five = four.subcommand(inspect)?;
-    Ok(five)
+    let six = five.subcommand(migrate)?;
+    Ok(six)
 }
 
 /// The number of an option, or `fallback` where it is not given. `None` where it is no decimal number of a u32.
@@ -452,6 +495,15 @@ fn inspect_work<'a>(found: &ArgMatches<'a>) -> Work<'a>
     Work::Alone(Job::Inspect { image })
 }
 
+/// What `migrate` is asked for.
+fn migrate_work<'a>(found: &ArgMatches<'a>) -> Work<'a>
+    ensures { task_of result ≡ migrate_task (rows_of (found_of found.now)) }
+{
+    let old = path_of(found, "OLD");
+    let new = path_of(found, "NEW");
+    Work::Migrate { old, new }
+}
+
 /// What the words ask for. `None` where a number is no decimal number of a u32.
 fn work_of<'a>(matches: &ArgMatches<'a>) -> Option<Work<'a>>
     ensures { option_map task_of result ≡ task_in (subcommand_rows_of matches.now) }
@@ -467,6 +519,8 @@ fn work_of<'a>(matches: &ArgMatches<'a>) -> Option<Work<'a>>
                 Some(run_work(found))
             } else if name == "serve" {
                 Some(serve_work(found))
+            } else if name == "migrate" {
+                Some(migrate_work(found))
             } else {
                 Some(inspect_work(found))
             }

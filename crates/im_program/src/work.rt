@@ -12,9 +12,11 @@ ghost use Rattle.im_serial.specs.Serving.{ServedFrom};
 ghost use Rattle.im_dialogue.specs.Dialogue.{NotOpened, Talked, TalkedFrom};
 ghost use Rattle.im_run.specs.Running.{RanFrom};
 ghost use Rattle.im_program.specs.Words.{demonstration, task_of, task_of_job};
-ghost use Rattle.im_program.specs.Working.{DoneOn};
+ghost use Rattle.im_program.specs.Moving.{MigratedFrom};
+ghost use Rattle.im_program.specs.Working.{DoneOn, IsMigration};
 
 use crate::console::{Console, Watch};
+use crate::moving::migrate_file;
 use crate::words::{DEFAULT_CELLS, DEFAULT_ELEMENTS, DEFAULT_SLOTS, Job, Work};
 use im_damage::Damage;
 use im_dialogue::dialogue_on;
@@ -68,8 +70,8 @@ fn limits_reason(cells: u32, elements: u32, slots: u32) -> Reason {
     }
 }
 
-// What the system says of a file that can't be opened.
-fn kind_of<R: Files<File = File>>(rt: &R, path: &str) -> Option<ErrorKind> {
+/// What the system says of a file that can't be opened.
+pub(crate) fn kind_of<R: Files<File = File>>(rt: &R, path: &str) -> Option<ErrorKind> {
     let data = match fs::metadata(rt, path) {
         Ok(data) => data,
         Err(error) => return Some(error.kind()),
@@ -86,8 +88,8 @@ fn kind_of<R: Files<File = File>>(rt: &R, path: &str) -> Option<ErrorKind> {
     }
 }
 
-// The refusal of an image that isn't made or opened. The observer is told why.
-fn refusal_of<R: Files<File = File>, N: Observer>(
+/// The refusal of an image that isn't made or opened. The observer is told why.
+pub(crate) fn refusal_of<R: Files<File = File>, N: Observer>(
     rt: &R,
     image: &str,
     fault: OpenFault,
@@ -548,14 +550,40 @@ fn act_at_once<
     }
 }
 
+/// Moves an image on to a new file. The status, and the disk of the new file, where it was opened or made.
+fn act_on_two<R: Files<File = File> + AllocGlobal + Eprint, S: Start, T: Start, W: Write>(
+    rt: &R,
+    old: &str,
+    new: &str,
+    out: &mut W,
+    is_watched: bool,
+    start: S,
+    other: T,
+) -> (u8, Option<FileDisk<S>>)
+    ensures status { result.0 ≤ 1 }
+    ensures moved { IfSome result.1 (λ disk. ⟦<FileDisk<S> as Disk>⟧.honest disk →
+        MigratedFrom ⟦<FileDisk<T> as Disk>⟧.honest ⟦<FileDisk<S> as Disk>⟧.now ⟦<FileDisk<S> as Disk>⟧.past
+        T.first S.first (W.contents out.old) (W.contents out.new) result.0 disk) }
+    ensures none { IfNone result.1 (result.0 ≡ 1) }
+{
+    let mut console = Console::of(rt, old, new, is_watched);
+    match migrate_file(rt, old, new, out, &mut console, start, other) {
+        Ok((status, disk)) => (status, Some(disk)),
+        Err(refusal) => (refuse(rt.alloc(), refusal, out), None),
+    }
+}
+
 /// Does the work, and answers the status that the program ends with: that of [`act_alone`], or for a run that of
-/// [`run_file`], 3 where its elements wait for each other; and the disk of the image, where its file was made or
-/// opened. What is printed and refused is what these two say.
+/// [`run_file`], 3 where its elements wait for each other, or for a migration that of [`migrate_file`]; and the disk of
+/// the image, where its file was made or opened, of a migration that of the new file. What is printed and refused is what
+/// these three say.
 ///
-/// `start` stands for what the image holds when it is opened. It is used up, and no code reads it.
+/// `start` stands for what the image holds when it is opened, of a migration what the new file holds, and `other` for what
+/// the old one does. They are used up, and no code reads them.
 pub fn act<
     R: Files<File = File> + AllocGlobal + Input + Eprint + Threads + Wait + Sync,
     S: Start + Send,
+    T: Start,
     I: BufRead + Ear,
     W: Write,
 >(
@@ -565,11 +593,15 @@ pub fn act<
     out: &mut W,
     is_watched: bool,
     start: S,
+    other: T,
 ) -> (u8, Option<FileDisk<S>>)
     ensures status { (result.0 ≤ 1) ⊎ (result.0 ≡ STALLED) }
     ensures done { IfSome result.1 (λ disk. ⟦<FileDisk<S> as Disk>⟧.honest disk →
         DoneOn ⟦<FileDisk<S> as Disk>⟧.now ⟦<FileDisk<S> as Disk>⟧.past ⟦<FileDisk<S> as Disk>⟧.failures S.first
         (task_of work.now) (W.contents out.old) (W.contents out.new) result.0 disk) }
+    ensures moved { IfSome result.1 (λ disk. IsMigration (task_of work.now) → ⟦<FileDisk<S> as Disk>⟧.honest disk →
+        MigratedFrom ⟦<FileDisk<T> as Disk>⟧.honest ⟦<FileDisk<S> as Disk>⟧.now ⟦<FileDisk<S> as Disk>⟧.past
+        T.first S.first (W.contents out.old) (W.contents out.new) result.0 disk) }
     ensures none { IfNone result.1 ((task_of work.now ≡ demonstration) ⊎ (result.0 ≡ 1)) }
 {
     match work {
@@ -579,6 +611,7 @@ pub fn act<
             script,
             planned,
         } => act_at_once(rt, image, script, *planned, out, is_watched, start),
+        Work::Migrate { old, new } => act_on_two(rt, old, new, out, is_watched, start, other),
     }
 }
 

@@ -43,6 +43,7 @@ fn add_work(said: &mut String, work: &Work) -> Result<(), AllocError> {
             let how = if *planned { ", planned" } else { "" };
             write!(said, "run {script} on {image}{how}")
         }
+        Work::Migrate { old, new } => write!(said, "move {old} on to {new}"),
     }
 }
 

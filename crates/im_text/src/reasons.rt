@@ -23,6 +23,12 @@ pub enum Reason {
     File(OpenFault, Option<ErrorKind>),
     /// The file is no image, or one that is damaged, and where; or one that can't be read or written.
     Image(Refusal, Damage),
+    /// The image to be moved on is none of the first version: it is of the layout in use.
+    Current,
+    /// The new file of a migration can't be made or opened: with the system's reason, where it tells one.
+    NewFile(OpenFault, Option<ErrorKind>),
+    /// The new file of a migration is no place for the image, or can't be read or written.
+    New(Refusal),
     /// So many cells were asked for.
     Cells(u32),
     /// So many elements were asked for.
@@ -42,7 +48,7 @@ fn words(refusal: Refusal) -> &'static str {
     match refusal {
         Refusal::Gap => "its numbers have reached the last that there is",
         Refusal::NoElement => "the image has no such element",
-        Refusal::WindowFull => "all 16 places of its window wait",
+        Refusal::WindowFull => "all 64 places of its window wait",
         Refusal::JournalFull => "the journal is full, and no checkpoint makes room",
         Refusal::Device =>
             "a call of the system failed on the image's file, and the last command is there or not",
@@ -54,6 +60,8 @@ fn words(refusal: Refusal) -> &'static str {
         Refusal::BadHeader => "the header in force is damaged",
         Refusal::BadPage => "a page of the area in force is damaged",
         Refusal::BadRecord => "a slot of the journal is damaged",
+        Refusal::OldVersion =>
+            "it is an image of the first version: 'imem migrate' moves it on to a new file",
         Refusal::Forgotten => "its number was confirmed",
         Refusal::Mismatch => "its number is kept for another operation",
         Refusal::NotAnswered => "an entry still waits",
@@ -61,6 +69,18 @@ fn words(refusal: Refusal) -> &'static str {
             "it is in no plan: it is neither a fetch nor a store, its cell has a second store, or its cell can't answer it",
         Refusal::Stalled => "the elements wait for each other",
         _ => "it is refused",
+    }
+}
+
+// What a refusal says of the new file of a migration.
+fn new_words(refusal: Refusal) -> &'static str {
+    match refusal {
+        Refusal::WrongLength =>
+            "the file has not the length that the image needs: where there is none, it is made",
+        Refusal::NotBlank => "a header in it is open: it is an image, and isn't written over",
+        Refusal::Device =>
+            "a call of the system failed on one of the two files: the same command begins again",
+        _ => words(refusal),
     }
 }
 
@@ -84,17 +104,25 @@ impl Reason {
             Reason::ScriptFile(ErrorKind::OutOfMemory) => Some(Refusal::NoMemory),
             Reason::Script(fault) => Some(fault.refusal()),
             Reason::ScriptFile(_) | Reason::Block(_) | Reason::Place(_) => Some(Refusal::BadScript),
-            Reason::File(_, _) => Some(Refusal::Device),
+            Reason::File(_, _) | Reason::NewFile(_, _) => Some(Refusal::Device),
+            Reason::Current => Some(Refusal::BadHeader),
+            Reason::New(refusal) => Some(refusal),
             Reason::Cells(_) | Reason::Elements(_) | Reason::Slots(_) => Some(Refusal::BadLimits),
             Reason::Image(refusal, _) | Reason::Request(_, refusal) => Some(refusal),
         }
     }
 
-    /// Whether it speaks of the script's file, and not of the image's.
-    pub fn is_of_script(&self) -> bool {
+    /// Whether it speaks of the second file that is named, the script's or the new one of a migration, and not of the
+    /// first, the image's.
+    pub fn is_of_second(&self) -> bool {
         matches!(
             self,
-            Reason::ScriptFile(_) | Reason::Script(_) | Reason::Block(_) | Reason::Place(_)
+            Reason::ScriptFile(_)
+                | Reason::Script(_)
+                | Reason::Block(_)
+                | Reason::Place(_)
+                | Reason::NewFile(_, _)
+                | Reason::New(_)
         )
     }
 }
@@ -106,8 +134,14 @@ impl Display for Reason {
             Reason::Output(kind) => write!(f, "the output can't be written: {kind}"),
             Reason::ScriptFile(kind) => write!(f, "the script can't be read: {kind}"),
             Reason::Script(fault) => write!(f, "{fault}"),
-            Reason::File(OpenFault::InUse, _) => write!(f, "it is in use by another program"),
-            Reason::File(OpenFault::Device, kind) => f.write_str(file_words(kind)),
+            Reason::File(OpenFault::InUse, _) | Reason::NewFile(OpenFault::InUse, _) => {
+                write!(f, "it is in use by another program")
+            }
+            Reason::File(OpenFault::Device, kind) | Reason::NewFile(OpenFault::Device, kind) => {
+                f.write_str(file_words(kind))
+            }
+            Reason::Current => write!(f, "it is an image of this version: it needs no migration"),
+            Reason::New(refusal) => f.write_str(new_words(refusal)),
             Reason::Image(refusal, Damage::Unknown) => f.write_str(words(refusal)),
             Reason::Image(_, damage) => write!(f, "{damage}"),
             Reason::Cells(cells) => write!(f, "{cells} cells: there may be 1 to {MAX_CELLS}"),

@@ -53,7 +53,7 @@ fn work_on<
     }
     match BufReader::new(rt.alloc(), listener) {
         Ok(mut input) => {
-            let (status, _disk) = act(rt, work, &mut input, out, is_watched, Unknown);
+            let (status, _disk) = act(rt, work, &mut input, out, is_watched, Unknown, Unknown);
             status
         }
         Err(_) => refuse(rt.alloc(), Refusal::NoMemory, out),

@@ -8,4 +8,5 @@ returns c =
     let two = c.in_ok-two.ensures.shape c.in_ok-serial.ensures.local ∙ ap₂ with_subcommand one (ap (λ (a : App). a.top) c.in_ok-serial.ensures.app) in
     let three = c.in_ok-three.ensures.shape c.in_ok-run.ensures.local ∙ ap₂ with_subcommand two (ap (λ (a : App). a.top) c.in_ok-run.ensures.app) in
     let four = c.in_ok-four.ensures.shape c.in_ok-serve.ensures.local ∙ ap₂ with_subcommand three (ap (λ (a : App). a.top) c.in_ok-serve.ensures.app) in
-    record { app = c.in_ok-five.ensures.shape c.in_ok-inspect.ensures.local ∙ ap₂ with_subcommand four (ap (λ (a : App). a.top) c.in_ok-inspect.ensures.app) }
+    let five = c.in_ok-five.ensures.shape c.in_ok-inspect.ensures.local ∙ ap₂ with_subcommand four (ap (λ (a : App). a.top) c.in_ok-inspect.ensures.app) in
+    record { app = c.in_ok-six.ensures.shape c.in_ok-migrate.ensures.local ∙ ap₂ with_subcommand five (ap (λ (a : App). a.top) c.in_ok-migrate.ensures.app) }

@@ -1,0 +1,56 @@
+-- What the moving of an image from one file to another comes to.
+use Rattle.std.proofs.Common.{◌≡◌, ◌⊎◌, inl, inr, ⊎_elim, ℕ, zero, suc, ◌≤◌, List, [], ◌∷◌, get_or, length, replicate, refl, sym, ◌∙◌, ap, subst, arith}
+use Rattle.std.specs.Prelude.{Option}
+use Rattle.std.specs.Io.KnownBytes.{Appends, Keeps}
+use Rattle.im_types.specs.Bytes.{open_gate}
+use Rattle.im_disk.specs.Moment.{Moment, Left, LeftSince}
+use Rattle.im_disk.specs.Since.{LeavesNow, LeavesWithin}
+use Rattle.im_disk.proofs.SinceLemmas.{left_settled}
+use Rattle.im_migration.specs.Migration.{BlankOrSame, HasCount, IsBlank, MeansSame}
+use Rattle.im_text.proofs.PrintingLemmas.{appends_kept}
+use Rattle.im_program.specs.Moving.{MigratedFrom, TellsCount, migrated_line}
+
+-- the count that was printed is there as it was written
+pub told_count : (old : List ℕ) (was mid is : Option (List ℕ)) (count : ℕ) → HasCount old count → Appends was mid (migrated_line count) → Keeps mid is → TellsCount old was is
+told_count old was mid is count has added keeps = (count, has, appends_kept was mid is (migrated_line count) added keeps)
+
+zero_at : (n i : ℕ) → get_or (replicate n 0) i 0 ≡ 0
+zero_at zero i = refl
+zero_at (suc n) zero = refl
+zero_at (suc n) (suc i) = zero_at n i
+
+no_gate : (n : ℕ) → n ≡ 0 → n ≡ open_gate → ⊥
+no_gate n is e = omega (arith, is, e)
+
+-- a file of zeros is no image
+zeros_blank : (n : ℕ) → IsBlank (replicate n 0)
+zeros_blank n = (no_gate (get_or (replicate n 0) 0 0) (zero_at n 0), no_gate (get_or (replicate n 0) 4096 0) (zero_at n 4096))
+
+module _ {D E : Type 0} (honest : E → Type 0) (now : D → Moment) (past : D → List Moment) (first_old first : Moment) (bytes : List ℕ) (len : ℕ) (d0 d : D) (old : E)
+    (begins : (now d0 ≡ first) ⊎ (now d0 ≡ record { bytes = replicate len 0; ranges = [] })) (none : past d0 ≡ []) (same : honest old → bytes ≡ first_old.bytes) where
+  was_left : (c : List ℕ) → LeftSince (now d0 ∷ past d0) 0 c → Left (now d0) c
+  was_left c left = by_start (subst (λ (p : List Moment). LeftSince (now d0 ∷ p) 0 c) none left)
+    where
+      by_start : LeftSince (now d0 ∷ []) 0 c → Left (now d0) c
+      by_start (inl here) = here.1
+      by_start (inr never) = absurd never
+
+  by_begin : (c : List ℕ) → Left (now d0) c → Left first c ⊎ BlankOrSame (honest old) first_old.bytes c
+  by_begin c left = ⊎_elim
+      (λ is. inl (subst (λ (m : Moment). Left m c) is left))
+      (λ is. inr (inl (subst IsBlank (sym (left_settled (now d0) c (ap (λ (m : Moment). m.ranges) is) left ∙ ap (λ (m : Moment). m.bytes) is)) (zeros_blank len))))
+      begins
+
+  moved_on : (c : List ℕ) → BlankOrSame (honest old) bytes c → BlankOrSame (honest old) first_old.bytes c
+  moved_on c (inl blank) = inl blank
+  moved_on c (inr means) = inr (λ h. subst (λ (b : List ℕ). MeansSame b c) (same h) (means h))
+
+  pub migrated : (was is : Option (List ℕ)) (status : ℕ) → LeavesWithin now past d0 d (BlankOrSame (honest old) bytes)
+      → (status ≡ 0 → honest old → LeavesNow (now d) (MeansSame bytes)) → (status ≡ 0 → honest old → TellsCount bytes was is)
+      → MigratedFrom honest now past first_old first was is status d
+  migrated was is status leaves done told = record {
+    old = old;
+    leaves = λ c left. ⊎_elim (λ earlier. by_begin c (was_left c earlier)) (λ here. inr (moved_on c here)) (leaves.each 0 c (omega arith) left);
+    done = λ z h c left. subst (λ (b : List ℕ). MeansSame b c) (same h) (done z h c left);
+    told = λ z h. subst (λ (b : List ℕ). TellsCount b was is) (same h) (told z h);
+  }

@@ -1,0 +1,196 @@
+//! How an image of the first version is moved on to a new file.
+ghost use Rattle.std.specs.Prelude.{◌≡◌, ◌⊎◌, ◌≤◌, [], length, replicate, IfOk, IfErr, OnOk, OnErr, string_bytes};
+ghost use Rattle.std.specs.Io.KnownBytes.{Appends, Keeps};
+ghost use Rattle.im_types.specs.declared.refusals.Refusal.TheVariants.{Device};
+ghost use Rattle.im_types.specs.Layout.{layout_in_use, image_length};
+ghost use Rattle.im_disk.specs.Since.{LeavesNow, LeavesWithin, OnlyReads};
+ghost use Rattle.im_image.specs.Headers.{MayRefuseImage};
+ghost use Rattle.im_migration.specs.Migration.{BlankOrSame, HasCount, MeansSame};
+ghost use Rattle.im_text.specs.Printing.{Begins, IsLast};
+ghost use Rattle.im_program.specs.Moving.{MigratedFrom, TellsCount, migrated_line};
+
+use crate::work::{kind_of, refusal_of};
+use im_disk::{Disk, FileDisk, OpenFault, Start};
+use im_image::read_header;
+use im_migration::{length_for, migrate};
+use im_text::{Observer, Reason, diagnose, end, put_through};
+use im_types::Refusal;
+use std::alloc::{AllocError, Global};
+use std::fs::{self, File};
+use std::io::{ErrorKind, Write};
+use std::rt::Files;
+
+// The line of an image that was moved on.
+fn make_migrated(alloc: Global, count: u64) -> Result<String, AllocError>
+    ensures { IfOk result (λ text. string_bytes text ≡ migrated_line count) }
+{
+    let mut line = String::new(alloc);
+    writeln!(line, "migrated {count}")?;
+    Ok(line)
+}
+
+// Prints that line.
+fn print_migrated<W: Write>(alloc: Global, count: u64, out: &mut W) -> Result<(), Reason>
+    ensures { OnOk result (Appends (W.contents out.old) (W.contents out.new) (migrated_line count)) }
+{
+    match make_migrated(alloc, count) {
+        Ok(line) => put_through(out, line.as_str()),
+        Err(_) => Err(Reason::Memory),
+    }
+}
+
+/// Moves the image of the first version on one disk on to another, and gives that one back. Its count goes to `out`, as
+/// the line `migrated COUNT`, or the line `refused N NAME` of what [`migrate`] refuses, and the observer is told why. The
+/// status is 0, or 1 where something was refused, or where a write of the output failed.
+///
+/// Each file of the new disk that a crash may leave since the start, those aside that it could leave before, is no image,
+/// or means what the old one means; with status 0 each file left does the latter. The old disk is only read.
+pub fn migrate_on<O: Disk, N: Disk, W: Write, V: Observer>(
+    alloc: Global,
+    old: &mut O,
+    new: N,
+    out: &mut W,
+    observer: &mut V,
+) -> (u8, N)
+    ensures status { result.0 ≤ 1 }
+    ensures leaves { N.honest result.1
+        → LeavesWithin N.now N.past new result.1 (BlankOrSame (O.honest old.new) (O.now old.old).bytes) }
+    ensures moved { result.0 ≡ 0 → O.honest old.new → N.honest result.1
+        → LeavesNow (N.now result.1) (MeansSame (O.now old.old).bytes) }
+    ensures told { result.0 ≡ 0 → O.honest old.new
+        → TellsCount (O.now old.old).bytes (W.contents out.old) (W.contents out.new) }
+    ensures reads { O.honest old.new → OnlyReads O.now O.past old.old old.new }
+    ensures honest { (O.honest old.new → O.honest old.old) × (N.honest result.1 → N.honest new) }
+{
+    match migrate(alloc, old, new) {
+        Ok((new, count)) => {
+            let told = print_migrated(alloc, count, out);
+            (end(alloc, told, out, observer), new)
+        }
+        Err((refusal, new)) => (end(alloc, Err(Reason::New(refusal)), out, observer), new),
+    }
+}
+
+// Whether an image is of the version in use, by its header in force.
+fn is_current<O: Disk>(old: &mut O) -> bool
+    ensures reads { O.honest old.new → OnlyReads O.now O.past old.old old.new }
+    ensures honest { O.honest old.new → O.honest old.old }
+{
+    match read_header(old) {
+        Ok(header) => !header.is_old(),
+        Err(_) => false,
+    }
+}
+
+// Why an image can't be moved on, by what it is.
+fn old_reason<O: Disk>(alloc: Global, old: &mut O, refusal: Refusal) -> Reason
+    ensures reads { O.honest old.new → OnlyReads O.now O.past old.old old.new }
+    ensures honest { O.honest old.new → O.honest old.old }
+{
+    if is_current(old) {
+        return Reason::Current;
+    }
+    diagnose(alloc, old, refusal)
+}
+
+// The length that the new file needs. The observer is told why the old one is refused.
+fn length_of<O: Disk, V: Observer>(
+    alloc: Global,
+    old: &mut O,
+    observer: &mut V,
+) -> Result<usize, Refusal>
+    ensures reads { OnOk result (O.honest old.new → OnlyReads O.now O.past old.old old.new) }
+    ensures honest { OnOk result (O.honest old.new → O.honest old.old) }
+    ensures refused { IfErr result (λ e. MayRefuseImage e) }
+{
+    match length_for(alloc, old) {
+        Ok(length) => Ok(length),
+        Err(refusal) => {
+            observer.refused(old_reason(alloc, old, refusal));
+            Err(refusal)
+        }
+    }
+}
+
+// The new file: as it is, or where there is none at the path, made of so many zero bytes. One that is there and can't be
+// opened is never made anew: its bytes would be lost.
+fn new_file<R: Files<File = File>, S: Start>(
+    rt: &R,
+    path: &str,
+    len: usize,
+    start: S,
+) -> Result<FileDisk<S>, OpenFault>
+    ensures now { IfOk result (λ disk. (⟦<FileDisk<S> as Disk>⟧.now disk ≡ S.first)
+        ⊎ (⟦<FileDisk<S> as Disk>⟧.now disk ≡ record { bytes = replicate len 0; ranges = [] })) }
+    ensures past { IfOk result (λ disk. ⟦<FileDisk<S> as Disk>⟧.past disk ≡ []) }
+{
+    match fs::metadata(rt, path) {
+        Err(error) if error.kind() == ErrorKind::NotFound => {
+            FileDisk::create(rt, path, len, start)
+        }
+        _ => FileDisk::open(rt, path, start),
+    }
+}
+
+// The refusal of a new file that isn't made or opened. The observer is told why.
+fn new_refusal_of<R: Files<File = File>, V: Observer>(
+    rt: &R,
+    new: &str,
+    fault: OpenFault,
+    observer: &mut V,
+) -> Refusal
+    ensures { result ≡ Refusal.Device }
+{
+    let kind = match fault {
+        OpenFault::InUse => None,
+        OpenFault::Device => kind_of(rt, new),
+    };
+    observer.refused(Reason::NewFile(fault, kind));
+    Refusal::from(fault)
+}
+
+/// Moves the image of a file on to a new file, and gives the new file's disk back, with the status and the line of
+/// [`migrate_on`]. The new file is used as it is where there is one at the path; else it is made, with the length that the
+/// image needs. The old file is opened to be read alone.
+///
+/// Whatever the new file held when it was opened (`S`), and the old one (`T`): as long as both were honest, each file
+/// that a crash may leave of the new one since then is no image, or means what the old file means, but for what the new
+/// one could leave before; and with status 0 each does the latter.
+///
+/// Refused are, with nothing printed and no file changed: `Device` for an old file that can't be opened, and its first
+/// fault, as [`migrate`] finds it; `NoMemory`, where there is no room to read it; `Device` for a new file that can't be
+/// opened or made: it is no regular file, another opening has its lock, or a call of the system fails. The observer is
+/// told why. What [`migrate_on`] refuses is its status and its last line.
+///
+/// That a file is ever opened is no clause: none knows what a folder holds.
+pub fn migrate_file<R: Files<File = File> + AllocGlobal, S: Start, T: Start, W: Write, V: Observer>(
+    rt: &R,
+    old: &str,
+    new: &str,
+    out: &mut W,
+    observer: &mut V,
+    start: S,
+    other: T,
+) -> Result<(u8, FileDisk<S>), Refusal>
+    ensures status { IfOk result (λ r. r.0 ≤ 1) }
+    ensures moved { IfOk result (λ r. ⟦<FileDisk<S> as Disk>⟧.honest r.1 →
+        MigratedFrom ⟦<FileDisk<T> as Disk>⟧.honest ⟦<FileDisk<S> as Disk>⟧.now ⟦<FileDisk<S> as Disk>⟧.past
+        T.first S.first (W.contents out.old) (W.contents out.new) r.0 r.1) }
+    ensures refused { IfErr result (λ refusal. MayRefuseImage refusal) }
+    ensures same { OnErr result (Keeps (W.contents out.old) (W.contents out.new)) }
+{
+    let mut from = match FileDisk::open_to_read(rt, old, other) {
+        Ok(disk) => disk,
+        Err(fault) => return Err(refusal_of(rt, old, fault, observer)),
+    };
+    let length = match length_of(rt.alloc(), &mut from, observer) {
+        Ok(length) => length,
+        Err(refusal) => return Err(refusal),
+    };
+    let to = match new_file(rt, new, length, start) {
+        Ok(disk) => disk,
+        Err(fault) => return Err(new_refusal_of(rt, new, fault, observer)),
+    };
+    let (status, disk) = migrate_on(rt.alloc(), &mut from, to, out, observer);
+    Ok((status, disk))
+}
