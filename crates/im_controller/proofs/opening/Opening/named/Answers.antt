@@ -26,7 +26,7 @@ invariant_of-shared g c =
           let alive = ap (λ (b : Begun). b.failed) begun ∙ began in
           subst (λ (ls : List Line). HasKept g.D.Disk.now g.D.Disk.past g.D.Disk.failures g.K.Name.begun m (accepted_in m ls) e) (sym none)
           (kept_start g.D.Disk.now g.D.Disk.past g.D.Disk.failures g.K.Name.begun m e begun memory alive (c.failed-failed.ensures.means honest alive))),
-      i.7,
+      c.open_books-books.ensures.reserve ∙ i.7,
       plan,
       subst (λ (ls : List Line). KeepsTo m g.K.Name.plan ls) (sym none)
           (keeps-start m g.K.Name.plan (subst (λ (p : Option (List Request)). StartsBy m p) plan (subst (λ (n : Contents). StartsBy n c.self.inside.plan) memory i.8))),
