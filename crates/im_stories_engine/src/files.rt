@@ -97,7 +97,16 @@ pub fn tell(
             let limits = limits(address(cells)?, element(elements)?, address(slots)?)?;
             format(engines, alloc, limits, place(length)?, said)?;
         }
-        ["old", "image", cells, elements, slots, "in", length, "bytes"] => {
+        [
+            "old",
+            "image",
+            cells,
+            elements,
+            slots,
+            "in",
+            length,
+            "bytes",
+        ] => {
             let limits = limits(address(cells)?, element(elements)?, address(slots)?)?;
             lay_old(engines, alloc, limits, place(length)?)?;
             said.push_str("closed")?;

@@ -63,11 +63,7 @@ pub fn page_with(alloc: Global, window: &WindowRecord, place: usize) -> Result<V
 }
 
 /// The records of an area with these bytes, or why there are none.
-pub fn area(
-    alloc: Global,
-    sizes: Sizes,
-    bytes: &[u8],
-) -> Result<Result<AreaRecords, Refusal>> {
+pub fn area(alloc: Global, sizes: Sizes, bytes: &[u8]) -> Result<Result<AreaRecords, Refusal>> {
     let Some(limits) = sizes.limits else {
         return Err(anyhow!("there are no limits"));
     };

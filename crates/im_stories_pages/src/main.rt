@@ -60,7 +60,8 @@ impl Scene for Pages {
                 ..
             ] => { self.rows.tell(words, said) }
             ["blocks" | "lists" | "waiting" | "agree" | "contents", ..] => {
-                self.shown.tell(alloc, self.sizes.limits, &self.rows, words, said)
+                self.shown
+                    .tell(alloc, self.sizes.limits, &self.rows, words, said)
             }
             _ => self
                 .spelled

@@ -182,12 +182,7 @@ impl Spelled {
         Ok(())
     }
 
-    fn read_area(
-        &mut self,
-        alloc: Global,
-        sizes: Sizes,
-        said: &mut String,
-    ) -> Result<()> {
+    fn read_area(&mut self, alloc: Global, sizes: Sizes, said: &mut String) -> Result<()> {
         match area(alloc, sizes, &self.bytes)? {
             Ok(area) => {
                 add_area(said, &area)?;
@@ -232,13 +227,7 @@ impl Spelled {
     }
 
     // Whether the bytes are read with one of them changed.
-    fn with_byte(
-        &self,
-        alloc: Global,
-        sizes: Sizes,
-        at: usize,
-        byte: u8,
-    ) -> Result<Verdict> {
+    fn with_byte(&self, alloc: Global, sizes: Sizes, at: usize, byte: u8) -> Result<Verdict> {
         let mut changed = Vec::from_slice(alloc, &self.bytes)?;
         let Some(place) = changed.get_mut(at) else {
             return Err(anyhow!("there is no byte {at}"));
@@ -264,13 +253,7 @@ impl Spelled {
         Ok(())
     }
 
-    fn tell_values(
-        &self,
-        alloc: Global,
-        sizes: Sizes,
-        at: usize,
-        said: &mut String,
-    ) -> Result<()> {
+    fn tell_values(&self, alloc: Global, sizes: Sizes, at: usize, said: &mut String) -> Result<()> {
         let mut run = None;
         for byte in 0..=255u8 {
             let verdict = self.with_byte(alloc, sizes, at, byte)?;

@@ -76,8 +76,10 @@ element 1
 glance x+1
 fetch x
 ";
+
 const READS_NOTHING: &str = "fetch x+1
 ";
+
 const READS_ON: &str = "glance x
 element 2
 store x 5
