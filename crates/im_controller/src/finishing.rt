@@ -84,20 +84,6 @@ pub fn finish<D: Disk, K: Name, R: Wait>(
         places,
     } = log;
     let claimed = are_free(places.as_slice());
-    Finished {
-        engine,
-        trace,
-        came: have_come(books, reserve, ports),
-        claimed,
-    }
-}
-
-// Whether these are all ports that were given out: then the books count just the lines that they were told.
-fn have_come<K: Name>(books: Books<K>, reserve: Reserve<K>, ports: Vec<Port<K>>) -> bool
-    ensures whole { length ports.items ≡ K.ports → IsTrue result }
-    ensures lines { IsTrue result → books.lines ≡ sum_by (λ p. p.told.lines) ports.items }
-    ensures marked { IsTrue result → books.marked ≡ sum_by (λ p. p.told.marked) ports.items }
-{
     let Books {
         lines: mut lines_book,
         marked: mut marked_book,
@@ -112,7 +98,12 @@ fn have_come<K: Name>(books: Books<K>, reserve: Reserve<K>, ports: Vec<Port<K>>)
     merge_all(&mut lines, &mut marked, ports);
     lines_book.audit(&mut lines);
     marked_book.audit(&mut marked);
-    came == all - left
+    Finished {
+        engine,
+        trace,
+        came: came == all - left,
+        claimed,
+    }
 }
 
 // The shares of all ports, together with these.

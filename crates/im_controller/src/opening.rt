@@ -187,50 +187,6 @@ pub fn start_planned<D: Disk + Drop, R: Wait>(
     }
 }
 
-// Books that count no line yet, and the shares of so many ports in them.
-fn open_books<K: Name>(lines: Blank, marked: Blank, ports: u64) -> (Books<K>, Reserve<K>)
-    requires lines { (lines.name ≡ K.lines_name) × (lines.parts ≡ K.ports) }
-    requires marked { (marked.name ≡ K.marked_name) × (marked.parts ≡ K.ports) }
-    requires ports { ports ≡ K.ports }
-    ensures books { result.0 ≡ record { lines = 0; marked = 0 } }
-    ensures reserve { result.1 ≡ ports }
-{
-    let (lines_book, lines) = lines.open::<Lines<K>>();
-    let (marked_book, marked) = marked.open::<Marked<K>>();
-    let books = Books {
-        lines: lines_book,
-        marked: marked_book,
-    };
-    let reserve = Reserve {
-        lines,
-        marked,
-        left: ports,
-        ports,
-    };
-    (books, reserve)
-}
-
-// A log with no line yet, in these places.
-fn empty_log<K: Name>(
-    trace: Vec<Line>,
-    limit: usize,
-    books: Books<K>,
-    places: Vec<Option<Unclaimed>>,
-) -> Log<K>
-    requires empty { trace.items ≡ [] }
-    requires room { limit ≤ vec_capacity trace }
-    requires books { books ≡ record { lines = 0; marked = 0 } }
-    requires free { AreFree places.items }
-    ensures { result ≡ record { trace = []; limit = limit; places = places.items } }
-{
-    Log {
-        trace,
-        limit,
-        books,
-        places,
-    }
-}
-
 impl<D: Disk> Opening<D> {
     // The same under a plan that fits.
     fn under(self, plan: Plan) -> Opening<D>
@@ -284,10 +240,25 @@ impl<D: Disk> Opening<D> {
             watched,
             ports,
         } = parts;
-        let (books, reserve) = open_books::<K>(lines, marked, ports);
-        let log = empty_log(trace, limit, books, places);
+        let (lines_book, lines) = lines.open::<Lines<K>>();
+        let (marked_book, marked) = marked.open::<Marked<K>>();
+        let log = Log {
+            trace,
+            limit,
+            books: Books {
+                lines: lines_book,
+                marked: marked_book,
+            },
+            places,
+        };
         // So that it is known what the files left at the start mean.
         let _failed = engine.failed();
+        let reserve = Reserve {
+            lines,
+            marked,
+            left: ports,
+            ports,
+        };
         let pane = pane.named::<Shown<K>>();
         let shared = Shared {
             engine,

@@ -6,14 +6,18 @@ use Rattle.im_controller.specs.State.{OpeningState}
 use Rattle.im_controller.specs.Kept.{Begun, begun_in, accepted_in, HasKept}
 use Rattle.im_controller.specs.Planned.{StartsBy, KeepsTo}
 use Rattle.im_controller.proofs.PlannedLemmas.{keeps-start}
-use Rattle.im_controller.specs.Log.{LogState}
+use Rattle.im_controller.proofs.LogLemmas.{log-starts}
 use Rattle.im_controller.proofs.KeptLemmas.{kept_start}
 use Rattle.im_controller.proofs.opening.Opening.named.Goals as goal
 
+pub invariant_of-log : goal.invariant_of-log
+invariant_of-log g c =
+    let i = c.self.invariant in
+    (log-starts g.K.Name.memory g.K.Name.marks _ _ _ _ i.2 i.4 c.open-lines_book.ensures.total c.open-marked_book.ensures.total, i.3)
+
 pub invariant_of-shared : goal.invariant_of-shared
 invariant_of-shared g c =
-    let i = c.self.invariant in let e = c.self.inside.engine in
-    let none = ap (λ (l : LogState). l.trace) c.empty_log-log.ensures in let m = g.K.Name.memory in
+    let i = c.self.invariant in let e = c.self.inside.engine in let m = g.K.Name.memory in
     let begun = ap (λ (o : OpeningState g.row.D.Denot). begun_in g.D.Disk.now g.D.Disk.past g.D.Disk.failures o.engine) c.self.view_is ∙ c.requires.begun in
     let plan = ap (λ (o : OpeningState g.row.D.Denot). o.plan) c.self.view_is ∙ c.requires.plan in
     let memory = ap (λ (o : OpeningState g.row.D.Denot). o.engine.memory) c.self.view_is ∙ c.requires.memory in (
@@ -24,10 +28,10 @@ invariant_of-shared g c =
       search rules,
       (λ honest began.
           let alive = ap (λ (b : Begun). b.failed) begun ∙ began in
-          subst (λ (ls : List Line). HasKept g.D.Disk.now g.D.Disk.past g.D.Disk.failures g.K.Name.begun m (accepted_in m ls) e) (sym none)
+          subst (λ (ls : List Line). HasKept g.D.Disk.now g.D.Disk.past g.D.Disk.failures g.K.Name.begun m (accepted_in m ls) e) (sym i.2)
           (kept_start g.D.Disk.now g.D.Disk.past g.D.Disk.failures g.K.Name.begun m e begun memory alive (c.failed-failed.ensures.means honest alive))),
-      c.open_books-books.ensures.reserve ∙ i.7,
+      i.7,
       plan,
-      subst (λ (ls : List Line). KeepsTo m g.K.Name.plan ls) (sym none)
+      subst (λ (ls : List Line). KeepsTo m g.K.Name.plan ls) (sym i.2)
           (keeps-start m g.K.Name.plan (subst (λ (p : Option (List Request)). StartsBy m p) plan (subst (λ (n : Contents). StartsBy n c.self.inside.plan) memory i.8))),
     )
