@@ -174,9 +174,10 @@ module _ (kind : Kind) (law : (a : ℕ) → CellLaw kind a) where
     -- the lives of a block that this command allocates
     born : (k : Kind) (base n : ℕ) → 1 ≤ n → place n m.cells ≡ Some base → next.cells ≡ (allocate_at m.cells k n (Some base)).cells
         → EachEndsLawfully m (command ∷ commands) (life_of k base n (events next commands) ∷ lives_by_reset k base n (events next commands))
-    born k base n some placed is = each_earlier m command commands (life_of k base n (events next commands) ∷ lives_by_reset k base n (events next commands))
-        (fresh commands next (sound-step m command sound) k base n empty,
-        by_reset k base n commands next (sound-step m command sound) (ap blocks_of (empty base (omega arith) (omega arith))))
+    born k base n some placed is = each_earlier m command commands (life_of k base n (events next commands) ∷ lives_by_reset k base n (events next commands)) (
+      fresh commands next (sound-step m command sound) k base n empty,
+      by_reset k base n commands next (sound-step m command sound) (ap blocks_of (empty base (omega arith) (omega arith))),
+    )
       where
         empty : (a : ℕ) → base ≤ a → a < base + n → held_at next.cells a ≡ Some (fresh_cell k base n)
         empty a lo hi =
