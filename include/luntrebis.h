@@ -211,9 +211,9 @@ uint64_t lt_count(struct lt_image image, struct lt_image *next);
 /* Frees it. There is nothing more to carry out. */
 void lt_close(struct lt_image image);
 
-/* What the image of these bytes means, as `imem inspect` prints it: 0, the text's length, at `written`, and the text at
- * the start of the buffer where it has room for it, of which the rest is as it was. Else the refusal, and nothing is
- * changed. */
+/* What the image of these bytes means, by its own layout, as `imem inspect` prints it: 0, the text's length, at
+ * `written`, and the text at the start of the buffer where it has room for it, of which the rest is as it was. Else the
+ * refusal, and nothing is changed. */
 uint8_t lt_inspect(const uint8_t *bytes, size_t length, char *buffer, size_t room, size_t *written);
 
 /* The name of the refusal with this number: its length, and the name at the start of the buffer where it has room for

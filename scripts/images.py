@@ -1,4 +1,4 @@
-"""An image as docs/FORMAT.md has it, for the scripts beside this file: a plain memory, how its image is spelled, and what any bytes mean.
+"""An image as docs/FORMAT.md has it, of either version, for the scripts beside this file: a plain memory, how its image is spelled, and what any bytes mean.
 
 It is written from that page alone, shares nothing with the program, and prefers plain words to speed.
 """
@@ -7,15 +7,15 @@ import struct
 from dataclasses import dataclass
 
 NONE, LAST, OPEN = 0xFFFFFFFF, 1 << 62, 0xA5
-PAGE, SLOT, WINDOW = 4_096, 64, 16
+PAGE, SLOT, GROUP = 4_096, 64, 16
+WINDOWS, MOST_CELLS = {1: 16, 2: 64}, {1: 65_536, 2: 1_048_576}  # Of each version.
 CELL, NODE, PLACE = struct.Struct("<BBHIIIIIQ"), struct.Struct("<IHHQ"), struct.Struct("<BBBBIQQQ")
 HEADER, RECORD = struct.Struct("<BBH4sQQIHHI28s"), struct.Struct("<BBBBHHQQIIQ24s")
-SESSION = 1_024
 FREE, EMPTY, WAITING, FULL, CLASHED = range(5)
-ALLOC_I, ALLOC_M, RELEASE, FETCH, STORE, TAKE, PUT, CONFIRM = range(1, 9)
-BASE, NO_SPACE, BAD_LENGTH, VALUE, STORED, CLASH, NO_CELL, WRONG_KIND, RELEASED, NO_BLOCK, STILL_WAITING = range(1, 12)
-REPLIES = "base nospace badlength value stored clash nocell wrongkind released noblock stillwaiting".split()
-FAULTS = {12: "WrongLength", 13: "NoHeader", 14: "BadHeader", 15: "BadPage", 16: "BadRecord"}
+ALLOC_I, ALLOC_M, RELEASE, FETCH, STORE, TAKE, PUT, CONFIRM, RESET = range(1, 10)
+BASE, NO_SPACE, BAD_LENGTH, VALUE, STORED, CLASH, NO_CELL, WRONG_KIND, RELEASED, NO_BLOCK, STILL_WAITING, CLEARED = range(1, 13)
+REPLIES = "base nospace badlength value stored clash nocell wrongkind released noblock stillwaiting cleared".split()
+FAULTS = {12: "WrongLength", 13: "NoHeader", 14: "BadHeader", 15: "BadPage", 16: "BadRecord", 21: "OldVersion"}
 
 
 class Fault(Exception):
@@ -45,9 +45,10 @@ class Cell:
 
 class Memory:
     """Of each address its cell, or None; of each element its base number and its entries, each [operation, reply]: an operation is (code, address or length, value), a reply
-    (code, value), or None of one that waits."""
+    (code, value), or None of one that waits. That of the first version has shorter windows, and no reset."""
 
-    def __init__(self, cells, elements):
+    def __init__(self, cells, elements, version=2):
+        self.version = version
         self.cells = [None] * cells
         self.windows = [[1, []] for _ in range(elements)]
 
@@ -62,7 +63,7 @@ class Memory:
                 return False
             window[:] = [number, entries[number - base :]]
             return True
-        if number != base + len(entries) or number > LAST or len(entries) == WINDOW:
+        if number != base + len(entries) or number > LAST or len(entries) == WINDOWS[self.version] or (op[0] == RESET and self.version == 1):
             return False
         entries.append([op, None])
         for (whose, sent), reply in self.act((element, number), *op):
@@ -74,8 +75,8 @@ class Memory:
         if code in (ALLOC_I, ALLOC_M):
             return [(who, self.allocate(code, at))]
         cell = self.cells[at] if at < len(self.cells) else None
-        if code == RELEASE:
-            return [(who, self.release(at, cell))]
+        if code in (RELEASE, RESET):
+            return [(who, self.end_lives(code, at, cell))]
         if cell is None or cell.kind != (1 if code in (FETCH, STORE) else 2) or cell.tag == CLASHED:
             return [(who, (NO_CELL if cell is None else CLASH if cell.kind == (1 if code in (FETCH, STORE) else 2) else WRONG_KIND, 0))]
         return self.read(who, code, cell) if code in (FETCH, TAKE) else self.write(who, code, cell, value)
@@ -89,13 +90,19 @@ class Memory:
                 return BASE, base
         return NO_SPACE, 0
 
-    def release(self, at, cell):
+    def end_lives(self, code, at, cell):
+        """A block is given back, or all its cells are emptied."""
         if cell is None or cell.base != at:
             return NO_BLOCK, 0
-        if any(it.waiters for it in self.cells[at : at + cell.length]):
+        cells = self.cells[at : at + cell.length]
+        if any(it.waiters for it in cells):
             return STILL_WAITING, 0
-        self.cells[at : at + cell.length] = [None] * cell.length
-        return RELEASED, 0
+        if code == RELEASE:
+            self.cells[at : at + cell.length] = [None] * cell.length
+            return RELEASED, 0
+        for it in cells:
+            it.tag, it.value = EMPTY, 0
+        return CLEARED, 0
 
     def read(self, who, code, cell):
         if cell.tag == FULL:
@@ -123,19 +130,32 @@ class Memory:
 # Places.
 
 
-def pages_of(cells, elements):
-    """Of an area: pages of cells, of nodes, and of sessions."""
-    return -(-cells // 128), -(-elements // 16), -(-elements // 4)
-
-
 @dataclass(frozen=True)
 class Limits:
     cells: int
     elements: int
     slots: int
+    version: int = 2
+
+    @property
+    def window(self):
+        return WINDOWS[self.version]
+
+    @property
+    def session(self):
+        """The bytes of a session record."""
+        return 64 * self.window
+
+    @property
+    def nodes(self):
+        return self.window * self.elements
+
+    def parts(self):
+        """Of an area: pages of cells, of nodes, and of sessions."""
+        return -(-self.cells // 128), -(-self.nodes * NODE.size // PAGE), -(-self.elements * self.session // PAGE)
 
     def pages(self):
-        return sum(pages_of(self.cells, self.elements))
+        return sum(self.parts())
 
     def area_at(self, area):
         return 2 * PAGE + area * PAGE * self.pages()
@@ -144,10 +164,10 @@ class Limits:
         return self.area_at(area) + CELL.size * a
 
     def node_at(self, area, node):
-        return self.area_at(area) + PAGE * pages_of(self.cells, self.elements)[0] + NODE.size * node
+        return self.area_at(area) + PAGE * self.parts()[0] + NODE.size * node
 
     def session_at(self, area, element):
-        return self.area_at(area) + PAGE * sum(pages_of(self.cells, self.elements)[:2]) + SESSION * element
+        return self.area_at(area) + PAGE * sum(self.parts()[:2]) + self.session * element
 
     def slot_at(self, sequence):
         return self.area_at(2) + SLOT * (sequence % self.slots)
@@ -160,7 +180,7 @@ class Limits:
 
 
 def spell_header(gate, area, generation, count, limits):
-    return HEADER.pack(gate, area, 1, b"IMEM", generation, count, limits.cells, limits.elements, 0, limits.slots, bytes(28))
+    return HEADER.pack(gate, area, limits.version, b"IMEM", generation, count, limits.cells, limits.elements, 0, limits.slots, bytes(28))
 
 
 def spell_slot(gate, group, sequence, element, number, op):
@@ -169,7 +189,7 @@ def spell_slot(gate, group, sequence, element, number, op):
 
 def spell_area(data, area, limits, memory, dice):
     """Puts the pages of a memory into an image, with any nodes and any links of what is free, as `dice` falls."""
-    free = list(range(WINDOW * limits.elements))
+    free = list(range(limits.nodes))
     dice.shuffle(free)
     for node in free:
         NODE.pack_into(data, limits.node_at(area, node), dice.choice([NONE, dice.choice(free)]), 0, 0, 0)
@@ -185,15 +205,15 @@ def spell_area(data, area, limits, memory, dice):
         CELL.pack_into(data, at, cell.tag, cell.kind, 0, cell.base, cell.length, first, last, 0, cell.value)
     for element, (base, entries) in enumerate(memory.windows):
         at = limits.session_at(area, element)
-        data[at : at + SESSION] = struct.pack("<QB", base, len(entries)).ljust(SESSION, b"\0")
+        data[at : at + limits.session] = struct.pack("<QB", base, len(entries)).ljust(limits.session, b"\0")
         for number, (op, reply) in enumerate(entries, base):
             code, value = reply or (0, 0)
-            PLACE.pack_into(data, at + 32 + 32 * (number % WINDOW), op[0], 0, code, 0, op[1], op[2], value, 0)
+            PLACE.pack_into(data, at + 32 + 32 * (number % limits.window), op[0], 0, code, 0, op[1], op[2], value, 0)
 
 
 def new_with_a_block(limits):
     """A new image on which element 0 has made a block of all cells."""
-    data, memory = bytearray(limits.length()), Memory(limits.cells, limits.elements)
+    data, memory = bytearray(limits.length()), Memory(limits.cells, limits.elements, limits.version)
     memory.step(0, 1, (ALLOC_I, limits.cells, 0))
     spell_area(data, 0, limits, memory, random.Random(1))
     data[: HEADER.size] = spell_header(OPEN, 0, 1, 1, limits)
@@ -214,7 +234,7 @@ class Meaning:
 
 
 def read(data):
-    """What the bytes of a file mean. A `Fault`, the first one, where they mean nothing."""
+    """What the bytes of a file mean, by the rules of its version. A `Fault`, the first one, where they mean nothing."""
     area, generation, count, limits = read_header(data)
     need(len(data) == limits.length(), 12)
     memory = read_area(data, area, limits)
@@ -225,6 +245,12 @@ def read(data):
     return Meaning(area, generation, count, run, 0 if count + run == LAST else room, memory)
 
 
+def read_to_open(data):
+    """What the bytes of a file mean that is to be opened: one of the first version isn't, whatever stands behind its header."""
+    need(read_header(data)[3].version == 2, 21)
+    return read(data)
+
+
 def read_header(data):
     need(len(data) >= 2 * PAGE, 12)
     headers = [HEADER.unpack_from(data, at) for at in (0, PAGE)]
@@ -233,19 +259,19 @@ def read_header(data):
     need(len(opened) == 1 or headers[0][4] != headers[1][4], 14)
     area = max(opened, key=lambda it: headers[it][4])
     _, own, version, mark, generation, count, cells, elements, zero, slots, rest = headers[area]
-    spelled = own == area and version == 1 and mark == b"IMEM" and zero == 0 and not any(rest)
-    need(spelled and 1 <= generation <= LAST and count <= LAST and 1 <= cells <= 65_536 and 1 <= elements <= 64 and 16 <= slots <= 4_096, 14)
-    return area, generation, count, Limits(cells, elements, slots)
+    spelled = own == area and version in MOST_CELLS and mark == b"IMEM" and zero == 0 and not any(rest)
+    need(spelled and 1 <= generation <= LAST and count <= LAST and 1 <= cells <= MOST_CELLS[version] and 1 <= elements <= 64 and 16 <= slots <= 4_096, 14)
+    return area, generation, count, Limits(cells, elements, slots, version)
 
 
 def read_area(data, area, limits):
-    memory = Memory(limits.cells, limits.elements)
+    memory = Memory(limits.cells, limits.elements, limits.version)
     ends = read_cells(data, area, limits, memory)
     read_nodes(data, area, limits, memory, ends)
     at = limits.session_at(area, limits.elements)
     need(not any(data[at : limits.area_at(area + 1)]), 15)
     for element in range(limits.elements):
-        memory.windows[element] = read_session(data[limits.session_at(area, element) :][:SESSION])
+        memory.windows[element] = read_session(data[limits.session_at(area, element) :][: limits.session], limits)
     waiting = sorted((element, number, a) for a, cell in enumerate(memory.cells) if cell for element, number in cell.waiters)
     kept = [(element, number, op) for element, (base, entries) in enumerate(memory.windows) for number, (op, reply) in enumerate(entries, base) if reply is None]
     need(waiting == [(element, number, op[1]) for element, number, op in kept], 15)
@@ -269,7 +295,7 @@ def read_cells(data, area, limits, memory):
             block, end = (base, length, kind), a + length
         need(value == 0 or tag in (FULL, CLASHED), 15)
         if tag == WAITING:
-            need(first < WINDOW * limits.elements and last < WINDOW * limits.elements, 15)
+            need(first < limits.nodes and last < limits.nodes, 15)
             ends[a] = first, last
         else:
             need(first == last == NONE, 15)
@@ -278,7 +304,7 @@ def read_cells(data, area, limits, memory):
 
 
 def read_nodes(data, area, limits, memory, ends):
-    count = WINDOW * limits.elements
+    count = limits.nodes
     need(not any(data[limits.node_at(area, count) : limits.session_at(area, 0)]), 15)
     nodes = [NODE.unpack_from(data, limits.node_at(area, it)) for it in range(count)]
     for after, element, mark, number in nodes:
@@ -296,18 +322,20 @@ def read_nodes(data, area, limits, memory, ends):
     need(len(met) == sum(mark for _, _, mark, _ in nodes), 15)
 
 
-def read_session(record):
+def read_session(record, limits):
     base, count = struct.unpack_from("<QB", record)
-    need(1 <= base <= LAST + 1 and count <= WINDOW and base + count <= LAST + 1 and not any(record[9:32]) and not any(record[544:]), 15)
-    numbers = {number % WINDOW: number for number in range(base, base + count)}
+    need(1 <= base <= LAST + 1 and count <= limits.window and base + count <= LAST + 1 and not any(record[9:32]) and not any(record[32 + 32 * limits.window :]), 15)
+    numbers = {number % limits.window: number for number in range(base, base + count)}
     entries = [None] * count
-    for place in range(WINDOW):
+    for place in range(limits.window):
         raw = record[32 + 32 * place :][:32]
         if place not in numbers:
             need(not any(raw), 15)
             continue
         code, zero, reply, more, at, value, given, last = PLACE.unpack(raw)
-        need(zero == more == last == 0 and 1 <= code <= PUT and reply <= STILL_WAITING and (value == 0 or code in (STORE, PUT)), 15)
+        need(1 <= code <= PUT or (code == RESET and limits.version == 2), 15)
+        need(reply <= (STILL_WAITING if limits.version == 1 else CLEARED), 15)
+        need(zero == more == last == 0 and (value == 0 or code in (STORE, PUT)), 15)
         need(reply == VALUE or given == 0 or (reply == BASE and given <= NONE), 15)
         entries[numbers[place] - base] = [(code, at, value), (reply, given) if reply else None]
     return [base, entries]
@@ -321,11 +349,11 @@ def read_run(data, count, limits, memory):
         if left == 0:
             if gate != OPEN or sequence != count + run:
                 break
-            need(1 <= group <= WINDOW and run + group <= limits.slots and count + run + group <= LAST, 16)
+            need(1 <= group <= GROUP and run + group <= limits.slots and count + run + group <= LAST, 16)
             left = group
         else:
             need(group == 0 and sequence == count + run, 16)
-        need(zero == more == last == 0 and not any(rest) and 1 <= code <= CONFIRM, 16)
+        need(zero == more == last == 0 and not any(rest) and 1 <= code <= (CONFIRM if limits.version == 1 else RESET), 16)
         need((value == 0 or code in (STORE, PUT)) and (at == 0 or code != CONFIRM), 16)
         need(memory.step(element, number, (code, at, value)), 16)
         run, left = run + 1, left - 1

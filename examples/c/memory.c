@@ -40,10 +40,11 @@ int main(void) {
     show("a gap", step(LT_TAKE, 1, 3, 7, 0));
     show("no element", step(LT_TAKE, 2, 3, 1, 0));
     show("no tag", step(99, 0, 0, 3, 0));
+    show("reset", step(LT_RESET, 0, 0, 3, 0));
     for (uint64_t i = 0; i < 1000; i++) {
-        step(LT_PUT, 0, 3, i + 3, i);
+        step(LT_PUT, 0, 3, i + 4, i);
         sum += step(LT_TAKE, 1, 3, i + 2, 0).value;
-        step(LT_CONFIRM, 0, 0, i + 4, 0);
+        step(LT_CONFIRM, 0, 0, i + 5, 0);
         step(LT_CONFIRM, 1, 0, i + 3, 0);
     }
     printf("sum %" PRIu64 "\n", sum);

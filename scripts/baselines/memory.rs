@@ -4,9 +4,9 @@
 use std::collections::{BTreeMap, VecDeque};
 use std::process::ExitCode;
 
-const MAX_CELLS: u32 = 65_536;
+const MAX_CELLS: u32 = 1_048_576;
 const ELEMENTS: u32 = 64;
-const WINDOW: usize = 16;
+const WINDOW: usize = 64;
 const LAST: u64 = 1 << 62;
 
 #[derive(Clone, Copy, Debug, PartialEq, Eq)]

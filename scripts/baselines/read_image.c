@@ -15,8 +15,8 @@
 #include <time.h>
 #include <unistd.h>
 
-enum { PAGE = 4096, GATE = 0xA5, WINDOW = 16, STORE = 5, CONFIRM = 8, STORED = 5 };
-enum { CELLS = 65536, ELEMENTS = 64, SLOTS = 4096, PAGES = 532 };
+enum { PAGE = 4096, GATE = 0xA5, WINDOW = 64, STORE = 5, CONFIRM = 8, STORED = 5 };
+enum { CELLS = 1048576, ELEMENTS = 64, SLOTS = 4096, PAGES = 8272, RECORD = 4096 };
 #define NONE 0xFFFFFFFFu
 
 struct header {
@@ -70,7 +70,7 @@ static uint64_t eight(const uint8_t *p) { uint64_t n; memcpy(&n, p, sizeof n); r
 
 static bool read_header(const uint8_t *p, struct header *h) {
     *h = (struct header){eight(p + 8), eight(p + 16), four(p + 24), four(p + 32), two(p + 28)};
-    return p[0] == GATE && two(p + 2) == 1 && memcmp(p + 4, "IMEM", 4) == 0 && two(p + 30) == 0;
+    return p[0] == GATE && two(p + 2) == 2 && memcmp(p + 4, "IMEM", 4) == 0 && two(p + 30) == 0;
 }
 
 static bool read_cell(const uint8_t *p, uint32_t cells, struct cell *c) {
@@ -101,7 +101,7 @@ static bool read_node(const uint8_t *p, uint32_t nodes, struct node *n) {
 
 static bool read_entry(const uint8_t *p, struct entry *e) {
     *e = (struct entry){eight(p + 8), eight(p + 16), four(p + 4), p[0], p[2]};
-    return p[1] == 0 && p[3] == 0 && eight(p + 24) == 0 && e->operation <= 7 && e->reply <= 11;
+    return p[1] == 0 && p[3] == 0 && eight(p + 24) == 0 && e->operation <= 9 && e->operation != CONFIRM && e->reply <= 12;
 }
 
 static bool read_window(const uint8_t *p, struct window *w) {
@@ -116,7 +116,7 @@ static bool read_window(const uint8_t *p, struct window *w) {
 static bool read_slot(const uint8_t *p, uint64_t sequence, struct command *c) {
     *c = (struct command){eight(p + 16), eight(p + 32), four(p + 24), two(p + 4), p[2]};
     return p[0] == GATE && p[1] == 1 && p[3] == 0 && two(p + 6) == 0 && eight(p + 8) == sequence && four(p + 28) == 0
-        && eight(p + 40) == 0 && eight(p + 48) == 0 && eight(p + 56) == 0 && c->operation >= 1 && c->operation <= 8;
+        && eight(p + 40) == 0 && eight(p + 48) == 0 && eight(p + 56) == 0 && c->operation >= 1 && c->operation <= 9;
 }
 
 static void fail(const char *what) {
@@ -129,9 +129,9 @@ static void read_bytes(int file, uint8_t *bytes, size_t most, off_t at, size_t l
         fail("the file is too short, or too long");
 }
 
-static const char *const OPERATIONS[] = {"", "alloc i", "alloc m", "release", "fetch", "store", "take", "put"};
+static const char *const OPERATIONS[] = {"", "alloc i", "alloc m", "release", "fetch", "store", "take", "put", "confirm", "reset"};
 static const char *const REPLIES[] = {"waiting", "base", "nospace", "badlength", "value", "stored",
-                                      "clash", "nocell", "wrongkind", "released", "noblock", "stillwaiting"};
+                                      "clash", "nocell", "wrongkind", "released", "noblock", "stillwaiting", "cleared"};
 
 static void print_cell(uint32_t a, const struct cell *c, const struct node *nodes) {
     if (c->tag == 3 || c->tag == 4)
@@ -175,7 +175,7 @@ static uint32_t read_parts(int file, struct header *h) {
     bool second = headers[1][0] == GATE && (headers[0][0] != GATE || eight(headers[0] + 8) < eight(headers[1] + 8));
     if (!read_header(headers[second], h) || h->cells > CELLS || h->elements > ELEMENTS || h->slots > SLOTS)
         fail("bad header");
-    size_t cell_pages = (h->cells + 127) / 128, node_pages = (h->elements + 15) / 16, window_pages = (h->elements + 3) / 4;
+    size_t cell_pages = (h->cells + 127) / 128, node_pages = (h->elements + 3) / 4, window_pages = h->elements;
     size_t pages = cell_pages + node_pages + window_pages;
     read_bytes(file, area, sizeof area, 2 * PAGE + second * pages * PAGE, pages * PAGE);
     read_bytes(file, journal, sizeof journal, 2 * PAGE + 2 * pages * PAGE, 64 * (size_t)h->slots);
@@ -186,7 +186,7 @@ static uint32_t read_parts(int file, struct header *h) {
         if (!read_node(area + cell_pages * PAGE + 16 * (size_t)n, WINDOW * h->elements, &nodes[n]))
             fail("bad node");
     for (uint32_t e = 0; e < h->elements; e++)
-        if (!read_window(area + (cell_pages + node_pages) * PAGE + 1024 * (size_t)e, &windows[e]))
+        if (!read_window(area + (cell_pages + node_pages) * PAGE + RECORD * (size_t)e, &windows[e]))
             fail("bad window");
     uint32_t run = 0;
     while (run < h->slots && read_slot(journal + 64 * (size_t)((h->count + run) % h->slots), h->count + run, &commands[run]))

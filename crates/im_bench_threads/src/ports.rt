@@ -3,7 +3,7 @@ ghost use Rattle.std.specs.Prelude.{◌≡◌};
 ghost use Rattle.im_controller.specs.Kept.{begun_in};
 
 use crate::joining::join_all;
-use crate::stores::{is_full, number, store};
+use crate::stores::{confirms, number, store};
 use im_controller::{Controller, Name, Opening, Port, finish, start};
 use im_disk::Disk;
 use im_engine::Engine;
@@ -85,7 +85,7 @@ fn store_all<D: Disk, K: Name, R: Wait>(
     let mut port = port;
     let mut done = 0u64;
     for index in 0..count {
-        if is_full(index) && !confirm(rt, controller, &mut port, index) {
+        if confirms(index) && !confirm(rt, controller, &mut port, index) {
             break;
         }
         if !submit(rt, controller, &mut port, element, index, count) {

@@ -17,15 +17,15 @@ pub fn number(index: u32) -> u64 {
     u64::from(index).saturating_add(1)
 }
 
-/// Whether the window is full before the store with an index.
-pub fn is_full(index: u32) -> bool {
+/// Whether all before the store with an index is confirmed: behind each sixteen, long before the window is full.
+pub fn confirms(index: u32) -> bool {
     index > 0 && index % 16 == 0
 }
 
-// Serves a store of element 1, and before it the confirmation that it needs.
+// Serves a store of element 1, and before it its confirmation, where one stands there.
 fn serve_one<D: Disk>(engine: &mut Engine<D>, index: u32, count: u32) -> Result<(), Refusal> {
     let number = number(index);
-    if is_full(index) {
+    if confirms(index) {
         let _confirmed = engine.serve(&Command::Confirm {
             element: 1,
             upto: number,

@@ -1,13 +1,24 @@
 -- A text, as C is told it.
-use Rattle.std.specs.Prelude.{◌≡◌, ℕ, ◌<◌, ◌≤◌, List, [], ◌++◌, ◌==◌, codes, drop, length, Some, if◌then◌else◌}
+use Rattle.std.specs.Prelude.{◌≡◌, ◌⊎◌, ℕ, ◌<◌, ◌≤◌, List, [], ◌++◌, ◌==◌, codes, drop, length, Some, Err, if◌then◌else◌}
 use Rattle.im_types.specs.declared.refusals.Refusal.{Refusal}
+use Rattle.im_types.specs.declared.refusals.Refusal.TheVariants.{NoMemory, Device}
 use Rattle.im_types.specs.Refusals.{number_of}
+use Rattle.im_types.specs.Header.{layout_in}
+use Rattle.im_types.specs.Meaning.{Reads}
 use Rattle.im_listed.specs.Image.{IsFaultOf}
 use Rattle.im_report.specs.Inspecting.{Tells}
 
--- the number of why these bytes aren't read: of their first fault, or that there was no room
+-- the number of why these bytes aren't opened: of their first fault, or that there was no room
 abbrev pub TellsFault : List ℕ → ℕ → Type 0
 TellsFault file number = (refusal : Refusal) × (number ≡ number_of refusal) × IsFaultOf file refusal
+
+-- why these bytes aren't read, by the rules of their own version: their first fault, or there was no room for them, or for a step
+abbrev pub IsFlawOf : List ℕ → Refusal → Type 0
+IsFlawOf file refusal = (refusal ≡ NoMemory) ⊎ (refusal ≡ Device) ⊎ Reads (layout_in file) file (Err refusal)
+
+-- the number of why these bytes aren't read
+abbrev pub TellsFlaw : List ℕ → ℕ → Type 0
+TellsFlaw file number = (refusal : Refusal) × (number ≡ number_of refusal) × IsFlawOf file refusal
 
 -- a buffer begins with a text where that fits, and else it stays
 pub record PutsText (text old new : List ℕ) : Type 0 where

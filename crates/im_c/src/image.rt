@@ -333,8 +333,8 @@ pub extern "C" fn lt_image_length(cells: u32, elements: u16, slots: u32) -> u64
 }
 
 /// Opens the image of these bytes, which are those of the caller's file: 0, and `next` holds it. Else the number of the
-/// refusal, and `next` is as it was: the first fault of the bytes, `NoMemory`, or `Device` where the list of steps
-/// couldn't grow.
+/// refusal, and `next` is as it was: the first fault of the bytes, `OldVersion` among them, `NoMemory`, or `Device` where
+/// the list of steps couldn't grow.
 #[unsafe(no_mangle)]
 pub extern "C" fn lt_open(alloc: Global, bytes: &[u8], next: &mut LtImage) -> u8
     ensures some { result ≡ 0 → IsSome next.new.value }

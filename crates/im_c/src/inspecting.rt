@@ -1,8 +1,7 @@
 //! What the image in a caller's bytes means, told to C.
 ghost use Rattle.std.specs.Prelude.{◌≡◌, ◌≢◌, [], Some, IfOk, IfErr};
 ghost use Rattle.im_report.specs.Inspecting.{Tells};
-ghost use Rattle.im_listed.specs.Image.{IsFaultOf};
-ghost use Rattle.im_c.specs.Telling.{TellsFault, IsTold, PutsText};
+ghost use Rattle.im_c.specs.Telling.{IsFlawOf, TellsFlaw, IsTold, PutsText};
 
 use im_image::inspect;
 use im_listed::Listed;
@@ -25,7 +24,7 @@ impl Observer for Nobody {
 
 // Why there is no report: the first fault of the bytes, or that there wasn't room for it.
 fn fault_of(alloc: Global, disk: &mut Listed) -> Refusal
-    ensures { IsFaultOf disk.old.now.bytes result }
+    ensures { IsFlawOf disk.old.now.bytes result }
 {
     match inspect(alloc, disk) {
         Ok(_) => Refusal::NoMemory,
@@ -36,7 +35,7 @@ fn fault_of(alloc: Global, disk: &mut Listed) -> Refusal
 // The report of the image of these bytes.
 fn report_of(alloc: Global, bytes: &[u8]) -> Result<Vec<u8>, Refusal>
     ensures told { IfOk result (λ text. Tells bytes.now (Some []) (Some text.items)) }
-    ensures fault { IfErr result (λ e. IsFaultOf bytes.now e) }
+    ensures fault { IfErr result (λ e. IsFlawOf bytes.now e) }
 {
     let Ok(copy) = bytes.to_vec(alloc) else {
         return Err(Refusal::NoMemory);
@@ -60,8 +59,8 @@ pub(crate) fn put_text(text: &[u8], buffer: &mut [u8])
 }
 
 /// Tells what the image of these bytes means, as `imem inspect` prints it: 0, the text's length at `written`, and the
-/// text at the start of `buffer` where it fits, of which the rest is as it was. Else the number of the refusal, and
-/// nothing is changed: the first fault of the bytes, or `NoMemory`.
+/// text at the start of `buffer` where it fits, of which the rest is as it was. An image of the first layout is told by
+/// its own rules. Else the number of the refusal, and nothing is changed: the first fault of the bytes, or `NoMemory`.
 #[unsafe(no_mangle)]
 pub extern "C" fn lt_inspect(
     alloc: Global,
@@ -70,7 +69,7 @@ pub extern "C" fn lt_inspect(
     written: &mut usize,
 ) -> u8
     ensures told { result ≡ 0 → IsTold bytes.now written.new buffer.old buffer.new }
-    ensures fault { result ≢ 0 → TellsFault bytes.now result }
+    ensures fault { result ≢ 0 → TellsFlaw bytes.now result }
     ensures same { result ≢ 0 → (buffer.new ≡ buffer.old) × (written.new ≡ written.old) }
 {
     match report_of(alloc, bytes) {

@@ -6,19 +6,23 @@ ghost use Rattle.im_types.specs.declared.commands.Request.{Request};
 ghost use Rattle.im_types.specs.declared.commands.Command.{Command};
 ghost use Rattle.im_types.specs.Contents.{Contents, empty_contents};
 ghost use Rattle.im_types.specs.Sizes.{AreLimits};
-ghost use Rattle.im_types.specs.Layout.{Sizes, layout_in_use};
+ghost use Rattle.im_types.specs.declared.layout.Version.{Version};
+ghost use Rattle.im_types.specs.Layout.{Sizes, layout_of};
 ghost use Rattle.im_types.specs.Step.{step};
-ghost use Rattle.im_types.specs.Meaning.{Means, Reached, Reads};
+ghost use Rattle.im_types.specs.Meaning.{Means, Opens, Reached, Reads};
 ghost use Rattle.im_types.specs.Groups.{as_served, answers_of, puts_of};
 ghost use Rattle.im_image.specs.Fresh.{new_image};
 ghost use Rattle.im_engine.specs.Groups.{all_refused};
 ghost use Rattle.im_engine.specs.Run.{is_device, has_device, acknowledged_members};
 ghost use Rattle.im_engine.specs.State.{IsFirstFault};
 
-/// A file means one thing: reading it comes to one memory, one count and one room, or to one first fault.
+/// A file means one thing: reading it by the rules of a version comes to one memory, one count and one room, or to one
+/// first fault, and opening it does.
 pub fn files_mean_one_thing()
-    ensures reads { (file : List ℕ) (one other : Result Reached Refusal)
-        → Reads layout_in_use file one → Reads layout_in_use file other → one ≡ other }
+    ensures reads { (version : Version) (file : List ℕ) (one other : Result Reached Refusal)
+        → Reads (layout_of version) file one → Reads (layout_of version) file other → one ≡ other }
+    ensures opens { (file : List ℕ) (one other : Result Reached Refusal)
+        → Opens file one → Opens file other → one ≡ other }
     ensures memory { (file : List ℕ) (m n : Contents) (count other room more : ℕ)
         → Means m count room file → Means n other more file → (m ≡ n) × (count ≡ other) }
     ensures fault { (file : List ℕ) (fault : Refusal) (m : Contents) (count room : ℕ)

@@ -11,3 +11,4 @@ pub mod Counterexamples
 pub mod Outside
 pub mod AreaPages
 pub mod ToOpen
+pub mod OldImages

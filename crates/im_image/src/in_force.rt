@@ -2,7 +2,7 @@
 ghost use Rattle.std.specs.Prelude.{◌≡◌, ◌⊎◌, ◌↔◌, ◌≤◌, ◌||◌, ◌==◌, not, true, false, Some, None, Err, IfSome, IsSome, length, ◌<◌, IfOk};
 ghost use Rattle.std.specs.Prelude.{IfErr, OnOk, IsErrOf};
 ghost use Rattle.im_types.specs.declared.refusals.Refusal.TheVariants.{NoHeader, BadHeader, WrongLength, Device, OldVersion};
-ghost use Rattle.im_types.specs.Layout.{image_length};
+ghost use Rattle.im_types.specs.Layout.{image_length, layout_1};
 ghost use Rattle.im_types.specs.Header.{header_in, header_of, header_fault, layout_in, is_open_header, generation_in, is_second};
 ghost use Rattle.im_types.specs.Header.{are_ambiguous, number_in_force, place_in_force, place_fault, spells_header};
 ghost use Rattle.im_types.specs.Meaning.{Opens};
@@ -199,6 +199,52 @@ pub(crate) fn read_header_to_open<D: Disk>(disk: &mut D) -> Result<Header, Refus
 {
     match read_beginning(disk) {
         Ok(Some(beginning)) => header_to_open(&beginning),
+        Ok(None) => Err(Refusal::WrongLength),
+        Err(_) => Err(Refusal::Device),
+    }
+}
+
+// The header in force of an image that begins so, by the rules of the first version: any other version is a fault of it,
+// before the length is compared.
+fn old_header_of(beginning: &Beginning) -> Result<Header, Refusal>
+    ensures found { IfOk result (λ h. seen h ≡ header_in (place_in_force beginning.now.zero beginning.now.one)) }
+    ensures range { IfOk result (λ h. (h.area ≤ 1) × (h.count ≤ LAST)) }
+    ensures old { IfOk result (λ h. (h.version == 1) ≡ true) }
+    ensures good { OnOk result
+        (beginning_fault layout_1 beginning.now.length beginning.now.zero beginning.now.one ≡ None) }
+    ensures fault { IfErr result
+        (λ e. beginning_fault layout_1 beginning.now.length beginning.now.zero beginning.now.one ≡ Some e) }
+    ensures only { IfErr result (λ e. IsHeaderFault e) }
+{
+    match header_of_places(&beginning.zero, &beginning.one) {
+        Ok(header) => {
+            if !header.is_old() {
+                Err(Refusal::BadHeader)
+            } else if beginning.length == header.layout().image_length(header.limits) {
+                Ok(header)
+            } else {
+                Err(Refusal::WrongLength)
+            }
+        }
+        Err(refusal) => Err(refusal),
+    }
+}
+
+/// The header in force of an image of the first version: as [`read_header`], but that one of any other version is
+/// `BadHeader`, whatever the file's length is.
+pub(crate) fn read_old_header<D: Disk>(disk: &mut D) -> Result<Header, Refusal>
+    ensures found { IfOk result (λ h. D.honest disk.new → seen h ≡ header_of (D.now disk.old).bytes) }
+    ensures old { IfOk result (λ h. (h.version == 1) ≡ true) }
+    ensures good { OnOk result (D.honest disk.new → header_fault layout_1 (D.now disk.old).bytes ≡ None) }
+    ensures fault { IfErr result (λ e. (e ≡ Device)
+        ⊎ (D.honest disk.new → header_fault layout_1 (D.now disk.old).bytes ≡ Some e)) }
+    ensures reads { D.honest disk.new → OnlyReads D.now D.past disk.old disk.new }
+    ensures honest { D.honest disk.new → D.honest disk.old }
+    ensures faults { Faults (λ e. (e ≡ Device) ⊎ IsHeaderFault e) result (D.failures disk.old) (D.failures disk.new) }
+    ensures range { IfOk result (λ h. (h.area ≤ 1) × (h.count ≤ LAST)) }
+{
+    match read_beginning(disk) {
+        Ok(Some(beginning)) => old_header_of(&beginning),
         Ok(None) => Err(Refusal::WrongLength),
         Err(_) => Err(Refusal::Device),
     }

@@ -26,4 +26,4 @@ pub use pages::{
     areas_show_the_memory, encode, encode_into, encode_page, pages_outside_stay,
     pages_show_the_memory,
 };
-pub use reading::{Image, Report, inspect, read_image, read_to_open, replay};
+pub use reading::{Image, Report, inspect, read_image, read_old, read_to_open, replay};

@@ -15,7 +15,7 @@ ghost use Rattle.im_image.specs.Headers.{seen, MayRefuseImage, MayRefuseOpening}
 ghost use Rattle.im_image.specs.Reading.{JournalOf, HasHeader, HasArea, AreUnder, AreParts, IsImageOf, reached};
 
 use crate::header::Header;
-use crate::in_force::{read_header, read_header_to_open};
+use crate::in_force::{read_header, read_header_to_open, read_old_header};
 use crate::open_area::read_memory;
 use crate::pages::window_at;
 use im_disk::Disk;
@@ -201,6 +201,25 @@ pub fn read_to_open<D: Disk>(alloc: Global, disk: &mut D) -> Result<Image, Refus
     ensures faults { Faults MayRefuseOpening result (D.failures disk.old) (D.failures disk.new) }
 {
     match read_header_to_open(disk) {
+        Ok(header) => read_behind(alloc, disk, header),
+        Err(refusal) => Err(refusal),
+    }
+}
+
+/// What an image of the first version means, or its first fault by the rules of that version: as [`read_image`], but that
+/// a header in force of any other version is `BadHeader`, whatever else is wrong with the image.
+pub fn read_old<D: Disk>(alloc: Global, disk: &mut D) -> Result<Image, Refusal>
+    ensures parts { IfOk result (λ i. AreParts i) }
+    ensures old { IfOk result (λ i. layout_named i.header.version ≡ layout_1) }
+    ensures header { IfOk result (λ i. D.honest disk.new → seen i.header ≡ header_of (D.now disk.old).bytes) }
+    ensures means { IfOk result (λ i. D.honest disk.new → Reads layout_1 (D.now disk.old).bytes (Ok (reached i))) }
+    ensures fault { IfErr result (λ e. (e ≡ NoMemory) ⊎ (e ≡ Device)
+        ⊎ (D.honest disk.new → Reads layout_1 (D.now disk.old).bytes (Err e))) }
+    ensures reads { D.honest disk.new → OnlyReads D.now D.past disk.old disk.new }
+    ensures honest { D.honest disk.new → D.honest disk.old }
+    ensures faults { Faults MayRefuseImage result (D.failures disk.old) (D.failures disk.new) }
+{
+    match read_old_header(disk) {
         Ok(header) => read_behind(alloc, disk, header),
         Err(refusal) => Err(refusal),
     }

@@ -3,8 +3,7 @@ use Rattle.std.proofs.Common.{◌≡◌, ℕ, ◌+◌, List, subst, arith}
 use Rattle.std.specs.Prelude.{Option, Result, Ok, Err, OnOk, OnErr}
 use Rattle.std.specs.Io.KnownBytes.{Appends, Keeps}
 use Rattle.im_types.specs.Contents.{Contents}
-use Rattle.im_types.specs.Header.{Header, header_of}
-use Rattle.im_types.specs.Layout.{layout_in_use}
+use Rattle.im_types.specs.Header.{Header, header_of, layout_in}
 use Rattle.im_types.specs.Meaning.{Reads}
 use Rattle.im_report.specs.Report.{report_text}
 use Rattle.im_report.specs.Inspecting.{Tells}
@@ -12,13 +11,13 @@ use Rattle.im_text.proofs.PrintingLemmas.{appends_kept}
 
 -- the report was added with the header in force
 pub tells : (file : List ℕ) (h : Header) (run room : ℕ) (m : Contents) (was now : Option (List ℕ)) → h ≡ header_of file
-    → Reads layout_in_use file (Ok (record { contents = m; count = h.count + run; room = room }))
+    → Reads (layout_in file) file (Ok (record { contents = m; count = h.count + run; room = room }))
     → Appends was now (report_text h run room m) → Tells file was now
 tells file h run room m was now same reads added = record {
   memory = m;
   run = run;
   room = room;
-  reads = subst (λ (h : Header). Reads layout_in_use file (Ok (record { contents = m; count = h.count + run; room = room }))) same reads;
+  reads = subst (λ (h : Header). Reads (layout_in file) file (Ok (record { contents = m; count = h.count + run; room = room }))) same reads;
   added = subst (λ (h : Header). Appends was now (report_text h run room m)) same added;
 }
 

@@ -2,8 +2,7 @@
 use Rattle.std.specs.Prelude.{ℕ, ◌+◌, List, Option, Ok}
 use Rattle.std.specs.Io.KnownBytes.{Appends}
 use Rattle.im_types.specs.Contents.{Contents}
-use Rattle.im_types.specs.Header.{header_of}
-use Rattle.im_types.specs.Layout.{layout_in_use}
+use Rattle.im_types.specs.Header.{header_of, layout_in}
 use Rattle.im_types.specs.Meaning.{Reads}
 use Rattle.im_report.specs.Report.{report_text}
 
@@ -12,5 +11,5 @@ pub record Tells (file : List ℕ) (was now : Option (List ℕ)) : Type 0 where
   pub memory : Contents
   pub run : ℕ
   pub room : ℕ
-  pub reads : Reads layout_in_use file (Ok (record { contents = memory; count = (header_of file).count + run; room = room }))
+  pub reads : Reads (layout_in file) file (Ok (record { contents = memory; count = (header_of file).count + run; room = room }))
   pub added : Appends was now (report_text (header_of file) run room memory)

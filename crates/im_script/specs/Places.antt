@@ -6,7 +6,7 @@ use Rattle.im_types.specs.declared.operations.Op.TheVariants as op
 use Rattle.im_script.specs.declared.places.Place.{Place}
 use Rattle.im_script.specs.declared.places.Place.TheVariants.{Address, Named}
 use Rattle.im_script.specs.declared.places.Action.{Action}
-use Rattle.im_script.specs.declared.places.Action.TheVariants.{Alloc, Release, Fetch, Store, Take, Put}
+use Rattle.im_script.specs.declared.places.Action.TheVariants.{Alloc, Release, Fetch, Store, Take, Put, Reset}
 
 -- n, where a u32 has it
 abbrev pub as_u32 : ℕ → Option ℕ

@@ -1,6 +1,6 @@
 # A fetch comes before its store
 -- An I cell is written at most once. A fetch that comes too early is deferred, and the store answers it.
-format 4096 16 256 in 327680 bytes = formatted
+format 4096 16 256 in 450560 bytes = formatted
 0.1 alloc i 2 = base 0
 1.1 fetch 0 = waiting
 2.1 store 0 42 = stored
@@ -13,7 +13,7 @@ slot 1 = a501040001000000 0100000000000000 0100000000000000 and 40 zeros
 slot 2 = a501050002000000 0200000000000000 0100000000000000 0000000000000000 2a00000000000000 and 24 zeros
 slot 3 = a501040001000000 0300000000000000 0200000000000000 and 40 zeros
 slot 4 = 64 zeros
-bytes 311296 8 = a501010000000000
+bytes 434176 8 = a501010000000000
 
 # Readers wait in their order, and one store answers them all
 format 4096 16 256 = formatted
@@ -96,6 +96,41 @@ collect 1.1 = value 9
 waiting 0 = 1.3
 collect 1.1 = value 9
 
+# A reset empties the cells of a block, which begin anew
+format 4096 16 256 = formatted
+0.1 alloc i 2 = base 0
+1.1 store 0 5 = stored
+1.2 store 0 6 = clash
+0.2 reset 0 = cleared
+cell 0 = empty in block 0 of 2 i
+1.3 fetch 0 = waiting
+0.3 reset 0 = stillwaiting
+waiting 0 = 1.3
+1.4 store 0 6 = stored
+collect 1.3 = value 6
+0.4 reset 1 = noblock
+count = 8
+-- Sent again it is told what it was told, and empties nothing.
+0.2 reset 0 = cleared
+cell 0 = full 6 in block 0 of 2 i
+count = 8
+close = closed
+slot 3 = a501090000000000 0300000000000000 0200000000000000 and 40 zeros
+open = opened
+count = 8
+collect 0.2 = cleared
+cell 0 = full 6 in block 0 of 2 i
+-- And so it is on the pages.
+turns 60 = began, page 0 to 51, synced, in force, 3 swept, 2 idle; room 55x248 251 254 3x256
+close = closed
+open = opened
+count = 8
+collect 0.2 = cleared
+0.3 reset 0 = stillwaiting
+0.4 reset 1 = noblock
+0.5 reset 0 = cleared
+cell 0 = empty in block 0 of 2 i
+
 # Blocks and addresses have edges
 format 4096 16 256 = formatted
 0.1 alloc i 4096 = base 0
@@ -105,8 +140,8 @@ format 4096 16 256 = formatted
 1.1 fetch 4096 = nocell
 1.2 fetch 4294967295 = nocell
 
-# The greatest memory serves
-format 65536 64 4096 in 4628480 bytes = formatted
+# A great memory serves
+format 65536 64 4096 in 5120000 bytes = formatted
 0.1 alloc i 65536 = base 0
 63.1 store 65535 18446744073709551615 = stored
 63.2 fetch 65535 = value 18446744073709551615

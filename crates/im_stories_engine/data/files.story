@@ -6,10 +6,12 @@ format 4096 16 256 = formatted
 2.1 store 0 42 = stored
 close = closed
 with 0:a5 = count 3 room 253
--- The gate of the header, its version, and the operation of the second command.
+-- The gate of the header, its version, and an operation that there isn't, of the second command.
 with 0:00 = refused 13 NoHeader
 with 2:09 = refused 14 BadHeader
-with 311362:09 = refused 16 BadRecord
+with 434242:0a = refused 16 BadRecord
+-- A reset in place of the fetch: the store finds the cell empty.
+with 434242:09 = count 3 room 253
 
 # The memory of an area is opened, and serves on
 -- The pages of a memory with three readers are put into the area in force of a new image, and a count of four.
@@ -18,7 +20,7 @@ format 4096 16 256 = formatted
 1.1 fetch 0 = waiting
 2.1 fetch 0 = waiting
 1.2 fetch 0 = waiting
-pages = 37
+pages = 52
 format 4096 16 256 = formatted
 close = closed
 damage pages at 8192 = done
@@ -47,7 +49,7 @@ format 4096 16 256 = formatted
 1.1 fetch 0 = waiting
 2.1 fetch 0 = waiting
 1.2 fetch 0 = waiting
-pages = 37
+pages = 52
 format 4096 16 256 = formatted
 close = closed
 damage pages at 8192 = done
@@ -65,16 +67,16 @@ format 4096 16 256 = formatted
 1.1 fetch 0 = waiting
 2.1 fetch 0 = waiting
 1.2 fetch 0 = waiting
-turns 43 = began, page 0 to 36, synced, in force, 2 swept, idle; room 40x252 255 2x256
+turns 58 = began, page 0 to 51, synced, in force, 2 swept, idle; room 55x252 255 2x256
 close = closed
 bytes 4096 2 = a501
 with = count 4 room 256
--- Area 1 stands behind the 37 pages of area 0. The first and the last node of cell 0 are 0 and 2, and the last leads to
+-- Area 1 stands behind the 52 pages of area 0. The first and the last node of cell 0 are 0 and 2, and the last leads to
 -- none.
-bytes 159756 4 = 00000000
-bytes 159760 4 = 02000000
-bytes 290848 4 = ffffffff
-with 290848:00 290849:00 290850:00 290851:00 = refused 15 BadPage
+bytes 221196 4 = 00000000
+bytes 221200 4 = 02000000
+bytes 352288 4 = ffffffff
+with 352288:00 352289:00 352290:00 352291:00 = refused 15 BadPage
 -- The same bytes of area 0, which isn't in force any more.
 with 139296:00 139297:00 139298:00 139299:00 = count 4 room 256
 
@@ -86,14 +88,46 @@ with 0:00 = refused 13 NoHeader
 with 1:01 = refused 14 BadHeader
 with 8:00 = refused 14 BadHeader
 with 15:40 = refused 14 BadHeader
--- No cells, 15 slots, a byte behind the slots, and version 9.
+-- No cells, 15 slots, a byte behind the slots, version 9, and no version.
 with 24:00 = refused 14 BadHeader
 with 32:0f = refused 14 BadHeader
 with 36:01 = refused 14 BadHeader
 with 2:09 = refused 14 BadHeader
+with 2:00 = refused 14 BadHeader
 -- One generation twice, and a later header that isn't spelled.
 with 4096:a5 4104:01 = refused 14 BadHeader
 with 4096:a5 4104:02 = refused 14 BadHeader
+
+# A sound header of the first version is told before the length, the pages and the journal are looked at
+format 1 1 16 = formatted
+close = closed
+with 2:01 = refused 21 OldVersion
+-- A slot more than the file has, a cell that isn't spelled, and a slot before its time.
+with 2:01 32:11 = refused 21 OldVersion
+with 2:01 8192:07 = refused 21 OldVersion
+with 2:01 33088:a5 33096:05 = refused 21 OldVersion
+-- No gate, another area, no generation, a great one; and 65,537 cells, which only the second version may have.
+with 2:01 0:00 = refused 13 NoHeader
+with 2:01 1:01 = refused 14 BadHeader
+with 2:01 8:00 = refused 14 BadHeader
+with 2:01 15:40 = refused 14 BadHeader
+with 2:01 26:01 = refused 14 BadHeader
+-- One generation twice; and the other header in force, of either version.
+with 2:01 4096:a5 4104:01 = refused 14 BadHeader
+with 2:01 4096:a5 4097:01 4098:02 4100:49 4101:4d 4102:45 4103:4d 4104:02 4120:01 4124:01 4128:10 = refused 15 BadPage
+with 4096:a5 4097:01 4098:01 4100:49 4101:4d 4102:45 4103:4d 4104:02 4120:01 4124:01 4128:10 = refused 21 OldVersion
+length 8191 = refused 12 WrongLength
+
+# An image of the first version isn't opened, and nothing is written to it
+old image 4096 16 256 in 327680 bytes = closed
+bytes 0 8 = a5000100494d454d
+open = refused 21 OldVersion
+-- A sync and the two headers.
+calls = 3
+bytes 0 8 = a5000100494d454d
+bytes 4096 1 = 00
+length 312320 = refused 21 OldVersion
+length 450560 = refused 21 OldVersion
 
 # Bytes beside the header in force do not count
 format 1 1 16 = formatted
@@ -109,11 +143,11 @@ with 4096:a5 = count 0 room 16
 # A damaged area is told
 format 1 1 16 = formatted
 close = closed
--- Sizes that are not those of the file: 129 cells, 17 slots, two cells, two elements.
+-- Sizes that are not those of the file: 129 cells, 17 slots, two elements, two cells.
 with 24:81 = refused 12 WrongLength
 with 32:11 = refused 12 WrongLength
+with 28:02 = refused 12 WrongLength
 with 24:02 = refused 15 BadPage
-with 28:02 = refused 15 BadPage
 -- A hole that leads to itself, a block past the last cell, 17 entries, and the area that isn't in force.
 with 8200:00 8201:00 8202:00 8203:00 = count 0 room 16
 with 8192:01 8193:01 8196:00 8200:02 8201:00 8202:00 8203:00 = refused 15 BadPage
@@ -149,7 +183,7 @@ close = closed
 each 0 to 0 as 00 01 ff = refused 13 NoHeader, refused 13 NoHeader, refused 13 NoHeader
 -- The area, the version, and the letters IMEM.
 each 1 to 1 as 00 01 ff = count 0 room 16, refused 14 BadHeader, refused 14 BadHeader
-each 2 to 2 as 00 01 ff = refused 14 BadHeader, count 0 room 16, refused 14 BadHeader
+each 2 to 2 as 00 01 02 ff = refused 14 BadHeader, refused 21 OldVersion, count 0 room 16, refused 14 BadHeader
 each 3 to 3 as 00 01 ff = count 0 room 16, refused 14 BadHeader, refused 14 BadHeader
 each 4 to 7 as 00 01 ff = refused 14 BadHeader, refused 14 BadHeader, refused 14 BadHeader
 -- The generation, and the count.
@@ -167,7 +201,8 @@ each 23 to 23 as 00 01 ff = count 0 room 16, count 72057594037927936 room 16, re
 -- The cells, the elements, and the slots.
 each 24 to 24 as 00 01 ff = refused 14 BadHeader, count 0 room 16, refused 12 WrongLength
 each 25 to 25 as 00 01 ff = count 0 room 16, refused 12 WrongLength, refused 12 WrongLength
-each 26 to 27 as 00 01 ff = count 0 room 16, refused 14 BadHeader, refused 14 BadHeader
+each 26 to 26 as 00 01 ff = count 0 room 16, refused 12 WrongLength, refused 14 BadHeader
+each 27 to 27 as 00 01 ff = count 0 room 16, refused 14 BadHeader, refused 14 BadHeader
 each 28 to 28 as 00 01 ff = refused 14 BadHeader, count 0 room 16, refused 14 BadHeader
 each 29 to 31 as 00 01 ff = count 0 room 16, refused 14 BadHeader, refused 14 BadHeader
 each 32 to 32 as 00 01 ff = refused 14 BadHeader, refused 14 BadHeader, refused 12 WrongLength
@@ -184,8 +219,10 @@ each 6 to 6 as 44 45 46 = refused 14 BadHeader, count 0 room 16, refused 14 BadH
 each 7 to 7 as 4c 4d 4e = refused 14 BadHeader, count 0 room 16, refused 14 BadHeader
 each 15 to 15 as 3f 40 = count 0 room 16, refused 14 BadHeader
 each 23 to 23 as 3f 40 41 = count 4539628424389459968 room 16, count 4611686018427387904 room 0, refused 14 BadHeader
+each 2 to 2 as 03 = refused 14 BadHeader
 each 24 to 24 as 80 81 = refused 15 BadPage, refused 12 WrongLength
-each 28 to 28 as 02 04 05 40 = refused 15 BadPage, refused 15 BadPage, refused 12 WrongLength, refused 12 WrongLength
+each 26 to 26 as 0f 10 = refused 12 WrongLength, refused 14 BadHeader
+each 28 to 28 as 02 40 = refused 12 WrongLength, refused 12 WrongLength
 each 28 to 28 as 41 = refused 14 BadHeader
 each 32 to 32 as 0f 10 11 = refused 14 BadHeader, count 0 room 16, refused 12 WrongLength
 each 33 to 33 as 0f 10 = refused 12 WrongLength, refused 14 BadHeader

@@ -1,6 +1,6 @@
 # Three requests go to the disk as one group
 -- The bodies stand in three slots, and one gate opens them: the first slot says that there are three.
-format 4096 16 256 in 327680 bytes = formatted
+format 4096 16 256 in 450560 bytes = formatted
 together 0.1 alloc i 2 with 1.1 fetch 0 with 2.1 store 0 42 = base 0, waiting, stored
 count = 3
 room = 253

@@ -11,7 +11,7 @@ close = closed
 -- The gate is open at 165. The area, the version, and the letters IMEM.
 in each value of 0 to 0 = refused 13 NoHeader from 0, opened from 165, refused 13 NoHeader from 166
 in each value of 1 to 1 = opened from 0, refused 14 BadHeader from 1
-in each value of 2 to 2 = refused 14 BadHeader from 0, opened from 1, refused 14 BadHeader from 2
+in each value of 2 to 2 = refused 14 BadHeader from 0, refused 21 OldVersion from 1, opened from 2, refused 14 BadHeader from 3
 in each value of 3 to 3 = opened from 0, refused 14 BadHeader from 1
 in each value of 4 to 4 = refused 14 BadHeader from 0, opened from 73, refused 14 BadHeader from 74
 in each value of 5 to 5 = refused 14 BadHeader from 0, opened from 77, refused 14 BadHeader from 78
@@ -26,8 +26,9 @@ in each value of 23 to 23 = opened from 0, refused 14 BadHeader from 65
 -- Cells, elements, slots. Cells more are on the same page and aren't spelled; a page more makes the image longer.
 in each value of 24 to 24 = refused 14 BadHeader from 0, opened from 1, refused 15 BadPage from 2, refused 12 WrongLength from 129
 in each value of 25 to 25 = opened from 0, refused 12 WrongLength from 1
-in each value of 26 to 27 = opened from 0, refused 14 BadHeader from 1
-in each value of 28 to 28 = refused 14 BadHeader from 0, opened from 1, refused 15 BadPage from 2, refused 12 WrongLength from 5, refused 14 BadHeader from 65
+in each value of 26 to 26 = opened from 0, refused 12 WrongLength from 1, refused 14 BadHeader from 16
+in each value of 27 to 27 = opened from 0, refused 14 BadHeader from 1
+in each value of 28 to 28 = refused 14 BadHeader from 0, opened from 1, refused 12 WrongLength from 2, refused 14 BadHeader from 65
 in each value of 29 to 31 = opened from 0, refused 14 BadHeader from 1
 in each value of 32 to 32 = refused 14 BadHeader from 0, opened from 16, refused 12 WrongLength from 17
 in each value of 33 to 33 = opened from 0, refused 12 WrongLength from 1, refused 14 BadHeader from 16

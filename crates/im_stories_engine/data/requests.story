@@ -36,34 +36,34 @@ calls = 16
 # A full window takes no more until it is confirmed
 format 4096 16 256 = formatted
 0.1 alloc i 1 = base 0
-16 times 1.1 fetch 0 = 16 waiting
-1.17 fetch 0 = refused 3 WindowFull
+64 times 1.1 fetch 0 = 64 waiting
+1.65 fetch 0 = refused 3 WindowFull
 -- Nothing that waits can be confirmed, and nothing that wasn't asked.
 confirm 1 2 = refused 6 NotAnswered
-confirm 1 18 = refused 1 Gap
+confirm 1 66 = refused 1 Gap
 2.1 store 0 8 = stored
-confirm 1 17 = confirmed
+confirm 1 65 = confirmed
 1.1 fetch 0 = refused 2 Forgotten
-1.17 fetch 0 = value 8
-count = 20
-room = 236
-window 1 = 17 18
+1.65 fetch 0 = value 8
+count = 68
+room = 188
+window 1 = 65 66
 -- A confirmation that forgets nothing isn't counted.
 confirm 1 1 = confirmed
-count = 20
-room = 236
-window 1 = 17 18
-collect 1.17 = value 8
+count = 68
+room = 188
+window 1 = 65 66
+collect 1.65 = value 8
 
 # A confirmation stands in its slot
 format 4096 16 256 = formatted
-16 times 1.1 fetch 5 = 16 nocell
-confirm 1 17 = confirmed
-1.17 fetch 5 = nocell
-count = 18
+64 times 1.1 fetch 5 = 64 nocell
+confirm 1 65 = confirmed
+1.65 fetch 5 = nocell
+count = 66
 close = closed
--- The gate, a group of one, operation 8, element 1; sequence number 16; up to 17.
-slot 16 = a501080001000000 1000000000000000 1100000000000000 and 40 zeros
+-- The gate, a group of one, operation 8, element 1; sequence number 64; up to 65.
+slot 64 = a501080001000000 4000000000000000 4100000000000000 and 40 zeros
 
 # A full journal refuses what it would accept
 format 4096 16 16 = formatted
@@ -94,6 +94,6 @@ format 1 1 16 in 33791 bytes = refused 12 WrongLength
 calls = 0
 format 1 1 16 in 33793 bytes = refused 12 WrongLength
 calls = 0
-format 1 1 16 in 327680 bytes = refused 12 WrongLength
+format 1 1 16 in 450560 bytes = refused 12 WrongLength
 calls = 0
 format 1 1 16 in 33792 bytes = formatted

@@ -18,52 +18,52 @@ close = closed
 -- The format makes four calls, the three commands twelve, and the turns thirteen.
 calls = 29
 
-# A full journal is emptied by 46 turns
-format 4096 16 16 in 312320 bytes = formatted
+# A full journal is emptied by 61 turns
+format 4096 16 16 in 435200 bytes = formatted
 16 times 1.1 fetch 0 = 16 nocell
 room = 0
 2.1 fetch 0 = refused 7 JournalFull
 collect 2.1 = refused 1 Gap
 count = 16
--- There is no room before the first sweep. An area has 37 pages.
-turns 47 = began, page 0 to 36, synced, in force, 6 swept, idle; room 40x0 3 6 9 12 15 2x16
+-- There is no room before the first sweep. An area has 52 pages.
+turns 62 = began, page 0 to 51, synced, in force, 6 swept, idle; room 55x0 3 6 9 12 15 2x16
 count = 16
 close = closed
--- The format, sixteen commands, and the turns: 37, 2, 4, five times 4, and 2.
-calls = 133
+-- The format, sixteen commands, and the turns: 52, 2, 4, five times 4, and 2.
+calls = 148
 
 # A run wraps the journal three times
 -- After the format all pages of the other area are written. From then on only those that changed since the area's last
--- checkpoint began: the sessions of elements 1 to 3 stand on page 33.
+-- checkpoint began: the sessions of elements 1 to 3 stand on the pages 37 to 39.
 format 4096 16 16 = formatted
 plan 16 times 1.1 fetch 0 = 16 events
-plan 47 turns = 63 events
-plan 16 times 2.1 fetch 0 = 79 events
-plan 11 turns = 90 events
-plan 16 times 3.1 fetch 0 = 106 events
-plan 11 turns = 117 events
-plan 4.1 fetch 0 = 118 events
-plan 4.2 fetch 0 = 119 events
-run = 119 answers
-answers 0 to 62 = 16 nocell, began, page 0 to 36, synced, in force, 6 swept, idle
-answers 63 to 89 = 16 nocell, began, page 33, synced, in force, 6 swept, idle
-answers 90 to 116 = 16 nocell, began, page 33, synced, in force, 6 swept, idle
-answers 117 to 118 = 2 nocell
+plan 62 turns = 78 events
+plan 16 times 2.1 fetch 0 = 94 events
+plan 12 turns = 106 events
+plan 16 times 3.1 fetch 0 = 122 events
+plan 12 turns = 134 events
+plan 4.1 fetch 0 = 135 events
+plan 4.2 fetch 0 = 136 events
+run = 136 answers
+answers 0 to 77 = 16 nocell, began, page 0 to 51, synced, in force, 6 swept, idle
+answers 78 to 105 = 16 nocell, began, page 37 to 38, synced, in force, 6 swept, idle
+answers 106 to 133 = 16 nocell, began, page 38 to 39, synced, in force, 6 swept, idle
+answers 134 to 135 = 2 nocell
 close = closed
 open = opened
 count = 50
 room = 14
 -- After an opening every page of both areas counts as changed.
-turns 45 = began, page 0 to 36, synced, in force, swept, 4 idle; room 40x14 5x16
+turns 60 = began, page 0 to 51, synced, in force, swept, 4 idle; room 55x14 5x16
 
 # The third header is in force after three checkpoints
 format 4096 16 16 = formatted
 16 times 1.1 fetch 0 = 16 nocell
-turns 46 = began, page 0 to 36, synced, in force, 6 swept; room 40x0 3 6 9 12 15 16
+turns 61 = began, page 0 to 51, synced, in force, 6 swept; room 55x0 3 6 9 12 15 16
 16 times 2.1 fetch 0 = 16 nocell
-turns 10 = began, page 33, synced, in force, 6 swept; room 4x0 3 6 9 12 15 16
+turns 11 = began, page 37 to 38, synced, in force, 6 swept; room 5x0 3 6 9 12 15 16
 16 times 3.1 fetch 0 = 16 nocell
-turns 10 = began, page 33, synced, in force, 6 swept; room 4x0 3 6 9 12 15 16
+turns 11 = began, page 38 to 39, synced, in force, 6 swept; room 5x0 3 6 9 12 15 16
 4.1 fetch 0 = nocell
 close = closed
 -- The gate and the area of the other header, its generation and its count.
@@ -71,8 +71,8 @@ bytes 4096 2 = a501
 bytes 4104 1 = 04
 bytes 4112 1 = 30
 -- The gate of the first slot, and its sequence number.
-bytes 311296 1 = a5
-bytes 311304 1 = 30
+bytes 434176 1 = a5
+bytes 434184 1 = 30
 
 # A page is written as it was when the checkpoint began
 -- A store acts behind the first turn, on the page of cells and on both pages of sessions that are still to be written.
@@ -82,7 +82,7 @@ format 4096 16 256 = formatted
 1.1 fetch 0 = waiting
 turn = began
 2.1 store 0 7 = stored
-turns 39 = page 0 to 36, synced, in force; room 39x253
+turns 54 = page 0 to 51, synced, in force; room 54x253
 close = closed
 crash lost = crashed
 -- The header in force: its gate and area, its generation and its count.

@@ -7,7 +7,7 @@ use im_types::Limits;
 
 // The same requests wait at a cell, in the same order.
 fn has_same_waiters(fast: &Memory, plain: &PlainMemory, limits: Limits, a: u32) -> Result<()> {
-    for place in 0..(limits.elements as usize * 16 + 1) {
+    for place in 0..(limits.elements as usize * 64 + 1) {
         let waiter = plain.waiter(a, place);
         if fast.waiter(a, place) != waiter {
             return Err(anyhow!("other requests wait at cell {a}"));

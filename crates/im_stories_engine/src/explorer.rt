@@ -12,7 +12,7 @@ use im_plain::PlainMemory;
 use im_types::{Command, Limits, Outcome, Refusal, Request, Served};
 use std::alloc::Global;
 
-/// The cells of the memory, which has sixteen elements.
+/// The cells of the memory.
 pub const CELLS: u32 = 24;
 
 /// What was answered: the memory after it, how many commands that is, and the commands of the last call, of which

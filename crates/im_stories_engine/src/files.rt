@@ -1,15 +1,27 @@
 //! How an image is formatted, closed, crashed and opened again.
 
-use crate::disks::{crash, limits, mode};
+use crate::disks::{crash, limits, mode, put, steady};
 use crate::engines::Engines;
 use crate::scripts::Script;
 use anyhow::{Result, anyhow};
 use im_disk::{FuseDisk, MemDisk};
 use im_engine::Engine;
 use im_image::image_length;
-use im_story::{add_refusal, address, element, number, place};
+use im_story::{add_refusal, address, element, number, old_image, place};
 use im_types::{Limits, Refusal};
 use std::alloc::Global;
+
+// Lays down a new image of the first version, in a file of this length.
+fn lay_old(engines: &mut Engines, alloc: Global, limits: Limits, length: usize) -> Result<()> {
+    let image = old_image(alloc, limits)?;
+    if image.len() != length {
+        return Err(anyhow!("it has {} bytes", image.len()));
+    }
+    let mut disk = MemDisk::new(alloc, length)?;
+    put(&mut disk, 0, image.as_slice())?;
+    engines.lay_down(steady(disk));
+    Ok(())
+}
 
 // An engine, or the disk that it was to be on. Tells `made`, or why it wasn't.
 fn take_over(
@@ -69,7 +81,7 @@ fn leave(engines: &mut Engines, word: &str) -> Result<()> {
     Ok(())
 }
 
-/// Whether the words are `format`, `fuse`, `open`, `close` or `crash`.
+/// Whether the words are `format`, `old image`, `fuse`, `open`, `close` or `crash`.
 pub fn tell(
     engines: &mut Engines,
     alloc: Global,
@@ -84,6 +96,20 @@ pub fn tell(
         ["format", cells, elements, slots, "in", length, "bytes"] => {
             let limits = limits(address(cells)?, element(elements)?, address(slots)?)?;
             format(engines, alloc, limits, place(length)?, said)?;
+        }
+        [
+            "old",
+            "image",
+            cells,
+            elements,
+            slots,
+            "in",
+            length,
+            "bytes",
+        ] => {
+            let limits = limits(address(cells)?, element(elements)?, address(slots)?)?;
+            lay_old(engines, alloc, limits, place(length)?)?;
+            said.push_str("closed")?;
         }
         ["fuse", passes, how] => {
             engines.fuse = Some((number(passes)?, mode(how)?));

@@ -8,6 +8,7 @@
 //! fuse 11 stop = set              the disk of the next format or opening passes 11 calls, and then stops; or fails
 //!                                 once, or once with a byte all over what was to be written, scar:a5
 //! format 4096 16 256 = formatted  a new image of so many cells, elements and slots; or in a file of so many bytes
+//! old image 4096 16 256 in 327680 bytes = closed   a new image of the first version, laid down
 //! 16 times 1.1 fetch 0 = 16 nocell    sixteen requests, 1.1 to 1.16
 //! together 0.1 alloc i 2 with 1.1 fetch 0 = base 0, waiting    requests of different elements as one group
 //! turns 3 = began, page 0 to 1; room 3x0

@@ -51,16 +51,17 @@ impl Walk {
     fn answered_at_once(&mut self, cells: u32) -> Op {
         let a = self.below(cells as u64 + 1) as u32;
         let value = self.below(100);
-        match self.below(8) {
+        match self.below(9) {
             0 => Op::Alloc(Kind::I, self.below(6) as u32),
             1 => Op::Alloc(Kind::M, self.below(6) as u32),
             2 => Op::Release(a),
-            3 | 4 => Op::Store(a, value),
+            3 => Op::Reset(a),
+            4 | 5 => Op::Store(a, value),
             _ => Op::Put(a, value),
         }
     }
 
-    // One of the seven operations, on a cell at an address up to `cells`. One in two may wait.
+    // One of the eight operations, on a cell at an address up to `cells`. One in two may wait.
     fn operation(&mut self, cells: u32) -> Op {
         let a = self.below(cells as u64 + 1) as u32;
         match self.below(4) {
@@ -75,7 +76,7 @@ impl Walk {
         match self.below(16) {
             0 => asker.base.saturating_sub(1),
             1 => asker.next.saturating_add(1),
-            2 => asker.base.saturating_add(self.below(16)),
+            2 => asker.base.saturating_add(self.below(64)),
             _ => asker.next,
         }
     }
@@ -118,15 +119,16 @@ impl Walk {
         Command::Request(self.asked(plain, asker, cells))
     }
 
-    /// One to sixteen requests for a memory of sixteen elements, each of another element of it, or of one more.
-    /// Seventeen is a prime number, so any step goes through all of them.
+    /// One request for each element of a memory at most, each of another element of it, or of one more. Memories have six
+    /// or sixteen elements here: seven and seventeen are prime numbers, so any step goes through all of them.
     pub fn group(&mut self, plain: &PlainMemory, cells: u32) -> ArrayVec<Request, 16> {
         let mut members = ArrayVec::new();
-        let step = self.below(16) + 1;
-        let mut element = self.below(17);
-        for _ in 0..self.below(16) + 1 {
-            element = element.wrapping_add(step);
-            let _is_full = members.try_push(self.request(plain, (element % 17) as u16, cells));
+        let elements = if plain.elements() == 6 { 6 } else { 16 };
+        let step = self.below(elements) + 1;
+        let mut element = self.below(elements + 1);
+        for _ in 0..self.below(elements) + 1 {
+            element = element.wrapping_add(step) % (elements + 1);
+            let _is_full = members.try_push(self.request(plain, element as u16, cells));
         }
         members
     }

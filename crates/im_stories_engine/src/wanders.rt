@@ -15,8 +15,12 @@ use im_story::number;
 use im_types::{Command, Limits, Refusal};
 use std::alloc::Global;
 
-// The elements of an engine that is stopped.
+// The elements of an engine that is stopped again and again.
 const ELEMENTS: u16 = 16;
+
+// Those of an engine that is stopped at each call in turn: each has a page of its own in both areas of the image, which
+// is made anew for each call.
+const SIX_ELEMENTS: u16 = 6;
 
 // Those of the memories that are only compared.
 const FEW_ELEMENTS: u16 = 4;
@@ -103,7 +107,7 @@ fn ways() -> [(Mode, Crash); 6] {
 
 // Does so many events on a disk that passes so many calls, and opens what a crash leaves. Whether the disk has stopped.
 fn stops(alloc: Global, events: u64, seed: u64, passes: u64, way: (Mode, Crash)) -> Result<bool> {
-    let limits = limits(CELLS, ELEMENTS, SLOTS)?;
+    let limits = limits(CELLS, SIX_ELEMENTS, SLOTS)?;
     let mut engine = formatted(alloc, limits, passes, way.0)?;
     let mut known = nothing(alloc, limits)?;
     let mut walk = Walk::new(seed);

@@ -42,8 +42,8 @@ turn = page 1
 turn = page 2
 turn = synced
 turn = in force
--- An open gate, area 1, version 1, IMEM; generation 2; count 3; 1 cell, 1 element; 16 slots.
-read 4096 8 = a5 01 01 00 49 4d 45 4d
+-- An open gate, area 1, version 2, IMEM; generation 2; count 3; 1 cell, 1 element; 16 slots.
+read 4096 8 = a5 01 02 00 49 4d 45 4d
 read 4104 8 = 02 00 00 00 00 00 00 00
 read 4112 8 = 03 00 00 00 00 00 00 00
 read 4120 8 = 01 00 00 00 01 00 00 00

@@ -3,7 +3,7 @@
 -- call alone, and `if KIND CALL` tells what the call would answer after a crash here.
 
 # Commands stand one behind another, in slots of 64 bytes
-disk 327680 = blank
+disk 450560 = blank
 journal 4096 16 256 = fresh
 append 0.1 alloc i 2 = ok
 append 1.1 fetch 0 = ok
@@ -22,14 +22,14 @@ first = 0
 count = 4
 room = 252
 -- An open gate, a group of one, the code, and the element; the sequence number; the request; the address; the value.
-read 311296 8 = a5 01 01 00 00 00 00 00
-read 311304 8 = 00*8
-read 311312 8 = 01 00 00 00 00 00 00 00
-read 311320 8 = 02 00 00 00 00 00 00 00
-read 311328 32 = 00*32
-read 311360 64 = a5 01 04 00 01 00 00 00 01 00 00 00 00 00 00 00 01 00*47
-read 311424 64 = a5 01 05 00 02 00 00 00 02 00 00 00 00 00 00 00 01 00*15 2a 00*31
-read 311488 64 = a5 01 04 00 01 00 00 00 03 00 00 00 00 00 00 00 02 00*47
+read 434176 8 = a5 01 01 00 00 00 00 00
+read 434184 8 = 00*8
+read 434192 8 = 01 00 00 00 00 00 00 00
+read 434200 8 = 02 00 00 00 00 00 00 00
+read 434208 32 = 00*32
+read 434240 64 = a5 01 04 00 01 00 00 00 01 00 00 00 00 00 00 00 01 00*47
+read 434304 64 = a5 01 05 00 02 00 00 00 02 00 00 00 00 00 00 00 01 00*15 2a 00*31
+read 434368 64 = a5 01 04 00 01 00 00 00 03 00 00 00 00 00 00 00 02 00*47
 
 # Each operation has its code, and is read again
 spell 4611686018427387903 0.1 alloc i 4294967295 = code 1, read again
@@ -40,6 +40,7 @@ spell 4611686018427387903 65535.18446744073709551615 store 4294967295 1844674407
 spell 4611686018427387903 4.5 take 9 = code 6, read again
 spell 4611686018427387903 5.6 put 10 11 = code 7, read again
 spell 4611686018427387903 confirm 65535 18446744073709551615 = code 8, read again
+spell 4611686018427387903 6.7 reset 4294967295 = code 9, read again
 
 # A body that a stop left behind a closed gate doesn't count
 disk 33792 = blank
@@ -96,9 +97,10 @@ tail 0 = 1 commands, room 15
 with 32769:00 tail 0 = refused 16 BadRecord
 with 32769:02 tail 0 = refused 16 BadRecord
 with 32769:11 tail 0 = refused 16 BadRecord
--- No code, and a ninth.
+-- No code, and a tenth. The ninth is of a reset.
 with 32770:00 tail 0 = refused 16 BadRecord
-with 32770:09 tail 0 = refused 16 BadRecord
+with 32770:0a tail 0 = refused 16 BadRecord
+with 32770:09 tail 0 = 1 commands, room 15
 -- Behind the code, behind the element, behind the address.
 with 32771:01 tail 0 = refused 16 BadRecord
 with 32774:01 tail 0 = refused 16 BadRecord
@@ -115,6 +117,21 @@ append confirm 1 2 = ok
 tail 0 = 1 commands, room 15
 with 32792:01 tail 0 = refused 16 BadRecord
 with 32807:01 tail 0 = refused 16 BadRecord
+
+# The ring of an image of the first version stands where that layout has it
+-- One cell and five elements: areas of four pages, and by the second version of eight.
+disk 74752 = blank
+journal 1 5 16 = fresh
+old slot 0 0.1 alloc i 1 = ok
+old slot 1 4.1 fetch 0 = ok
+read 40960 3 = a5 01 01
+old tail 0 = 2 commands, room 14
+command 1 = 4.1 fetch 0
+tail 0 = 0 commands, room 16
+slot 0 3.1 fetch 0 = ok
+read 73728 3 = a5 01 04
+tail 0 = 1 commands, room 15
+command 0 = 3.1 fetch 0
 
 # An append that is stopped at its first call isn't on the disk
 disk 33792 = blank
@@ -275,7 +292,7 @@ if lost tail 14 = 2 commands, room 3
 if a5 tail 14 = 2 commands, room 3
 
 # Commands of one group stand behind one gate
-disk 327680 = blank
+disk 450560 = blank
 journal 4096 16 256 = fresh
 group 0.1 alloc i 2 and 1.1 fetch 0 and 2.1 store 0 42 = ok
 -- A body for each, a sync, the gate of the first, a sync.
@@ -287,20 +304,20 @@ command 0 = 0.1 alloc i 2
 command 1 = 1.1 fetch 0
 command 2 = 2.1 store 0 42
 -- The first slot has the gate and counts three; the others have neither.
-read 311296 8 = a5 03 01 00 00 00 00 00
-read 311304 8 = 00*8
-read 311312 8 = 01 00 00 00 00 00 00 00
-read 311320 8 = 02 00 00 00 00 00 00 00
-read 311328 32 = 00*32
-read 311360 64 = 00 00 04 00 01 00 00 00 01 00 00 00 00 00 00 00 01 00*47
-read 311424 64 = 00 00 05 00 02 00 00 00 02 00 00 00 00 00 00 00 01 00*15 2a 00*31
+read 434176 8 = a5 03 01 00 00 00 00 00
+read 434184 8 = 00*8
+read 434192 8 = 01 00 00 00 00 00 00 00
+read 434200 8 = 02 00 00 00 00 00 00 00
+read 434208 32 = 00*32
+read 434240 64 = 00 00 04 00 01 00 00 00 01 00 00 00 00 00 00 00 01 00*47
+read 434304 64 = 00 00 05 00 02 00 00 00 02 00 00 00 00 00 00 00 01 00*15 2a 00*31
 -- Their gates aren't looked at, but their counts and numbers are.
-with 311360:a5 tail 0 = 3 commands, room 253
-with 311361:01 tail 0 = refused 16 BadRecord
-with 311368:02 tail 0 = refused 16 BadRecord
-with 311297:02 tail 0 = 2 commands, room 254
-with 311297:04 tail 0 = refused 16 BadRecord
-with 311296:00 tail 0 = 0 commands, room 256
+with 434240:a5 tail 0 = 3 commands, room 253
+with 434241:01 tail 0 = refused 16 BadRecord
+with 434248:02 tail 0 = refused 16 BadRecord
+with 434177:02 tail 0 = 2 commands, room 254
+with 434177:04 tail 0 = refused 16 BadRecord
+with 434176:00 tail 0 = 0 commands, room 256
 -- A command by itself comes behind them.
 tail 0 = 3 commands, room 253
 append 1.2 fetch 1 = ok
@@ -347,7 +364,7 @@ room = 0
 tail 4611686018427387902 = 2 commands, room 0
 
 # A group that is stopped at the write of its first body isn't on the disk
-disk 327680 = blank
+disk 450560 = blank
 fuse stop 0 = so
 journal 4096 16 256 = fresh
 group 0.1 alloc i 2 and 1.1 fetch 0 and 2.1 store 0 42 = refused 8 Device
@@ -359,7 +376,7 @@ if lost tail 0 = 0 commands, room 256
 if a5 tail 0 = 0 commands, room 256
 
 # A group that is stopped at the write of its second body isn't on the disk
-disk 327680 = blank
+disk 450560 = blank
 fuse stop 1 = so
 journal 4096 16 256 = fresh
 group 0.1 alloc i 2 and 1.1 fetch 0 and 2.1 store 0 42 = refused 8 Device
@@ -371,7 +388,7 @@ if lost tail 0 = 0 commands, room 256
 if a5 tail 0 = 0 commands, room 256
 
 # A group that is stopped at the write of its last body isn't on the disk
-disk 327680 = blank
+disk 450560 = blank
 fuse stop 2 = so
 journal 4096 16 256 = fresh
 group 0.1 alloc i 2 and 1.1 fetch 0 and 2.1 store 0 42 = refused 8 Device
@@ -383,7 +400,7 @@ if lost tail 0 = 0 commands, room 256
 if a5 tail 0 = 0 commands, room 256
 
 # A group that is stopped at the sync of its bodies isn't on the disk
-disk 327680 = blank
+disk 450560 = blank
 fuse stop 3 = so
 journal 4096 16 256 = fresh
 group 0.1 alloc i 2 and 1.1 fetch 0 and 2.1 store 0 42 = refused 8 Device
@@ -395,7 +412,7 @@ if lost tail 0 = 0 commands, room 256
 if a5 tail 0 = 0 commands, room 256
 
 # A group that is stopped at the write of its gate is on the disk or not, whole
-disk 327680 = blank
+disk 450560 = blank
 fuse stop 4 = so
 journal 4096 16 256 = fresh
 group 0.1 alloc i 2 and 1.1 fetch 0 and 2.1 store 0 42 = refused 8 Device
@@ -407,7 +424,7 @@ if lost tail 0 = 0 commands, room 256
 if a5 tail 0 = 3 commands, room 253
 
 # A group that is stopped at the sync of its gate is on the disk or not, whole
-disk 327680 = blank
+disk 450560 = blank
 fuse stop 5 = so
 journal 4096 16 256 = fresh
 group 0.1 alloc i 2 and 1.1 fetch 0 and 2.1 store 0 42 = refused 8 Device
@@ -419,7 +436,7 @@ if lost tail 0 = 0 commands, room 256
 if a5 tail 0 = 3 commands, room 253
 
 # A group that was answered is on the disk for good
-disk 327680 = blank
+disk 450560 = blank
 fuse stop 6 = so
 journal 4096 16 256 = fresh
 group 0.1 alloc i 2 and 1.1 fetch 0 and 2.1 store 0 42 = ok

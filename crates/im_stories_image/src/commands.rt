@@ -18,6 +18,7 @@ fn add_op(said: &mut String, op: Op) -> Result<(), AllocError> {
             write!(said, "alloc {letter} {length}")
         }
         Op::Release(a) => write!(said, "release {a}"),
+        Op::Reset(a) => write!(said, "reset {a}"),
         Op::Fetch(a) => write!(said, "fetch {a}"),
         Op::Store(a, value) => write!(said, "store {a} {value}"),
         Op::Take(a) => write!(said, "take {a}"),

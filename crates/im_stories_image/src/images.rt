@@ -3,11 +3,13 @@
 //! ```text
 //! layout CELLS ELEMENTS SLOTS    the pages of an area, where the journal begins, and the length
 //! image CELLS ELEMENTS SLOTS     a new image on a disk of its own
+//! old layout .., old image ..    the same by the first version of the layout; the header of the image is in force
 //! cut N                          a disk with the first bytes of the disk
 //! header AREA GENERATION COUNT CELLS ELEMENTS SLOTS    spells a header in its place
 //! header at AREA                 the header that stands there behind its gate
 //! in force                       the header in force, or the first fault of the length and the headers
 //! inspect                        what the image means, or its first fault
+//! to open                        the same, or that it is of the first version
 //! encode AREA                    puts the pages of the memory there
 //! ```
 
@@ -17,11 +19,12 @@ use crate::place::Place;
 use anyhow::{Result, anyhow};
 use im_disk::{Disk, MemDisk};
 use im_image::{
-    Header, PAGE, VERSION, area_at, area_pages, encode, image_length, inspect, journal_at,
-    new_image, read_header,
+    Header, PAGE, VERSION, area_at, area_pages, encode, inspect, new_image, read_header,
+    read_to_open,
 };
 use im_memory::Memory;
-use im_story::{add_refusal, number, place};
+use im_story::{add_refusal, number, old_image, place};
+use im_types::layout::Version;
 use im_types::{Limits, Refusal};
 use std::alloc::{AllocError, Global};
 
@@ -32,15 +35,22 @@ pub fn disk_of(alloc: Global, bytes: &[u8]) -> Result<MemDisk, Refusal> {
     Ok(disk)
 }
 
-fn layout(limits: Limits, said: &mut String) -> Result<(), AllocError> {
-    let (pages, at, length) = (area_pages(limits), journal_at(limits), image_length(limits));
+fn layout(version: Version, limits: Limits, said: &mut String) -> Result<(), AllocError> {
+    let (pages, at) = (version.area_pages(limits), version.journal_at(limits));
+    let length = version.image_length(limits);
     write!(said, "{pages} pages, journal at {at}, {length} bytes")
 }
 
-fn image(alloc: Global, here: &mut Place, limits: Limits, said: &mut String) -> Result<()> {
-    let bytes = new_image(alloc, limits)?;
+// An image on a disk of its own.
+fn image(
+    alloc: Global,
+    here: &mut Place,
+    bytes: &[u8],
+    limits: Limits,
+    said: &mut String,
+) -> Result<()> {
     let length = bytes.len();
-    here.disk = Some(Blind::new(disk_of(alloc, &bytes)?));
+    here.disk = Some(Blind::new(disk_of(alloc, bytes)?));
     here.limits = Some(limits);
     write!(said, "{length} bytes")?;
     Ok(())
@@ -129,17 +139,34 @@ fn header_in_force(disk: &mut Blind, said: &mut String) -> Result<(), AllocError
     }
 }
 
+// What an image means by its header, its run and its room.
+fn add_meaning(said: &mut String, header: &Header, run: u64, room: u32) -> Result<(), AllocError> {
+    let (generation, count) = (header.generation, header.count);
+    write!(
+        said,
+        "generation {generation}, count {count}, run {run}, room {room}"
+    )
+}
+
 // What the image means. The memory is the one that is told of from then on.
 fn inspected(alloc: Global, here: &mut Place, said: &mut String) -> Result<()> {
     match inspect(alloc, here.disk()?) {
         Ok(report) => {
-            let (generation, count) = (report.header.generation, report.header.count);
-            let (run, room) = (report.run, report.room);
-            write!(
-                said,
-                "generation {generation}, count {count}, run {run}, room {room}"
-            )?;
+            add_meaning(said, &report.header, report.run, report.room)?;
             here.memory = Some(report.memory);
+        }
+        Err(refusal) => add_refusal(said, refusal)?,
+    }
+    Ok(())
+}
+
+// The same of an image that is to be opened.
+fn opened(alloc: Global, here: &mut Place, said: &mut String) -> Result<()> {
+    match read_to_open(alloc, here.disk()?) {
+        Ok(image) => {
+            let run = image.journal.count().saturating_sub(image.header.count);
+            add_meaning(said, &image.header, run, image.journal.room())?;
+            here.memory = Some(image.memory);
         }
         Err(refusal) => add_refusal(said, refusal)?,
     }
@@ -202,12 +229,23 @@ pub fn tell_of_image(
     said: &mut String,
 ) -> Result<bool> {
     match words {
-        ["layout", cells, elements, slots] => layout(sizes(cells, elements, slots)?, said)?,
+        ["layout", cells, elements, slots] => {
+            layout(Version::Two, sizes(cells, elements, slots)?, said)?
+        }
+        ["old", "layout", cells, elements, slots] => {
+            layout(Version::One, sizes(cells, elements, slots)?, said)?
+        }
         ["image", cells, elements, slots] => {
-            image(alloc, here, sizes(cells, elements, slots)?, said)?
+            let limits = sizes(cells, elements, slots)?;
+            image(alloc, here, &new_image(alloc, limits)?, limits, said)?
+        }
+        ["old", "image", cells, elements, slots] => {
+            let limits = sizes(cells, elements, slots)?;
+            image(alloc, here, &old_image(alloc, limits)?, limits, said)?
         }
         ["cut", length] => cut(alloc, here, place(length)?, said)?,
         ["inspect"] => inspected(alloc, here, said)?,
+        ["to", "open"] => opened(alloc, here, said)?,
         ["encode", of] => put_pages(alloc, here, area(of)?, said)?,
         _ => return tell_of_headers(here, words, said),
     }

@@ -4,12 +4,13 @@
 //! journal CELLS ELEMENTS SLOTS   a new one, of an image of these sizes
 //! append COMMAND, append fetches 1 to N    the second: element 0 fetches cell 0, by its requests 1 to N
 //! group COMMAND and COMMAND ..   appends them as one group
-//! tail FROM                      reads the run from this count on
+//! tail FROM, old tail FROM       reads the run from this count on; the second, of an image of the first version
 //! command I                      the command at this place of the run that was read
 //! first, count, room, to sweep   of the journal
 //! begin later FROM               the run begins at this count
 //! sweep                          a turn of the sweep: how many gates it closed
 //! slot S COMMAND, body S COMMAND puts the slot of a command in its place by hand, or all of it but the gate
+//! old slot S COMMAND             the same in an image of the first version
 //! spell S COMMAND                its code, and whether it is read of it again
 //! ```
 
@@ -19,9 +20,9 @@ use crate::disks::add_passed;
 use crate::place::Place;
 use anyhow::{Result, anyhow};
 use im_disk::Disk;
-use im_image::journal_at;
 use im_journal::{Journal, read, spell};
 use im_story::{add_refusal, address, command, element, number, place};
+use im_types::layout::Version;
 use im_types::{Command, LAST, Limits, MAX_GROUP, Op, Refusal, Request};
 use std::alloc::{AllocError, Global};
 
@@ -89,12 +90,18 @@ fn append_group(here: &mut Place, commands: &[Command], said: &mut String) -> Re
     Ok(())
 }
 
-fn tail(alloc: Global, here: &mut Place, from: u64, said: &mut String) -> Result<()> {
+fn tail(
+    alloc: Global,
+    here: &mut Place,
+    version: Version,
+    from: u64,
+    said: &mut String,
+) -> Result<()> {
     let limits = here.limits()?;
     if from > LAST {
         return Err(anyhow!("there is no such count"));
     }
-    match Journal::read_tail(alloc, here.disk()?, limits, from) {
+    match Journal::read_tail(alloc, here.disk()?, version, limits, from) {
         Ok((journal, commands)) => {
             let (count, room) = (commands.len(), journal.room());
             write!(said, "{count} commands, room {room}")?;
@@ -139,6 +146,7 @@ fn sweep(here: &mut Place, said: &mut String) -> Result<()> {
 // Puts what stands from this byte on in the slot of a command in its place.
 fn put_slot(
     here: &mut Place,
+    version: Version,
     from: usize,
     sequence: u64,
     words: &[&str],
@@ -150,7 +158,7 @@ fn put_slot(
         return Err(anyhow!("a slot begins at its gate or at its body"));
     }
     let place = (sequence % limits.slots as u64) as usize;
-    let at = journal_at(limits) + 64 * place + from;
+    let at = version.journal_at(limits) + 64 * place + from;
     add_passed(said, here.disk()?.write_at(at, &slot[from..]))?;
     Ok(())
 }
@@ -196,8 +204,15 @@ fn tell_of_counts(journal: &Journal, words: &[&str], said: &mut String) -> Resul
 // Calls on slots by themselves.
 fn tell_of_slots(here: &mut Place, words: &[&str], said: &mut String) -> Result<bool> {
     match words {
-        ["slot", sequence, rest @ ..] => put_slot(here, 0, number(sequence)?, rest, said)?,
-        ["body", sequence, rest @ ..] => put_slot(here, 1, number(sequence)?, rest, said)?,
+        ["slot", sequence, rest @ ..] => {
+            put_slot(here, Version::Two, 0, number(sequence)?, rest, said)?
+        }
+        ["body", sequence, rest @ ..] => {
+            put_slot(here, Version::Two, 1, number(sequence)?, rest, said)?
+        }
+        ["old", "slot", sequence, rest @ ..] => {
+            put_slot(here, Version::One, 0, number(sequence)?, rest, said)?
+        }
         ["spell", sequence, rest @ ..] => spelled(number(sequence)?, rest, said)?,
         ["command", at] => add_command(said, command_read(here, place(at)?))?,
         _ => match here.journal() {
@@ -231,7 +246,8 @@ pub fn tell_of_journal(
         ["append", "fetches", "1", "to", upto] => append_fetches(here, number(upto)?, said)?,
         ["append", rest @ ..] => append(here, &command(rest)?, said)?,
         ["group", rest @ ..] => append_group(here, &several(alloc, rest)?, said)?,
-        ["tail", from] => tail(alloc, here, number(from)?, said)?,
+        ["tail", from] => tail(alloc, here, Version::Two, number(from)?, said)?,
+        ["old", "tail", from] => tail(alloc, here, Version::One, number(from)?, said)?,
         ["begin", "later", from] => {
             begin_later(here, number(from)?)?;
             said.push_str("ok")?;

@@ -26,7 +26,7 @@ fn make(alloc: Global, here: &mut Place, limits: Limits) -> Result<()> {
 
 // Who waits at a cell, in their order.
 fn waiting(memory: &Memory, a: u32, said: &mut String) -> Result<(), AllocError> {
-    for at in 0..1_025usize {
+    for at in 0..4_097usize {
         let Some(waiter) = memory.waiter(a, at) else {
             return Ok(());
         };

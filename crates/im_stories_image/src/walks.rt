@@ -4,6 +4,7 @@ use crate::images::area_of;
 use anyhow::{Result, anyhow};
 use im_image::{PAGE, area_pages, decode};
 use im_memory::Memory;
+use im_types::layout::Version;
 use im_types::{Command, Kind, Limits, Op, Outcome, Request};
 use std::alloc::Global;
 
@@ -23,6 +24,7 @@ fn drawn_op(lot: u64) -> Op {
         3 => Op::Store(a, lot),
         4 => Op::Put(a, lot),
         5 => Op::Take(a),
+        8 => Op::Reset(a),
         _ => Op::Fetch(a),
     }
 }
@@ -48,7 +50,7 @@ fn drawn(memory: &Memory, lot: u64) -> Command {
 }
 
 fn has_same_waiters(memory: &Memory, other: &Memory, a: u32) -> bool {
-    for at in 0..65usize {
+    for at in 0..257usize {
         if memory.waiter(a, at) != other.waiter(a, at) {
             return false;
         }
@@ -97,7 +99,7 @@ fn is_read_again(alloc: Global, memory: &Memory, limits: Limits) -> Result<bool>
     if area.len() != PAGE * area_pages(limits) {
         return Err(anyhow!("an area of another length"));
     }
-    let again = decode(alloc, &area, limits)?;
+    let again = decode(alloc, Version::Two, &area, limits)?;
     Ok(
         have_same_cells(memory, &again, limits.cells)
             && have_same_windows(memory, &again, limits.elements),

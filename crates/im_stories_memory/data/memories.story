@@ -87,6 +87,50 @@ collect 1.1 = value 9
 1.3 fetch 0 = waiting
 waiting 0 = 1.3
 
+# A reset empties the cells of a block, which begin anew
+memory 4096 cells 16 elements = made
+0.1 alloc i 2 = base 0
+1.1 store 0 5 = stored
+1.2 store 0 6 = clash
+cell 0 = clashed 5 in block 0 of 2 i
+0.2 reset 0 = cleared
+cell 0 = empty in block 0 of 2 i
+1.3 fetch 0 = waiting
+0.3 reset 0 = stillwaiting
+waiting 0 = 1.3
+1.4 store 0 6 = stored
+collect 1.3 = value 6
+0.4 reset 1 = noblock
+-- What was told stands, and a reset that comes again acts once.
+0.2 reset 0 = cleared
+cell 0 = full 6 in block 0 of 2 i
+0.2 reset 1 = refused 4 Mismatch
+0.2 release 0 = refused 4 Mismatch
+accepted = 8
+kept 0.2 = cleared for reset 0
+
+# A reset of a block of M cells, and of what is no base
+memory 4 cells 2 elements = made
+0.1 alloc m 2 = base 0
+0.2 alloc i 1 = base 2
+1.1 put 0 7 = stored
+1.2 put 1 8 = stored
+1.3 put 1 9 = clash
+1.4 store 2 5 = stored
+0.3 reset 0 = cleared
+cell 0 = empty in block 0 of 2 m
+cell 1 = empty in block 0 of 2 m
+cell 2 = full 5 in block 2 of 1 i
+1.5 take 1 = waiting
+0.4 reset 0 = stillwaiting
+1.6 put 1 3 = stored
+collect 1.5 = value 3
+0.5 reset 0 = cleared
+0.6 reset 1 = noblock
+0.7 reset 3 = noblock
+0.8 reset 4 = noblock
+0.9 reset 4294967295 = noblock
+
 # A request that comes again acts once, and one that can't come is refused
 memory 4096 cells 16 elements = made
 0.1 alloc i 1 = base 0
@@ -103,41 +147,41 @@ waiting 0 = 1.1
 accepted = 3
 window 1 = 1 2
 
-# Seventeen fetches of one element need one confirmation
+# Sixty-five fetches of one element need one confirmation
 memory 4096 cells 16 elements = made
 0.1 alloc i 1 = base 0
 accepted = 1
-1.1 to 16 fetch 0 = 16 wait
-accepted = 17
-1.17 fetch 0 = refused 3 WindowFull
+1.1 to 64 fetch 0 = 64 wait
+accepted = 65
+1.65 fetch 0 = refused 3 WindowFull
 -- What waits can't be forgotten, nor what isn't there.
 confirm 1 2 = refused 6 NotAnswered
-confirm 1 18 = refused 1 Gap
+confirm 1 66 = refused 1 Gap
 2.1 store 0 8 = stored
-confirm 1 17 = confirmed
+confirm 1 65 = confirmed
 1.1 fetch 0 = refused 2 Forgotten
-1.17 fetch 0 = value 8
+1.65 fetch 0 = value 8
 -- Leave that was given before changes nothing.
 confirm 1 1 = confirmed
 confirm 16 1 = refused 5 NoElement
-accepted = 20
-window 1 = 17 18
+accepted = 68
+window 1 = 65 66
 window 16 = refused 5 NoElement
 
 # Every entry of every window can wait at one cell, and one store answers them all
 memory 1 cells 3 elements = made
 0.1 alloc i 1 = base 0
 confirm 0 2 = confirmed
-0.2 to 17 fetch 0 = 16 wait
-1.1 to 16 fetch 0 = 16 wait
-2.1 to 15 fetch 0 = 15 wait
-waiter 0 46 = 2.15
-waiter 0 47 = none
+0.2 to 65 fetch 0 = 64 wait
+1.1 to 64 fetch 0 = 64 wait
+2.1 to 63 fetch 0 = 63 wait
+waiter 0 190 = 2.63
+waiter 0 191 = none
 -- The last request that has room is the store.
-2.16 store 0 6 = stored
+2.64 store 0 6 = stored
 collect 0.2 = value 6
-collect 1.16 = value 6
-collect 2.15 = value 6
+collect 1.64 = value 6
+collect 2.63 = value 6
 waiting 0 =
 
 # The least memory serves its one element at its one cell
@@ -180,8 +224,8 @@ memory 4 cells 3 elements = made
 record 0 = waiting in block 0 of 1 i
 nodes 0 = 1.1 2.1 1.2
 -- All other nodes are free, and past the nodes too.
-listed 48 = 3
-node 48 = free, next none
+listed 192 = 3
+node 192 = free, next none
 
 # Thrown commands leave both memories in order
 -- A command is accepted exactly where it changes its element's window; each request that waits stands once at its cell,

@@ -23,10 +23,47 @@ set 1 full 9 = set
 release 0 = true
 cell 1 = free
 
+# A block whose cells become empty again stays where it is, but not while one of them is waited for
+table 8 cells = made
+place m 3 = 0
+place i 2 = 3
+set 0 full 7 = set
+set 1 clashed 8 = set
+set 2 waiting = set
+set 3 full 9 = set
+reset 0 = false
+cell 0 = full 7 in block 0 of 3 m
+cell 1 = clashed 8 in block 0 of 3 m
+set 2 empty = set
+reset 0 = true
+cell 0 = empty in block 0 of 3 m
+cell 1 = empty in block 0 of 3 m
+cell 2 = empty in block 0 of 3 m
+-- The block behind it is as before. 4 lies within it, 5 is free, and 8 lies past the last cell.
+cell 3 = full 9 in block 3 of 2 i
+reset 4 = false
+reset 5 = false
+reset 8 = false
+place i 3 = 5
+release 0 = true
+
 # A table without cells has no place
 table 0 cells = made
 place i 1 = none
+reset 0 = false
 cell 0 = free
+
+# The largest table is one block
+table 1048576 cells = made
+place i 1048576 = 0
+cell 1048575 = empty in block 0 of 1048576 i
+cell 1048576 = free
+set 1048575 full 18446744073709551615 = set
+reset 0 = true
+cell 1048575 = empty in block 0 of 1048576 i
+release 0 = true
+place m 1048575 = 0
+place i 1 = 1048575
 
 # All cells are taken one by one and given back in another order, and the holes are one again
 table 65536 cells = made

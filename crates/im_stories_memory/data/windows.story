@@ -16,53 +16,23 @@ kept 1.2 = none
 
 # A full window has room after a confirmation
 windows 16 = made
-keep waiting for 1.1 fetch 0 = fresh
-keep waiting for 1.2 fetch 0 = fresh
-keep waiting for 1.3 fetch 0 = fresh
-keep waiting for 1.4 fetch 0 = fresh
-keep waiting for 1.5 fetch 0 = fresh
-keep waiting for 1.6 fetch 0 = fresh
-keep waiting for 1.7 fetch 0 = fresh
-keep waiting for 1.8 fetch 0 = fresh
-keep waiting for 1.9 fetch 0 = fresh
-keep waiting for 1.10 fetch 0 = fresh
-keep waiting for 1.11 fetch 0 = fresh
-keep waiting for 1.12 fetch 0 = fresh
-keep waiting for 1.13 fetch 0 = fresh
-keep waiting for 1.14 fetch 0 = fresh
-keep waiting for 1.15 fetch 0 = fresh
-keep waiting for 1.16 fetch 0 = fresh
-keep waiting for 1.17 fetch 0 = refused 3 WindowFull
+keep waiting for 1.1 to 64 fetch 0 = 64 fresh
+keep waiting for 1.65 fetch 0 = refused 3 WindowFull
 -- What waits can't be forgotten, nor what isn't there.
 confirm 1 2 = refused 6 NotAnswered
-confirm 1 18 = refused 1 Gap
+confirm 1 66 = refused 1 Gap
 confirm 16 1 = refused 5 NoElement
-answer 1.1 value 8 = answered
-answer 1.2 value 8 = answered
-answer 1.3 value 8 = answered
-answer 1.4 value 8 = answered
-answer 1.5 value 8 = answered
-answer 1.6 value 8 = answered
-answer 1.7 value 8 = answered
-answer 1.8 value 8 = answered
-answer 1.9 value 8 = answered
-answer 1.10 value 8 = answered
-answer 1.11 value 8 = answered
-answer 1.12 value 8 = answered
-answer 1.13 value 8 = answered
-answer 1.14 value 8 = answered
-answer 1.15 value 8 = answered
-answer 1.16 value 8 = answered
-window 1 = 1 17
-confirm 1 17 = confirmed
+answer 1.1 to 64 value 8 = 64 answered
+window 1 = 1 65
+confirm 1 65 = confirmed
 keep waiting for 1.1 fetch 0 = refused 2 Forgotten
-keep value 8 for 1.17 fetch 0 = fresh
+keep value 8 for 1.65 fetch 0 = fresh
 -- Leave that was given before changes nothing.
 confirm 1 1 = confirmed
-window 1 = 17 18
-entry 1.16 = refused 2 Forgotten
-entry 1.17 = value 8
-entry 1.18 = refused 1 Gap
+window 1 = 65 66
+entry 1.64 = refused 2 Forgotten
+entry 1.65 = value 8
+entry 1.66 = refused 1 Gap
 entry 16.1 = refused 5 NoElement
 window 16 = refused 5 NoElement
 
@@ -118,19 +88,19 @@ window 0 = 1 1
 window 2 = 1 1
 
 # A window is restored at each place of its ring, with each number of entries
--- From 1 to 39 on, with none to 16 entries: each entry is there, and none is before them or behind; a new request is
--- fresh, or refused with WindowFull behind 16.
+-- From 1 to 130 on, with none to 64 entries: each entry is there, and none is before them or behind; a new request is
+-- fresh, or refused with WindowFull behind 64.
 windows 1 = made
-restore each = 663 windows go on
+restore each = 8450 windows go on
 
 # A window is restored behind the last number, and up to it
 windows 1 = made
 restore 0 from 4611686018427387905 = 0 entries
 window 0 = 4611686018427387905 4611686018427387905
 keep waiting for 0.4611686018427387905 fetch 0 = refused 1 Gap
--- They have the values 100 to 115.
-show 16 fetches = shown
-restore 0 from 4611686018427387889 = 16 entries
-entry 0.4611686018427387904 = value 115
+-- They have the values 100 to 163.
+show 64 fetches = shown
+restore 0 from 4611686018427387841 = 64 entries
+entry 0.4611686018427387904 = value 163
 confirm 0 4611686018427387905 = confirmed
 window 0 = 4611686018427387905 4611686018427387905

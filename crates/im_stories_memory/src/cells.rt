@@ -114,6 +114,7 @@ pub fn tell(alloc: Global, table: &mut CellTable, words: &[&str], said: &mut Str
     match words {
         ["place", of, length] => add_number(said, place(table, kind(of)?, address(length)?)),
         ["release", base] => add_truth(said, table.release(address(base)?)),
+        ["reset", base] => add_truth(said, table.reset(address(base)?)),
         ["set", a, rest @ ..] => set(table, address(a)?, cell(rest)?, said),
         ["cell", a] => tell_cell(table, address(a)?, said),
         ["cells"] => add_count(said, table.cells()),

@@ -101,7 +101,7 @@ impl Memories {
 
 // All that wait at a cell, in their order.
 fn add_waiting(said: &mut String, memories: &Memories, a: u32) -> Result<()> {
-    for place in 0..1_025usize {
+    for place in 0..4_097usize {
         let waiter = memories.waiter(a, place)?;
         if waiter.is_none() {
             return Ok(());

@@ -9,12 +9,13 @@ use im_types::{Block, Cell, Command, Entry, Kept, Kind, Op, Refusal, Request, Wa
 fn any_op(dice: &mut Dice) -> Op {
     let a = dice.below(9);
     let kind = if dice.below(2) == 0 { Kind::I } else { Kind::M };
-    match dice.below(10) {
+    match dice.below(11) {
         0 | 1 => Op::Alloc(kind, dice.below(4)),
         2 => Op::Release(a),
         3 | 4 => Op::Fetch(a),
         5 => Op::Store(a, 7),
         6 | 7 => Op::Take(a),
+        8 => Op::Reset(a),
         _ => Op::Put(a, 8),
     }
 }
@@ -73,7 +74,7 @@ fn turns(memories: &mut Memories, command: &Command) -> Result<bool> {
 // How often a request waits at a cell.
 fn times_at(memories: &Memories, a: u32, who: Waiter) -> Result<u32> {
     let mut times = 0u32;
-    for place in 0..48usize {
+    for place in 0..192usize {
         match memories.waiter(a, place)? {
             None => return Ok(times),
             Some(waiter) if waiter == who => times = times.saturating_add(1),

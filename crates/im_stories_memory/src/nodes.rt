@@ -76,7 +76,7 @@ pub fn add_nodes(said: &mut String, memory: &Memory, a: u32) -> Result<()> {
         return Err(anyhow!("nobody waits"));
     };
     let (mut at, mut before) = (first, NONE);
-    for _ in 0..1_025u32 {
+    for _ in 0..4_097u32 {
         let NodeRecord::Listed { next, waiter } = memory.records().node_record(at) else {
             break;
         };

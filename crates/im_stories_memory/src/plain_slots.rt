@@ -72,6 +72,22 @@ fn release(slots: &mut [Option<Slot>], base: u32) -> bool {
     true
 }
 
+// The cells of a block become empty.
+fn reset(slots: &mut [Option<Slot>], base: u32) -> bool {
+    let Some(slot) = slot_at(slots, base) else {
+        return false;
+    };
+    let block = slot.block;
+    if block.base != base || waits(slots, block) {
+        return false;
+    }
+    for a in base..base.saturating_add(block.length) {
+        let cell = Cell::Empty;
+        write(slots, a, Some(Slot { block, cell }));
+    }
+    true
+}
+
 fn cell_for(number: u64) -> Cell {
     match number % 4 {
         0 => Cell::Empty,
@@ -99,13 +115,14 @@ fn set(table: &mut CellTable, slots: &mut [Option<Slot>], a: u32, cell: Cell) ->
 fn call(table: &mut CellTable, slots: &mut [Option<Slot>], thrown: u64) -> bool {
     let number = thrown >> 40;
     let a = (number % 26) as u32;
-    match thrown >> 33 & 3 {
-        0 => {
+    match thrown >> 33 & 7 {
+        0 | 1 => {
             let n = (number % 6) as u32 + 1;
             let kind = if number % 5 < 3 { Kind::I } else { Kind::M };
             table.place(kind, n) == place(slots, kind, n)
         }
-        1 => table.release(a) == release(slots, a),
+        2 => table.release(a) == release(slots, a),
+        3 => table.reset(a) == reset(slots, a),
         _ => set(table, slots, a, cell_for(number)),
     }
 }

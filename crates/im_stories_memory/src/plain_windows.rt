@@ -102,7 +102,7 @@ fn any_number(dice: &mut Dice, plain: &PlainWindow) -> u64 {
         1 => plain.base.saturating_add(dice.below(3) as u64),
         _ => plain
             .base
-            .saturating_add(dice.below(20) as u64)
+            .saturating_add(dice.below(70) as u64)
             .saturating_sub(2),
     }
 }

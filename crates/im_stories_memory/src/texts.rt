@@ -104,6 +104,7 @@ fn add_op(said: &mut String, op: Op) -> Result<()> {
         Op::Alloc(Kind::I, n) => Ok(write!(said, "alloc i {n}")?),
         Op::Alloc(Kind::M, n) => Ok(write!(said, "alloc m {n}")?),
         Op::Release(a) => Ok(write!(said, "release {a}")?),
+        Op::Reset(a) => Ok(write!(said, "reset {a}")?),
         Op::Fetch(a) => Ok(write!(said, "fetch {a}")?),
         Op::Store(a, value) => Ok(write!(said, "store {a} {value}")?),
         Op::Take(a) => Ok(write!(said, "take {a}")?),

@@ -80,6 +80,30 @@ fn keep(windows: &mut Windows, entry: Entry, asked: &[&str], said: &mut String) 
     add_judged(said, ask(&mut windows.sessions, &request(asked)?, entry))
 }
 
+// How many of a window's requests from one number to another are fresh, and kept with this entry.
+fn keep_each(
+    windows: &mut Windows,
+    entry: Entry,
+    first: Waiter,
+    last: u64,
+    asked: &[&str],
+    said: &mut String,
+) -> Result<()> {
+    let op = op(asked)?;
+    let mut fresh = 0u32;
+    for number in first.number..last.saturating_add(1) {
+        let request = Request {
+            element: first.element,
+            number,
+            op,
+        };
+        if ask(&mut windows.sessions, &request, entry) == Ok(Judged::Fresh) {
+            fresh = fresh.saturating_add(1);
+        }
+    }
+    Ok(write!(said, "{fresh} fresh")?)
+}
+
 // One more entry that the next window is restored from.
 fn show(windows: &mut Windows, entry: Entry, asked: &[&str], said: &mut String) -> Result<()> {
     let op = op(asked)?;
@@ -87,10 +111,10 @@ fn show(windows: &mut Windows, entry: Entry, asked: &[&str], said: &mut String) 
     Ok(said.push_str("shown")?)
 }
 
-// Sixteen fetches, with the values 100 to 115.
+// As many fetches as a window holds, with the values from 100 on.
 fn fetches(alloc: Global) -> Result<Vec<Kept>> {
     let mut kept = Vec::new(alloc);
-    for i in 0..16u64 {
+    for i in 0..WINDOW {
         kept.push(Kept {
             op: Op::Fetch(0),
             entry: Entry::Answered(Reply::Value(100 + i)),
@@ -120,6 +144,27 @@ fn tell_answer(windows: &mut Windows, who: Waiter, value: u64, said: &mut String
     Ok(said.push_str(if waited { "answered" } else { "nobody waits" })?)
 }
 
+// How many of an element's requests from one number to another waited, and are answered with a value.
+fn tell_answers(
+    windows: &mut Windows,
+    first: Waiter,
+    last: u64,
+    value: u64,
+    said: &mut String,
+) -> Result<()> {
+    let mut answered = 0u32;
+    for number in first.number..last.saturating_add(1) {
+        let who = Waiter {
+            element: first.element,
+            number,
+        };
+        if answer(&mut windows.sessions, who, Reply::Value(value)) {
+            answered = answered.saturating_add(1);
+        }
+    }
+    Ok(write!(said, "{answered} answered")?)
+}
+
 fn tell_entry(sessions: &Sessions, who: Waiter, said: &mut String) -> Result<()> {
     Ok(add_answer(said, sessions.entry(who.element, who.number))?)
 }
@@ -131,8 +176,16 @@ fn tell_kept(sessions: &Sessions, who: Waiter, said: &mut String) -> Result<()> 
 /// Makes a call of windows.
 pub fn tell(alloc: Global, windows: &mut Windows, words: &[&str], said: &mut String) -> Result<()> {
     match words {
+        ["keep", of, "for", first, "to", last, asked @ ..] => {
+            let (first, last) = (waiter(first)?, number(last)?);
+            keep_each(windows, entry(of, "")?, first, last, asked, said)
+        }
         ["keep", of, "for", asked @ ..] => keep(windows, entry(of, "")?, asked, said),
         ["keep", of, with, "for", asked @ ..] => keep(windows, entry(of, with)?, asked, said),
+        ["answer", first, "to", last, "value", value] => {
+            let (last, value) = (number(last)?, number(value)?);
+            tell_answers(windows, waiter(first)?, last, value, said)
+        }
         ["answer", who, "value", value] => tell_answer(windows, waiter(who)?, number(value)?, said),
         ["confirm", of, upto] => {
             add_confirmed(said, windows.sessions.confirm(element(of)?, number(upto)?))
@@ -155,7 +208,7 @@ fn tell_restored(
         ["elements"] => Ok(write!(said, "{}", windows.sessions.elements())?),
         ["show", of, "for", asked @ ..] => show(windows, entry(of, "")?, asked, said),
         ["show", of, with, "for", asked @ ..] => show(windows, entry(of, with)?, asked, said),
-        ["show", "16", "fetches"] => show_fetches(alloc, windows, said),
+        ["show", "64", "fetches"] => show_fetches(alloc, windows, said),
         ["restore", of, "from", base] => restore_shown(windows, element(of)?, number(base)?, said),
         ["restore", "each"] => restore_each(alloc, &mut windows.sessions, said),
         ["past", base] => add_past(said, past(&windows.sessions, number(base)?)),
@@ -213,7 +266,7 @@ fn goes_on(sessions: &mut Sessions, base: u64, kept: &[Kept]) -> bool {
         number: next,
         op: Op::Fetch(0),
     };
-    let wanted = if kept.len() < 16 {
+    let wanted = if (kept.len() as u64) < WINDOW {
         Ok(Judged::Fresh)
     } else {
         Err(Refusal::WindowFull)
@@ -223,10 +276,10 @@ fn goes_on(sessions: &mut Sessions, base: u64, kept: &[Kept]) -> bool {
         && ask(sessions, &request, Entry::Waiting) == wanted
 }
 
-// How many windows go on, of each count of entries at each base from 1 to 39: up to the first that does not.
+// How many windows go on, of each count of entries at each base from 1 to 130: up to the first that does not.
 fn restored_each(sessions: &mut Sessions, kept: &[Kept]) -> u32 {
     let mut agreed = 0u32;
-    for base in 1..40u64 {
+    for base in 1..131u64 {
         for count in 0..kept.len() + 1 {
             if !goes_on(sessions, base, &kept[..count]) {
                 return agreed;

@@ -115,23 +115,10 @@ nodes 32 = 32
 windows 2 = 2
 -- No entry
 contents = 2
--- Sixteen entries
-keep 0 release 0 -> noblock = 0.1
+-- Sixty-four entries
+keep 0 reset 0 -> cleared = 0.1
 keep 0 release 0 -> noblock = 0.2
-keep 0 release 0 -> noblock = 0.3
-keep 0 release 0 -> noblock = 0.4
-keep 0 release 0 -> noblock = 0.5
-keep 0 release 0 -> noblock = 0.6
-keep 0 release 0 -> noblock = 0.7
-keep 0 release 0 -> noblock = 0.8
-keep 0 release 0 -> noblock = 0.9
-keep 0 release 0 -> noblock = 0.10
-keep 0 release 0 -> noblock = 0.11
-keep 0 release 0 -> noblock = 0.12
-keep 0 release 0 -> noblock = 0.13
-keep 0 release 0 -> noblock = 0.14
-keep 0 release 0 -> noblock = 0.15
-keep 0 release 0 -> noblock = 0.16
+keep 0 62 stores = 0.3 to 64
 contents = 2
 -- Base 0
 window 0 0 = set

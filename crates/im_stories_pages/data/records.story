@@ -73,6 +73,10 @@ spell entry release 7 -> noblock = 03 00 0a 00 07 00*27
 read = release 7 -> noblock
 spell entry release 7 -> stillwaiting = 03 00 0b 00 07 00*27
 read = release 7 -> stillwaiting
+spell entry reset 7 -> cleared = 09 00 0c 00 07 00*27
+read = reset 7 -> cleared
+spell entry reset 4294967295 -> stillwaiting = 09 00 0b 00 ff*4 00*24
+read = reset 4294967295 -> stillwaiting
 spell entry fetch 5 -> value 42 = 04 00 04 00 05 00*11 2a 00*15
 read = fetch 5 -> value 42
 spell entry store 5 42 -> stored = 05 00 05 00 05 00*3 2a 00*23
@@ -96,9 +100,9 @@ byte 1 1 = refused 1
 byte 3 1 = refused 3
 -- A fetch has no value to store, and while it waits it has none that was read.
 byte 8..31 1 = refused 8..31
--- The operations are 1 to 7, and the replies 0 to 11, of which 0 is that there is none yet.
-values 0 = refused 0, read 1..7, refused 8..255
-values 2 = read 0..11, refused 12..255
+-- The operations are 1 to 7 and 9, and the replies 0 to 12, of which 0 is that there is none yet.
+values 0 = refused 0, read 1..7, refused 8, read 9, refused 10..255
+values 2 = read 0..12, refused 13..255
 -- No byte at all
 read entry = refused
 -- A base lies below 2^32.

@@ -24,13 +24,13 @@ refusal NotBlank = refused 22 NotBlank
 refusal BadPlan = refused 23 BadPlan
 refusal PaneGone = refused 24 PaneGone
 
-# A memory has 1 to 65,536 cells, 1 to 64 elements, and 16 to 4,096 slots of its journal
+# A memory has 1 to 1,048,576 cells, 1 to 64 elements, and 16 to 4,096 slots of its journal
 limits 4096 16 256 = 4096 16 256
 limits 1 1 16 = 1 1 16
-limits 65536 64 4096 = 65536 64 4096
+limits 1048576 64 4096 = 1048576 64 4096
 -- Cells
 limits 0 16 256 = none
-limits 65537 16 256 = none
+limits 1048577 16 256 = none
 limits 4294967295 16 256 = none
 -- Elements
 limits 4096 0 256 = none

@@ -1,12 +1,13 @@
 //! Areas, whose pages are made record by record.
 
 use crate::rows::Rows;
+use crate::values::Sizes;
 use anyhow::{Result, anyhow};
 use im_records::{
     AreaRecords, CELLS_ON_A_PAGE, NODES_ON_A_PAGE, PAGE, SESSIONS_ON_A_PAGE, WindowRecord,
-    area_pages, put_cell, put_node, put_session, read_area,
+    put_cell, put_node, put_session, read_area,
 };
-use im_types::{CellRecord, Limits, NodeRecord, Refusal};
+use im_types::{CellRecord, NodeRecord, Refusal};
 use std::alloc::Global;
 
 // What stood on a page before its records are put.
@@ -62,16 +63,12 @@ pub fn page_with(alloc: Global, window: &WindowRecord, place: usize) -> Result<V
 }
 
 /// The records of an area with these bytes, or why there are none.
-pub fn area(
-    alloc: Global,
-    limits: Option<Limits>,
-    bytes: &[u8],
-) -> Result<Result<AreaRecords, Refusal>> {
-    let Some(limits) = limits else {
+pub fn area(alloc: Global, sizes: Sizes, bytes: &[u8]) -> Result<Result<AreaRecords, Refusal>> {
+    let Some(limits) = sizes.limits else {
         return Err(anyhow!("there are no limits"));
     };
-    if bytes.len() != PAGE * area_pages(limits) {
+    if bytes.len() != PAGE * sizes.version.area_pages(limits) {
         return Err(anyhow!("an area isn't so long"));
     }
-    Ok(read_area(alloc, bytes, limits))
+    Ok(read_area(alloc, sizes.version, bytes, limits))
 }

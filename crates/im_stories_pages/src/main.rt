@@ -17,17 +17,16 @@ mod verdicts;
 use crate::rows::Rows;
 use crate::shown::Shown;
 use crate::spelled::Spelled;
-use crate::values::{tell_limits, tell_refusal};
+use crate::values::{Sizes, tell_refusal};
 use anyhow::Result;
 use im_story::{Scene, walk_files};
-use im_types::Limits;
 use std::alloc::Global;
 use std::process::ExitCode;
 
 /// Records, bytes that may spell some, and the lists of waiters that were last read of the records.
 #[derive(Drop)]
 struct Pages {
-    limits: Option<Limits>,
+    sizes: Sizes,
     rows: Rows,
     spelled: Spelled,
     shown: Shown,
@@ -36,7 +35,7 @@ struct Pages {
 impl Pages {
     fn new(alloc: Global) -> Pages {
         Pages {
-            limits: None,
+            sizes: Sizes::new(),
             rows: Rows::new(alloc),
             spelled: Spelled::new(alloc),
             shown: Shown::new(),
@@ -46,7 +45,7 @@ impl Pages {
 
 impl Scene for Pages {
     fn begin(&mut self) {
-        self.limits = None;
+        self.sizes = Sizes::new();
         self.rows.clear();
         self.spelled.clear();
         self.shown.clear();
@@ -54,21 +53,19 @@ impl Scene for Pages {
 
     fn tell(&mut self, alloc: Global, words: &[&str], said: &mut String) -> Result<()> {
         match words {
-            ["limits", sizes @ ..] => {
-                self.limits = tell_limits(sizes, said)?;
-                Ok(())
-            }
+            ["limits" | "version", ..] => self.sizes.tell(words, said),
             ["refusal", name] => tell_refusal(alloc, name, said),
             [
                 "cells" | "nodes" | "windows" | "cell" | "node" | "window" | "keep",
                 ..
             ] => { self.rows.tell(words, said) }
             ["blocks" | "lists" | "waiting" | "agree" | "contents", ..] => {
-                self.shown.tell(alloc, self.limits, &self.rows, words, said)
+                self.shown
+                    .tell(alloc, self.sizes.limits, &self.rows, words, said)
             }
             _ => self
                 .spelled
-                .tell(alloc, self.limits, &self.rows, words, said),
+                .tell(alloc, self.sizes, &self.rows, words, said),
         }
     }
 }

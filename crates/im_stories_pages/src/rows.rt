@@ -6,13 +6,14 @@
 //! node 0 1.1 next none = set
 //! window 0 15 = set                        a window with no entry, whose first number is 15
 //! keep 0 fetch 1 -> waiting = 0.15         one more entry of the window, and which request's it is
+//! keep 0 64 stores = 0.15 to 78            so many more, of stores of 0, 1, .. in cell 0 that clashed
 //! ```
 
 use crate::texts::{cell, kept, node};
 use anyhow::{Result, anyhow};
 use im_records::WindowRecord;
 use im_story::{number, place};
-use im_types::{CellRecord, Kept, NONE, NodeRecord};
+use im_types::{CellRecord, Entry, Kept, NONE, NodeRecord, Op, Reply, WINDOW};
 use std::alloc::Global;
 
 /// The records of cells, waiter nodes and windows.
@@ -23,10 +24,18 @@ pub struct Rows {
     pub windows: Vec<WindowRecord>,
 }
 
+/// The entry of a store of this value in cell 0 that clashed.
+pub fn clashing(value: u64) -> Kept {
+    Kept {
+        op: Op::Store(0, value),
+        entry: Entry::Answered(Reply::Clash),
+    }
+}
+
 // Gives a window one more entry, if it has room. The number that the entry has.
 fn keep(window: &mut WindowRecord, entry: Kept) -> Result<u64> {
     let count = window.kept().len();
-    if count >= 16 {
+    if count >= WINDOW as usize {
         return Err(anyhow!("the window is full"));
     }
     window.push(entry);
@@ -108,6 +117,19 @@ impl Rows {
         Ok(())
     }
 
+    fn keep_stores(&mut self, at: &str, count: u64, said: &mut String) -> Result<()> {
+        let Some(window) = self.windows.get_mut(place(at)?) else {
+            return Err(anyhow!("there is no window {at}"));
+        };
+        let (mut first, mut last) = (0, 0);
+        for value in 0..count {
+            last = keep(window, clashing(value))?;
+            first = if value == 0 { last } else { first };
+        }
+        write!(said, "{at}.{first} to {last}")?;
+        Ok(())
+    }
+
     fn set(&mut self, words: &[&str]) -> Result<()> {
         match words {
             ["cell", at, of @ ..] => self.set_cell(at, of),
@@ -129,6 +151,7 @@ impl Rows {
     /// Makes rows of records, or sets one.
     pub fn tell(&mut self, words: &[&str], said: &mut String) -> Result<()> {
         match words {
+            ["keep", at, count, "stores"] => self.keep_stores(at, number(count)?, said),
             ["keep", at, of @ ..] => self.keep(at, of, said),
             [what, count] => {
                 self.make(what, place(count)?)?;

@@ -11,13 +11,15 @@
 //! byte 4..15 1 = refused 4..15             what is read where a byte of these, each in turn, is set to 1
 //! values 6 = read 0, refused 1..255        what is read where byte 6 is set to each value
 //! kept 15 = fetch 5 -> waiting             the entry with this number, of the session that was read
+//! kept stores = 64                         how many of its first entries are of stores of 0, 1, .. in cell 0 that clashed
 //! area cell 0 = free hole 1 next none      of the area that was read; so `area node 3` and `area window 0`
 //! ```
 
 use crate::areas::{area, page_with, pages};
 use crate::bytes::{add_bytes, bytes};
-use crate::rows::Rows;
+use crate::rows::{Rows, clashing};
 use crate::texts::{add_cell, add_kept, add_node, cell, kept, node};
+use crate::values::Sizes;
 use crate::verdicts::{Form, Verdict, add_run, add_verdict, form_of, grown, look};
 use anyhow::{Result, anyhow};
 use im_records::{
@@ -25,7 +27,7 @@ use im_records::{
     spell_node, spell_place, spell_session,
 };
 use im_story::{add_refusal, byte, number, place};
-use im_types::{CellRecord, Limits, NodeRecord};
+use im_types::{CellRecord, NodeRecord};
 use std::alloc::{AllocError, Global};
 
 fn add_window_or(
@@ -174,19 +176,14 @@ impl Spelled {
         Ok(())
     }
 
-    fn read_session(&mut self, said: &mut String) -> Result<()> {
-        self.session = read_session(&self.bytes);
+    fn read_session(&mut self, sizes: Sizes, said: &mut String) -> Result<()> {
+        self.session = read_session(sizes.version, &self.bytes);
         add_window_or(said, self.session.as_ref(), "refused")?;
         Ok(())
     }
 
-    fn read_area(
-        &mut self,
-        alloc: Global,
-        limits: Option<Limits>,
-        said: &mut String,
-    ) -> Result<()> {
-        match area(alloc, limits, &self.bytes)? {
+    fn read_area(&mut self, alloc: Global, sizes: Sizes, said: &mut String) -> Result<()> {
+        match area(alloc, sizes, &self.bytes)? {
             Ok(area) => {
                 add_area(said, &area)?;
                 self.area = Some(area);
@@ -213,65 +210,53 @@ impl Spelled {
         Ok(())
     }
 
-    fn read(&mut self, alloc: Global, limits: Option<Limits>, said: &mut String) -> Result<()> {
+    fn read(&mut self, alloc: Global, sizes: Sizes, said: &mut String) -> Result<()> {
         match self.form {
-            Form::Session => self.read_session(said),
-            Form::Area => self.read_area(alloc, limits, said),
+            Form::Session => self.read_session(sizes, said),
+            Form::Area => self.read_area(alloc, sizes, said),
             _ => self.read_record(said),
         }
     }
 
-    fn tell_short(&self, alloc: Global, limits: Option<Limits>, said: &mut String) -> Result<()> {
+    fn tell_short(&self, alloc: Global, sizes: Sizes, said: &mut String) -> Result<()> {
         let Some((_, rest)) = self.bytes.split_last() else {
             return Err(anyhow!("there is no byte"));
         };
-        add_verdict(said, look(alloc, self.form, limits, rest)?)?;
+        add_verdict(said, look(alloc, self.form, sizes, rest)?)?;
         Ok(())
     }
 
     // Whether the bytes are read with one of them changed.
-    fn with_byte(
-        &self,
-        alloc: Global,
-        limits: Option<Limits>,
-        at: usize,
-        byte: u8,
-    ) -> Result<Verdict> {
+    fn with_byte(&self, alloc: Global, sizes: Sizes, at: usize, byte: u8) -> Result<Verdict> {
         let mut changed = Vec::from_slice(alloc, &self.bytes)?;
         let Some(place) = changed.get_mut(at) else {
             return Err(anyhow!("there is no byte {at}"));
         };
         *place = byte;
-        look(alloc, self.form, limits, &changed)
+        look(alloc, self.form, sizes, &changed)
     }
 
     fn tell_byte(
         &self,
         alloc: Global,
-        limits: Option<Limits>,
+        sizes: Sizes,
         (from, to): (usize, usize),
         byte: u8,
         said: &mut String,
     ) -> Result<()> {
         let mut run = None;
         for at in from..=to {
-            let verdict = self.with_byte(alloc, limits, at, byte)?;
+            let verdict = self.with_byte(alloc, sizes, at, byte)?;
             run = Some(grown(said, run, at, verdict)?);
         }
         add_run(said, run)?;
         Ok(())
     }
 
-    fn tell_values(
-        &self,
-        alloc: Global,
-        limits: Option<Limits>,
-        at: usize,
-        said: &mut String,
-    ) -> Result<()> {
+    fn tell_values(&self, alloc: Global, sizes: Sizes, at: usize, said: &mut String) -> Result<()> {
         let mut run = None;
         for byte in 0..=255u8 {
-            let verdict = self.with_byte(alloc, limits, at, byte)?;
+            let verdict = self.with_byte(alloc, sizes, at, byte)?;
             run = Some(grown(said, run, byte as usize, verdict)?);
         }
         add_run(said, run)?;
@@ -286,6 +271,22 @@ impl Spelled {
             return Err(anyhow!("the number lies below the window"));
         };
         add_kept(said, window.kept().get(usize::try_from(past)?).copied())?;
+        Ok(())
+    }
+
+    // How many of the first entries are of stores of 0, 1, .. in cell 0 that clashed.
+    fn tell_stores(&self, said: &mut String) -> Result<()> {
+        let Some(window) = &self.session else {
+            return Err(anyhow!("no session was read"));
+        };
+        let mut stores = 0u64;
+        for kept in window.kept() {
+            if *kept != clashing(stores) {
+                break;
+            }
+            stores = stores.saturating_add(1);
+        }
+        write!(said, "{stores}")?;
         Ok(())
     }
 
@@ -306,14 +307,14 @@ impl Spelled {
     fn tell_changed(
         &self,
         alloc: Global,
-        limits: Option<Limits>,
+        sizes: Sizes,
         words: &[&str],
         said: &mut String,
     ) -> Result<()> {
         match words {
-            ["short"] => self.tell_short(alloc, limits, said),
-            ["byte", at, to] => self.tell_byte(alloc, limits, places(at)?, byte(to)?, said),
-            ["values", at] => self.tell_values(alloc, limits, place(at)?, said),
+            ["short"] => self.tell_short(alloc, sizes, said),
+            ["byte", at, to] => self.tell_byte(alloc, sizes, places(at)?, byte(to)?, said),
+            ["values", at] => self.tell_values(alloc, sizes, place(at)?, said),
             _ => Err(anyhow!("no such call")),
         }
     }
@@ -322,7 +323,7 @@ impl Spelled {
     pub fn tell(
         &mut self,
         alloc: Global,
-        limits: Option<Limits>,
+        sizes: Sizes,
         rows: &Rows,
         words: &[&str],
         said: &mut String,
@@ -335,15 +336,16 @@ impl Spelled {
             ["spell", of @ ..] => self.spell(of, said),
             ["pages"] => self.make_pages(alloc, rows, said),
             ["bytes", at, count] => self.tell_bytes(place(at)?, place(count)?, said),
-            ["read"] => self.read(alloc, limits, said),
+            ["read"] => self.read(alloc, sizes, said),
             ["read", of, rest @ ..] => {
                 self.bytes = bytes(alloc, rest)?;
                 self.form = form_of(of)?;
-                self.read(alloc, limits, said)
+                self.read(alloc, sizes, said)
             }
+            ["kept", "stores"] => self.tell_stores(said),
             ["kept", sent] => self.tell_kept(number(sent)?, said),
             ["area", of, at] => self.tell_area(of, place(at)?, said),
-            _ => self.tell_changed(alloc, limits, words, said),
+            _ => self.tell_changed(alloc, sizes, words, said),
         }
     }
 }

@@ -156,6 +156,7 @@ fn reply(word: &str) -> Result<Reply> {
         "released" => Ok(Reply::Released),
         "noblock" => Ok(Reply::NoBlock),
         "stillwaiting" => Ok(Reply::StillWaiting),
+        "cleared" => Ok(Reply::Cleared),
         _ => reply_of_cell(word),
     }
 }
@@ -191,6 +192,7 @@ fn add_op(said: &mut String, op: Op) -> Result<(), AllocError> {
             write!(said, "alloc {kind} {length}")
         }
         Op::Release(base) => write!(said, "release {base}"),
+        Op::Reset(base) => write!(said, "reset {base}"),
         Op::Fetch(cell) => write!(said, "fetch {cell}"),
         Op::Store(cell, value) => write!(said, "store {cell} {value}"),
         Op::Take(cell) => write!(said, "take {cell}"),

@@ -1,17 +1,49 @@
-//! Limits and refusals.
+//! Limits, versions of the layout, and refusals.
 //!
 //! ```text
 //! limits 4096 16 256 = 4096 16 256
+//! version 1 = 1                            bytes are read by this version of the layout from now on; by 2, if none is named
 //! refusal Gap = refused 1 Gap
 //! ```
 
 use anyhow::{Result, anyhow};
 use im_story::{add_refusal, address, element};
+use im_types::layout::Version;
 use im_types::{Limits, Refusal};
 use std::alloc::Global;
 
-/// Makes limits of these cells, elements and slots, and tells them, or `none`.
-pub fn tell_limits(sizes: &[&str], said: &mut String) -> Result<Option<Limits>> {
+/// By what areas and sessions are read.
+#[derive(Clone, Copy)]
+pub struct Sizes {
+    pub version: Version,
+    pub limits: Option<Limits>,
+}
+
+impl Sizes {
+    /// The version in use, and no limits.
+    pub fn new() -> Sizes {
+        Sizes {
+            version: Version::Two,
+            limits: None,
+        }
+    }
+
+    /// Takes limits or a version.
+    pub fn tell(&mut self, words: &[&str], said: &mut String) -> Result<()> {
+        match words {
+            ["limits", sizes @ ..] => self.limits = tell_limits(sizes, said)?,
+            ["version", number @ ("1" | "2")] => {
+                self.version = Version::named(element(number)?);
+                said.push_str(number)?;
+            }
+            _ => return Err(anyhow!("no sizes")),
+        }
+        Ok(())
+    }
+}
+
+// Makes limits of these cells, elements and slots, and tells them, or `none`.
+fn tell_limits(sizes: &[&str], said: &mut String) -> Result<Option<Limits>> {
     let [cells, elements, slots] = sizes else {
         return Err(anyhow!("no sizes"));
     };

@@ -1,10 +1,11 @@
 //! Whether bytes are read, case by case.
 
 use crate::areas::area;
+use crate::values::Sizes;
 use anyhow::{Result, anyhow};
 use im_records::{AreaRecords, read_cell, read_node, read_place, read_session};
 use im_story::add_refusal;
-use im_types::{Limits, Refusal};
+use im_types::Refusal;
 use std::alloc::{AllocError, Global};
 
 /// What bytes are read as.
@@ -53,13 +54,13 @@ fn of_area(read: Result<AreaRecords, Refusal>) -> Verdict {
 }
 
 /// Whether bytes are read as this kind of record.
-pub fn look(alloc: Global, form: Form, limits: Option<Limits>, bytes: &[u8]) -> Result<Verdict> {
+pub fn look(alloc: Global, form: Form, sizes: Sizes, bytes: &[u8]) -> Result<Verdict> {
     match form {
         Form::Cell => Ok(of_record(read_cell(bytes).is_some())),
         Form::Node => Ok(of_record(read_node(bytes).is_some())),
         Form::Entry => Ok(of_record(read_place(bytes).is_some())),
-        Form::Session => Ok(of_record(read_session(bytes).is_some())),
-        Form::Area => Ok(of_area(area(alloc, limits, bytes)?)),
+        Form::Session => Ok(of_record(read_session(sizes.version, bytes).is_some())),
+        Form::Area => Ok(of_area(area(alloc, sizes, bytes)?)),
     }
 }
 

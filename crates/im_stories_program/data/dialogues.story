@@ -1,5 +1,5 @@
 # The example of the document, whose lines are asked one by one
-disk 327680 = 327680 bytes
+disk 450560 = 450560 bytes
 format 4096 16 256 = formatted
 script 0.1 alloc i 2 / 1.1 fetch 0 / 2.1 store 0 42 / 2.1 store 0 42 / 1.1 fetch 1 / = 5 lines
 script collect 1.1 / confirm 1 2 / window 1 / = 8 lines
@@ -17,7 +17,7 @@ printed 7 = 1 window 2 2
 count = 4
 
 # The same lines in the buffer together are answered alike, with fewer calls
-disk 327680 = 327680 bytes
+disk 450560 = 450560 bytes
 format 4096 16 256 = formatted
 script 0.1 alloc i 2 / 1.1 fetch 0 / 2.1 store 0 42 / 2.1 store 0 42 / 1.1 fetch 1 / = 5 lines
 script collect 1.1 / confirm 1 2 / window 1 / = 8 lines
@@ -35,7 +35,7 @@ printed 7 = 1 window 2 2
 count = 4
 
 # A request that waited is told again where it is watched, right after the line that brought its answer
-disk 327680 = 327680 bytes
+disk 450560 = 450560 bytes
 format 4096 16 256 = formatted
 script 0.1 alloc i 1 / 1.1 fetch 0 / 2.1 fetch 0 / 3.1 store 0 42 / 3.1 store 0 42 / 4.1 fetch 0 / = 6 lines
 -- The first three are a group, the store is none: six calls and four, and four for the last fetch.
@@ -52,7 +52,7 @@ printed 6 = 3.1 stored
 printed 7 = 4.1 value 42
 
 # A put resumes one taker, the first that came
-disk 327680 = 327680 bytes
+disk 450560 = 450560 bytes
 format 4096 16 256 = formatted
 script 0.1 alloc m 1 / 1.1 take 0 / 2.1 take 0 / 3.1 put 0 7 / 3.2 put 0 8 / 3.3 put 0 9 / = 6 lines
 talk slowly watched = 0, 24 calls
@@ -67,8 +67,45 @@ printed 6 = 2.1 now value 8
 -- Nobody waits any more: the cell is full.
 printed 7 = 3.3 stored
 
+# A reset empties the cells of a block, and answers nobody who waits
+disk 450560 = 450560 bytes
+format 4096 16 256 = formatted
+script 0.1 alloc i 2 / 1.1 store 0 5 / 1.2 store 0 6 / 0.2 reset 0 / 1.3 fetch 0 / 0.3 reset 0 / 1.4 store 0 6 / = 7 lines
+script collect 1.3 / 0.4 reset 1 / 0.2 reset 0 / 0.2 release 0 / = 11 lines
+talk slowly watched = 0, 32 calls
+printed = 12 lines
+printed 0 = 0.1 base 0
+printed 1 = 1.1 stored
+printed 2 = 1.2 clash
+printed 3 = 0.2 cleared
+printed 4 = 1.3 waiting
+printed 5 = 0.3 stillwaiting
+printed 6 = 1.4 stored
+printed 7 = 1.3 now value 6
+printed 8 = 1.3 value 6
+printed 9 = 0.4 noblock
+-- Sent again it is told what it was told.
+printed 10 = 0.2 cleared
+printed 11 = 0.2 refused 4 Mismatch
+count = 8
+
+# A reset may stand in a group, where it is watched too
+disk 450560 = 450560 bytes
+format 4096 16 256 = formatted
+script 0.1 alloc i 2 / 1.1 store 0 5 / 2.1 fetch 0 / 3.1 reset 0 / 4.1 fetch 0 / 5.1 reset 0 / = 6 lines
+-- The store is none of the group where it is watched: four calls, four, and the other four together seven.
+talk watched = 0, 15 calls
+printed = 6 lines
+printed 0 = 0.1 base 0
+printed 1 = 1.1 stored
+printed 2 = 2.1 value 5
+printed 3 = 3.1 cleared
+printed 4 = 4.1 waiting
+printed 5 = 5.1 stillwaiting
+count = 6
+
 # Who waited when the image was opened is told too
-disk 327680 = 327680 bytes
+disk 450560 = 450560 bytes
 format 4096 16 256 = formatted
 script 0.1 alloc i 1 / 1.1 fetch 0 / = 2 lines
 talk = 0, 5 calls
@@ -79,7 +116,7 @@ printed 0 = 2.1 stored
 printed 1 = 1.1 now value 3
 
 # Not watched, nobody is told
-disk 327680 = 327680 bytes
+disk 450560 = 450560 bytes
 format 4096 16 256 = formatted
 script 0.1 alloc i 1 / 1.1 fetch 0 / 2.1 store 0 3 / = 3 lines
 talk = 0, 6 calls
@@ -87,7 +124,7 @@ printed = 3 lines
 printed 2 = 2.1 stored
 
 # An element has one request in a group
-disk 327680 = 327680 bytes
+disk 450560 = 450560 bytes
 format 4096 16 256 = formatted
 script 1.1 fetch 0 / 1.2 fetch 1 / 1.3 fetch 2 / = 3 lines
 talk = 0, 12 calls
@@ -97,7 +134,7 @@ printed 1 = 1.2 nocell
 printed 2 = 1.3 nocell
 
 # A line that is no request ends a group, and is answered in its place
-disk 327680 = 327680 bytes
+disk 450560 = 450560 bytes
 format 4096 16 256 = formatted
 script 1.1 fetch 0 / 2.1 fetch 0 / count / 3.1 fetch 0 / 4.1 fetch 0 / 5.1 fetch 0 / = 6 lines
 -- Five calls for two, six for three.
@@ -109,7 +146,7 @@ printed 2 = count 2
 printed 5 = 5.1 nocell
 
 # An element that isn't there is refused within a group, and the others are served
-disk 327680 = 327680 bytes
+disk 450560 = 450560 bytes
 format 4096 16 256 = formatted
 script 1.1 fetch 0 / 16.1 fetch 0 / 2.2 fetch 0 / 3.1 fetch 0 / = 4 lines
 -- Two commands are put on the disk.
@@ -121,20 +158,20 @@ printed 2 = 2.2 refused 1 Gap
 printed 3 = 3.1 nocell
 
 # Lines that aren't in the grammar are numbered, and change nothing
-disk 327680 = 327680 bytes
+disk 450560 = 450560 bytes
 format 4096 16 256 = formatted
 script 1.1 fetch 0 / 2.1 fetch 0 / mend / 1.2 get 0 / collect 1 / confirm 1 / window / room now / = 8 lines
 talk = 0, 5 calls
 printed = 8 lines
 printed 2 = error 3: E.N and a request, collect E.N, confirm E UPTO, window E, room, turn, count or quit
-printed 3 = error 4: E.N with alloc i|m LENGTH, release A, fetch A, store A VALUE, take A or put A VALUE
+printed 3 = error 4: E.N with alloc i|m LENGTH, release A, reset A, fetch A, store A VALUE, take A or put A VALUE
 printed 4 = error 5: collect E.N
 printed 5 = error 6: confirm E UPTO
 printed 6 = error 7: window E
 printed 7 = error 8: the word alone
 
 # What comes behind quit isn't asked
-disk 327680 = 327680 bytes
+disk 450560 = 450560 bytes
 format 4096 16 256 = formatted
 script 1.1 fetch 0 / quit / 1.2 fetch 0 / = 3 lines
 talk = 0, 4 calls
@@ -142,7 +179,7 @@ printed = 1 lines
 printed 0 = 1.1 nocell
 
 # Refusals of what is only asked
-disk 327680 = 327680 bytes
+disk 450560 = 450560 bytes
 format 4096 16 256 = formatted
 script collect 1.1 / collect 16.1 / window 16 / confirm 1 2 / confirm 16 1 / = 5 lines
 talk = 0, 0 calls
@@ -154,7 +191,7 @@ printed 3 = 1 refused 1 Gap
 printed 4 = 16 refused 5 NoElement
 
 # A request that waits can't be confirmed
-disk 327680 = 327680 bytes
+disk 450560 = 450560 bytes
 format 4096 16 256 = formatted
 script 0.1 alloc i 1 / 1.1 fetch 0 / confirm 1 2 / collect 1.1 / = 4 lines
 talk = 0, 5 calls
@@ -163,7 +200,7 @@ printed 2 = 1 refused 6 NotAnswered
 printed 3 = 1.1 waiting
 
 # The disk fails within a group: none of it is answered
-disk 327680 = 327680 bytes
+disk 450560 = 450560 bytes
 format 4096 16 256 = formatted
 script 1.1 fetch 0 / 2.1 fetch 0 / 3.1 fetch 0 / = 3 lines
 talk 3 calls = 1, 4 calls
@@ -171,7 +208,7 @@ printed = 1 lines
 printed 0 = refused 8 Device
 
 # A writer that takes a part of the answers
-disk 327680 = 327680 bytes
+disk 450560 = 450560 bytes
 format 4096 16 256 = formatted
 script 1.1 fetch 0 / 2.1 fetch 0 / 3.1 fetch 0 / = 3 lines
 -- All three are on the disk; a line and half of one were written.
@@ -179,20 +216,20 @@ talk to 15 bytes = 1, 6 calls
 count = 3
 
 # While nobody asks, room is made as soon as there is less than a half
-disk 312320 = 312320 bytes
+disk 435200 = 435200 bytes
 format 4096 16 16 = formatted
 script 1.1 fetch 0 / 1.2 fetch 0 / 1.3 fetch 0 / 1.4 fetch 0 / 1.5 fetch 0 / 1.6 fetch 0 / 1.7 fetch 0 / = 7 lines
 script 1.8 fetch 0 / room / 1.9 fetch 0 / room / = 11 lines
 -- Four calls for each command. Room 8 is a half. Behind the ninth command there is room for 7: the checkpoint begins, writes
--- 37 pages, syncs by 2 calls, comes into force by 4, and sweeps three slots by 4. Then there is room for 10.
-talk slowly silently = 0, 83 calls
+-- 52 pages, syncs by 2 calls, comes into force by 4, and sweeps three slots by 4. Then there is room for 10.
+talk slowly silently = 0, 98 calls
 printed = 11 lines
 printed 8 = room 8
 printed 9 = 1.9 nocell
 printed 10 = room 10
 
 # Where the client isn't silent no room is made
-disk 312320 = 312320 bytes
+disk 435200 = 435200 bytes
 format 4096 16 16 = formatted
 script 1.1 fetch 0 / 1.2 fetch 0 / 1.3 fetch 0 / 1.4 fetch 0 / 1.5 fetch 0 / 1.6 fetch 0 / 1.7 fetch 0 / = 7 lines
 script 1.8 fetch 0 / 1.9 fetch 0 / room / = 10 lines
@@ -200,7 +237,7 @@ talk slowly = 0, 36 calls
 printed 9 = room 7
 
 # The disk fails while nobody asks: all that was asked is answered
-disk 312320 = 312320 bytes
+disk 435200 = 435200 bytes
 format 4096 16 16 = formatted
 script 1.1 fetch 0 / 1.2 fetch 0 / 1.3 fetch 0 / 1.4 fetch 0 / 1.5 fetch 0 / 1.6 fetch 0 / 1.7 fetch 0 / = 7 lines
 script 1.8 fetch 0 / 1.9 fetch 0 / room / = 10 lines
@@ -211,18 +248,18 @@ printed 9 = refused 8 Device
 count = 9
 
 # A full journal is given room by turns before a command, and before a group for all of it
-disk 312320 = 312320 bytes
+disk 435200 = 435200 bytes
 format 4096 16 16 = formatted
 script 1.1 fetch 0 / 1.2 fetch 0 / 1.3 fetch 0 / 1.4 fetch 0 / 1.5 fetch 0 / 1.6 fetch 0 / 1.7 fetch 0 / = 7 lines
 script 1.8 fetch 0 / 1.9 fetch 0 / 1.10 fetch 0 / 1.11 fetch 0 / 1.12 fetch 0 / 1.13 fetch 0 / 1.14 fetch 0 / = 14 lines
 script 1.15 fetch 0 / 1.16 fetch 0 / 2.1 fetch 0 / room / = 18 lines
--- Sixteen commands, then 37 pages, 2, 4, and three slots by 4, and one more command.
-talk slowly = 0, 115 calls
+-- Sixteen commands, then 52 pages, 2, 4, and three slots by 4, and one more command.
+talk slowly = 0, 130 calls
 printed 16 = 2.1 nocell
 printed 17 = room 2
 
 # Refusals of numbers are answered, and serving goes on
-disk 327680 = 327680 bytes
+disk 450560 = 450560 bytes
 format 4096 16 256 = formatted
 script 1.1 fetch 0 / confirm 1 2 / 1.1 fetch 0 / collect 1.1 / 1.3 fetch 0 / 1.2 fetch 0 / confirm 1 1 / = 7 lines
 -- Two requests and a confirmation are put on the disk; a confirmation of what is dropped already is done again by nothing.
@@ -236,17 +273,17 @@ printed 5 = 1.2 nocell
 printed 6 = 1 confirmed 1
 
 # A window that is full is refused, until it is confirmed
-disk 327680 = 327680 bytes
+disk 450560 = 450560 bytes
 format 4096 16 256 = formatted
-script 1.1 fetch 0 / 1.2 fetch 0 / 1.3 fetch 0 / 1.4 fetch 0 / 1.5 fetch 0 / 1.6 fetch 0 / 1.7 fetch 0 / = 7 lines
-script 1.8 fetch 0 / 1.9 fetch 0 / 1.10 fetch 0 / 1.11 fetch 0 / 1.12 fetch 0 / 1.13 fetch 0 / 1.14 fetch 0 / = 14 lines
-script 1.15 fetch 0 / 1.16 fetch 0 / 1.17 fetch 0 / confirm 1 2 / 1.17 fetch 0 / window 1 / = 20 lines
-talk = 0, 72 calls
-printed 15 = 1.16 nocell
-printed 16 = 1.17 refused 3 WindowFull
-printed 17 = 1 confirmed 2
-printed 18 = 1.17 nocell
-printed 19 = 1 window 2 18
+numbered 1 to 64 1.@ fetch 0 / = 64 lines
+script 1.65 fetch 0 / confirm 1 2 / 1.65 fetch 0 / window 1 / = 68 lines
+-- 64 requests, a confirmation and one request more, of four calls each.
+talk = 0, 264 calls
+printed 0 to 63 = 1.1 to 1.64 nocell
+printed 64 = 1.65 refused 3 WindowFull
+printed 65 = 1 confirmed 2
+printed 66 = 1.65 nocell
+printed 67 = 1 window 2 66
 
 # Each turn of the least image's checkpoint is told
 disk 33792 = 33792 bytes
@@ -269,7 +306,7 @@ printed 11 = turn idle
 printed 12 = room 16
 
 # What ends without a line feed isn't asked
-disk 327680 = 327680 bytes
+disk 450560 = 450560 bytes
 format 4096 16 256 = formatted
 script 1.1 fetch 0 / 1.2 fetch = 1 lines
 talk = 0, 4 calls

@@ -27,14 +27,16 @@ request 5 = element 1, fetch cell 4294967295
 -- Zeros may stand before a number, and a part may have no request.
 script setup / alloc a0 m 007 / alloc b i 1 / = 3 lines
 script element 63 / take b / put a0+1048575 18446744073709551615 / release a0 / store 00 1 / = 8 lines
-script element 63 / = 9 lines
-read = 2 blocks, 2 parts, 4 requests
+script reset b+2 / reset 4294967295 / element 63 / = 11 lines
+read = 2 blocks, 2 parts, 6 requests
 blocks = m 7 i 1
 parts = 63 63
 request 0 = element 63, take block 1 + 0
 request 1 = element 63, put block 0 + 1048575, 18446744073709551615
 request 2 = element 63, release block 0 + 0
 request 3 = element 63, store cell 0, 1
+request 4 = element 63, reset block 1 + 2
+request 5 = element 63, reset cell 4294967295
 
 # Spaces, comments and empty lines say nothing
 -- A tilde is a space more, and \t a tab.
@@ -78,6 +80,8 @@ read element 65537 / = refused 18 BadScript
 read element 1 / read 0 / = refused 18 BadScript
 read element 1 / glance 0 / = refused 18 BadScript
 read element 1 / FETCH 0 / = refused 18 BadScript
+read setup / reset 0 / = refused 18 BadScript
+read element 1 / resets 0 / = refused 18 BadScript
 
 # A request has just the words of its operation
 read element 1 / fetch / = refused 18 BadScript
@@ -86,6 +90,8 @@ read element 1 / take / = refused 18 BadScript
 read element 1 / take 0 1 / = refused 18 BadScript
 read element 1 / release / = refused 18 BadScript
 read element 1 / release 0 1 / = refused 18 BadScript
+read element 1 / reset / = refused 18 BadScript
+read element 1 / reset 0 1 / = refused 18 BadScript
 read element 1 / store 0 / = refused 18 BadScript
 read element 1 / store 0 1 2 / = refused 18 BadScript
 read element 1 / put 0 / = refused 18 BadScript
@@ -144,8 +150,8 @@ read element 1 / fetch 0\xa0 / = refused 18 BadScript
 
 # A name stands for the base that its block got
 script setup / alloc x m 3 / alloc y i 2 / alloc z m 1 / = 4 lines
-script element 1 / fetch 9 / fetch y+1048575 / take z / put x+2 5 / alloc m 8 / fetch x+1 / = 11 lines
-read = 3 blocks, 1 parts, 6 requests
+script element 1 / fetch 9 / fetch y+1048575 / take z / put x+2 5 / alloc m 8 / fetch x+1 / reset y / = 12 lines
+read = 3 blocks, 1 parts, 7 requests
 -- The first two blocks have bases.
 bases 3 65535 = 2 bases
 request 0 = element 1, fetch cell 9
@@ -157,6 +163,8 @@ address 2 = none
 operation 2 = none
 request 3 = element 1, put block 0 + 2, 5
 operation 3 = put 5 5
+request 6 = element 1, reset block 1 + 0
+operation 6 = reset 65535
 -- The last base that there could be: no cell lies past it.
 bases 4294967295 = 1 bases
 request 5 = element 1, fetch block 0 + 1
@@ -174,11 +182,13 @@ u32 +5 = none
 
 # A fault tells the line, the word and what is expected there
 read element 1 / # a remark / read 0 / = refused 18 BadScript
-fault = line 3: 'read', where element, alloc, fetch, store, take, put or release is expected
+fault = line 3: 'read', where element, alloc, fetch, store, take, put, release or reset is expected
 read element 64 / = refused 18 BadScript
 fault = line 1: '64', where an element's number from 0 to 63 is expected
 read element 1 / fetch / = refused 18 BadScript
 fault = line 2: the line ends, where an address from 0 to 4294967295 or a name of the setup is expected
+read element 1 / reset x / = refused 18 BadScript
+fault = line 2: 'x', where an address from 0 to 4294967295 or a name of the setup is expected
 read element 1 / store 0 1 2 / = refused 18 BadScript
 fault = line 2: '2', where the end of the line is expected
 read setup / alloc x i 1 / element 1 / fetch x+1048576 / = refused 18 BadScript

@@ -1,5 +1,5 @@
 # A fetch comes before its store, and the image keeps what became of it
-disk 327680 = 327680 bytes
+disk 450560 = 450560 bytes
 format 4096 16 256 = formatted
 script setup / alloc x i 2 / element 1 / fetch x+0 / element 2 / store x+0 42 / = 6 lines
 read = 1 blocks, 2 parts, 2 requests
@@ -17,21 +17,21 @@ printed = 1 lines
 printed 0 = 1.2 value 42
 count = 4
 -- Each command stands in a slot of the journal: gate, group, code, element; sequence number; request; address; value.
-bytes 311296 16 = a5 01 01 00 00 00 00 00 00 00 00 00 00 00 00 00
-bytes 311312 16 = 01 00 00 00 00 00 00 00 02 00 00 00 00 00 00 00
-bytes 311328 32 = 00 00 00 00 00 00 00 00 00 00 00 00 00 00 00 00 00 00 00 00 00 00 00 00 00 00 00 00 00 00 00 00
-bytes 311360 16 = a5 01 04 00 01 00 00 00 01 00 00 00 00 00 00 00
-bytes 311376 16 = 01 00 00 00 00 00 00 00 00 00 00 00 00 00 00 00
-bytes 311392 32 = 00 00 00 00 00 00 00 00 00 00 00 00 00 00 00 00 00 00 00 00 00 00 00 00 00 00 00 00 00 00 00 00
-bytes 311424 16 = a5 01 05 00 02 00 00 00 02 00 00 00 00 00 00 00
-bytes 311440 16 = 01 00 00 00 00 00 00 00 00 00 00 00 00 00 00 00
-bytes 311456 32 = 2a 00 00 00 00 00 00 00 00 00 00 00 00 00 00 00 00 00 00 00 00 00 00 00 00 00 00 00 00 00 00 00
-bytes 311488 16 = a5 01 04 00 01 00 00 00 03 00 00 00 00 00 00 00
-bytes 311504 16 = 02 00 00 00 00 00 00 00 00 00 00 00 00 00 00 00
-bytes 311520 32 = 00 00 00 00 00 00 00 00 00 00 00 00 00 00 00 00 00 00 00 00 00 00 00 00 00 00 00 00 00 00 00 00
+bytes 434176 16 = a5 01 01 00 00 00 00 00 00 00 00 00 00 00 00 00
+bytes 434192 16 = 01 00 00 00 00 00 00 00 02 00 00 00 00 00 00 00
+bytes 434208 32 = 00 00 00 00 00 00 00 00 00 00 00 00 00 00 00 00 00 00 00 00 00 00 00 00 00 00 00 00 00 00 00 00
+bytes 434240 16 = a5 01 04 00 01 00 00 00 01 00 00 00 00 00 00 00
+bytes 434256 16 = 01 00 00 00 00 00 00 00 00 00 00 00 00 00 00 00
+bytes 434272 32 = 00 00 00 00 00 00 00 00 00 00 00 00 00 00 00 00 00 00 00 00 00 00 00 00 00 00 00 00 00 00 00 00
+bytes 434304 16 = a5 01 05 00 02 00 00 00 02 00 00 00 00 00 00 00
+bytes 434320 16 = 01 00 00 00 00 00 00 00 00 00 00 00 00 00 00 00
+bytes 434336 32 = 2a 00 00 00 00 00 00 00 00 00 00 00 00 00 00 00 00 00 00 00 00 00 00 00 00 00 00 00 00 00 00 00
+bytes 434368 16 = a5 01 04 00 01 00 00 00 03 00 00 00 00 00 00 00
+bytes 434384 16 = 02 00 00 00 00 00 00 00 00 00 00 00 00 00 00 00
+bytes 434400 32 = 00 00 00 00 00 00 00 00 00 00 00 00 00 00 00 00 00 00 00 00 00 00 00 00 00 00 00 00 00 00 00 00
 
 # Blocks and addresses have edges
-disk 327680 = 327680 bytes
+disk 450560 = 450560 bytes
 format 4096 16 256 = formatted
 script element 0 / alloc i 4096 / alloc i 1 / alloc i 0 / alloc m 4097 / = 5 lines
 read element 1 / fetch 4096 / fetch 4294967295 / = 0 blocks, 2 parts, 6 requests
@@ -45,7 +45,7 @@ printed 4 = 1.1 nocell
 printed 5 = 1.2 nocell
 
 # A block of the setup that can't be made ends the script
-disk 327680 = 327680 bytes
+disk 450560 = 450560 bytes
 format 4096 16 256 = formatted
 read setup / alloc x i 1 / alloc y i 5000 / element 1 / fetch x / = 2 blocks, 1 parts, 1 requests
 serve = 1
@@ -55,7 +55,7 @@ printed 1 = 0.2 nospace
 printed 2 = refused 18 BadScript
 
 # An element that isn't there ends the script
-disk 327680 = 327680 bytes
+disk 450560 = 450560 bytes
 format 4096 16 256 = formatted
 script setup / alloc x i 1 / alloc y m 2 / = 3 lines
 script element 1 / fetch x / take y / fetch y / = 7 lines
@@ -79,7 +79,7 @@ printed 11 = 1.2 now value 8
 printed 12 = refused 5 NoElement
 
 # A request may still wait at the end
-disk 327680 = 327680 bytes
+disk 450560 = 450560 bytes
 format 4096 16 256 = formatted
 read setup / alloc x m 1 / element 1 / take x / element 2 / release x / = 1 blocks, 2 parts, 2 requests
 serve = 0
@@ -91,50 +91,50 @@ printed 2 = 2.1 stillwaiting
 printed 3 = 1.1 now waiting
 
 # A full window is confirmed before the next request
-disk 327680 = 327680 bytes
+disk 450560 = 450560 bytes
 format 4096 16 256 = formatted
 script element 1 / = 1 lines
-repeat 17 fetch 5 / = 18 lines
-read = 0 blocks, 1 parts, 17 requests
+repeat 65 fetch 5 / = 66 lines
+read = 0 blocks, 1 parts, 65 requests
 serve = 0
-printed = 17 lines
-printed 0 to 16 = 1.1 to 1.17 nocell
--- The confirmation is a command too, and stands before the last fetch: operation 8 of element 1, sequence number 16, up
--- to 17.
-count = 18
-bytes 312320 16 = a5 01 08 00 01 00 00 00 10 00 00 00 00 00 00 00
-bytes 312336 16 = 11 00 00 00 00 00 00 00 00 00 00 00 00 00 00 00
-bytes 312352 32 = 00 00 00 00 00 00 00 00 00 00 00 00 00 00 00 00 00 00 00 00 00 00 00 00 00 00 00 00 00 00 00 00
+printed = 65 lines
+printed 0 to 64 = 1.1 to 1.65 nocell
+-- The confirmation is a command too, and stands before the last fetch: operation 8 of element 1, sequence number 64, up
+-- to 65.
+count = 66
+bytes 438272 16 = a5 01 08 00 01 00 00 00 40 00 00 00 00 00 00 00
+bytes 438288 16 = 41 00 00 00 00 00 00 00 00 00 00 00 00 00 00 00
+bytes 438304 32 = 00 00 00 00 00 00 00 00 00 00 00 00 00 00 00 00 00 00 00 00 00 00 00 00 00 00 00 00 00 00 00 00
 
 # A full window whose first entry waits refuses the next request
-disk 327680 = 327680 bytes
+disk 450560 = 450560 bytes
 format 4096 16 256 = formatted
 script setup / alloc x i 1 / element 1 / = 3 lines
-repeat 17 fetch x / = 20 lines
-read = 1 blocks, 1 parts, 17 requests
+repeat 65 fetch x / = 68 lines
+read = 1 blocks, 1 parts, 65 requests
 serve = 1
-printed = 34 lines
+printed = 130 lines
 printed 0 = 0.1 base 0
-printed 1 to 16 = 1.1 to 1.16 waiting
-printed 17 to 32 = 1.1 to 1.16 now waiting
-printed 33 = refused 3 WindowFull
+printed 1 to 64 = 1.1 to 1.64 waiting
+printed 65 to 128 = 1.1 to 1.64 now waiting
+printed 129 = refused 3 WindowFull
 
 # An entry that was confirmed is told as it was last kept
-disk 327680 = 327680 bytes
+disk 450560 = 450560 bytes
 format 4096 16 256 = formatted
 script setup / alloc x i 1 / element 1 / fetch x / element 2 / store x 7 / element 1 / = 7 lines
-repeat 16 fetch 9 / = 23 lines
-read = 1 blocks, 3 parts, 18 requests
+repeat 64 fetch 9 / = 71 lines
+read = 1 blocks, 3 parts, 66 requests
 serve = 0
-printed = 20 lines
+printed = 68 lines
 printed 0 = 0.1 base 0
 printed 1 = 1.1 waiting
 printed 2 = 2.1 stored
-printed 3 to 18 = 1.2 to 1.17 nocell
-printed 19 = 1.1 now value 7
+printed 3 to 66 = 1.2 to 1.65 nocell
+printed 67 = 1.1 now value 7
 
 # A full journal makes room by a checkpoint
-disk 312320 = 312320 bytes
+disk 435200 = 435200 bytes
 format 4096 16 16 = formatted
 script element 1 / = 1 lines
 repeat 20 fetch 5 / = 21 lines
@@ -144,16 +144,16 @@ printed = 20 lines
 printed 0 to 19 = 1.1 to 1.20 nocell
 -- The journal of 16 slots was full when the 17th command came.
 inspect = 0
-printed = 9 lines
-printed 0 = version 1
+printed = 25 lines
+printed 0 = version 2
 printed 1 = limits 4096 16 16
 printed 2 = header 1 generation 2 area 1 count 16
-printed 3 = journal 5 room 1
-printed 4 = element 1 base 17 kept 4
-printed 5 = entry 1.17 fetch 5 -> nocell
-printed 6 = entry 1.18 fetch 5 -> nocell
-printed 7 = entry 1.19 fetch 5 -> nocell
-printed 8 = entry 1.20 fetch 5 -> nocell
+printed 3 = journal 4 room 2
+printed 4 = element 1 base 1 kept 20
+printed 5 = entry 1.1 fetch 5 -> nocell
+printed 20 = entry 1.16 fetch 5 -> nocell
+printed 21 = entry 1.17 fetch 5 -> nocell
+printed 24 = entry 1.20 fetch 5 -> nocell
 
 # A stale slot where the next command goes is swept first
 disk 33792 = 33792 bytes
@@ -168,7 +168,7 @@ printed = 1 lines
 printed 0 = 0.1 nocell
 inspect = 0
 printed = 6 lines
-printed 0 = version 1
+printed 0 = version 2
 printed 1 = limits 1 1 16
 printed 2 = header 0 generation 1 area 0 count 21
 printed 3 = journal 1 room 15
@@ -178,7 +178,7 @@ bytes 33088 2 = a5 01
 bytes 33096 2 = 15 00
 
 # A disk that fails ends the script
-disk 327680 = 327680 bytes
+disk 450560 = 450560 bytes
 format 4096 16 256 = formatted
 read setup / alloc x i 1 / element 1 / fetch x / element 2 / store x 9 / = 1 blocks, 2 parts, 2 requests
 -- Four calls for each of the first two requests, and two of the third's.
@@ -190,7 +190,7 @@ printed 2 = 1.1 now waiting
 printed 3 = refused 8 Device
 
 # A sync that fails ends the script, and what was answered is there at the next opening
-disk 327680 = 327680 bytes
+disk 450560 = 450560 bytes
 format 4096 16 256 = formatted
 read setup / alloc x i 1 / element 1 / fetch x / element 2 / store x 9 / = 1 blocks, 2 parts, 2 requests
 -- Four calls for each of the first two requests; the tenth is the sync behind the body of the third. Those behind it would pass.
@@ -214,14 +214,14 @@ printed 0 = 1.2 value 9
 count = 4
 
 # A disk without an image is refused
-disk 327680 = 327680 bytes
+disk 450560 = 450560 bytes
 read element 1 / fetch 0 / = 0 blocks, 1 parts, 1 requests
 serve = 1
 printed = 1 lines
 printed 0 = refused 13 NoHeader
 
 # A writer that fails ends the script with status 1, and the image has what was served
-disk 327680 = 327680 bytes
+disk 450560 = 450560 bytes
 format 4096 16 256 = formatted
 read element 1 / fetch 0 / fetch 1 / fetch 2 / = 0 blocks, 1 parts, 3 requests
 -- Three lines of 11 bytes each.
@@ -236,28 +236,28 @@ printed = 3 lines
 told = 0 lines
 inspect to 10 bytes = 1
 printed = 1 lines
-printed 0 = version 1
+printed 0 = version 2
 told 0 = the output can't be written: broken pipe
 
 # Lines are written in batches of at most 4096 bytes, and where one can't be written no more is served
-disk 327680 = 327680 bytes
+disk 450560 = 450560 bytes
 format 4096 16 256 = formatted
 script element 1 / = 1 lines
 repeat 400 fetch 9 / = 401 lines
 read = 0 blocks, 1 parts, 400 requests
--- 9 lines of 11 bytes, 90 of 12 and 224 of 13 are 4091; 20 confirmations stand between 324 requests.
+-- 9 lines of 11 bytes, 90 of 12 and 224 of 13 are 4091; 5 confirmations stand between 324 requests.
 serve to 0 bytes = 1
 printed = 0 lines
 told = 1 lines
 told 0 = the output can't be written: broken pipe
-count = 344
--- From 1.325 on each line has 13 bytes: 315 are 4095, and 19 confirmations stand between 316 requests.
+count = 329
+-- From 1.325 on each line has 13 bytes: 315 are 4095, and 4 confirmations stand between 316 requests.
 serve to 4091 bytes = 1
 printed = 314 lines, and one that doesn't end
-count = 679
+count = 649
 
 # An answer that an earlier script waited for is told before its entry is confirmed
-disk 327680 = 327680 bytes
+disk 450560 = 450560 bytes
 format 4096 16 256 = formatted
 read setup / alloc x i 1 / element 1 / fetch x / = 1 blocks, 1 parts, 1 requests
 serve = 0
@@ -265,19 +265,20 @@ printed 1 = 1.1 waiting
 printed 2 = 1.1 now waiting
 told = 0 lines
 script element 2 / store 0 42 / element 1 / = 3 lines
-repeat 16 fetch 9 / = 19 lines
-read = 0 blocks, 2 parts, 17 requests
+repeat 64 fetch 9 / = 67 lines
+read = 0 blocks, 2 parts, 65 requests
 serve = 0
-printed = 17 lines
+printed = 65 lines
 told = 1 lines
 told 0 = 1.1 now value 42
-progress = 16 served, room 237, 0 checkpoints
+-- Two commands of the script before, 64 of this one and a confirmation.
+progress = 64 served, room 189, 0 checkpoints
 -- Once.
 serve = 0
 told = 0 lines
 
 # It is told by the script that answers it, at the end at the latest
-disk 327680 = 327680 bytes
+disk 450560 = 450560 bytes
 format 4096 16 256 = formatted
 read setup / alloc x i 1 / element 1 / fetch x / = 1 blocks, 1 parts, 1 requests
 serve = 0
@@ -293,7 +294,7 @@ serve = 0
 told = 0 lines
 
 # What a refusal is told of
-disk 327680 = 327680 bytes
+disk 450560 = 450560 bytes
 format 4096 16 256 = formatted
 read setup / alloc x i 1 / alloc y i 5000 / element 1 / fetch x / = 2 blocks, 1 parts, 1 requests
 serve = 1
@@ -302,16 +303,16 @@ told 0 = block 2 of the setup can't be made
 read element 16 / fetch 0 / = 0 blocks, 1 parts, 1 requests
 serve = 1
 told 0 = a request of element 16: the image has no such element
--- Sixteen fetches that wait leave no place for one more.
-disk 34816 = 34816 bytes
+-- Sixty-four fetches that wait leave no place for one more.
+disk 43008 = 43008 bytes
 format 1 2 32 = formatted
 script setup / alloc x i 1 / element 1 / = 3 lines
-repeat 17 fetch 0 / = 20 lines
-read = 1 blocks, 1 parts, 17 requests
+repeat 65 fetch 0 / = 68 lines
+read = 1 blocks, 1 parts, 65 requests
 serve = 1
-printed = 34 lines
-printed 33 = refused 3 WindowFull
-told 0 = a request of element 1: all 16 places of its window wait
+printed = 130 lines
+printed 129 = refused 3 WindowFull
+told 0 = a request of element 1: all 64 places of its window wait
 -- An image whose count of commands is the last that there is: no checkpoint makes room.
 disk 33792 = 33792 bytes
 format 1 1 16 = formatted
@@ -323,7 +324,7 @@ printed 0 = refused 7 JournalFull
 told 0 = a request of element 0: the journal is full, and no checkpoint makes room
 
 # A reason names what is out of its range, and the range
-reason cells 65537 = 65537 cells: there may be 1 to 65536
+reason cells 1048577 = 1048577 cells: there may be 1 to 1048576
 reason elements 65 = 65 elements: there may be 1 to 64
 reason slots 15 = 15 slots: there may be 16 to 4096
 reason no memory = there is not enough memory

@@ -4,7 +4,7 @@ use crate::spelling::hex;
 use anyhow::{Result, anyhow};
 use im_disk::{Disk, MemDisk};
 use im_engine::Engine;
-use im_story::{add_refusal, address, element, place};
+use im_story::{add_refusal, address, element, old_image, place};
 use im_types::Limits;
 use std::alloc::Global;
 
@@ -156,6 +156,15 @@ impl Image {
                     return Err(anyhow!("no limits"));
                 };
                 self.format(alloc, limits, said)?
+            }
+            ["old", "image", cells, elements, slots] => {
+                let cells = address(cells)?;
+                let Some(limits) = Limits::new(cells, element(elements)?, address(slots)?) else {
+                    return Err(anyhow!("no limits"));
+                };
+                let bytes = old_image(alloc, limits)?;
+                self.load(alloc, bytes.as_slice())?;
+                write!(said, "{} bytes", bytes.len())?;
             }
             ["count"] => self.count(alloc, said)?,
             ["bytes", at, count] => self.bytes(place(at)?, place(count)?, said)?,

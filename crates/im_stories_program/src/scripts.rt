@@ -92,6 +92,7 @@ fn add_action(said: &mut String, action: Action) -> Result<(), AllocError> {
             write!(said, "alloc {kind} {length}")
         }
         Action::Release(place) => add_asked(said, "release", place),
+        Action::Reset(place) => add_asked(said, "reset", place),
         Action::Fetch(place) => add_asked(said, "fetch", place),
         Action::Take(place) => add_asked(said, "take", place),
         Action::Store(place, value) => {
@@ -112,6 +113,7 @@ fn add_op(said: &mut String, op: Op) -> Result<(), AllocError> {
             write!(said, "alloc {kind} {length}")
         }
         Op::Release(a) => write!(said, "release {a}"),
+        Op::Reset(a) => write!(said, "reset {a}"),
         Op::Fetch(a) => write!(said, "fetch {a}"),
         Op::Store(a, value) => write!(said, "store {a} {value}"),
         Op::Take(a) => write!(said, "take {a}"),
@@ -132,6 +134,7 @@ fn place_of(action: Action) -> Result<Place> {
     match action {
         Action::Alloc(_, _) => Err(anyhow!("a block is made nowhere yet")),
         Action::Release(place)
+        | Action::Reset(place)
         | Action::Fetch(place)
         | Action::Take(place)
         | Action::Store(place, _)
@@ -159,6 +162,16 @@ fn read_number(alloc: Global, word: &str, said: &mut String) -> Result<()> {
     let mut text = Vec::new(alloc);
     add_word(&mut text, word)?;
     Ok(add_number(said, read_u32(text.as_slice()))?)
+}
+
+// A word with a number where `@` stands in it.
+fn numbered_word(alloc: Global, word: &str, number: u32) -> Result<String> {
+    let mut text = String::new(alloc);
+    match word.split_once('@') {
+        Some((before, behind)) => write!(text, "{before}{number}{behind}")?,
+        None => text.push_str(word)?,
+    }
+    Ok(text)
 }
 
 impl Scripts {
@@ -193,6 +206,27 @@ impl Scripts {
     fn write(&mut self, times: u32, words: &[&str], said: &mut String) -> Result<()> {
         for _time in 0..times {
             add_text(&mut self.text, words)?;
+        }
+        let lines = line_ends(self.text.as_slice());
+        Ok(write!(said, "{lines} lines")?)
+    }
+
+    // Adds lines to the text, so many times, under numbers that follow one another: `@` stands for the number.
+    fn number(
+        &mut self,
+        alloc: Global,
+        from: u32,
+        to: u32,
+        words: &[&str],
+        said: &mut String,
+    ) -> Result<()> {
+        for number in from..=to {
+            let mut numbered = Vec::new(alloc);
+            for word in words {
+                numbered.push(numbered_word(alloc, word, number)?)?;
+            }
+            let texts: Vec<&str> = numbered.iter().map(|word| word.as_str()).collect(alloc)?;
+            add_text(&mut self.text, texts.as_slice())?;
         }
         let lines = line_ends(self.text.as_slice());
         Ok(write!(said, "{lines} lines")?)
@@ -265,6 +299,9 @@ impl Scripts {
         match words {
             ["script", lines @ ..] => self.write(1, lines, said)?,
             ["repeat", times, lines @ ..] => self.write(address(times)?, lines, said)?,
+            ["numbered", from, "to", to, lines @ ..] => {
+                self.number(alloc, address(from)?, address(to)?, lines, said)?
+            }
             ["read", lines @ ..] => self.read(alloc, lines, said)?,
             ["fault"] => said.push_str(self.fault.as_str())?,
             ["blocks"] => add_blocks(said, self.lists.blocks.as_slice())?,

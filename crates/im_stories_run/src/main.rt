@@ -7,14 +7,15 @@ mod writers;
 
 use anyhow::{Result, anyhow};
 use gates::After;
-use im_disk::MemDisk;
+use im_disk::{Disk, MemDisk};
 use im_engine::Engine;
 use im_report::inspect_on;
 use im_run::run_on;
 use im_script::read_script_with_glances;
 use im_serving::{Gate, Open, Unwatched};
-use im_types::Limits;
+use im_story::old_image;
 use im_types::layout::image_length;
+use im_types::{Limits, WINDOW};
 use std::alloc::Global;
 use std::sync::Wait;
 use std::thread::Threads;
@@ -52,30 +53,34 @@ store x 5
 glance x
 ";
 
+// A server that glances round a reset: at what it stored before, at what the reset emptied, and at what it stored behind.
+const RESETS: &str = "setup
+alloc x i 2
+element 1
+store x 5
+glance x
+reset x
+glance x
+store x 6
+glance x
+fetch x
+reset x+1
+";
+
 // A reader whose window is full before its last request: the fetch before the store is awaited and confirmed, and what
-// was shown then has the store.
+// was shown then has the store. Here its requests begin, there come so many of an address in no block, and here is the
+// rest.
 const READS: &str = "setup
 alloc x i 1
 element 1
 glance x+1
 fetch x
-fetch x+1
-fetch x+1
-fetch x+1
-fetch x+1
-fetch x+1
-fetch x+1
-fetch x+1
-fetch x+1
-fetch x+1
-fetch x+1
-fetch x+1
-fetch x+1
-fetch x+1
-fetch x+1
-fetch x+1
-fetch x+1
-glance x
+";
+
+const READS_NOTHING: &str = "fetch x+1
+";
+
+const READS_ON: &str = "glance x
 element 2
 store x 5
 glance x
@@ -113,6 +118,14 @@ fetch 0
 alloc i 1
 ";
 
+// No plan: an element resets a block.
+const RESETS_A_BLOCK: &str = "setup
+alloc x i 1
+element 1
+fetch x
+reset x
+";
+
 // An element that isn't there, behind one that takes.
 const NO_ELEMENT: &str = "element 1
 take 0
@@ -139,6 +152,30 @@ fn new_image(alloc: Global) -> Result<MemDisk> {
         Ok(engine) => Ok(engine.close()),
         Err(_) => Err(anyhow!("no image was formatted")),
     }
+}
+
+// An image of the first version.
+fn image_of_old(alloc: Global) -> Result<MemDisk> {
+    let Some(limits) = Limits::new(4_096, 16, 256) else {
+        return Err(anyhow!("these are no limits"));
+    };
+    let bytes = old_image(alloc, limits)?;
+    let mut disk = MemDisk::new(alloc, bytes.len())?;
+    match disk.write_at(0, bytes.as_slice()) {
+        Ok(()) => Ok(disk),
+        Err(_) => Err(anyhow!("no image was written")),
+    }
+}
+
+// The reader's script: as many fetches as a window has entries stand behind its first.
+fn reads(alloc: Global) -> Result<String> {
+    let mut text = String::new(alloc);
+    text.push_str(READS)?;
+    for _ in 0..WINDOW {
+        text.push_str(READS_NOTHING)?;
+    }
+    text.push_str(READS_ON)?;
+    Ok(text)
 }
 
 // Runs a script on an image, as a plan or not, and says what was printed, and the status.
@@ -252,7 +289,11 @@ fn tell_glances<R: Threads + Wait + Sync>(rt: &R, alloc: Global, said: &mut Stri
     let _disk = run(rt, alloc, disk, GLANCES, &Open, said)?;
     said.push_str("# a glance behind a confirmed fetch, beside the writer\n")?;
     let disk = new_image(alloc)?;
-    let _disk = run(rt, alloc, disk, READS, &Open, said)?;
+    let text = reads(alloc)?;
+    let _disk = run(rt, alloc, disk, text.as_str(), &Open, said)?;
+    said.push_str("# glances round a reset\n")?;
+    let disk = new_image(alloc)?;
+    let _disk = run(rt, alloc, disk, RESETS, &Open, said)?;
     Ok(())
 }
 
@@ -281,6 +322,8 @@ fn tell_plans<R: Threads + Wait + Sync>(rt: &R, alloc: Global, said: &mut String
     tell_plan(rt, alloc, STORED_TWICE, &Open, said)?;
     said.push_str("# no plan: a block is made\n")?;
     tell_plan(rt, alloc, MAKES_A_BLOCK, &Open, said)?;
+    said.push_str("# no plan: a block is reset\n")?;
+    tell_plan(rt, alloc, RESETS_A_BLOCK, &Open, said)?;
     said.push_str("# an element that is not there, before what is no plan\n")?;
     tell_plan(rt, alloc, NO_ELEMENT, &Open, said)?;
     said.push_str("# a plan of element 0, whose numbers go on, and of which a fetch waits\n")?;
@@ -302,7 +345,12 @@ fn tell_all<R: Threads + Wait + Sync>(rt: &R, alloc: Global, said: &mut String) 
     said.push_str("# the store is held until the fetch is answered, which waits\n")?;
     tell_held(rt, alloc, 1, 2, false, said)?;
     tell_glances(rt, alloc, said)?;
-    tell_plans(rt, alloc, said)
+    tell_plans(rt, alloc, said)?;
+    said.push_str("# an image of the first version is not run on\n")?;
+    let disk = image_of_old(alloc)?;
+    let disk = run(rt, alloc, disk, BOTH, &Open, said)?;
+    let _disk = report(alloc, disk, said)?;
+    Ok(())
 }
 
 fn main(rt: HostRuntime) -> Result<()> {

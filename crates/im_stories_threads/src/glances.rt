@@ -1,4 +1,4 @@
-//! Readings: threads that look again and again beside a writer, and the last cell of the largest memory.
+//! Readings: threads that look again and again beside a writer, and the last cell of a great memory.
 
 use crate::scenes::{add_call, outcome_of, port, submit};
 use anyhow::{Result, anyhow};
@@ -182,8 +182,8 @@ fn store_and_look<K: Name, R: Wait>(
     add_glance(said, 0, glance.glance(0))
 }
 
-/// The largest block, of which the last element fills the last cell, and looks there.
-pub fn largest<K: Name, R: Wait>(
+/// A great block, of which the last element fills the last cell, and looks there.
+pub fn great<K: Name, R: Wait>(
     rt: &R,
     alloc: Global,
     controller: &Controller<FuseDisk, K>,

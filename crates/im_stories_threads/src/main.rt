@@ -67,7 +67,7 @@ fn show_all<R: Threads + Wait + Sync>(rt: &R, alloc: Global, said: &mut String) 
         Scene::OneLine,
         Scene::ServersWait,
         Scene::Sixteen,
-        Scene::Largest,
+        Scene::Great,
         Scene::Readers,
     ] {
         show_scene(rt, alloc, scene, said)?;

@@ -1,7 +1,7 @@
 //! The scenes: what threads do with a new memory, and what is told of it.
 
 use crate::crews::{Done, Played, Task, play_all};
-use crate::glances::{CELLS, Looked, READERS, add_looked, ask_and_teach, glances, largest};
+use crate::glances::{CELLS, Looked, READERS, add_looked, ask_and_teach, glances, great};
 use crate::parts::Part;
 use crate::traces::{alike, fetches_of};
 use anyhow::{Result, anyhow};
@@ -27,8 +27,8 @@ pub enum Scene {
     ServersWait,
     /// Sixteen threads of 1,002 requests each.
     Sixteen,
-    /// The largest memory, and a glance at its last cell.
-    Largest,
+    /// A great memory, and a glance at its last cell.
+    Great,
     /// Readers that look again and again beside a writer.
     Readers,
 }
@@ -42,7 +42,7 @@ impl Scene {
             Scene::OneLine => Limits::new(64, 2, 16),
             Scene::ServersWait => Limits::new(64, 3, 256),
             Scene::Sixteen => Limits::new(512, 17, 4096),
-            Scene::Largest => Limits::new(65_536, 64, 4096),
+            Scene::Great => Limits::new(65_536, 64, 4096),
             Scene::Readers => Limits::new(512, 9, 4096),
         }
     }
@@ -63,7 +63,7 @@ impl Scene {
             Scene::Two | Scene::KeeperWorks | Scene::ServersWait => 2,
             Scene::OneLine | Scene::Readers => 1,
             Scene::Sixteen => 16,
-            Scene::Largest => 0,
+            Scene::Great => 0,
         }
     }
 
@@ -77,7 +77,7 @@ impl Scene {
             (Scene::ServersWait, 1) => Part::Waits,
             (Scene::ServersWait, _) => Part::StoresAndStalls,
             (Scene::Sixteen, _) => Part::Mixed(u32::from(element).saturating_sub(1), 1_002),
-            (Scene::Largest, _) | (Scene::Readers, _) => Part::Stores(u64::from(CELLS)),
+            (Scene::Great, _) | (Scene::Readers, _) => Part::Stores(u64::from(CELLS)),
         }
     }
 
@@ -127,7 +127,7 @@ impl Scene {
             Scene::OneLine => "a trace with room for one line",
             Scene::ServersWait => "one server is woken, and one waits for nobody",
             Scene::Sixteen => "sixteen threads of 1,002 requests each",
-            Scene::Largest => "the largest memory, and a glance at its last cell",
+            Scene::Great => "a great memory, and a glance at its last cell",
             Scene::Readers => "eight readers beside a writer",
         }
     }
@@ -323,8 +323,8 @@ fn act<K: Name + Send + Sync, R: Threads + Wait + Sync>(
     scene: Scene,
     said: &mut String,
 ) -> Result<Vec<Port<K>>> {
-    if let Scene::Largest = scene {
-        return largest(rt, alloc, controller, said);
+    if let Scene::Great = scene {
+        return great(rt, alloc, controller, said);
     }
     let mut ports = play(rt, alloc, controller, scene, said)?;
     if let Some(number) = scene.asks() {
