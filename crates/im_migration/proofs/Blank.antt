@@ -1,0 +1,70 @@
+-- What the calls of a migration leave of a file in which no header is open.
+use Rattle.std.proofs.Common.{◌⊎◌, inl, inr, ⊎_elim, ℕ, ◌+◌, ◌<◌, ◌≤◌, List, length, sym, ◌∙◌, subst, arith}
+use Rattle.im_disk.specs.Moment.{Moment, Left, Torn, Shaken, MayTick}
+use Rattle.im_disk.specs.Since.{Leaves, LeavesNow, LeavesOnly, ReadsOnly, SameBut}
+use Rattle.im_disk.proofs.SinceLemmas.{left_torn, left_sync, leaves_start, leaves_step, leaves_then}
+use Rattle.im_migration.specs.Migration.{IsBlank}
+use Rattle.im_migration.specs.Laying.{IsBeside, StaysBlank}
+
+-- files that agree but for a range without a gate
+pub beside_blank : (at n : ℕ) (c d : List ℕ) → IsBeside at n → SameBut at n c d → IsBlank c → IsBlank d
+beside_blank at n c d beside but blank = (
+  λ e. blank.0 (sym (but.same 0 (first beside)) ∙ e),
+  λ e. blank.1 (sym (but.same 4096 (second beside)) ∙ e),
+)
+  where
+    first : IsBeside at n → (0 < at) ⊎ (at + n ≤ 0)
+    first (inl before) = inl (omega (arith, before.0))
+    first (inr behind) = inl (omega (arith, behind))
+
+    second : IsBeside at n → (4096 < at) ⊎ (at + n ≤ 4096)
+    second (inl before) = inr before.1
+    second (inr behind) = inl (omega (arith, behind))
+
+-- a write beside the gates, torn or not
+torn_blank : (at n : ℕ) (m m' : Moment) (past past' : List Moment) → IsBeside at n → at + n ≤ length m.bytes → MayTick (Torn at n) m m' past past' → LeavesNow m IsBlank → LeavesNow m' IsBlank
+torn_blank at n m m' past past' beside fits (inl same) blank c left = blank c (subst (λ (x : Moment). Left x c) same.0 left)
+torn_blank at n m m' past past' beside fits (inr tick) blank c left =
+    let from : (d : List ℕ) × Left m d × SameBut at n d c = left_torn at n m m' fits tick.now c left in
+    beside_blank at n from.0 c beside from.2 (blank from.0 from.1)
+
+module _ {D : Type 0} (now : D → Moment) (past : D → List Moment) where
+  pub blank_write : (at n : ℕ) (old new : D) → IsBeside at n → at + n ≤ length (now old).bytes → MayTick (Torn at n) (now old) (now new) (past old) (past new) → StaysBlank now past old new
+  blank_write at n old new beside fits tick blank =
+      let after : LeavesNow (now new) IsBlank = torn_blank at n (now old) (now new) (past old) (past new) beside fits tick blank in
+      record {
+        within = leaves_step (now old) (now old) (now new) (past old) (past old) (past new) IsBlank (Torn at n) (leaves_start (now old) (past old) IsBlank) tick after;
+        after = after;
+      }
+
+  pub blank_start : (d : D) → StaysBlank now past d d
+  blank_start d blank = record { within = leaves_start (now d) (past d) IsBlank; after = blank }
+
+  pub blank_then : (old mid new : D) → StaysBlank now past old mid → StaysBlank now past mid new → StaysBlank now past old new
+  blank_then old mid new first second blank =
+      let a : LeavesOnly now past old mid IsBlank = first blank in
+      let b : LeavesOnly now past mid new IsBlank = second a.after in
+      record {
+        within = leaves_then (now old) (now mid) (now new) (past old) (past mid) (past new) IsBlank IsBlank IsBlank a.within b.within (λ c is. is) (λ c is. is);
+        after = b.after;
+      }
+
+-- a sync, and then calls that only read, leave no file more
+pub settled_leaves : (m0 m1 m2 : Moment) (p0 p1 p2 : List Moment) → MayTick Shaken m0 m1 p0 p1 → ReadsOnly m1 m2 p1 p2 → Leaves m0 m2 p0 p2 (Left m0)
+settled_leaves m0 m1 m2 p0 p1 p2 tick reads =
+    let settled : (c : List ℕ) → Left m1 c → Left m0 c = left_sync m0 m1 p0 p1 tick in
+    leaves_then m0 m1 m2 p0 p1 p2 (Left m0) (Left m1) (Left m0)
+    (leaves_step m0 m0 m1 p0 p0 p1 (Left m0) Shaken (leaves_start m0 p0 (Left m0)) tick settled)
+    reads.leaves (λ c left. left) settled
+
+-- a run that leaves no file more leaves only what has any property, those aside that could be left before
+pub leaves_none : (old new : Moment) (past past' : List Moment) (P : List ℕ → Type 0) → Leaves old new past past' (Left old) → Leaves old new past past' P
+leaves_none old new past past' P leaves = record {
+  later = leaves.later;
+  each = λ t c le left. ⊎_elim (λ earlier. inl earlier) (λ here. inl (inl (le, here))) (leaves.each t c le left);
+}
+
+-- and then a run that leaves only what has a property
+pub leaves_after : (old mid new : Moment) (past past_mid past_new : List Moment) (P : List ℕ → Type 0) → Leaves old mid past past_mid (Left old) → Leaves mid new past_mid past_new P → Leaves old new past past_new P
+leaves_after old mid new past past_mid past_new P first second =
+    leaves_then old mid new past past_mid past_new P P P (leaves_none old mid past past_mid P first) second (λ c is. is) (λ c is. is)

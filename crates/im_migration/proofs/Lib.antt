@@ -1,0 +1,4 @@
+mod Blank
+mod Laid
+mod Opened
+mod Parts

@@ -1,0 +1,116 @@
+//! How a memory is laid down as a new image: what stands behind the closed gate of its header, and then the gate.
+ghost use Rattle.std.specs.Prelude.{◌≡◌, ◌⊎◌, ◌+◌, ◌*◌, ◌≤◌, ℕ, length, OnOk};
+ghost use Rattle.im_types.specs.declared.TheConstants.{LAST};
+ghost use Rattle.im_types.specs.Header.{header_body};
+ghost use Rattle.im_types.specs.Layout as layout;
+ghost use Rattle.im_types.specs.Layout.{layout_in_use, sizes_of};
+ghost use Rattle.im_types.specs.Pages.{Records};
+ghost use Rattle.im_disk.specs.Moment.{Counts, overlaid};
+ghost use Rattle.im_disk.specs.Since.{LeavesNow, LeavesOnly};
+ghost use Rattle.im_image.specs.Headers.{seen};
+ghost use Rattle.im_image.specs.Reading.{HasSizes};
+ghost use Rattle.im_migration.specs.Migration.{IsBlank, IsLaidDown, moved_header};
+ghost use Rattle.im_migration.specs.Laying.{IsBeside, IsLaid, StaysBlank};
+
+use im_disk::{DeviceFault, Disk, open_gate};
+use im_image::{Header, encode_page};
+use im_memory::Memory;
+use im_types::Limits;
+use im_types::layout::{CLOSED, PAGE, SLOT, area_at, area_pages, journal_at};
+
+// Writes where no gate of a header is.
+fn write_beside<N: Disk>(new: &mut N, at: usize, bytes: &[u8]) -> Result<(), DeviceFault>
+    requires beside { IsBeside at (length bytes.now) }
+    requires inside { N.honest new.old → at + length bytes.now ≤ length (N.now new.old).bytes }
+    ensures blank { N.honest new.new → StaysBlank N.now N.past new.old new.new }
+    ensures written { OnOk result (N.honest new.new
+        → (N.now new.new).bytes ≡ overlaid (N.now new.old).bytes at bytes.now) }
+    ensures honest { N.honest new.new → N.honest new.old }
+    ensures failures { Counts result (N.failures new.old) (N.failures new.new) }
+{
+    new.write_at(at, bytes) // Where both gates were closed a stop leaves them so: they aren't in the range.
+}
+
+// Writes the pages of a memory into the first area.
+fn write_pages<N: Disk>(new: &mut N, memory: &Memory, limits: Limits) -> Result<(), DeviceFault>
+    requires sizes { HasSizes (sizes_of limits) memory.now.contents }
+    requires size { N.honest new.old
+        → length (N.now new.old).bytes ≡ layout.image_length layout_in_use (sizes_of limits) }
+    ensures laid { OnOk result (N.honest new.new
+        → IsLaid (sizes_of limits) memory.now.records (layout.area_pages layout_in_use (sizes_of limits)) 0
+        (N.now new.new).bytes) }
+    ensures blank { N.honest new.new → StaysBlank N.now N.past new.old new.new }
+    ensures honest { N.honest new.new → N.honest new.old }
+    ensures failures { Counts result (N.failures new.old) (N.failures new.new) }
+{
+    let mut page = [0; PAGE];
+    for i in 0..area_pages(limits) {
+        encode_page(memory, limits, i, &mut page);
+        write_beside(new, area_at(limits, 0) + PAGE * i, &page)?; // No header is open, whatever a stop leaves of the page.
+    }
+    Ok(())
+}
+
+// Closes the gate of each slot of the journal.
+fn close_slots<N: Disk>(new: &mut N, limits: Limits) -> Result<(), DeviceFault>
+    requires size { N.honest new.old
+        → length (N.now new.old).bytes ≡ layout.image_length layout_in_use (sizes_of limits) }
+    ensures laid { OnOk result (N.honest new.new → (r : Records)
+        → IsLaid (sizes_of limits) r (layout.area_pages layout_in_use (sizes_of limits)) 0 (N.now new.old).bytes
+        → IsLaid (sizes_of limits) r (layout.area_pages layout_in_use (sizes_of limits)) limits.slots
+        (N.now new.new).bytes) }
+    ensures size { OnOk result (N.honest new.new
+        → length (N.now new.new).bytes ≡ layout.image_length layout_in_use (sizes_of limits)) }
+    ensures blank { N.honest new.new → StaysBlank N.now N.past new.old new.new }
+    ensures honest { N.honest new.new → N.honest new.old }
+    ensures failures { Counts result (N.failures new.old) (N.failures new.new) }
+{
+    let at = journal_at(limits);
+    for slot in 0..limits.slots as usize {
+        write_beside(new, at + SLOT * slot, &[CLOSED])?; // No header is open, whatever a stop leaves of the gate.
+    }
+    Ok(())
+}
+
+// Writes a header behind its gate.
+fn write_header<N: Disk>(new: &mut N, header: &Header) -> Result<(), DeviceFault>
+    requires { N.honest new.old → 64 ≤ length (N.now new.old).bytes }
+    ensures blank { N.honest new.new → StaysBlank N.now N.past new.old new.new }
+    ensures written { OnOk result (N.honest new.new
+        → (N.now new.new).bytes ≡ overlaid (N.now new.old).bytes 1 (header_body (seen header.now))) }
+    ensures honest { N.honest new.new → N.honest new.old }
+    ensures failures { Counts result (N.failures new.old) (N.failures new.new) }
+{
+    let bytes = header.spell();
+    write_beside(new, 1, &bytes[1..]) // The gate is closed, whatever a stop leaves behind it.
+}
+
+/// Lays a memory down as a new image, with this header, in a file of its length in which no header is open.
+///
+/// A crash at any moment of it leaves a file in which no header is open, or the image. Once it has answered `Ok`, the image
+/// is on the disk.
+pub(crate) fn lay_down<N: Disk>(
+    new: &mut N,
+    header: &Header,
+    memory: &Memory,
+) -> Result<(), DeviceFault>
+    requires sizes { HasSizes (sizes_of header.now.limits) memory.now.contents }
+    requires header { seen header.now ≡ moved_header (sizes_of header.now.limits) header.now.count }
+    requires last { header.now.count ≤ LAST }
+    requires size { N.honest new.old
+        → length (N.now new.old).bytes ≡ layout.image_length layout_in_use (sizes_of header.now.limits) }
+    requires blank { N.honest new.old → LeavesNow (N.now new.old) IsBlank }
+    ensures leaves { N.honest new.new → LeavesOnly N.now N.past new.old new.new
+        (λ file. IsBlank file ⊎ IsLaidDown (seen header.now) memory.now.contents file) }
+    ensures laid { OnOk result (N.honest new.new
+        → LeavesNow (N.now new.new) (IsLaidDown (seen header.now) memory.now.contents)) }
+    ensures honest { N.honest new.new → N.honest new.old }
+    ensures failures { Counts result (N.failures new.old) (N.failures new.new) }
+{
+    let _records = memory.records();
+    write_pages(new, memory, header.limits)?; // A stop in it leaves no header open, and so in the next two.
+    close_slots(new, header.limits)?;
+    write_header(new, header)?;
+    // A stop leaves the gate closed, or open over what is on the disk then. Once this is done it is open for good.
+    open_gate(new, 0)
+}

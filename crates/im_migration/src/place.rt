@@ -1,0 +1,58 @@
+//! Whether a file may be taken for a new image: it has the length, and no header in it is open.
+ghost use Rattle.std.specs.Prelude.{◌≡◌, ◌⊎◌, ◌≤◌, false, true, length, IfOk, IfErr, OnOk};
+ghost use Rattle.im_types.specs.declared.refusals.Refusal.TheVariants.{Device, NotBlank, WrongLength};
+ghost use Rattle.im_types.specs.Layout.{sizes_of};
+ghost use Rattle.im_disk.specs.Moment.{Counts, Faults, Left, synced};
+ghost use Rattle.im_disk.specs.Since.{LeavesWithin};
+ghost use Rattle.im_migration.specs.Migration.{IsBlank, IsNoPlace, IsPlace};
+
+use im_disk::{DeviceFault, Disk};
+use im_types::layout::{OPEN, PAGE, image_length};
+use im_types::{Limits, Refusal};
+
+// Whether the gates of both headers read closed, after a sync.
+fn is_blank<N: Disk>(new: &mut N) -> Result<bool, DeviceFault>
+    requires { N.honest new.old → 4097 ≤ length (N.now new.old).bytes }
+    ensures yes { IfOk result (λ b. N.honest new.new → b ≡ true → IsBlank (N.now new.old).bytes) }
+    ensures no { IfOk result (λ b. N.honest new.new → b ≡ false → IsBlank (N.now new.old).bytes → ⊥) }
+    ensures calm { OnOk result (N.honest new.new → N.now new.new ≡ synced (N.now new.old)) }
+    ensures leaves { N.honest new.new → LeavesWithin N.now N.past new.old new.new (Left (N.now new.old)) }
+    ensures honest { N.honest new.new → N.honest new.old }
+    ensures failures { Counts result (N.failures new.old) (N.failures new.new) }
+{
+    // A crash after a write that wasn't synced may leave a gate that reads closed: a sync makes it sure. A stop in it, or
+    // in the reads behind it, leaves what a stop before it leaves.
+    new.sync()?;
+    let mut zero = [OPEN; 1];
+    let mut one = [OPEN; 1];
+    new.read(0, &mut zero)?;
+    new.read(PAGE, &mut one)?;
+    Ok(zero[0] != OPEN && one[0] != OPEN)
+}
+
+/// Finds that a file may be taken for a new image with these limits: `WrongLength` where it hasn't the length of one,
+/// `NotBlank` where, after a sync, a header in it is open. It writes nothing.
+pub(crate) fn find_place<N: Disk>(new: &mut N, limits: Limits) -> Result<(), Refusal>
+    ensures place { OnOk result (N.honest new.new → IsPlace (sizes_of limits) (N.now new.old).bytes) }
+    ensures calm { OnOk result (N.honest new.new → N.now new.new ≡ synced (N.now new.old)) }
+    ensures none { IfErr result (λ e. (e ≡ Device)
+        ⊎ (N.honest new.new → IsNoPlace e (sizes_of limits) (N.now new.old).bytes)) }
+    ensures same { IfErr result (λ e. (e ≡ Device) ⊎ (N.honest new.new
+        → (N.now new.new).bytes ≡ (N.now new.old).bytes)) }
+    ensures leaves { N.honest new.new → LeavesWithin N.now N.past new.old new.new (Left (N.now new.old)) }
+    ensures honest { N.honest new.new → N.honest new.old }
+    ensures faults { Faults (λ e. (e ≡ WrongLength) ⊎ (e ≡ NotBlank) ⊎ (e ≡ Device)) result
+        (N.failures new.old) (N.failures new.new) }
+{
+    let Ok(length) = new.len() else {
+        return Err(Refusal::Device);
+    };
+    if length != image_length(limits) {
+        return Err(Refusal::WrongLength);
+    }
+    match is_blank(new) {
+        Ok(true) => Ok(()),
+        Ok(false) => Err(Refusal::NotBlank),
+        Err(_) => Err(Refusal::Device),
+    }
+}
