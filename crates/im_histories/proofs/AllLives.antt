@@ -23,7 +23,8 @@ use Rattle.im_histories.proofs.Given.{get_or-fill_in, held_at-within, place-fits
 use Rattle.im_histories.proofs.ListLemmas.{all_map, all_append}
 use Rattle.im_histories.proofs.EndEntry.{ends-later}
 use Rattle.im_histories.proofs.OneStep.{contents_of, event_for, Takes, Silent, Asked, takes_command, IsSound, sound-step}
-use Rattle.im_histories.proofs.CellStep.{or_right, serve_op, Meets, Passes, Serves, Frees, Clears, meets}
+use Rattle.im_laws.proofs.Tests.{or_right}
+use Rattle.im_histories.proofs.CellStep.{serve_op, Meets, Passes, Serves, Frees, Clears, meets}
 use Rattle.im_histories.proofs.CellLaw.{CellLaw}
 use Rattle.im_histories.proofs.Life.{EndsAsSaid, IsAt, life_lawful}
 
