@@ -21,21 +21,20 @@ beside_blank at n c d beside but blank = (
     second (inl before) = inr before.1
     second (inr behind) = inl (omega (arith, behind))
 
--- a write beside the gates, torn or not
-torn_blank : (at n : ℕ) (m m' : Moment) (past past' : List Moment) → IsBeside at n → at + n ≤ length m.bytes → MayTick (Torn at n) m m' past past' → LeavesNow m IsBlank → LeavesNow m' IsBlank
-torn_blank at n m m' past past' beside fits (inl same) blank c left = blank c (subst (λ (x : Moment). Left x c) same.0 left)
-torn_blank at n m m' past past' beside fits (inr tick) blank c left =
-    let from : (d : List ℕ) × Left m d × SameBut at n d c = left_torn at n m m' fits tick.now c left in
-    beside_blank at n from.0 c beside from.2 (blank from.0 from.1)
-
 module _ {D : Type 0} (now : D → Moment) (past : D → List Moment) where
   pub blank_write : (at n : ℕ) (old new : D) → IsBeside at n → at + n ≤ length (now old).bytes → MayTick (Torn at n) (now old) (now new) (past old) (past new) → StaysBlank now past old new
   blank_write at n old new beside fits tick blank =
-      let after : LeavesNow (now new) IsBlank = torn_blank at n (now old) (now new) (past old) (past new) beside fits tick blank in
       record {
-        within = leaves_step (now old) (now old) (now new) (past old) (past old) (past new) IsBlank (Torn at n) (leaves_start (now old) (past old) IsBlank) tick after;
-        after = after;
+        within = leaves_step (now old) (now old) (now new) (past old) (past old) (past new) IsBlank (Torn at n) (leaves_start (now old) (past old) IsBlank) tick (λ c left. by_tick c tick left);
+        after = λ c left. by_tick c tick left;
       }
+    where
+      -- the write is torn, or nothing has happened
+      by_tick : (c : List ℕ) → MayTick (Torn at n) (now old) (now new) (past old) (past new) → Left (now new) c → IsBlank c
+      by_tick c (inl same) left = blank c (subst (λ (x : Moment). Left x c) same.0 left)
+      by_tick c (inr torn) left =
+          let from : (d : List ℕ) × Left (now old) d × SameBut at n d c = left_torn at n (now old) (now new) fits torn.now c left in
+          beside_blank at n from.0 c beside from.2 (blank from.0 from.1)
 
   pub blank_then : (old mid new : D) → StaysBlank now past old mid → StaysBlank now past mid new → StaysBlank now past old new
   blank_then old mid new first second blank =

@@ -9,7 +9,7 @@ ghost use Rattle.im_migration.specs.Migration.{BlankOrSame, HasCount, MeansSame}
 ghost use Rattle.im_text.specs.Printing.{Begins, IsLast};
 ghost use Rattle.im_program.specs.Moving.{MigratedFrom, TellsCount, migrated_line};
 
-use crate::work::{kind_of, refusal_of};
+use crate::work::{kind_of_fault, refusal_of};
 use im_disk::{Disk, FileDisk, OpenFault, Start};
 use im_image::read_header;
 use im_migration::{length_for, migrate};
@@ -132,23 +132,6 @@ fn new_file<R: Files<File = File>, S: Start>(
     }
 }
 
-// The refusal of a new file that isn't made or opened. The observer is told why.
-fn new_refusal_of<R: Files<File = File>, V: Observer>(
-    rt: &R,
-    new: &str,
-    fault: OpenFault,
-    observer: &mut V,
-) -> Refusal
-    ensures { result ≡ Refusal.Device }
-{
-    let kind = match fault {
-        OpenFault::InUse => None,
-        OpenFault::Device => kind_of(rt, new),
-    };
-    observer.refused(Reason::NewFile(fault, kind));
-    Refusal::from(fault)
-}
-
 /// Moves the image of a file on to a new file, and gives the new file's disk back, with the status and the line of
 /// [`migrate_on`]. The new file is used as it is where there is one at the path; else it is made, with the length that the
 /// image needs. The old file is opened to be read alone.
@@ -189,7 +172,10 @@ pub fn migrate_file<R: Files<File = File> + AllocGlobal, S: Start, T: Start, W: 
     };
     let to = match new_file(rt, new, length, start) {
         Ok(disk) => disk,
-        Err(fault) => return Err(new_refusal_of(rt, new, fault, observer)),
+        Err(fault) => {
+            observer.refused(Reason::NewFile(fault, kind_of_fault(rt, new, fault)));
+            return Err(Refusal::from(fault));
+        }
     };
     let (status, disk) = migrate_on(rt.alloc(), &mut from, to, out, observer);
     Ok((status, disk))

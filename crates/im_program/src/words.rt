@@ -499,9 +499,10 @@ fn inspect_work<'a>(found: &ArgMatches<'a>) -> Work<'a>
 fn migrate_work<'a>(found: &ArgMatches<'a>) -> Work<'a>
     ensures { task_of result ≡ migrate_task (rows_of (found_of found.now)) }
 {
-    let old = path_of(found, "OLD");
-    let new = path_of(found, "NEW");
-    Work::Migrate { old, new }
+    Work::Migrate {
+        old: path_of(found, "OLD"),
+        new: path_of(found, "NEW"),
+    }
 }
 
 /// What the words ask for. `None` where a number is no decimal number of a u32.

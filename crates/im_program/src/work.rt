@@ -70,8 +70,8 @@ fn limits_reason(cells: u32, elements: u32, slots: u32) -> Reason {
     }
 }
 
-/// What the system says of a file that can't be opened.
-pub(crate) fn kind_of<R: Files<File = File>>(rt: &R, path: &str) -> Option<ErrorKind> {
+// What the system says of a file that can't be opened.
+fn kind_of<R: Files<File = File>>(rt: &R, path: &str) -> Option<ErrorKind> {
     let data = match fs::metadata(rt, path) {
         Ok(data) => data,
         Err(error) => return Some(error.kind()),
@@ -88,6 +88,18 @@ pub(crate) fn kind_of<R: Files<File = File>>(rt: &R, path: &str) -> Option<Error
     }
 }
 
+/// What the system says of a file that can't be opened, where it says anything of the fault.
+pub(crate) fn kind_of_fault<R: Files<File = File>>(
+    rt: &R,
+    path: &str,
+    fault: OpenFault,
+) -> Option<ErrorKind> {
+    match fault {
+        OpenFault::InUse => None,
+        OpenFault::Device => kind_of(rt, path),
+    }
+}
+
 /// The refusal of an image that isn't made or opened. The observer is told why.
 pub(crate) fn refusal_of<R: Files<File = File>, N: Observer>(
     rt: &R,
@@ -97,11 +109,7 @@ pub(crate) fn refusal_of<R: Files<File = File>, N: Observer>(
 ) -> Refusal
     ensures { result ≡ Refusal.Device }
 {
-    let kind = match fault {
-        OpenFault::InUse => None,
-        OpenFault::Device => kind_of(rt, image),
-    };
-    observer.refused(Reason::File(fault, kind));
+    observer.refused(Reason::File(fault, kind_of_fault(rt, image, fault)));
     Refusal::from(fault)
 }
 

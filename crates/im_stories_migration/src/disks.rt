@@ -19,14 +19,16 @@ pub fn hex(word: &str) -> Result<u8> {
 
 /// How a disk fails: `stop` for good, `once`, or once with a scar, a byte all over what was to be written: `scar:BYTE`.
 pub fn mode(word: &str) -> Result<Mode> {
-    match word {
-        "stop" => Ok(Mode::Stop),
-        "once" => Ok(Mode::Once),
-        _ => match word.strip_prefix("scar:") {
-            Some(byte) => Ok(Mode::Scar(hex(byte)?)),
-            None => Err(anyhow!("{word} is no way to fail")),
-        },
+    if let Some(byte) = word.strip_prefix("scar:") {
+        return Ok(Mode::Scar(hex(byte)?));
     }
+    if word == "stop" {
+        return Ok(Mode::Stop);
+    }
+    if word != "once" {
+        return Err(anyhow!("{word} is no way to fail"));
+    }
+    Ok(Mode::Once)
 }
 
 /// What a crash leaves of what wasn't synced: `kept` and `lost`, or a byte all over it.
@@ -51,10 +53,11 @@ pub fn copy(alloc: Global, disk: &MemDisk) -> Result<MemDisk> {
 }
 
 fn limits(cells: &str, elements: &str, slots: &str) -> Result<Limits> {
-    match Limits::new(address(cells)?, element(elements)?, address(slots)?) {
-        Some(limits) => Ok(limits),
-        None => Err(anyhow!("these are no sizes")),
-    }
+    let elements = element(elements)?;
+    let Some(limits) = Limits::new(address(cells)?, elements, address(slots)?) else {
+        return Err(anyhow!("these are no sizes"));
+    };
+    Ok(limits)
 }
 
 fn current_image(alloc: Global, limits: Limits) -> Result<MemDisk> {

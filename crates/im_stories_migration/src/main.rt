@@ -47,15 +47,14 @@ impl<'a> Scene for Desk<'a> {
     }
 
     fn tell(&mut self, alloc: Global, words: &[&str], said: &mut String) -> Result<()> {
-        if disks::tell(self, alloc, words, said)?
-            || moves::tell(self, alloc, words, said)?
-            || stops::tell(self, alloc, words, said)?
-            || programs::tell(self, words, said)?
-        {
-            Ok(())
-        } else {
-            Err(anyhow!("no call"))
+        if disks::tell(self, alloc, words, said)? || moves::tell(self, alloc, words, said)? {
+            return Ok(());
         }
+        let is_call = stops::tell(self, alloc, words, said)? || programs::tell(self, words, said)?;
+        if !is_call {
+            return Err(anyhow!("no call"));
+        }
+        Ok(())
     }
 }
 

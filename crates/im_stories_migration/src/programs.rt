@@ -7,7 +7,6 @@ use anyhow::{Result, anyhow};
 use im_disk::{MemDisk, Unknown};
 use im_program::{Work, act_alone, migrate_file, read_words, refuse};
 use std::fs;
-use std::io::ErrorKind;
 
 // Does what a command line asks one thread for. The status.
 fn act(desk: &mut Desk, words: &[&str]) -> Result<u8> {
@@ -67,14 +66,11 @@ fn load(desk: &Desk, file: &str, said: &mut String) -> Result<MemDisk> {
 
 // How long a file is, if it is there.
 fn length_of(desk: &Desk, file: &str, said: &mut String) -> Result<()> {
-    match fs::read(desk.rt, file) {
-        Ok(bytes) => {
-            let length = bytes.len();
-            Ok(write!(said, "{length} bytes")?)
-        }
-        Err(error) if error.kind() == ErrorKind::NotFound => Ok(said.push_str("none")?),
-        Err(error) => Err(error.into()),
+    if fs::metadata(desk.rt, file).is_err() {
+        return Ok(said.push_str("none")?);
     }
+    let length = fs::read(desk.rt, file)?.len();
+    Ok(write!(said, "{length} bytes")?)
 }
 
 /// Makes a call on files. Whether the words are one.
