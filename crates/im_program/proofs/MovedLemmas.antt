@@ -2,7 +2,7 @@
 use Rattle.std.proofs.Common.{◌≡◌, ◌⊎◌, inl, inr, ⊎_elim, ℕ, zero, suc, ◌≤◌, List, [], ◌∷◌, get_or, length, replicate, refl, sym, ◌∙◌, ap, subst, arith}
 use Rattle.std.specs.Prelude.{Option}
 use Rattle.std.specs.Io.KnownBytes.{Appends, Keeps}
-use Rattle.im_types.specs.Bytes.{open_gate}
+use Rattle.im_types.specs.Bytes.{open_gate, zeros}
 use Rattle.im_disk.specs.Moment.{Moment, Left, LeftSince}
 use Rattle.im_disk.specs.Since.{LeavesNow, LeavesWithin}
 use Rattle.im_disk.proofs.SinceLemmas.{left_settled}
@@ -14,7 +14,7 @@ use Rattle.im_program.specs.Moving.{MigratedFrom, TellsCount, migrated_line}
 pub told_count : (old : List ℕ) (was mid is : Option (List ℕ)) (count : ℕ) → HasCount old count → Appends was mid (migrated_line count) → Keeps mid is → TellsCount old was is
 told_count old was mid is count has added keeps = (count, has, appends_kept was mid is (migrated_line count) added keeps)
 
-zero_at : (n i : ℕ) → get_or (replicate n 0) i 0 ≡ 0
+zero_at : (n i : ℕ) → get_or (zeros n) i 0 ≡ 0
 zero_at zero i = refl
 zero_at (suc n) zero = refl
 zero_at (suc n) (suc i) = zero_at n i
