@@ -7,7 +7,7 @@ use Rattle.im_types.specs.declared.operations.Block.{Block}
 use Rattle.im_types.specs.declared.operations.Kind.{Kind}
 use Rattle.im_types.specs.Place.{place, fill, change_each}
 use Rattle.im_laws.proofs.PlaceLemmas.{get_or-fill, get_or-change_each, place-free}
-use Rattle.im_laws.proofs.BlockLemmas.{get_or-fill_in, length-change_each, place-fits}
+use Rattle.im_laws.proofs.BlockLemmas.{length-fill, get_or-fill_in, length-change_each, place-fits}
 use Rattle.im_types.specs.declared.cells.Cell.{Cell}
 use Rattle.im_types.specs.declared.cells.Cell.TheVariants.{Empty}
 use Rattle.im_types.specs.declared.records.CellRecord.{CellRecord}
@@ -17,7 +17,6 @@ use Rattle.im_types.specs.declared.TheConstants.{NONE}
 use Rattle.im_cell.specs.declared.records.Record.TheVariants.{Empty as IsEmpty, Waiting as IsWaiting, Full as IsFull, Clashed as IsClashed, Free}
 use Rattle.im_cell.specs.Records.{slot_of, slots_of, record_shown}
 use Rattle.im_cell.specs.Slots.{slot_at, block_in, block_at, with_cell, new_slot, empty_slot, shown_slot, HasBlocks}
-use Rattle.im_cell.proofs.Places.{length-fill}
 
 some_none : {X : Type 0} (x : X) → Some x ≡ None → ⊥
 some_none x e = cc

@@ -7,7 +7,7 @@ use Rattle.im_types.specs.Place.{begins_free, place, fill}
 use Rattle.im_cell.specs.declared.tree.TheConstants.{PART}
 use Rattle.im_cell.specs.declared.summaries.Summary.{Summary}
 use Rattle.im_cell.specs.Summaries.{mark, Summarises, node_at, part_at, leaves_of, HasJoined, IsLeaf, IsTree}
-use Rattle.im_cell.proofs.Places.{length-fill}
+use Rattle.im_laws.proofs.BlockLemmas.{length-fill}
 
 module _ {X : Type 0} where
   -- the marks after a fill

@@ -96,7 +96,10 @@ impl Display for HeaderField {
         match *self {
             HeaderField::Area(area) => write!(f, "its area is {area}"),
             HeaderField::Version(version) => {
-                write!(f, "its version is {version}, where {VERSION} and 1 are read here")
+                write!(
+                    f,
+                    "its version is {version}, where {VERSION} and 1 are read here"
+                )
             }
             HeaderField::Letters => write!(f, "the letters IMEM are missing"),
             HeaderField::Generation(generation) => write!(f, "its generation is {generation}"),

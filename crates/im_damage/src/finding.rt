@@ -195,8 +195,10 @@ fn of_windows(version: Version, part: &[u8], limits: Limits) -> Option<Damage> {
     let elements = limits.elements as usize;
     let page = cell_pages(limits).saturating_add(version.node_pages(limits));
     let size = version.session_record();
-    let record = bad_window(version, part, elements)
-        .map(|at| (size.saturating_mul(at) / PAGE, RecordOf::Window(at)));
+    let record = bad_window(version, part, elements).map(|at| (
+        size.saturating_mul(at) / PAGE,
+        RecordOf::Window(at),
+    ));
     of_part(page, record, bad_padding(part, size * elements))
 }
 

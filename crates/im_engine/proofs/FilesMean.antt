@@ -48,7 +48,7 @@ limits_in : (v : Version) (file : List ℕ) → header_fault (layout_of v) file 
 limits_in v file none =
     let it : InForce (layout_of v) (header_of file) file = in_force (layout_of v) file none in
     let is : is_header (layout_of v) (header_of file).area (header_of file) ≡ true =
-        subst (λ (h : Header). is_header (layout_of v) (header_of file).area h ≡ true) it.fields (and_both _ _ it.spelled).1 in
+    subst (λ (h : Header). is_header (layout_of v) (header_of file).area h ≡ true) it.fields (and_both _ _ it.spelled).1 in
     let same : layout_of v ≡ layout_named (header_of file).version = sym (ap layout_named (version_of (layout_of v) (header_of file).area (header_of file) is) ∙ named v) in
     limits_of_header (header_of file).area (header_of file) (subst (λ (l : Layout). is_header l (header_of file).area (header_of file) ≡ true) same is)
 

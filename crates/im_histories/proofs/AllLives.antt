@@ -23,7 +23,8 @@ use Rattle.im_histories.proofs.Given.{get_or-fill_in, held_at-within, place-fits
 use Rattle.im_histories.proofs.ListLemmas.{all_map, all_append}
 use Rattle.im_histories.proofs.EndEntry.{ends-later}
 use Rattle.im_histories.proofs.OneStep.{contents_of, event_for, Takes, Silent, Asked, takes_command, IsSound, sound-step}
-use Rattle.im_histories.proofs.CellStep.{or_right, serve_op, Meets, Passes, Serves, Frees, Clears, meets}
+use Rattle.im_laws.proofs.Tests.{or_right}
+use Rattle.im_histories.proofs.CellStep.{serve_op, Meets, Passes, Serves, Frees, Clears, meets}
 use Rattle.im_histories.proofs.CellLaw.{CellLaw}
 use Rattle.im_histories.proofs.Life.{EndsAsSaid, IsAt, life_lawful}
 
@@ -174,9 +175,10 @@ module _ (kind : Kind) (law : (a : ℕ) → CellLaw kind a) where
     -- the lives of a block that this command allocates
     born : (k : Kind) (base n : ℕ) → 1 ≤ n → place n m.cells ≡ Some base → next.cells ≡ (allocate_at m.cells k n (Some base)).cells
         → EachEndsLawfully m (command ∷ commands) (life_of k base n (events next commands) ∷ lives_by_reset k base n (events next commands))
-    born k base n some placed is = each_earlier m command commands (life_of k base n (events next commands) ∷ lives_by_reset k base n (events next commands))
-        (fresh commands next (sound-step m command sound) k base n empty,
-        by_reset k base n commands next (sound-step m command sound) (ap blocks_of (empty base (omega arith) (omega arith))))
+    born k base n some placed is = each_earlier m command commands (life_of k base n (events next commands) ∷ lives_by_reset k base n (events next commands)) (
+      fresh commands next (sound-step m command sound) k base n empty,
+      by_reset k base n commands next (sound-step m command sound) (ap blocks_of (empty base (omega arith) (omega arith))),
+    )
       where
         empty : (a : ℕ) → base ≤ a → a < base + n → held_at next.cells a ≡ Some (fresh_cell k base n)
         empty a lo hi =

@@ -1,9 +1,8 @@
 -- What one operation does to one cell that is in a block, and what is kept then.
-use Rattle.std.proofs.Common.{◌≡◌, ◌≢◌, ◌⊎◌, inl, inr, ⊎_elim, ℕ, zero, suc, ◌+◌, ◌<◌, ◌≤◌, List, [], ◌∷◌, map, take, drop, Some, None, Bool, true, false, cond, refl, sym, ap, ◌∙◌, subst, arith}
+use Rattle.std.proofs.Common.{◌≡◌, ◌≢◌, ◌⊎◌, inl, inr, ⊎_elim, ℕ, suc, ◌+◌, ◌<◌, ◌≤◌, List, [], ◌∷◌, map, take, drop, Some, None, Bool, true, false, cond, refl, sym, ap, ◌∙◌, subst, arith}
 use Rattle.std.specs.Prelude.{Option, ◌==◌, ◌&&◌, ◌||◌, option_map}
 use Rattle.std.specs.List.{list_any}
 use Rattle.std.proofs.lemmas.Option.{none-some, same_Some}
-use Rattle.std.proofs.lemmas.Bool.Decides.{nat_tests}
 use Rattle.im_types.proofs.Tests.{true_false}
 use Rattle.im_types.specs.declared.operations.Op.{Op}
 use Rattle.im_types.specs.declared.operations.Op.TheVariants.{Alloc, Release, Reset, Fetch, Store, Take, Put}
@@ -14,12 +13,13 @@ use Rattle.im_types.specs.declared.operations.Reply.{Reply}
 use Rattle.im_types.specs.declared.operations.Reply.TheVariants.{Value, BadLength, NoCell, WrongKind, Released, Cleared, StillWaiting}
 use Rattle.im_types.specs.declared.operations.Entry.TheVariants.{Answered}
 use Rattle.im_types.specs.declared.operations.Waiter.{Waiter}
-use Rattle.im_types.specs.Contents.{CellState, Empty, Full, Clashed, Held, held_at, waiters_of, waiters_in, waiters_at, block_at, HasBlocks}
+use Rattle.im_types.specs.Contents.{CellState, Empty, Full, Clashed, Held, held_at, waiters_of, waiters_in, block_at, HasBlocks}
 use Rattle.im_types.specs.Place.{place, fill, change_each}
-use Rattle.im_types.specs.Act.{Served, Acted, tells, fetch, store, take_from, put, only_tells, same_kind, serve_cell, at_cell, new_cell, allocate, allocate_at, block_with_base, has_waiter, is_waiting_cell, release_block, emptied, reset_block, act}
+use Rattle.im_types.specs.Act.{Served, Acted, tells, fetch, store, take_from, put, only_tells, same_kind, serve_cell, at_cell, new_cell, allocate, allocate_at, block_with_base, is_waiting_cell, release_block, emptied, reset_block, act}
 use Rattle.im_types.specs.Agreement.{same_waiter, times}
 use Rattle.im_types.specs.History.{releases, clears, ends_life}
-use Rattle.im_histories.proofs.ListLemmas.{eq_by_test}
+use Rattle.im_laws.proofs.StepAgrees.{nobody_waits}
+use Rattle.im_laws.proofs.Tests.{and_false, eq_by_test, test-self}
 use Rattle.im_histories.proofs.Given.{get_or-fill, get_or-change_each, get_or-change_each_in, place-free, held_at-set, held_at-within}
 
 -- the operation is for cells of this kind, and for this address
@@ -92,40 +92,6 @@ pub data Meets (a : ℕ) (held : Held) (who : Waiter) (op : Op) (cells : List (O
   Clears : releases held.block.base op acted.entry ≡ false → clears held.block.base op acted.entry ≡ true → waiters_of held.state ≡ []
       → held_at acted.cells a ≡ emptied (Some held) → Meets a held who op cells acted
 
-neither : (a b : Bool) → a ≡ false → b ≡ false → (a || b) ≡ false
-neither true b e f = absurd (cc)
-neither false b e f = f
-
-self_test : (a : ℕ) → (a == a) ≡ true
-self_test a = grind (arith, nat_tests)
-
-pub or_left : (a b : Bool) → (a || b) ≡ false → a ≡ false
-or_left true b e = e
-or_left false b e = refl
-
-pub or_right : (a b : Bool) → (a || b) ≡ false → b ≡ false
-or_right true b e = absurd (cc)
-or_right false b e = e
-
-no_waiters : (o : Option Held) → is_waiting_cell o ≡ false → waiters_in o ≡ []
-no_waiters None e = refl
-no_waiters (Some held) e = by_state held.state e
-  where
-    by_state : (s : CellState) → has_waiter s ≡ false → waiters_of s ≡ []
-    by_state (Empty []) e = refl
-    by_state (Empty (w ∷ ws)) e = absurd (cc)
-    by_state (Full v) e = refl
-    by_state (Clashed v) e = refl
-
-nobody_waits : (cells : List (Option Held)) (base n : ℕ) → list_any is_waiting_cell (take n (drop base cells)) ≡ false → (a : ℕ) → base ≤ a → a < base + n
-    → waiters_at cells a ≡ []
-nobody_waits [] base n e a lo hi = refl
-nobody_waits (c ∷ cells) zero zero e a lo hi = absurd (omega arith)
-nobody_waits (c ∷ cells) zero (suc n) e zero lo hi = no_waiters c (or_left (is_waiting_cell c) (list_any is_waiting_cell (take n cells)) e)
-nobody_waits (c ∷ cells) zero (suc n) e (suc a) lo hi = nobody_waits cells zero n (or_right (is_waiting_cell c) (list_any is_waiting_cell (take n cells)) e) a (omega arith) (omega arith)
-nobody_waits (c ∷ cells) (suc base) n e zero lo hi = absurd (omega arith)
-nobody_waits (c ∷ cells) (suc base) n e (suc a) lo hi = nobody_waits cells base n e a (omega arith) (omega arith)
-
 abbrev blocks_of : Option Held → Option Block
 blocks_of held = option_map (λ (held : Held). held.block) held
 
@@ -150,10 +116,6 @@ module _ (cells : List (Option Held)) (blocks : HasBlocks cells) (a : ℕ) (held
       this_cell true k = inr (refl, refl)
       this_cell false k = inl (refl, at)
 
-      and_false : (t : Bool) → (t && false) ≡ false
-      and_false true = refl
-      and_false false = refl
-
       by_test : (t : Bool) → (a == b) ≡ t
           → ((same_kind kind held.block.kind && t) ≡ false) × (held_at (at_cell kind f cells b (held_at cells b)).cells a ≡ Some held)
           ⊎ ((same_kind kind held.block.kind && t) ≡ true) × (at_cell kind f cells b (held_at cells b) ≡ serve_cell cells a held.block (f held.state))
@@ -165,7 +127,7 @@ module _ (cells : List (Option Held)) (blocks : HasBlocks cells) (a : ℕ) (held
           (subst (λ o. ((same_kind kind held.block.kind && true) ≡ false) × (held_at (at_cell kind f cells a o).cells a ≡ Some held)
           ⊎ ((same_kind kind held.block.kind && true) ≡ true) × (at_cell kind f cells a o ≡ serve_cell cells a held.block (f held.state))) (sym at)
           (this_cell (same_kind kind held.block.kind) refl))
-      by_test false e = inl (and_false (same_kind kind held.block.kind), other_cell (λ same. true_false (sym (self_test a) ∙ ap (λ c. a == c) same ∙ e)) (held_at cells b) refl)
+      by_test false e = inl (and_false (same_kind kind held.block.kind), other_cell (λ same. true_false (sym (test-self a) ∙ ap (λ c. a == c) same ∙ e)) (held_at cells b) refl)
 
   -- a new block is elsewhere
   meets_allocate : (who : Waiter) (kind : Kind) (n : ℕ) → Meets a held who (Alloc kind n) cells (allocate cells kind n)
@@ -195,7 +157,7 @@ module _ (cells : List (Option Held)) (blocks : HasBlocks cells) (a : ℕ) (held
     elsewhere : (held.block.base == b) ≡ false → b ≤ a → a < b + other.block.length → ⊥
     elsewhere e lo hi =
         let same = same_Some other.block held.block (sym (blocks.whole b other.block (ap blocks_of there) a (omega arith) (omega arith)) ∙ in_block) in
-        true_false (sym (self_test b) ∙ ap (λ c. c == b) (sym base ∙ ap (λ (block : Block). block.base) same) ∙ e)
+        true_false (sym (test-self b) ∙ ap (λ c. c == b) (sym base ∙ ap (λ (block : Block). block.base) same) ∙ e)
 
     released_elsewhere : (held.block.base == b) ≡ false → held_at (fill cells b other.block.length None) a ≡ Some held
     released_elsewhere e = ⊎_elim (λ same. same ∙ at) (λ h. absurd (elsewhere e h.0 h.1)) (get_or-fill cells b other.block.length None a)
@@ -218,7 +180,7 @@ module _ (cells : List (Option Held)) (blocks : HasBlocks cells) (a : ℕ) (held
     released_own : list_any is_waiting_cell (take other.block.length (drop b cells)) ≡ false → (t : Bool) → (held.block.base == b) ≡ t
         → Meets a held who (Release b) cells (record { cells = fill cells b other.block.length None; entry = Answered Released; resumed = [] })
     released_own quiet true e = Frees e (nobody (eq_by_test held.block.base b e) quiet)
-    released_own quiet false e = Passes refl (neither (held.block.base == b) false e refl) (released_elsewhere e)
+    released_own quiet false e = Passes refl (ap (λ t. t || false) e) (released_elsewhere e)
 
     released_unless : (t : Bool) → list_any is_waiting_cell (take other.block.length (drop b cells)) ≡ t
         → Meets a held who (Release b) cells (cond t (only_tells cells StillWaiting) (record { cells = fill cells b other.block.length None; entry = Answered Released; resumed = [] }))
@@ -235,35 +197,25 @@ module _ (cells : List (Option Held)) (blocks : HasBlocks cells) (a : ℕ) (held
     cleared_unless true e = Passes refl refl at
     cleared_unless false e = cleared_own e (held.block.base == b) refl
 
-  meets_release : (who : Waiter) (b : ℕ) → Meets a held who (Release b) cells (release_block cells b (block_with_base b (held_at cells b)))
-  meets_release who b = by_held (held_at cells b) refl
+  -- an operation on the block with a base, where it passes if there is none
+  meets_block : (who : Waiter) (b : ℕ) (op : Op) (acts : Option Block → Acted) → Meets a held who op cells (acts None)
+      → ((other : Held) → held_at cells b ≡ Some other → other.block.base ≡ b → Meets a held who op cells (acts (Some other.block)))
+      → Meets a held who op cells (acts (block_with_base b (held_at cells b)))
+  meets_block who b op acts none some = by_held (held_at cells b) refl
     where
-      by_base : (other : Held) → held_at cells b ≡ Some other → (t : Bool) → (other.block.base == b) ≡ t
-          → Meets a held who (Release b) cells (release_block cells b (cond t (Some other.block) None))
-      by_base other there true e = released_unless who b other there (eq_by_test other.block.base b e) (list_any is_waiting_cell (take other.block.length (drop b cells))) refl
-      by_base other there false e = Passes refl refl at
+      by_base : (other : Held) → held_at cells b ≡ Some other → (t : Bool) → (other.block.base == b) ≡ t → Meets a held who op cells (acts (cond t (Some other.block) None))
+      by_base other there true e = some other there (eq_by_test other.block.base b e)
+      by_base other there false e = none
 
-      by_held : (o : Option Held) → held_at cells b ≡ o → Meets a held who (Release b) cells (release_block cells b (block_with_base b o))
-      by_held None there = Passes refl refl at
-      by_held (Some other) there = by_base other there (other.block.base == b) refl
-
-  meets_reset : (who : Waiter) (b : ℕ) → Meets a held who (Reset b) cells (reset_block cells b (block_with_base b (held_at cells b)))
-  meets_reset who b = by_held (held_at cells b) refl
-    where
-      by_base : (other : Held) → held_at cells b ≡ Some other → (t : Bool) → (other.block.base == b) ≡ t
-          → Meets a held who (Reset b) cells (reset_block cells b (cond t (Some other.block) None))
-      by_base other there true e = cleared_unless who b other there (eq_by_test other.block.base b e) (list_any is_waiting_cell (take other.block.length (drop b cells))) refl
-      by_base other there false e = Passes refl refl at
-
-      by_held : (o : Option Held) → held_at cells b ≡ o → Meets a held who (Reset b) cells (reset_block cells b (block_with_base b o))
-      by_held None there = Passes refl refl at
+      by_held : (o : Option Held) → held_at cells b ≡ o → Meets a held who op cells (acts (block_with_base b o))
+      by_held None there = none
       by_held (Some other) there = by_base other there (other.block.base == b) refl
 
   -- each operation
   pub meets : (who : Waiter) (op : Op) → Meets a held who op cells (act cells who op)
   meets who (Alloc kind n) = meets_allocate who kind n
-  meets who (Release b) = meets_release who b
-  meets who (Reset b) = meets_reset who b
+  meets who (Release b) = meets_block who b (Release b) (release_block cells b) (Passes refl refl at) (λ other there base. released_unless who b other there base _ refl)
+  meets who (Reset b) = meets_block who b (Reset b) (reset_block cells b) (Passes refl refl at) (λ other there base. cleared_unless who b other there base _ refl)
   meets who (Fetch b) = ⊎_elim (λ h. Passes h.0 refl h.1) (λ h. Serves h.0 refl h.1) (at_address I (fetch who) b)
   meets who (Store b v) = ⊎_elim (λ h. Passes h.0 refl h.1) (λ h. Serves h.0 refl h.1) (at_address I (store v) b)
   meets who (Take b) = ⊎_elim (λ h. Passes h.0 refl h.1) (λ h. Serves h.0 refl h.1) (at_address M (take_from who) b)

@@ -1,9 +1,8 @@
 -- No law of histories says more than it does: each one with an answer changed fails at commands that are written out in the
 -- worked traces of `im_laws`. The definitions compute the lives and the entries.
-use Rattle.std.proofs.Common.{◌≡◌, ℕ, ◌+◌, ◌<◌, ◌≤◌, List, [], ◌∷◌, Option, Some, false, refl, ap, arith}
-use Rattle.std.specs.Prelude.{◌==◌, reverse, IfSome}
+use Rattle.std.proofs.Common.{◌≡◌, ℕ, ◌+◌, ◌<◌, ◌≤◌, List, [], ◌∷◌, Option, Some, refl, ap, arith}
+use Rattle.std.specs.Prelude.{reverse, IfSome}
 use Rattle.std.specs.List.{AllByRecursion}
-use Rattle.std.proofs.lemmas.Bool.Decides.{nat_tests}
 use Rattle.im_types.proofs.Tests.{differ}
 use Rattle.im_types.specs.declared.operations.Op.{Op}
 use Rattle.im_types.specs.declared.operations.Op.TheVariants.{Fetch, Store, Take, Put}

@@ -1,6 +1,6 @@
 -- The last entry that is kept for a request: an answer stays until it is dropped, and then nothing is kept any more.
 use Rattle.std.proofs.Common.{◌≡◌, ◌⊎◌, inl, inr, ⊎_elim, ℕ, zero, suc, ◌+◌, ◌-◌, ◌<◌, ◌≤◌, List, [], ◌∷◌, length, max, take, drop, set, Some, None, Ok, Err, Bool, true, false, cond, refl, sym, ap, ◌∙◌, arith}
-use Rattle.std.specs.Prelude.{Option, Result, ◌==◌, ◌&&◌, slice_get, nat_lt, option_map, option_and_then}
+use Rattle.std.specs.Prelude.{Option, Result, ◌==◌, slice_get, nat_lt, option_map, option_and_then}
 use Rattle.std.specs.List.{list_any}
 use Rattle.std.proofs.lemmas.Option.{none-some, same_Some}
 use Rattle.std.proofs.lemmas.Bool.Decides.{nat_tests}
@@ -22,7 +22,7 @@ use Rattle.im_types.specs.Act.{act}
 use Rattle.im_types.specs.Step.{asker, step, step_request, step_confirm}
 use Rattle.im_types.specs.Agreement.{StaysOrIsAnswered, WaitingAgrees, drops}
 use Rattle.im_types.specs.History.{latest, last_kept}
-use Rattle.im_histories.proofs.ListLemmas.{eq_by_test}
+use Rattle.im_laws.proofs.Tests.{eq_by_test}
 use Rattle.im_histories.proofs.Given.{kept_under-below, step-keeps, step-agrees}
 
 -- in the window of this element the number lies below the base

@@ -1,6 +1,6 @@
 -- The law of one I cell, request by request: the state of the cell by the values stored so far.
 use Rattle.std.proofs.Common.{◌≡◌, inl, inr, ℕ, ◌≤◌, List, [], ◌∷◌, ◌++◌, length, Some, None, true, false, cond, refl, sym, ap, ◌∙◌, arith, length-append}
-use Rattle.std.specs.Prelude.{slice_get, nat_lt, ◌==◌, IfSome}
+use Rattle.std.specs.Prelude.{slice_get, nat_lt, ◌==◌}
 use Rattle.std.proofs.lemmas.Option.{none-some}
 use Rattle.std.proofs.lemmas.List.Elements.{filter_map-append}
 use Rattle.std.proofs.lemmas.Bool.Decides.{nat_tests}
@@ -8,17 +8,16 @@ use Rattle.im_types.proofs.Tests.{false_true}
 use Rattle.im_types.specs.declared.operations.Op.{Op}
 use Rattle.im_types.specs.declared.operations.Op.TheVariants.{Alloc, Release, Reset, Fetch, Store, Take, Put}
 use Rattle.im_types.specs.declared.operations.Kind.TheVariants.{I}
-use Rattle.im_types.specs.declared.operations.Reply.{Reply}
 use Rattle.im_types.specs.declared.operations.Reply.TheVariants.{Value, Clash}
 use Rattle.im_types.specs.declared.operations.Entry.{Entry}
 use Rattle.im_types.specs.declared.operations.Entry.TheVariants.{Waiting, Answered}
 use Rattle.im_types.specs.declared.operations.Waiter.{Waiter}
 use Rattle.im_types.specs.Contents.{CellState, Empty, Full, Clashed, waiters_of}
-use Rattle.im_types.specs.History.{Event, value_stored, stores, value_or_waiting, entry_of_fetch, lawful_entry}
+use Rattle.im_types.specs.History.{Event, value_stored, stores, value_or_waiting, entry_of_fetch}
 use Rattle.im_histories.proofs.ListLemmas.{get-left, get-end, if_tested, filter_map-skips, filter_map-adds}
 use Rattle.im_histories.proofs.CellStep.{is_for}
 use Rattle.im_histories.proofs.OneStep.{times-get}
-use Rattle.im_histories.proofs.CellLaw.{event_with, served_by, IsServed, served_at_once, CellLaw}
+use Rattle.im_histories.proofs.CellLaw.{event_with, IsServed, served_at_once, CellLaw}
 
 module _ (a : ℕ) where
   -- empty before the first store, full after it, clashed after the second
@@ -73,11 +72,6 @@ module _ (a : ℕ) where
   abbrev IsServedHere : List Event → Event → CellState → Type 0
   IsServedHere early e state = IsServed I a Stored_so_far first_stored early e state
 
-  at_once : (early : List Event) (e : Event) (state : CellState) → waiters_of state ≡ [] → (reply : Reply) → (served_by e state).entry ≡ Answered reply
-      → Stored_so_far (early ++ e ∷ []) (served_by e state).state → ((all later : List Event) → all ≡ early ++ e ∷ later → IfSome (lawful_entry I a all early e e.request.op) (λ entry. entry ≡ Answered reply))
-      → IsServedHere early e state
-  at_once early e state = served_at_once I a Stored_so_far first_stored early e state
-
   serves_fetch : (early : List Event) (e : Event) (b : ℕ) → (a == b) ≡ true → (state : CellState) → Stored_so_far early state
       → IsServedHere early (event_with e (Fetch b)) state
   serves_fetch early e b mine (Empty readers) agrees = record {
@@ -87,10 +81,10 @@ module _ (a : ℕ) where
         (inr (length readers, get-end readers [] (length readers) _ refl, sym (ap (λ values. entry_of_fetch values (stores a all)) agrees)));
   }
   serves_fetch early e b mine (Full v) agrees =
-      at_once early (event_with e (Fetch b)) (Full v) refl (Value v) refl (stays early _ (Full v) refl agrees)
+      served_at_once I a Stored_so_far first_stored early (event_with e (Fetch b)) (Full v) refl (Value v) refl (stays early _ (Full v) refl agrees)
       (λ all later is. if_tested (a == b) (entry_of_fetch (stores a early) (stores a all)) _ mine (full_entry early later all _ v agrees is))
   serves_fetch early e b mine (Clashed v) agrees =
-      at_once early (event_with e (Fetch b)) (Clashed v) refl Clash refl (stays early _ (Clashed v) refl agrees)
+      served_at_once I a Stored_so_far first_stored early (event_with e (Fetch b)) (Clashed v) refl Clash refl (stays early _ (Clashed v) refl agrees)
       (λ all later is. if_tested (a == b) (entry_of_fetch (stores a early) (stores a all)) _ mine (clashed_entry early all agrees))
 
   value_here : (b v : ℕ) → (a == b) ≡ true → value_stored a (Store b v) ≡ Some v
@@ -108,10 +102,10 @@ module _ (a : ℕ) where
     asked = λ all later is. tt;
   }
   serves_store early e b v mine (Full w) agrees =
-      at_once early (event_with e (Store b v)) (Full w) refl Clash refl
+      served_at_once I a Stored_so_far first_stored early (event_with e (Store b v)) (Full w) refl Clash refl
       (second_store early _ v (value_here b v mine) (let same = ap (λ (values : List ℕ). length values) agrees in omega arith)) (λ all later is. tt)
   serves_store early e b v mine (Clashed w) agrees =
-      at_once early (event_with e (Store b v)) (Clashed w) refl Clash refl (second_store early _ v (value_here b v mine) (omega arith)) (λ all later is. tt)
+      served_at_once I a Stored_so_far first_stored early (event_with e (Store b v)) (Clashed w) refl Clash refl (second_store early _ v (value_here b v mine) (omega arith)) (λ all later is. tt)
 
   serves_op : (early : List Event) (e : Event) (op : Op) (state : CellState) → is_for I a op ≡ true → Stored_so_far early state
       → IsServedHere early (event_with e op) state

@@ -1,9 +1,8 @@
 -- Elements of lists, by place and each, and what tests come to.
 use Rattle.std.proofs.Common.{◌≡◌, ℕ, zero, suc, List, [], ◌∷◌, ◌++◌, length, Some, None, Bool, true, cond, refl, sym, ap, ◌∙◌, subst, arith, append-nil}
-use Rattle.std.specs.Prelude.{Option, slice_get, filter_map, IfSome, ◌==◌}
+use Rattle.std.specs.Prelude.{Option, slice_get, filter_map, IfSome}
 use Rattle.std.specs.List.{cons_option, AllByRecursion}
 use Rattle.std.proofs.lemmas.Option.{none-some}
-use Rattle.std.proofs.lemmas.Bool.Decides.{nat_tests}
 use Rattle.std.proofs.lemmas.List.Elements.{filter_map-append}
 
 pub get-left : {X : Type 0} (xs ys : List X) (k : ℕ) (x : X) → slice_get xs k ≡ Some x → slice_get (xs ++ ys) k ≡ Some x
@@ -16,9 +15,6 @@ get-end [] ys zero x e = refl
 get-end [] ys (suc k) x e = absurd (omega arith)
 get-end (y ∷ xs) ys zero x e = absurd (omega arith)
 get-end (y ∷ xs) ys (suc k) x e = get-end xs ys k x (omega arith)
-
-pub eq_by_test : (a b : ℕ) → (a == b) ≡ true → a ≡ b
-eq_by_test a b e = grind (arith, nat_tests)
 
 -- an entry that is said under a test that holds
 pub if_tested : {X : Type 0} (test : Bool) (x : X) (P : X → Type 0) → test ≡ true → P x → IfSome (cond test (Some x) None) P

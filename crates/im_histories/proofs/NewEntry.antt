@@ -18,7 +18,7 @@ use Rattle.im_types.specs.declared.commands.Request.{Request}
 use Rattle.im_types.specs.Contents.{Held, Window, Contents, held_at, kept_for}
 use Rattle.im_types.specs.Place.{place, fill, change_each}
 use Rattle.im_types.specs.Window.{note, answer_each}
-use Rattle.im_types.specs.Act.{Acted, only_tells, same_kind, serve_cell, at_cell, allocate, allocate_at, block_with_base, is_waiting_cell, unless_waited_for, release_block, emptied, reset_block, act}
+use Rattle.im_types.specs.Act.{Acted, only_tells, same_kind, serve_cell, at_cell, allocate, allocate_at, block_with_base, is_waiting_cell, unless_waited_for, emptied, act}
 use Rattle.im_types.specs.Step.{asker}
 use Rattle.im_types.specs.Agreement.{same_waiter, times, WaitingAgrees}
 use Rattle.im_histories.proofs.Given.{answered_kept, kept_for-note, same_waiter-equal, same_waiter-self, IsNext, kept_for-next, AreKept, AfterAnswers, answer_each-AfterAnswers}

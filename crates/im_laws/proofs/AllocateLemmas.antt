@@ -12,7 +12,7 @@ use Rattle.im_types.specs.declared.operations.Block.{Block}
 use Rattle.im_types.specs.declared.commands.Request.{Request}
 use Rattle.im_types.specs.Contents.{Held, Contents, held_at, waiters_at, block_at, HasBlocks}
 use Rattle.im_types.specs.Place.{is_free, place, fill, change_each, IsLeastFree}
-use Rattle.im_types.specs.Act.{only_tells, new_cell, allocate, allocate_at, unless_waited_for, release_block, emptied, reset_block, block_with_base, is_waiting_cell}
+use Rattle.im_types.specs.Act.{only_tells, new_cell, allocate, allocate_at, unless_waited_for, emptied, block_with_base, is_waiting_cell}
 use Rattle.im_types.specs.Step.{Stepped}
 use Rattle.im_laws.specs.Cells.{empty_cell}
 use Rattle.im_laws.specs.Requests.{after_request, IsServed}

@@ -10,14 +10,13 @@ use Rattle.im_types.specs.declared.commands.Command.{Command}
 use Rattle.im_types.specs.declared.commands.Command.TheVariants.{Request as Asks}
 use Rattle.im_types.specs.declared.refusals.Refusal.{Refusal}
 use Rattle.im_types.specs.declared.refusals.Refusal.TheVariants.{Forgotten}
-use Rattle.im_types.specs.Contents.{Window, Contents, kept_for}
+use Rattle.im_types.specs.Contents.{Window, Contents}
 use Rattle.im_types.specs.Window.{judge, judge_window, judge_number, ask, ask_window, ask_number, bounds_of, bounds}
-use Rattle.im_types.specs.Step.{asker, step, step_request, is_fresh, is_accepted}
+use Rattle.im_types.specs.Step.{asker, step, step_request, is_accepted}
 use Rattle.im_types.specs.Run.{after}
 use Rattle.im_laws.specs.Windows.{IsForgotten, AreNoLess}
 use Rattle.im_laws.specs.Entries.{IsRefused}
 use Rattle.im_laws.proofs.Tests.{true_or_false}
-use Rattle.im_laws.proofs.WindowLemmas.{kept_under-below, kept_for-here}
 use Rattle.im_laws.proofs.BoundsLemmas.{BoundsMove, Stays, Grows, Rises, step-moves}
 use Rattle.im_laws.proofs.AcceptLemmas.{same_bounds, accepted-takes_next}
 use Rattle.im_laws.proofs.MemoryLemmas.{bounds-window}

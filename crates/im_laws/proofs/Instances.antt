@@ -2,7 +2,7 @@
 use Rattle.std.proofs.Common.{◌≡◌, ℕ, ◌+◌, ◌<◌, ◌≤◌, List, [], ◌∷◌, take, Some, None, Ok, Err, true, false, refl, sym, ap, subst, arith}
 use Rattle.im_types.specs.declared.TheConstants.{WINDOW, LAST}
 use Rattle.im_types.specs.declared.operations.Op.{Op}
-use Rattle.im_types.specs.declared.operations.Op.TheVariants.{Alloc, Release, Reset, Fetch, Store, Take, Put}
+use Rattle.im_types.specs.declared.operations.Op.TheVariants.{Alloc, Release, Fetch, Store, Take, Put}
 use Rattle.im_types.specs.declared.operations.Kind.TheVariants.{I, M}
 use Rattle.im_types.specs.declared.operations.Reply.TheVariants.{Base, NoSpace, Value, Released}
 use Rattle.im_types.specs.declared.operations.Entry.TheVariants.{Waiting, Answered}

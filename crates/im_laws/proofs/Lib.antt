@@ -1,6 +1,7 @@
 pub mod Tests
 pub mod OpLemmas
 pub mod PlaceLemmas
+pub mod FillLemmas
 pub mod WindowLemmas
 pub mod AgreementLemmas
 pub mod BlockLemmas

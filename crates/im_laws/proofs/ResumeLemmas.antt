@@ -22,7 +22,7 @@ use Rattle.im_types.specs.declared.commands.Outcome.TheVariants.{Entry as Tells}
 use Rattle.im_types.specs.declared.refusals.Refusal.{Refusal}
 use Rattle.im_types.specs.Contents.{CellState, Empty, Full, Clashed, Held, Contents, held_at, waiters_of, waiters_in, waiters_at, kept_for}
 use Rattle.im_types.specs.Place.{place, fill, change_each}
-use Rattle.im_types.specs.Act.{Served, only_tells, fetch, store, take_from, put, same_kind, serve_cell, at_cell, allocate, allocate_at, unless_waited_for, release_block, emptied, reset_block, block_with_base, is_waiting_cell, act}
+use Rattle.im_types.specs.Act.{Served, only_tells, fetch, store, take_from, put, same_kind, serve_cell, at_cell, allocate, allocate_at, unless_waited_for, emptied, block_with_base, is_waiting_cell, act}
 use Rattle.im_types.specs.Step.{Stepped, asker, serve, step, step_request}
 use Rattle.im_types.specs.Agreement.{times, awaiting, address_of, WaitingAgrees}
 use Rattle.im_laws.specs.Requests.{after_request, IsNew, IsServed}

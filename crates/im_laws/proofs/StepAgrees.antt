@@ -18,7 +18,7 @@ use Rattle.im_types.specs.declared.commands.Request.{Request}
 use Rattle.im_types.specs.Contents.{CellState, Empty, Full, Clashed, Held, Window, held_at, waiters_of, waiters_in, waiters_at, kept_for}
 use Rattle.im_types.specs.Place.{place, fill, change_each}
 use Rattle.im_types.specs.Window.{note, answer_each, is_waiting}
-use Rattle.im_types.specs.Act.{Served, Acted, defers, only_tells, fetch, store, take_from, put, same_kind, serve_cell, at_cell, allocate, allocate_at, unless_waited_for, release_block, emptied, reset_block, block_with_base, has_waiter, is_waiting_cell, act}
+use Rattle.im_types.specs.Act.{Served, Acted, defers, only_tells, fetch, store, take_from, put, same_kind, serve_cell, at_cell, allocate, allocate_at, unless_waited_for, emptied, block_with_base, has_waiter, is_waiting_cell, act}
 use Rattle.im_types.specs.Step.{asker}
 use Rattle.im_types.specs.Agreement.{StaysOrIsAnswered, same_waiter, times, awaiting, waits_for, waits_in, WaitersAgree}
 use Rattle.im_laws.proofs.OpLemmas.{same_kind-equal}

@@ -1,15 +1,13 @@
 -- What is kept for a new request, and after many answers.
 use Rattle.std.proofs.Common.{◌≡◌, ⊎_elim, ℕ, zero, suc, ◌+◌, ◌-◌, ◌<◌, ◌≤◌, List, [], ◌∷◌, length, Some, None, Ok, Err, Bool, true, false, cond, refl, sym, ap, ◌∙◌, arith}
-use Rattle.std.specs.Prelude.{Option, Result, ◌||◌, slice_get, nat_lt, option_map, option_and_then, map}
+use Rattle.std.specs.Prelude.{Option, ◌||◌, slice_get, nat_lt, option_map, option_and_then, map}
 use Rattle.std.proofs.lemmas.Bool.Decides.{nat_tests}
 use Rattle.im_types.specs.declared.TheConstants.{WINDOW, LAST}
 use Rattle.im_types.specs.declared.operations.Reply.{Reply}
 use Rattle.im_types.specs.declared.operations.Waiter.{Waiter}
 use Rattle.im_types.specs.declared.operations.Kept.{Kept}
 use Rattle.im_types.specs.declared.commands.Request.{Request}
-use Rattle.im_types.specs.declared.commands.Judged.{Judged}
 use Rattle.im_types.specs.declared.commands.Judged.TheVariants.{Fresh, Repeat}
-use Rattle.im_types.specs.declared.refusals.Refusal.{Refusal}
 use Rattle.im_types.specs.declared.refusals.Refusal.TheVariants.{Gap, Forgotten, WindowFull, Mismatch}
 use Rattle.im_types.specs.Contents.{Window, kept_under, kept_for}
 use Rattle.im_types.specs.Window.{next_number, judge, judge_window, judge_number, same_op, answer, answer_each, is_waiting}

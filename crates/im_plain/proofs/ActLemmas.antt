@@ -18,6 +18,7 @@ use Rattle.im_types.specs.declared.operations.Reply.TheVariants.{Base, BadLength
 use Rattle.im_types.specs.Contents.{CellState, Held, held_at, HasBlocks}
 use Rattle.im_types.specs.Act.{Served as ServedCell, Acted as ActedCells, at_cell, serve_cell, only_tells, same_kind, allocate, allocate_at, unless_waited_for, release_block, emptied, reset_block, block_with_base, is_waiting_cell}
 use Rattle.im_types.specs.Place.{place, fill, change_each}
+use Rattle.im_laws.proofs.Tests.{or_left, or_right}
 use Rattle.im_laws.proofs.PlaceLemmas.{get_or-fill, get_or-change_each, place-free}
 use Rattle.im_plain.specs.declared.cells.State.{State}
 use Rattle.im_plain.specs.declared.cells.State.TheVariants.{Empty as HasNothing, Full as HasValue, Clashed as HasClash}
@@ -33,14 +34,6 @@ use Rattle.im_plain.proofs.QueueLemmas.{waiting_at-without, waiting_at-without_o
 use Rattle.im_plain.proofs.JoinedLemmas.{NobodyWaits, held_at-joined, held_at-None, held_at-Some, length-joined, place-joined, joined-fill, joined-emptied, joined-set}
 
 -- a test that fails of all fails of each
-or_left : (a b : Bool) → (a || b) ≡ false → a ≡ false
-or_left true b e = e
-or_left false b e = refl
-
-or_right : (a b : Bool) → (a || b) ≡ false → b ≡ false
-or_right true b e = absurd (cc)
-or_right false b e = e
-
 none_of : {X : Type 0} (p : X → Bool) (d : X) → p d ≡ false → (xs : List X) (base n : ℕ) → list_any p (take n (drop base xs)) ≡ false → (a : ℕ) → base ≤ a → a < base + n → p (get_or xs a d) ≡ false
 none_of p d q [] base n e a lo hi = q
 none_of p d q (x ∷ xs) zero zero e a lo hi = absurd (omega arith)

@@ -3,6 +3,8 @@ use Rattle.std.proofs.Common.{◌≡◌, ℕ, zero, suc, ◌+◌, ◌-◌, ◌<�
 use Rattle.std.specs.Prelude.{Option, option_map, is_some}
 use Rattle.std.proofs.Math.Seq.{drop-cons}
 use Rattle.im_types.specs.Place.{begins_free, place, fill, change_each}
+use Rattle.im_laws.proofs.FillLemmas.{fill-more}
+use Rattle.im_laws.proofs.BlockLemmas.{length-fill, length-change_each}
 
 pub begins_free-nothing : (X : Type 0) (n : ℕ) → 0 < n → begins_free {X = X} n [] ≡ false
 begins_free-nothing X zero h = absurd (omega arith)
@@ -61,20 +63,6 @@ module _ {X : Type 0} where
       ap (option_map (λ b. base + b)) (ap (place n) cut ∙ place-later n (get_or xs base None) (drop (suc base) xs) (ap (begins_free n) (sym cut) ∙ e))
       ∙ shift (place n (drop (suc base) xs)) base ∙ ap (λ k. place_from k n xs) (sym (add-one base))
 
-  pub fill-none : (xs : List (Option X)) (base : ℕ) (x : Option X) → xs ≡ fill xs base 0 x
-  fill-none [] base x = refl
-  fill-none (y ∷ xs) zero x = refl
-  fill-none (y ∷ xs) (suc base) x = ap (λ ys. y ∷ ys) (fill-none xs base x)
-
-  fill-suc : (xs : List (Option X)) (base i : ℕ) (x : Option X) → set (fill xs base i x) (base + i) x ≡ fill xs base (suc i) x
-  fill-suc [] base i x = refl
-  fill-suc (y ∷ xs) zero zero x = ap (λ ys. x ∷ ys) (fill-none xs zero x)
-  fill-suc (y ∷ xs) zero (suc i) x = rw (zero-add (suc i)) (ap (λ ys. x ∷ ys) (ap (λ k. set (fill xs zero i x) k x) (sym (zero-add i)) ∙ fill-suc xs zero i x))
-  fill-suc (y ∷ xs) (suc base) i x = rw (suc-add base i) (ap (λ ys. y ∷ ys) (fill-suc xs base i x))
-
-  pub fill-more : (xs : List (Option X)) (base i : ℕ) (x : Option X) → set (fill xs base i x) (base + i) x ≡ fill xs base (i + 1) x
-  fill-more xs base i x = fill-suc xs base i x ∙ ap (λ n. fill xs base n x) (sym (add-one i))
-
   pub change_each-none : (change : Option X → Option X) (xs : List (Option X)) (base : ℕ) → xs ≡ change_each change xs base 0
   change_each-none change [] base = refl
   change_each-none change (y ∷ xs) zero = refl
@@ -92,12 +80,6 @@ module _ {X : Type 0} where
       → set (change_each change xs base i) (base + i) (change (get_or (change_each change xs base i) (base + i) None)) ≡ change_each change xs base (i + 1)
   change_each-more change xs base i = change_each-suc change xs base i ∙ ap (λ n. change_each change xs base n) (sym (add-one i))
 
-  length-change_each : (change : Option X → Option X) (xs : List (Option X)) (base n : ℕ) → length (change_each change xs base n) ≡ length xs
-  length-change_each change [] base n = refl
-  length-change_each change (y ∷ xs) zero zero = refl
-  length-change_each change (y ∷ xs) zero (suc n) = ap suc (length-change_each change xs zero n)
-  length-change_each change (y ∷ xs) (suc base) n = ap suc (length-change_each change xs base n)
-
   set_past : (ys : List (Option X)) (k : ℕ) (x : Option X) → length ys ≤ k → set ys k x ≡ ys
   set_past [] k x h = refl
   set_past (y ∷ ys) zero x h = absurd (omega arith)
@@ -106,12 +88,6 @@ module _ {X : Type 0} where
   pub change_each-past : (change : Option X → Option X) (xs : List (Option X)) (base i : ℕ) → length xs ≤ base + i → change_each change xs base i ≡ change_each change xs base (i + 1)
   change_each-past change xs base i past =
       sym (set_past (change_each change xs base i) (base + i) _ (omega (arith, length-change_each change xs base i))) ∙ change_each-more change xs base i
-
-  pub length-fill : (xs : List (Option X)) (base n : ℕ) (x : Option X) → length (fill xs base n x) ≡ length xs
-  length-fill [] base n x = refl
-  length-fill (y ∷ xs) zero zero x = refl
-  length-fill (y ∷ xs) zero (suc n) x = ap suc (length-fill xs zero n x)
-  length-fill (y ∷ xs) (suc base) n x = ap suc (length-fill xs base n x)
 
   pub fill-past : (xs : List (Option X)) (base i : ℕ) (x : Option X) → length xs ≤ base + i → fill xs base i x ≡ fill xs base (i + 1) x
   fill-past xs base i x past = sym (set_past (fill xs base i x) (base + i) x (omega (arith, length-fill xs base i x))) ∙ fill-more xs base i x

@@ -1,19 +1,16 @@
 -- The queue never runs out of room: each request in it has a Waiting entry of its own, and a window has few entries.
-use Rattle.std.proofs.Common.{◌≡◌, ◌≢◌, ⊎_elim, ℕ, zero, suc, ◌+◌, ◌-◌, ◌*◌, ◌<◌, ◌≤◌, List, [], ◌∷◌, length, set, Some, None, Ok, Bool, true, false, cond, refl, sym, ap, ◌∙◌, arith}
-use Rattle.std.specs.Prelude.{Option, ◌==◌, slice_get}
+use Rattle.std.proofs.Common.{◌≡◌, ⊎_elim, ℕ, suc, ◌<◌, ◌≤◌, List, [], ◌∷◌, length, Ok, Bool, true, false, cond, sym, ap, ◌∙◌, arith}
+use Rattle.std.specs.Prelude.{Option, ◌==◌}
 use Rattle.std.proofs.lemmas.Bool.{cases_eq}
 use Rattle.std.proofs.lemmas.Bool.Decides.{nat_tests}
-use Rattle.im_types.specs.declared.TheConstants.{WINDOW}
-use Rattle.im_types.specs.declared.operations.Reply.{Reply}
 use Rattle.im_types.specs.declared.operations.Reply.TheVariants.{Stored}
 use Rattle.im_types.specs.declared.operations.Waiter.{Waiter}
 use Rattle.im_types.specs.declared.operations.Kept.{Kept}
 use Rattle.im_types.specs.declared.commands.Request.{Request}
 use Rattle.im_types.specs.declared.commands.Judged.TheVariants.{Fresh}
 use Rattle.im_types.specs.Contents.{Held, Window, held_at, kept_for}
-use Rattle.im_types.specs.Window.{judge, answer_at, answer_in, answer, is_waiting}
+use Rattle.im_types.specs.Window.{judge, answer}
 use Rattle.im_types.specs.Agreement.{same_waiter, times, waits_in, WaitersAgree}
-use Rattle.im_types.specs.Memory.{IsWindow}
 use Rattle.im_laws.proofs.Tests.{true_or_false}
 use Rattle.im_laws.proofs.AgreementLemmas.{one_if, same_waiter-equal, same_waiter-self}
 use Rattle.im_laws.proofs.StepLemmas.{judge-fresh, answer-other}

@@ -4,11 +4,10 @@ use Rattle.std.specs.List.{list_any}
 use Rattle.im_types.specs.declared.operations.Waiter.{Waiter}
 use Rattle.im_types.specs.declared.operations.Op.{Op}
 use Rattle.im_types.specs.declared.operations.Op.TheVariants.{Alloc, Release, Reset, Fetch, Store, Take, Put}
-use Rattle.im_types.specs.declared.operations.Reply.{Reply}
 use Rattle.im_types.specs.declared.operations.Reply.TheVariants.{NoCell}
 use Rattle.im_types.specs.declared.operations.Block.{Block}
 use Rattle.im_types.specs.Contents.{CellState, Held, held_at}
-use Rattle.im_types.specs.Act.{Served as ServedCell, Acted as ActedCells, tells, fetch, store, take_from, put, only_tells, unless_waited_for, block_with_base, is_waiting_cell}
+use Rattle.im_types.specs.Act.{Served as ServedCell, Acted as ActedCells, tells, fetch, store, take_from, put, block_with_base, is_waiting_cell}
 use Rattle.im_plain.specs.declared.cells.State.{State}
 use Rattle.im_plain.specs.declared.cells.Slot.{Slot}
 use Rattle.im_plain.specs.declared.queue.Deferred.{Deferred}

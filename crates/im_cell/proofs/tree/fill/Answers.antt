@@ -1,7 +1,7 @@
 use Rattle.std.proofs.Common.{◌+◌, set, ap, ◌∙◌}
 use Rattle.std.proofs.lemmas.List.{map-set}
 use Rattle.im_cell.specs.Records.{slot_of, slots_of}
-use Rattle.im_cell.proofs.Places.{fill-none, fill-more}
+use Rattle.im_laws.proofs.FillLemmas.{fill-none, fill-more}
 use Rattle.im_cell.proofs.tree.fill.Goals as goal
 
 pub loop-i-init : goal.loop-i-init

@@ -1,4 +1,4 @@
-use Rattle.std.proofs.Common.{true, false, sym, ◌∙◌, arith}
+use Rattle.std.proofs.Common.{sym, ◌∙◌, arith}
 use Rattle.std.proofs.lemmas.Bool.Decides.{nat_tests}
 use Rattle.im_plain.proofs.ActLemmas.{absent-refused, inner-refused, waiting-refused, unwaited, released_within}
 use Rattle.im_plain.proofs.acts.unwaited_for.Goals as goal

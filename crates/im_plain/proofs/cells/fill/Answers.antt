@@ -1,5 +1,6 @@
 use Rattle.std.proofs.Common.{ap, ◌∙◌, arith, set, ◌+◌}
-use Rattle.im_plain.proofs.Places.{fill-none, fill-more, fill-past}
+use Rattle.im_laws.proofs.FillLemmas.{fill-none, fill-more}
+use Rattle.im_plain.proofs.Places.{fill-past}
 use Rattle.im_plain.proofs.cells.fill.Goals as goal
 use Rattle.im_plain.proofs.cells.fill.Goals.{then-at-slots, else-at-slots}
 
