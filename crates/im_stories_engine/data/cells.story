@@ -146,6 +146,17 @@ format 65536 64 4096 in 5120000 bytes = formatted
 63.1 store 65535 18446744073709551615 = stored
 63.2 fetch 65535 = value 18446744073709551615
 
+# The greatest memory serves
+format 1048576 64 4096 in 68034560 bytes = formatted
+0.1 alloc i 1048576 = base 0
+63.1 store 1048575 18446744073709551615 = stored
+63.2 fetch 1048575 = value 18446744073709551615
+63.3 fetch 1048576 = nocell
+0.2 alloc m 1 = nospace
+0.3 reset 0 = cleared
+63.4 fetch 1048575 = waiting
+waiting 1048575 = 63.4
+
 # The least memory serves
 format 1 1 16 in 33792 bytes = formatted
 0.1 alloc i 1 = base 0
