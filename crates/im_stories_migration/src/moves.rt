@@ -116,14 +116,20 @@ pub fn is_same(alloc: Global, old: &MemDisk, new: &MemDisk) -> Result<bool> {
     Ok(memory_part(of_old.as_str())? == memory_part(of_new.as_str())?)
 }
 
+// The report of one of the two files.
+fn report_of(desk: &Desk, alloc: Global, is_old: bool) -> Result<String> {
+    let disk = if is_old {
+        copy(alloc, desk.old()?)?
+    } else {
+        copy(alloc, desk.new_file()?)?
+    };
+    let (text, _) = report(alloc, disk)?;
+    Ok(text)
+}
+
 // Keeps the report of a file.
 fn tell_report(desk: &mut Desk, alloc: Global, is_old: bool, said: &mut String) -> Result<()> {
-    let disk = if is_old {
-        desk.old()?
-    } else {
-        desk.new_file()?
-    };
-    let (text, _) = report(alloc, copy(alloc, disk)?)?;
+    let text = report_of(desk, alloc, is_old)?;
     let lines = text.as_str().lines().count();
     desk.printed = text;
     Ok(write!(said, "{lines} lines")?)
