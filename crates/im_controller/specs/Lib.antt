@@ -1,4 +1,5 @@
 pub mod Lines
+pub mod Traced
 pub mod Log
 pub mod Servers
 pub mod State

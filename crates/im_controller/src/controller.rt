@@ -20,7 +20,7 @@ use crate::ports::Port;
 use crate::receipts::Receipt;
 use crate::shared::{
     Kept, Shared, Sleepers, keep_once, lend, make_glance, make_port, mark_ended, stands_for,
-    who_sleeps,
+    who_is_answered, who_sleeps,
 };
 use crate::tellers::{Silent, Teller};
 use crate::turns::Turns;
@@ -129,7 +129,7 @@ impl<D: Disk, K: Name> Controller<D, K> {
             if matches!(kept, Ok(Kept::Pressed)) {
                 continue;
             }
-            self.turns.pass_on(rt, turn);
+            self.turns.pass_on(rt, turn, &[]);
             if let Some(standing) = standing {
                 teller.tell(standing);
             }
@@ -176,7 +176,7 @@ impl<D: Disk, K: Name> Controller<D, K> {
         let answer = lend(rt, &mut *guard, tally, command);
         let sleepers = who_sleeps(&mut *guard);
         let _lock = MutexGuard::unlock(guard);
-        self.turns.pass_on(rt, turn);
+        self.turns.pass_on(rt, turn, &[]);
         self.wake(rt, sleepers);
         answer
     }
@@ -200,8 +200,9 @@ impl<D: Disk, K: Name> Controller<D, K> {
         let mut guard = self.shared.lock(rt);
         let answer = hold(rt, &mut *guard, &self.inbox, tally, request);
         let sleepers = who_sleeps(&mut *guard);
+        let answered = who_is_answered(&*guard);
         let _lock = MutexGuard::unlock(guard);
-        self.turns.pass_on(rt, turn);
+        self.turns.pass_on(rt, turn, answered.as_slice());
         self.wake(rt, sleepers);
         answer
     }

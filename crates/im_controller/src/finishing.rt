@@ -10,9 +10,9 @@ use crate::log::{Log, are_free};
 use crate::name::{Lines, Marked, Name};
 use crate::ports::Port;
 use crate::shared::Shared;
+use crate::traced::Traced;
 use im_disk::Disk;
 use im_engine::Engine;
-use im_types::Line;
 use std::sync::Wait;
 use std::sync::ledger::Share;
 
@@ -22,7 +22,7 @@ pub struct Finished<D: Disk> {
     /// The engine.
     pub engine: Engine<D>,
     /// Each call that had an outcome or a refusal of numbers, with that answer, in the order of the lock.
-    pub trace: Vec<Line>,
+    pub trace: Vec<Traced>,
     /// All ports came that were given out.
     pub came: bool,
     /// No answer waits for a port that didn't take it.

@@ -21,6 +21,7 @@ mod receipts;
 mod servers;
 mod shared;
 mod tellers;
+mod traced;
 mod turns;
 
 pub use books::Tally;
@@ -34,3 +35,4 @@ pub use receipts::{Found, Receipt};
 pub use servers::{Ask, Server, stuck_is_each};
 pub use shared::{Shared, begin_wait, lend, lend_turn, look, make_port, stands};
 pub use tellers::{Silent, Standing, Teller};
+pub use traced::Traced;

@@ -13,6 +13,8 @@ ghost use Rattle.im_controller.specs.Log.{receipt_for, IsOfTrace};
 use crate::books::{Books, Tally};
 use crate::name::{Name, Shown};
 use crate::receipts::{Found, Receipt};
+use crate::traced::Traced;
+use arrayvec::ArrayVec;
 use im_glass::Told;
 use im_types::{Call, Command, Entry, Line, Outcome, Refusal, Request};
 use std::alloc::{AllocError, Global};
@@ -25,7 +27,7 @@ use std::snapshot::Snapshot;
 pub(crate) struct Unclaimed {
     request: Request,
     answer: Result<Outcome, Refusal>,
-    history: Snapshot<Vec<Line>>,
+    history: Snapshot<Vec<Traced>>,
 }
 
 impl Model for Unclaimed {
@@ -39,7 +41,7 @@ impl Model for Unclaimed {
 // The trace. Of its lines the books count those that a port was told.
 #[derive(Drop)]
 pub(crate) struct Log<K: Name> {
-    pub(crate) trace: Vec<Line>,
+    pub(crate) trace: Vec<Traced>,
     pub(crate) limit: usize,
     pub(crate) books: Books<K>,
     pub(crate) places: Vec<Option<Unclaimed>>,
@@ -90,6 +92,17 @@ impl<K: Name> Log<K> {
             Some(place) => place.is_none(),
             None => false,
         }
+    }
+
+    // The elements whose answers wait for their ports.
+    pub(crate) fn answered(&self) -> ArrayVec<u16, 64> {
+        let mut answered = ArrayVec::new();
+        for element in 0..self.elements() {
+            if !self.is_free(element) {
+                let _room = answered.try_push(element);
+            }
+        }
+        answered
     }
 
     // Leaves the line of a call whose port is told the answer at once, if the answer leaves one.
@@ -192,13 +205,13 @@ impl<K: Name> Log<K> {
 }
 
 // The line of a call, if it leaves one, at the end of the trace.
-fn push_line(trace: &mut Vec<Line>, call: Call, answer: Result<Outcome, Refusal>)
+fn push_line(trace: &mut Vec<Traced>, call: Call, answer: Result<Outcome, Refusal>)
     requires { leaves_line answer ≡ true → vec_len trace.old < vec_capacity trace.old }
     ensures items { trace.new.items ≡ trace.old.items ++ lines_of call answer }
     ensures capacity { vec_capacity trace.new ≡ vec_capacity trace.old }
 {
     if leaves_line(answer) {
-        trace.push_reserved(Line { call, answer });
+        trace.push_reserved(Traced::new(call, answer));
     }
 }
 
@@ -219,7 +232,7 @@ fn count_line<K: Name>(
 
 // An answer with the trace that its line ends.
 fn receipt_of<K: Name>(
-    history: Snapshot<Vec<Line>>,
+    history: Snapshot<Vec<Traced>>,
     told: Told<Shown<K>>,
     command: &Command,
     answer: Result<Outcome, Refusal>,

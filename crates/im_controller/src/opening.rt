@@ -16,6 +16,7 @@ use crate::log::{Log, Unclaimed, free_places};
 use crate::name::{Lines, Marked, Name, Shown};
 use crate::servers::Servers;
 use crate::shared::Shared;
+use crate::traced::Traced;
 use crate::turns::Turns;
 use im_changes::full_cells;
 use im_disk::Disk;
@@ -23,7 +24,7 @@ use im_engine::Engine;
 use im_glass::{Unnamed, open};
 use im_memory::Memory;
 use im_planning::{Plan, fits};
-use im_types::{Line, Refusal};
+use im_types::Refusal;
 use std::alloc::{AllocError, Global};
 use std::cmp::max;
 use std::marker::Model;
@@ -70,7 +71,7 @@ impl<D: Disk> Model for Opening<D> {
 // What takes memory.
 #[derive(Drop)]
 struct Parts {
-    trace: Vec<Line>,
+    trace: Vec<Traced>,
     limit: usize,
     places: Vec<Option<Unclaimed>>,
     servers: Servers,
@@ -122,7 +123,7 @@ fn make_pane<R: Wait>(rt: &R, alloc: Global, memory: &Memory) -> Result<Unnamed,
     }
 }
 
-/// Makes room for a trace of so many lines, 88 bytes each, for the server, the request and the answer of each element,
+/// Makes room for a trace of so many lines, 48 bytes each, for the server, the request and the answer of each element,
 /// and for the ledgers that count the lines; and shows the full cells on a pane with a reader for each element.
 /// `NoMemory`, with the engine as it was, where `alloc` refuses it.
 pub fn start<D: Disk + Drop, R: Wait>(

@@ -120,7 +120,7 @@ impl<K: Name> Port<K> {
         let mut guard = controller.shared.lock(rt);
         let found = find(&mut *guard, &mut self.tally, self.element, number);
         let _lock = MutexGuard::unlock(guard);
-        controller.turns.pass_on(rt, turn);
+        controller.turns.pass_on(rt, turn, &[]);
         found
     }
 
@@ -150,7 +150,7 @@ impl<K: Name> Port<K> {
             // Read before the lock is let go: whoever changes something after this rings later.
             let seen = controller.answers.read(rt);
             let _lock = MutexGuard::unlock(guard);
-            controller.turns.pass_on(rt, turn);
+            controller.turns.pass_on(rt, turn, &[]);
             if let Some(answer) = answer {
                 return answer;
             }
@@ -174,7 +174,7 @@ impl<K: Name> Port<K> {
         let done = lend_turn(&mut *guard);
         let sleepers = who_sleeps(&mut *guard);
         let _lock = MutexGuard::unlock(guard);
-        controller.turns.pass_on(rt, turn);
+        controller.turns.pass_on(rt, turn, &[]);
         controller.wake(rt, sleepers);
         done
     }
@@ -188,7 +188,7 @@ impl<K: Name> Port<K> {
         retire(&mut *guard, self.element);
         let sleepers = who_sleeps(&mut *guard);
         let _lock = MutexGuard::unlock(guard);
-        controller.turns.pass_on(rt, turn);
+        controller.turns.pass_on(rt, turn, &[]);
         controller.wake(rt, sleepers);
     }
 }

@@ -7,8 +7,9 @@ ghost use Rattle.im_controller.specs.Lines.{EndsIn, line_of};
 ghost use Rattle.im_controller.specs.Log.{IsToldOf};
 
 use crate::name::{Name, Shown};
+use crate::traced::Traced;
 use im_glass::Told;
-use im_types::{Command, Entry, Line, Outcome};
+use im_types::{Command, Entry, Outcome};
 use std::marker::{Model, PhantomData};
 use std::snapshot::Snapshot;
 
@@ -18,7 +19,7 @@ use std::snapshot::Snapshot;
 pub struct Receipt<K: Name> {
     pub(crate) outcome: Outcome,
     pub(crate) command: Snapshot<Command>,
-    pub(crate) history: Snapshot<Vec<Line>>,
+    pub(crate) history: Snapshot<Vec<Traced>>,
     pub(crate) told: Told<Shown<K>>,
     pub(crate) of: PhantomData<K>,
 }
@@ -68,7 +69,7 @@ pub struct Found<K: Name> {
     pub(crate) entry: Entry,
     pub(crate) element: u16,
     pub(crate) number: u64,
-    pub(crate) history: Snapshot<Vec<Line>>,
+    pub(crate) history: Snapshot<Vec<Traced>>,
     pub(crate) of: PhantomData<K>,
 }
 

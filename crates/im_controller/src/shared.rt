@@ -25,6 +25,7 @@ use crate::ports::Port;
 use crate::receipts::{Found, Receipt};
 use crate::servers::{Ask, Server, Servers};
 use crate::tellers::Standing;
+use arrayvec::ArrayVec;
 use im_checkpoint::TurnDone;
 use im_disk::Disk;
 use im_engine::Engine;
@@ -372,6 +373,11 @@ pub(crate) fn who_sleeps<D: Disk, K: Name>(shared: &mut Shared<D, K>) -> Sleeper
         keeper,
         servers: shared.servers.is_one_waiting(),
     }
+}
+
+// The elements whose answers wait for their ports.
+pub(crate) fn who_is_answered<D: Disk, K: Name>(shared: &Shared<D, K>) -> ArrayVec<u16, 64> {
+    shared.log.answered()
 }
 
 /// Makes an element's port, which was told no line yet; its server is active from now on. `NoElement`, with all as it

@@ -1,12 +1,14 @@
 //! First come, first served: a queue in front of the lock. A lock that isn't fair is taken again by whoever lets it go,
-//! before those that it wakes, and then no group gets large. No clause speaks of it.
+//! before those that it wakes, and then no group gets large. Those for whom an answer waits go past the queue together,
+//! as they have but to take it, and nobody else before the last of them has gone on: by then most ask again, and are
+//! served by one group. No clause speaks of it.
 use arrayvec::ArrayVec;
 use std::alloc::{AllocError, Global};
 use std::sync::{Condvar, Mutex, Wait};
 
 #[derive(Drop)]
 struct Queue {
-    held: bool,
+    within: usize, // How many are past it, and haven't gone on.
     waiting: ArrayVec<usize, 65>, // The places of 64 elements, and the keeper's.
 }
 
@@ -27,6 +29,38 @@ pub(crate) struct Turns {
 #[derive(Clone, Copy)]
 pub(crate) struct Turn(bool);
 
+// Whether a place is that of one of these elements.
+fn is_among(place: usize, elements: &[u16]) -> bool {
+    for element in elements {
+        if *element as usize == place {
+            return true;
+        }
+    }
+    false
+}
+
+impl Queue {
+    // Takes out who goes past it next: all of these elements that wait in it, or else the first in it.
+    fn take_next(&mut self, elements: &[u16]) -> ArrayVec<usize, 65> {
+        let mut next = ArrayVec::new();
+        let mut rest = ArrayVec::new();
+        for place in self.waiting.as_slice() {
+            let list = if is_among(*place, elements) {
+                &mut next
+            } else {
+                &mut rest
+            };
+            let _room = list.try_push(*place);
+        }
+        if next.is_empty() && !rest.is_empty() {
+            let _room = next.try_push(rest.remove(0));
+        }
+        self.waiting = rest;
+        self.within = next.len();
+        next
+    }
+}
+
 impl Turns {
     pub(crate) fn new(alloc: Global, places: usize) -> Result<Turns, AllocError> {
         let mut all = Vec::with_capacity(alloc, places)?;
@@ -38,7 +72,7 @@ impl Turns {
         }
         Ok(Turns {
             queue: Mutex::new(Queue {
-                held: false,
+                within: 0,
                 waiting: ArrayVec::new(),
             }),
             places: all,
@@ -52,8 +86,8 @@ impl Turns {
         };
         let mut guard = self.queue.lock(rt);
         let queue = &mut *guard;
-        if !queue.held {
-            queue.held = true;
+        if queue.within == 0 {
+            queue.within = 1;
             return Turn(true);
         }
         if queue.waiting.try_push(place).is_err() {
@@ -67,24 +101,32 @@ impl Turns {
         Turn(true)
     }
 
-    // Passes the turn on to the next in the queue.
-    pub(crate) fn pass_on<R: Wait>(&self, rt: &R, turn: Turn) {
+    // Tells who waits at a place that its turn has come.
+    fn call<R: Wait>(&self, rt: &R, place: usize) {
+        if let Some(place) = self.places.get(place) {
+            let mut called = place.called.lock(rt);
+            *called = (*called).saturating_add(1);
+            drop(called);
+            place.wakes.notify_one();
+        }
+    }
+
+    // Passes the turn on: to the first in the queue, or to all of these elements that wait in it, for whom there are
+    // answers. The last of those who were called together does so.
+    pub(crate) fn pass_on<R: Wait>(&self, rt: &R, turn: Turn, answered: &[u16]) {
         if !turn.0 {
             return;
         }
         let mut guard = self.queue.lock(rt);
         let queue = &mut *guard;
-        if queue.waiting.is_empty() {
-            queue.held = false;
+        queue.within = queue.within.saturating_sub(1);
+        if queue.within > 0 {
             return;
         }
-        let next = queue.waiting.remove(0);
+        let next = queue.take_next(answered);
         drop(guard);
-        if let Some(place) = self.places.get(next) {
-            let mut called = place.called.lock(rt);
-            *called = (*called).saturating_add(1);
-            drop(called);
-            place.wakes.notify_one();
+        for place in next.as_slice() {
+            self.call(rt, *place);
         }
     }
 }

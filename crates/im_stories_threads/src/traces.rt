@@ -1,14 +1,16 @@
 //! What a trace shows.
 
+use im_controller::Traced;
 use im_plain::PlainMemory;
-use im_types::{Call, Command, Entry, Limits, Line, Outcome, Refusal, Reply};
+use im_types::{Call, Command, Entry, Limits, Outcome, Refusal, Reply};
 use std::alloc::Global;
 
 /// How many requests of an element a trace has, numbered in their order from 1 on and each answered `nocell`; `None`
 /// where one isn't.
-pub fn fetches_of(trace: &[Line], element: u16) -> Option<u64> {
+pub fn fetches_of(trace: &[Traced], element: u16) -> Option<u64> {
     let mut many = 0u64;
-    for line in trace {
+    for traced in trace {
+        let line = traced.line();
         let Call::Command(Command::Request(request)) = line.call else {
             continue;
         };
@@ -37,10 +39,11 @@ fn answer_again(memory: &mut PlainMemory, call: Call) -> Result<Outcome, Refusal
 }
 
 /// How many lines of a trace, from its first, the plain memory answers alike.
-pub fn alike(alloc: Global, limits: Limits, trace: &[Line]) -> Result<usize, Refusal> {
+pub fn alike(alloc: Global, limits: Limits, trace: &[Traced]) -> Result<usize, Refusal> {
     let mut memory = PlainMemory::new(alloc, limits)?;
     let mut many = 0usize;
-    for line in trace {
+    for traced in trace {
+        let line = traced.line();
         if answer_again(&mut memory, line.call) != line.answer {
             return Ok(many);
         }
