@@ -10,6 +10,7 @@ use Rattle.im_checkpoint.specs.contracts.checkpoint.Checkpoint as Checkpoint
 use Rattle.im_engine.specs.contracts.engine.Engine as Engine
 use Rattle.im_controller.specs.contracts.books.Books as Books
 use Rattle.im_controller.specs.contracts.log.Unclaimed as Unclaimed
+use Rattle.im_controller.specs.contracts.traced.Traced as Traced
 use Rattle.im_controller.specs.contracts.log.Log as Log
 use Rattle.im_controller.specs.contracts.servers.Servers as Servers
 use Rattle.im_controller.specs.contracts.books.Reserve as Reserve
@@ -44,12 +45,15 @@ module _ (D : RattleType) (d : disk.Ghosts D.Denot) where
 pub Unclaimed-send : IsSend Unclaimed.the_field.row
 Unclaimed-send = search (sendable, crosses) depth 40 fits 30000
 
+pub Traced-send : IsSend Traced.the_field.row
+Traced-send = search (sendable, crosses) depth 100 fits 100000
+
 module _ (K : RattleType) (n : name.Ghosts K.Denot) where
   pub Books-send : IsSend (Books.the_field K n).row
   Books-send = search (sendable, crosses, book_send) depth 40 fits 30000
 
   pub Log-send : IsSend (Log.the_field K n).row
-  Log-send = let b = Books-send in let u = Unclaimed-send in search (sendable, crosses) depth 40 fits 30000
+  Log-send = let b = Books-send in let u = Unclaimed-send in let t = Traced-send in search (sendable, crosses) depth 40 fits 30000
 
   pub Reserve-send : IsSend (Reserve.the_field K n).row
   Reserve-send = search (sendable, crosses, share_send) depth 40 fits 30000
