@@ -1,9 +1,9 @@
-//! The stores of elements, each into cells of its own, with a confirmation behind each sixteen; and the engine alone
+//! The stores of elements, each into cells of its own, with a confirmation where the window is full; and the engine alone
 //! that serves them.
 
 use im_disk::Disk;
 use im_engine::Engine;
-use im_types::{Command, Op, Refusal, Request};
+use im_types::{Command, Op, Refusal, Request, WINDOW};
 
 /// The store with an index of an element, of so many.
 pub fn store(element: u16, index: u32, count: u32) -> Op {
@@ -17,9 +17,9 @@ pub fn number(index: u32) -> u64 {
     u64::from(index).saturating_add(1)
 }
 
-/// Whether all before the store with an index is confirmed: behind each sixteen, long before the window is full.
+/// Whether all before the store with an index is confirmed: where the window is full.
 pub fn confirms(index: u32) -> bool {
-    index > 0 && index % 16 == 0
+    index > 0 && u64::from(index) % WINDOW == 0
 }
 
 // Serves a store of element 1, and before it its confirmation, where one stands there.
