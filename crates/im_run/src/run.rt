@@ -15,7 +15,7 @@ use im_script::Script;
 use im_serial::{Desk, Paper, Server};
 use im_serving::{Gate, Watcher};
 use im_text::{Observer, Reason, diagnose, end, finish};
-use im_types::Refusal;
+use im_types::{Refusal, WINDOW};
 use std::alloc::Global;
 use std::io::Write;
 use std::marker::Brand;
@@ -25,12 +25,14 @@ use std::thread::Threads;
 /// The status of a run in which servers waited for each other, and nothing else was refused.
 pub const STALLED: u8 = 3;
 
-// How many lines the trace has room for: five for each request, and 32 for each element. Glances, which leave none, are
-// counted too.
+// How many lines the trace has room for, which are as many as servers leave: for each request one as it is asked for and
+// one as it is found answered, and before it, where its window is full, a confirmation and an entry that still waits; and
+// for each entry that an element's window had before, one as it is found answered. Glances, which leave none, are counted
+// too.
 fn trace_room(orders: &[Order], elements: u16) -> usize {
-    let mut room = (elements as usize).saturating_mul(32);
+    let mut room = (elements as usize).saturating_mul(WINDOW as usize);
     for order in orders {
-        room = room.saturating_add(order.intents.len().saturating_mul(5));
+        room = room.saturating_add(order.intents.len().saturating_mul(4));
     }
     room
 }

@@ -35,6 +35,15 @@ impl Served {
         self.first.saturating_add(self.entries.len() as u64)
     }
 
+    // Whether it was told a request's answer, which stays until it is confirmed. It may be asked for again where not.
+    fn is_told(&self, number: u64) -> bool {
+        if number < self.first {
+            return false;
+        }
+        let at = (number - self.first) as usize;
+        at < self.entries.len() && self.entries[at] != Entry::Waiting
+    }
+
     // Notes what is kept for a request, where it is one of its own.
     fn note(&mut self, number: u64, entry: Entry)
         ensures count { length self.new.entries.items ≡ length self.old.entries.items }
@@ -151,7 +160,7 @@ fn confirm<D: Disk, K: Name, R: Wait>(
     unreachable!()
 }
 
-// Waits for the answer under a number, and notes it.
+// Waits for the answer under a number, and notes it. Nobody is asked for one that was told.
 fn await_one<D: Disk, K: Name, R: Wait>(
     rt: &R,
     controller: &Controller<D, K>,
@@ -162,6 +171,9 @@ fn await_one<D: Disk, K: Name, R: Wait>(
     ensures element { port.new.element ≡ port.old.element }
     ensures count { length served.new.entries.items ≡ length served.old.entries.items }
 {
+    if served.is_told(number) {
+        return Ok(());
+    }
     match port.await_answer(rt, controller, number) {
         Ok(found) => {
             served.note(number, found.entry());
@@ -171,7 +183,58 @@ fn await_one<D: Disk, K: Name, R: Wait>(
     }
 }
 
-// Has a place in the window for the next request: where it is full, the oldest entry is awaited and confirmed.
+// Whether a number is answered, which is noted. Nobody is asked where it was told.
+fn is_answered<D: Disk, K: Name, R: Wait>(
+    rt: &R,
+    controller: &Controller<D, K>,
+    port: &mut Port<K>,
+    served: &mut Served,
+    number: u64,
+) -> Result<bool, Refusal>
+    ensures element { port.new.element ≡ port.old.element }
+    ensures count { length served.new.entries.items ≡ length served.old.entries.items }
+{
+    if served.is_told(number) {
+        return Ok(true);
+    }
+    match port.collect(rt, controller, number) {
+        Ok(found) => {
+            let entry = found.entry();
+            served.note(number, entry);
+            Ok(entry != Entry::Waiting)
+        }
+        Err(refusal) => Err(refusal),
+    }
+}
+
+// Waits for the oldest entry that is kept, and goes on to the first behind it that still waits: its number, or the next
+// one's where none does.
+fn first_waiting<D: Disk, K: Name, R: Wait>(
+    rt: &R,
+    controller: &Controller<D, K>,
+    port: &mut Port<K>,
+    served: &mut Served,
+) -> Result<u64, Refusal>
+    ensures element { port.new.element ≡ port.old.element }
+    ensures count { length served.new.entries.items ≡ length served.old.entries.items }
+{
+    let base = served.base;
+    match await_one(rt, controller, port, served, base) {
+        Ok(()) => {}
+        Err(refusal) => return Err(refusal),
+    }
+    for number in base.saturating_add(1)..served.next() {
+        match is_answered(rt, controller, port, served, number) {
+            Ok(true) => {}
+            Ok(false) => return Ok(number),
+            Err(refusal) => return Err(refusal),
+        }
+    }
+    Ok(served.next())
+}
+
+// Has a place in the window for the next request: where it is full, the oldest entry is awaited, and all before the first
+// that still waits are confirmed.
 fn make_place<D: Disk, K: Name, R: Wait>(
     rt: &R,
     controller: &Controller<D, K>,
@@ -185,15 +248,13 @@ fn make_place<D: Disk, K: Name, R: Wait>(
         → AreGlanced K.memory port.old.element glances.new.last glances.new.glance glances.new.made.items }
     ensures made { glances.new.made ≡ glances.old.made }
 {
-    let base = served.base;
-    if served.next().saturating_sub(base) < WINDOW {
+    if served.next().saturating_sub(served.base) < WINDOW {
         return Ok(());
     }
-    match await_one(rt, controller, port, served, base) {
-        Ok(()) => {}
+    let upto = match first_waiting(rt, controller, port, served) {
+        Ok(upto) => upto,
         Err(refusal) => return Err(refusal),
-    }
-    let upto = base.saturating_add(1);
+    };
     match confirm(rt, controller, port, upto) {
         Ok(receipt) => {
             let _confirmed = glances.learn(&receipt);
@@ -345,9 +406,11 @@ fn await_rest<D: Disk, K: Name, R: Wait>(
 
 /// Serves what an element asks for as it comes out of a pipe: its operations through its port, each under the next
 /// number, and its glances in their place among them. The gate is called round each operation. Before a request that
-/// finds its window full it waits for the oldest entry that is kept, and confirms it; where the journal is full it makes
-/// a turn of a checkpoint and asks again. After the last one it waits, in order, for each of its requests that is still
-/// kept. At the end its port is retired.
+/// finds its window full it waits for the oldest entry that is kept, and confirms all before the first that still waits;
+/// where the journal is full it makes a turn of a checkpoint and asks again. After the last one it waits, in order, for
+/// each of its requests that is still kept. At the end its port is retired.
+///
+/// It leaves at most four lines in the trace for each request, and one for each entry that was kept before the first.
 ///
 /// A glance waits for nobody. What it tells was so after all that was shown when the element's last request was answered,
 /// and maybe after more.
