@@ -1,21 +1,15 @@
 //! First come, first served: a queue in front of the lock. A lock that isn't fair is taken again by whoever lets it go,
-//! before those that it wakes, and then no group gets large. Those for whom an answer waits go past the queue a few at
-//! a time, as they have but to take it, and nobody else before the last of them has gone on: by then most ask again, and
-//! are served by one group. No clause speaks of it.
+//! before those that it wakes, and then no group gets large. Those for whom an answer waits go past the queue together,
+//! as they have but to take it, and nobody else before the last of them has gone on: by then most ask again, and are
+//! served by one group. No clause speaks of it.
 use arrayvec::ArrayVec;
 use std::alloc::{AllocError, Global};
 use std::sync::{Condvar, Mutex, Wait};
 
-// How many go past the queue at a time to take their answers: each that goes on wakes one more, so that several
-// processors wake them.
-const AT_A_TIME: usize = 4;
-
-// Places are those of 64 elements, and the keeper's.
 #[derive(Drop)]
 struct Queue {
     within: usize, // How many are past it, and haven't gone on.
-    answered: ArrayVec<usize, 65>, // Who goes past it next, to take an answer.
-    waiting: ArrayVec<usize, 65>, // And then the others, one after another.
+    waiting: ArrayVec<usize, 65>, // The places of 64 elements, and the keeper's.
 }
 
 #[derive(Drop)]
@@ -46,32 +40,23 @@ fn is_among(place: usize, elements: &[u16]) -> bool {
 }
 
 impl Queue {
-    // For these elements there are answers now.
-    fn note_answered(&mut self, elements: &[u16]) {
-        let mut others = ArrayVec::new();
-        for place in self.waiting.as_slice() {
-            if is_among(*place, elements) {
-                let _room = self.answered.try_push(*place);
-            } else {
-                let _room = others.try_push(*place);
-            }
-        }
-        self.waiting = others;
-    }
-
-    // Takes out who goes past it now that one has gone on.
-    fn take_next(&mut self) -> ArrayVec<usize, AT_A_TIME> {
+    // Takes out who goes past it next: all of these elements that wait in it, or else the first in it.
+    fn take_next(&mut self, elements: &[u16]) -> ArrayVec<usize, 65> {
         let mut next = ArrayVec::new();
-        self.within = self.within.saturating_sub(1);
-        for _ in self.within..AT_A_TIME {
-            if !self.answered.is_empty() {
-                let _room = next.try_push(self.answered.remove(0));
-            }
+        let mut rest = ArrayVec::new();
+        for place in self.waiting.as_slice() {
+            let list = if is_among(*place, elements) {
+                &mut next
+            } else {
+                &mut rest
+            };
+            let _room = list.try_push(*place);
         }
-        if self.within == 0 && next.is_empty() && !self.waiting.is_empty() {
-            let _room = next.try_push(self.waiting.remove(0));
+        if next.is_empty() && !rest.is_empty() {
+            let _room = next.try_push(rest.remove(0));
         }
-        self.within = self.within.saturating_add(next.len());
+        self.waiting = rest;
+        self.within = next.len();
         next
     }
 }
@@ -88,7 +73,6 @@ impl Turns {
         Ok(Turns {
             queue: Mutex::new(Queue {
                 within: 0,
-                answered: ArrayVec::new(),
                 waiting: ArrayVec::new(),
             }),
             places: all,
@@ -127,16 +111,19 @@ impl Turns {
         }
     }
 
-    // Passes the turn on: to those elements that wait in the queue and for whom there are answers, these among them, or
-    // else to the first in it, once nobody is past it.
+    // Passes the turn on: to the first in the queue, or to all of these elements that wait in it, for whom there are
+    // answers. The last of those who were called together does so.
     pub(crate) fn pass_on<R: Wait>(&self, rt: &R, turn: Turn, answered: &[u16]) {
         if !turn.0 {
             return;
         }
         let mut guard = self.queue.lock(rt);
         let queue = &mut *guard;
-        queue.note_answered(answered);
-        let next = queue.take_next();
+        queue.within = queue.within.saturating_sub(1);
+        if queue.within > 0 {
+            return;
+        }
+        let next = queue.take_next(answered);
         drop(guard);
         for place in next.as_slice() {
             self.call(rt, *place);
