@@ -5,14 +5,14 @@ use crate::naming::{Act, act_on};
 use crate::scenes::{port, submit};
 use crate::servers::part;
 use anyhow::{Result, anyhow};
-use im_controller::{Controller, Name, Opening, Port, finish, start_planned};
+use im_controller::{Controller, Name, Opening, Port, Traced, finish, start_planned};
 use im_disk::{FuseDisk, MemDisk, Mode};
 use im_engine::Engine;
 use im_planning::Plan;
 use im_serving::{Done, Gate, Open, Part, Unwatched, serve_elements};
 use im_story::{add_entry, add_outcome, add_refusal};
 use im_types::layout::image_length;
-use im_types::{Call, Command, Entry, Kind, LAST, Limits, Line, Op, Refusal, Request};
+use im_types::{Call, Command, Entry, Kind, LAST, Limits, Op, Refusal, Request};
 use std::alloc::Global;
 use std::sync::Wait;
 use std::thread::Threads;
@@ -162,10 +162,10 @@ fn add_kept(engine: &Engine<FuseDisk>, told: &[Told], said: &mut String) -> Resu
 }
 
 // Whether the requests of a trace come in an order.
-fn are_in(order: Order, trace: &[Line]) -> bool {
+fn are_in(order: Order, trace: &[Traced]) -> bool {
     let mut behind = 0u32;
-    for line in trace {
-        if let Call::Command(Command::Request(request)) = line.call {
+    for traced in trace {
+        if let Call::Command(Command::Request(request)) = traced.line().call {
             if u32::from(request.element) != order.element(behind) {
                 return false;
             }
