@@ -99,14 +99,8 @@ module _ (K : RattleType) (n : name.Ghosts K.Denot) where
   pub Port-row-send : IsSend (Port.the_row K n)
   Port-row-send = let p = Port-send K n in search sendable depth 20
 
-  pub Glances-row-send : IsSend (Glances.the_row K n)
-  Glances-row-send = let s = Glances-send K n in search sendable depth 20
-
   pub Server-row-send : IsSend (Server.the_row K n)
   Server-row-send = let s = Server-send K n in search sendable depth 20
-
-pub Served-row-send : IsSend Served.the_row
-Served-row-send = let s = Served-send in search sendable depth 20
 
 pub Intent-row-send : IsSend Intent.the_row
 Intent-row-send = search sendable depth 20

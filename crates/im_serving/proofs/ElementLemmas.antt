@@ -2,9 +2,7 @@
 use Rattle.std.proofs.Common.{◌≡◌, ◌∙◌, ◌⊎◌, inl, inr, Bool, true, false, List, [], ◌∷◌, ◌++◌, arith, refl, sym, ap, subst, length}
 use Rattle.std.specs.Prelude.{Result, Ok, Err, OnOk, MatchResult}
 use mathlib.Core.List.{IsPrefix}
-use Rattle.std.proofs.lemmas.List.{append-nil}
 use Rattle.im_types.specs.Contents.{Contents}
-use Rattle.im_types.specs.declared.refusals.Refusal.{Refusal}
 use Rattle.im_types.specs.declared.refusals.Refusal.TheVariants.{NoMemory}
 use Rattle.im_pipes.specs.Ends.{PipeEnd, PipeId}
 use Rattle.im_serving.specs.declared.intent.Intent.{Intent}
@@ -21,12 +19,15 @@ pub has_stopped : (m : Contents) (p : Deeds) (d : End) (before : List Intent) (o
     → (AreDone p.entries p.made before → HasBegun d.deeds.entries d.deeds.made outlet.items)
     → OnOk d.result (AreDone p.entries p.made before → AreDone d.deeds.entries d.deeds.made outlet.items) → OnOk d.result (outlet.ended ≡ true)
     → (AreGlanced m p.element p.last p.seen p.made → AreGlanced m p.element d.deeds.last d.deeds.seen d.deeds.made) → HasStopped m p d outlet
-has_stopped m p d before outlet none element begun done ended seen = (record {
-  element = element;
-  begun = λ (start : AreDone p.entries p.made []). begun (subst (AreDone p.entries p.made) (sym none) start);
-  done = from_none d.result (AreDone p.entries p.made) (AreDone d.deeds.entries d.deeds.made outlet.items) before none done;
-  seen = seen;
-}, ended)
+has_stopped m p d before outlet none element begun done ended seen = (
+  record {
+    element = element;
+    begun = λ (start : AreDone p.entries p.made []). begun (subst (AreDone p.entries p.made) (sym none) start);
+    done = from_none d.result (AreDone p.entries p.made) (AreDone d.deeds.entries d.deeds.made outlet.items) before none done;
+    seen = seen;
+  },
+  ended,
+)
 
 -- it was refused, so a beginning is enough
 refused_less : (m : Contents) (p : Deeds) (d e : End) (xs ys : List Intent) → e ≡ record d { result = Err NoMemory } → IsPrefix xs ys → HasServed m p d.deeds d.result xs → HasServed m p e.deeds e.result ys
@@ -75,12 +76,15 @@ unserved_part m p d intents it = record {
 
 -- there was no memory for a pipe
 pub given_up : (m : Contents) (p : Deeds) (d : End) → d ≡ record { deeds = p; result = Err NoMemory } → IsUnserved m p d
-given_up m p d is = subst (IsUnserved m p) (sym is) (record {
-  element = refl;
-  begun = λ (start : AreDone p.entries p.made []). ([], ([], refl), start);
-  done = tt;
-  seen = λ seen. seen;
-}, refl)
+given_up m p d is = subst (IsUnserved m p) (sym is) (
+  record {
+    element = refl;
+    begun = λ (start : AreDone p.entries p.made []). ([], ([], refl), start);
+    done = tt;
+    seen = λ seen. seen;
+  },
+  refl,
+)
 
 -- its sender has ended, as a thread or because there was none
 pub sent_by : {H S : Type 0} (r : Result H S) (pipe : PipeId Intent) (intents : List Intent) (into : H → PipeId Intent) (of : H → List Intent) (finished : S → PipeEnd Intent) (all : S → Bool) (sent : S)

@@ -134,21 +134,6 @@ one_more a b k n l m e f g = omega (arith, e, f, g)
 pub counted_then : (a b k n : ℕ) (xs ys : List Intent) (intent : Intent) → a ≡ b + 1 → b + k ≡ n + length xs → ys ≡ xs ++ intent ∷ [] → a + k ≡ n + length ys
 counted_then a b k n xs ys intent e f is = one_more a b k n (length xs) (length ys) e f (ap length is ∙ length-append xs (intent ∷ []))
 
--- ---- a beginning
-
-pub prefix_more : (xs ys zs : List Intent) (intent : Intent) → IsPrefix xs ys → zs ≡ ys ++ intent ∷ [] → IsPrefix xs zs
-prefix_more xs ys zs intent p is = (p.0 ++ intent ∷ [], sym (append_assoc xs p.0 (intent ∷ [])) ∙ ap (λ l. l ++ intent ∷ []) p.1 ∙ sym is)
-
-done_same : (e e' : List Entry) (g g' : List Glanced) (xs : List Intent) → length e' ≡ length e → g' ≡ g → AreDone e g xs → AreDone e' g' xs
-done_same e e' g g' xs many same d = record { count = many ∙ d.count; places = ap (map (λ (x : Glanced). (x.behind, x.address))) same ∙ d.places }
-
--- all of these
-pub begun_all : (e e' : List Entry) (g g' : List Glanced) (xs : List Intent) → length e' ≡ length e → g' ≡ g → AreDone e g xs → HasBegun e' g' xs
-begun_all e e' g g' xs many same d = (xs, ([], append-nil xs), done_same e e' g g' xs many same d)
-
+-- a beginning of more
 pub begun_more : (e : List Entry) (g : List Glanced) (xs ys : List Intent) → IsPrefix xs ys → HasBegun e g xs → HasBegun e g ys
 begun_more e g xs ys within it = (it.0, prefix_trans it.0 xs ys it.1 within, it.2)
-
--- all but the last
-pub begun_before : (e e' : List Entry) (g g' : List Glanced) (xs ys : List Intent) (intent : Intent) → length e' ≡ length e → g' ≡ g → ys ≡ xs ++ intent ∷ [] → AreDone e g xs → HasBegun e' g' ys
-begun_before e e' g g' xs ys intent many same is d = (xs, (intent ∷ [], sym is), done_same e e' g g' xs many same d)

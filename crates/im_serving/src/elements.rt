@@ -380,7 +380,10 @@ fn begin_serving<
         server: Snapshot::of(&server),
         outlet: Snapshot::of(&outlet),
     };
-    match scope.spawn_with(serves, move || serve_part(rt, controller, gate, server, outlet)) {
+    match scope.spawn_with(
+        serves,
+        move || serve_part(rt, controller, gate, server, outlet),
+    ) {
         Ok(thread) => Ok((thread, inlet)),
         Err(refused) => {
             let sent = send_none(rt, inlet);

@@ -1,4 +1,4 @@
-use Rattle.std.proofs.Common.{◌≡◌, ◌∙◌, ◌++◌, ◌∷◌, [], List, ℕ, ◌+◌, ◌≤◌, ◌<◌, length, sym, ap, subst, arith}
+use Rattle.std.proofs.Common.{◌≡◌, ◌∙◌, ◌++◌, ◌∷◌, [], List, ℕ, ◌≤◌, ◌<◌, length, sym, ap, subst, arith}
 use Rattle.std.proofs.lemmas.List.{append_assoc, length-append}
 use Rattle.im_serving.specs.Elements.{Asked, End, AreEnded}
 use Rattle.im_serving.proofs.ElementLemmas.{ended_more, ended_length}
@@ -26,8 +26,13 @@ push_reserved-requires g c =
 pub loop-running-preserved : goal.loop-running-preserved
 loop-running-preserved g c =
     let it = c.loop-running.invariant in
-    let more = ended_more g.K.Name.memory it.0.0 c.loop-running.done.items c.in-Some.running c.end.result it.0.1.1 c.end.ensures in
-    ((it.0.0 ++ c.in-Some.running ∷ [],
-        (one_more it.0.0 c.loop-running.running-iterator.rest.items c.args.all.items c.next.new.self.rest.items c.in-Some.running it.0.1.0 c.in-Some.ensures.steps.0,
-        subst (λ (ends : List End). AreEnded g.K.Name.memory (it.0.0 ++ c.in-Some.running ∷ []) ends) (sym c.push_reserved.ensures.items) more)),
-        c.push_reserved.ensures.capacity ∙ it.1)
+    let more = ended_more g.K.Name.memory it.0.0 c.loop-running.done.items c.in-Some.running c.end.result it.0.1.1 c.end.ensures in (
+      (
+        it.0.0 ++ c.in-Some.running ∷ [],
+        (
+          one_more it.0.0 c.loop-running.running-iterator.rest.items c.args.all.items c.next.new.self.rest.items c.in-Some.running it.0.1.0 c.in-Some.ensures.steps.0,
+          subst (λ (ends : List End). AreEnded g.K.Name.memory (it.0.0 ++ c.in-Some.running ∷ []) ends) (sym c.push_reserved.ensures.items) more,
+        ),
+      ),
+      c.push_reserved.ensures.capacity ∙ it.1,
+    )
