@@ -27,6 +27,7 @@ use Rattle.im_pipes.proofs.ends.Inlet.TheSendSync as inlet
 use Rattle.im_pipes.proofs.ends.Outlet.TheSendSync as outlet
 use Rattle.im_serving.specs.contracts.intent.Intent as Intent
 use Rattle.im_serving.specs.contracts.glances.Glances as Glances
+use Rattle.im_serving.specs.contracts.elements.Server as Server
 use Rattle.im_glass.proofs.glance.Glance.TheSendSync.{the_send as glance_send}
 use Rattle.im_controller.specs.contracts.turns.Turns as Turns
 use Rattle.im_controller.specs.contracts.bell.Bell as Bell
@@ -70,6 +71,10 @@ module _ (K : RattleType) (n : name.Ghosts K.Denot) where
 pub Served-send : IsSend Served.the_field.row
 Served-send = search (sendable, crosses) depth 40
 
+module _ (K : RattleType) (n : name.Ghosts K.Denot) where
+  pub Server-send : IsSend (Server.the_field K n).row
+  Server-send = let p = Port-send K n in let s = Served-send in let g = Glances-send K n in search (sendable, crosses) depth 40 fits 30000
+
 pub Servers-send : IsSend Servers.the_field.row
 Servers-send = search (sendable, crosses) depth 40
 
@@ -98,11 +103,8 @@ module _ (K : RattleType) (n : name.Ghosts K.Denot) where
   pub Port-row-send : IsSend (Port.the_row K n)
   Port-row-send = let p = Port-send K n in search sendable depth 20
 
-  pub Glances-row-send : IsSend (Glances.the_row K n)
-  Glances-row-send = let s = Glances-send K n in search sendable depth 20
-
-pub Served-row-send : IsSend Served.the_row
-Served-row-send = let s = Served-send in search sendable depth 20
+  pub Server-row-send : IsSend (Server.the_row K n)
+  Server-row-send = let s = Server-send K n in search sendable depth 20
 
 pub Intent-row-send : IsSend Intent.the_row
 Intent-row-send = search sendable depth 20

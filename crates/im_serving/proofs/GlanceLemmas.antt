@@ -20,9 +20,9 @@ use Rattle.im_controller.specs.Lines.{EndsIn, line_of}
 use Rattle.im_serving.specs.declared.glances.Glanced.{Glanced}
 use Rattle.im_serving.specs.declared.intent.Intent.{Intent}
 use Rattle.im_serving.specs.declared.intent.Intent.TheVariants.{Request, Glance}
-use Rattle.im_serving.specs.Serving.{AreDone, AreGlanced, HasLearnt, IsGlanced, requests, sites}
+use Rattle.im_serving.specs.Serving.{AreDone, AreGlanced, HasBegun, HasLearnt, IsGlanced, requests, sites}
 
-prefix_trans : {A : Type 0} (xs ys zs : List A) → IsPrefix xs ys → IsPrefix ys zs → IsPrefix xs zs
+pub prefix_trans : {A : Type 0} (xs ys zs : List A) → IsPrefix xs ys → IsPrefix ys zs → IsPrefix xs zs
 prefix_trans xs ys zs p q = (p.0 ++ q.0, sym (append_assoc xs p.0 q.0) ∙ ap (λ l. l ++ q.0) p.1 ∙ q.1)
 
 -- ---- what was seen
@@ -133,3 +133,7 @@ one_more a b k n l m e f g = omega (arith, e, f, g)
 -- and so one more was received
 pub counted_then : (a b k n : ℕ) (xs ys : List Intent) (intent : Intent) → a ≡ b + 1 → b + k ≡ n + length xs → ys ≡ xs ++ intent ∷ [] → a + k ≡ n + length ys
 counted_then a b k n xs ys intent e f is = one_more a b k n (length xs) (length ys) e f (ap length is ∙ length-append xs (intent ∷ []))
+
+-- a beginning of more
+pub begun_more : (e : List Entry) (g : List Glanced) (xs ys : List Intent) → IsPrefix xs ys → HasBegun e g xs → HasBegun e g ys
+begun_more e g xs ys within it = (it.0, prefix_trans it.0 xs ys it.1 within, it.2)

@@ -1,3 +1,4 @@
 pub mod SendLemmas
 pub mod Crosses
 pub mod GlanceLemmas
+pub mod ElementLemmas

@@ -58,3 +58,7 @@ sites n (Glance a ∷ intents) = (n, a) ∷ sites n intents
 pub record AreDone (entries : List Entry) (made : List Glanced) (intents : List Intent) : Type 0 where
   pub count : length entries ≡ requests intents
   pub places : map (λ g. (g.behind, g.address)) made ≡ sites 0 intents
+
+-- a beginning of these was done
+abbrev pub HasBegun : List Entry → List Glanced → List Intent → Type 0
+HasBegun entries made intents = (first : List Intent) × IsPrefix first intents × AreDone entries made first

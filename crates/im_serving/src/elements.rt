@@ -1,10 +1,14 @@
 //! All elements at once: for each one thread that sends and one that serves, beside the thread that keeps checkpoints.
-ghost use Rattle.std.specs.Prelude.{◌≡◌, [], false};
+ghost use Rattle.std.specs.Prelude.{◌≡◌, ◌⊎◌, ◌≤◌, [], Err, false, true, IfOk, IfErr, MatchResult, length, vec_capacity};
+ghost use mathlib.Core.List.{IsPrefix};
+ghost use Rattle.im_types.specs.declared.refusals.Refusal.TheVariants.{NoMemory};
+ghost use Rattle.im_pipes.specs.Ends.{AreNewEnds};
+ghost use Rattle.im_serving.specs.Elements.{AreEnded, HasSent, HasStopped, IsEnded, IsUnserved};
 
 use crate::gate::Gate;
 use crate::glances::Glances;
 use crate::intent::Intent;
-use crate::sender::send_all;
+use crate::sender::{Sent, send_all};
 use crate::server::{Served, serve_element};
 use crate::watching::{Counted, Watcher};
 use im_controller::{Controller, Name, Port};
@@ -12,14 +16,18 @@ use im_disk::Disk;
 use im_pipes::{Inlet, Outlet, pipe};
 use im_types::Refusal;
 use std::alloc::{AllocError, Global};
-use std::sync::Wait;
+use std::marker::Model;
+use std::snapshot::Snapshot;
+use std::sync::atomic::{AtomicBool, Ordering};
+use std::sync::{Arc, Wait};
 use std::thread;
-use std::thread::{JoinHandle, Scope, Threads};
+use std::thread::{JoinHandle, Promise, PromisedHandle, Scope, Threads};
 
 /// How many messages a pipe holds.
 pub const PIPE: usize = 8;
 
-/// An element's port, what is known of its numbers, its reader, and what it is to serve.
+/// An element's port, what is known of its numbers, its reader, and what it is to serve. Contracts see what was done for
+/// the element, and what it asks for.
 #[derive(Drop)]
 pub struct Part<K: Name> {
     /// The port.
@@ -32,7 +40,25 @@ pub struct Part<K: Name> {
     pub intents: Vec<Intent>,
 }
 
-/// A port that has served, with what its requests came to, and what was refused, if anything was.
+impl<K: Name> Model for Part<K> {
+    ghost use Rattle.im_serving.specs.Elements.{Asked};
+
+    ghost Value = { Asked };
+
+    ghost view = { λ p. record {
+      deeds = record {
+        element = p.port.element;
+        entries = p.served.entries.items;
+        last = p.glances.last;
+        seen = p.glances.glance;
+        made = p.glances.made.items;
+      };
+      intents = p.intents.items;
+    } };
+}
+
+/// A port that has served, with what its requests came to, and what was refused, if anything was. Contracts see what was
+/// done for the element, and the refusal.
 #[derive(Drop)]
 pub struct Done<K: Name> {
     /// The port, which is retired.
@@ -45,11 +71,132 @@ pub struct Done<K: Name> {
     pub done: Result<(), Refusal>,
 }
 
-// An element that is being served, or wasn't.
+impl<K: Name> Model for Done<K> {
+    ghost use Rattle.im_serving.specs.Elements.{End};
+
+    ghost Value = { End };
+
+    ghost view = { λ d. record {
+      deeds = record {
+        element = d.port.element;
+        entries = d.served.entries.items;
+        last = d.glances.last;
+        seen = d.glances.glance;
+        made = d.glances.made.items;
+      };
+      result = d.done;
+    } };
+}
+
+// What a server's thread begins with, but its end of the pipe. Contracts see what was done before.
 #[derive(Drop)]
-enum Running<K: Name> {
-    Thread(JoinHandle<Done<K>>, bool),
-    Ended(Done<K>),
+struct Server<K: Name> {
+    port: Port<K>,
+    served: Served,
+    glances: Glances<K>,
+}
+
+impl<K: Name> Model for Server<K> {
+    ghost use Rattle.im_serving.specs.Elements.{Deeds};
+
+    ghost Value = { Deeds };
+
+    ghost view = { λ s. record {
+      element = s.port.element;
+      entries = s.served.entries.items;
+      last = s.glances.last;
+      seen = s.glances.glance;
+      made = s.glances.made.items;
+    } };
+}
+
+// What a server's thread ends with: what was done, and its end of the pipe.
+#[derive(Drop)]
+struct Stopped<K: Name> {
+    done: Done<K>,
+    outlet: Outlet<Intent>,
+}
+
+// What a server's thread will have done that begins so, with this end of a pipe.
+#[derive(Drop)]
+struct Serves<K: Name> {
+    server: Snapshot<Server<K>>,
+    outlet: Snapshot<Outlet<Intent>>,
+}
+
+impl<K: Name> Promise<Stopped<K>> for Serves<K> {
+    ghost use Rattle.std.specs.Prelude.{◌≡◌};
+    ghost use Rattle.im_serving.specs.Elements.{HasStopped};
+
+    ghost kept_by = { λ p r. (r.outlet.pipe ≡ p.outlet.value.pipe)
+        × HasStopped K.memory p.server.value r.done r.outlet };
+}
+
+// What a sender's thread will have sent, of these intents into this end of a pipe.
+#[derive(Drop)]
+struct Sends {
+    inlet: Snapshot<Inlet<Intent>>,
+    intents: Snapshot<Vec<Intent>>,
+}
+
+impl Promise<Sent> for Sends {
+    ghost use Rattle.im_serving.specs.Elements.{HasSent};
+
+    ghost kept_by = { λ p r. HasSent p.inlet.value.pipe p.intents.value.items r.finished r.all };
+}
+
+// The threads of an element. Where the one that sends couldn't be made, its end of the pipe has ended.
+#[derive(Drop)]
+struct Pair<K: Name> {
+    server: PromisedHandle<Stopped<K>, Serves<K>>,
+    sender: Result<PromisedHandle<Sent, Sends>, Sent>,
+}
+
+// An element that is being served, or wasn't. Contracts see its part.
+#[derive(Drop)]
+struct Running<K: Name> {
+    part: Snapshot<Part<K>>,
+    state: Result<Pair<K>, Done<K>>,
+}
+
+impl<K: Name> Model for Running<K> {
+    ghost use Rattle.std.specs.Prelude.{◌≡◌, MatchResult};
+    ghost use Rattle.im_serving.specs.Elements.{Asked, HasSent, IsEnded};
+
+    ghost Value = { Asked };
+
+    ghost view = { λ r. r.part.value };
+
+    ghost invariant = { λ r. MatchResult r.state
+        (λ pair. (pair.server.promise.server.value ≡ r.part.value.deeds)
+        × MatchResult pair.sender
+        (λ s. (s.promise.inlet.value.pipe ≡ pair.server.promise.outlet.value.pipe)
+        × (s.promise.intents.value.items ≡ r.part.value.intents))
+        (λ s. HasSent pair.server.promise.outlet.value.pipe r.part.value.intents s.finished s.all))
+        (λ done. IsEnded K.memory r.part.value done) };
+}
+
+impl<K: Name> Part<K> {
+    // What its server begins with, and what it asks for.
+    fn split(self) -> (Server<K>, Vec<Intent>)
+        ensures deeds { result.0 ≡ self.deeds }
+        ensures intents { result.1.items ≡ self.intents }
+    {
+        let Part {
+            port,
+            served,
+            glances,
+            intents,
+        } = self;
+        (
+            Server {
+                port,
+                served,
+                glances,
+            },
+            intents,
+        )
+    }
 }
 
 // Serves an element by its pipe's end.
@@ -57,17 +204,19 @@ fn serve_part<D: Disk, K: Name, G: Gate, R: Wait>(
     rt: &R,
     controller: &Controller<D, K>,
     gate: &G,
-    port: Port<K>,
-    served: Served,
-    glances: Glances<K>,
+    server: Server<K>,
     outlet: Outlet<Intent>,
-) -> Done<K>
-    requires { outlet.ended ≡ false }
-    ensures element { result.port.element ≡ port.element }
+) -> Stopped<K>
+    requires open { outlet.ended ≡ false }
+    requires empty { outlet.items ≡ [] }
+    ensures same { result.outlet.pipe ≡ outlet.pipe }
+    ensures stopped { HasStopped K.memory server result.done result.outlet }
 {
-    let mut port = port;
-    let mut served = served;
-    let mut glances = glances;
+    let Server {
+        mut port,
+        mut served,
+        mut glances,
+    } = server;
     let mut outlet = outlet;
     let done = serve_element(
         rt,
@@ -78,23 +227,50 @@ fn serve_part<D: Disk, K: Name, G: Gate, R: Wait>(
         &mut outlet,
         gate,
     );
-    Done {
-        port,
-        served,
-        glances,
-        done,
+    Stopped {
+        done: Done {
+            port,
+            served,
+            glances,
+            done,
+        },
+        outlet,
     }
 }
 
-// Sends what an element asks for.
-fn send_intents<R: Wait>(rt: &R, inlet: Inlet<Intent>, intents: Vec<Intent>)
-    requires { inlet.items ≡ [] }
+// Sends nothing but the end mark.
+fn send_none<R: Wait>(rt: &R, inlet: Inlet<Intent>) -> Sent
+    ensures same { result.finished.pipe ≡ inlet.pipe }
+    ensures none { result.finished.items ≡ inlet.items }
+    ensures all { result.all ≡ false }
 {
-    let _finished = send_all(rt, inlet, intents.as_slice());
+    Sent {
+        finished: inlet.finish(rt),
+        all: false,
+    }
+}
+
+// Sends what an element asks for, where that is wanted.
+fn send_intents<R: Wait>(
+    rt: &R,
+    inlet: Inlet<Intent>,
+    intents: Vec<Intent>,
+    wanted: Arc<AtomicBool, Global>,
+) -> Sent
+    requires { inlet.items ≡ [] }
+    ensures { HasSent inlet.pipe intents.items result.finished result.all }
+{
+    if wanted.load(Ordering::SeqCst) {
+        send_all(rt, inlet, intents.as_slice())
+    } else {
+        send_none(rt, inlet)
+    }
 }
 
 // The end of an element that wasn't served for want of memory or of a thread.
-fn refuse<K: Name>(done: Done<K>) -> Done<K> {
+fn refuse<K: Name>(done: Done<K>) -> Done<K>
+    ensures { result ≡ record done { result = Err NoMemory } }
+{
     let Done {
         port,
         served,
@@ -109,8 +285,114 @@ fn refuse<K: Name>(done: Done<K>) -> Done<K> {
     }
 }
 
-// Begins to serve an element, by two threads. Where one of them can't be made its inlet goes, so its server, there or
-// here, finds nothing to serve and retires.
+// The end of an element for which there is no pipe.
+fn give_up<D: Disk, K: Name, R: Wait>(
+    rt: &R,
+    controller: &Controller<D, K>,
+    server: Server<K>,
+) -> Done<K>
+    ensures { IsUnserved K.memory server result }
+{
+    let Server {
+        mut port,
+        served,
+        glances,
+    } = server;
+    port.retire(rt, controller);
+    Done {
+        port,
+        served,
+        glances,
+        done: Err(Refusal::NoMemory),
+    }
+}
+
+// The end of an element whose server has stopped and whose sender has ended. It is refused where not all was sent.
+fn settle<K: Name>(stopped: Stopped<K>, sent: Sent) -> Done<K>
+    requires { stopped.outlet.pipe ≡ sent.finished.pipe }
+    ensures begins { IsPrefix stopped.outlet.items sent.finished.items }
+    ensures whole { stopped.outlet.ended ≡ true → stopped.outlet.items ≡ sent.finished.items }
+    ensures done { ((sent.all ≡ true) × (result ≡ stopped.done))
+        ⊎ ((sent.all ≡ false) × (result ≡ record stopped.done { result = Err NoMemory })) }
+{
+    let Stopped { done, outlet } = stopped;
+    let Sent { finished, all } = sent;
+    outlet.whole(finished);
+    if all { done } else { refuse(done) }
+}
+
+// Begins the thread that sends what an element asks for. Where it can't be made nothing is sent but the end mark.
+fn begin_sending<'s, E, R: Threads + Wait + Sync>(
+    rt: &'s R,
+    alloc: Global,
+    scope: &Scope<'s, E>,
+    inlet: Inlet<Intent>,
+    intents: Vec<Intent>,
+) -> Result<PromisedHandle<Sent, Sends>, Sent>
+    requires { inlet.items ≡ [] }
+    ensures { MatchResult result
+        (λ s. (s.promise.inlet.value.pipe ≡ inlet.pipe) × (s.promise.intents.value.items ≡ intents.items))
+        (λ s. HasSent inlet.pipe intents.items s.finished s.all) }
+{
+    let Ok(wanted) = Arc::new(alloc, AtomicBool::new(true)) else {
+        return Err(send_none(rt, inlet));
+    };
+    let Ok(theirs) = Arc::try_clone(&wanted) else {
+        return Err(send_none(rt, inlet));
+    };
+    let sends = Sends {
+        inlet: Snapshot::of(&inlet),
+        intents: Snapshot::of(&intents),
+    };
+    match scope.spawn_with(sends, move || send_intents(rt, inlet, intents, theirs)) {
+        Ok(sender) => Ok(sender),
+        Err(refused) => {
+            wanted.store(false, Ordering::SeqCst);
+            Err((refused.value)())
+        }
+    }
+}
+
+// Begins the thread that serves an element. Where it can't be made, the pipe is ended, and the server, here, finds
+// nothing to serve and retires.
+fn begin_serving<
+    's,
+    E,
+    D: Disk + Drop + Send,
+    K: Name + Send + Sync,
+    G: Gate + Sync,
+    R: Threads + Wait + Sync,
+>(
+    rt: &'s R,
+    scope: &Scope<'s, E>,
+    controller: &'s Controller<D, K>,
+    gate: &'s G,
+    server: Server<K>,
+    inlet: Inlet<Intent>,
+    outlet: Outlet<Intent>,
+) -> Result<(PromisedHandle<Stopped<K>, Serves<K>>, Inlet<Intent>), Done<K>>
+    requires { AreNewEnds inlet outlet }
+    ensures ok { IfOk result (λ r. (r.0.promise.server.value ≡ server)
+        × (r.0.promise.outlet.value.pipe ≡ inlet.pipe) × (r.1 ≡ inlet)) }
+    ensures err { IfErr result (λ done. IsUnserved K.memory server done) }
+{
+    let serves = Serves {
+        server: Snapshot::of(&server),
+        outlet: Snapshot::of(&outlet),
+    };
+    match scope.spawn_with(
+        serves,
+        move || serve_part(rt, controller, gate, server, outlet),
+    ) {
+        Ok(thread) => Ok((thread, inlet)),
+        Err(refused) => {
+            let sent = send_none(rt, inlet);
+            Err(settle((refused.value)(), sent))
+        }
+    }
+}
+
+// Begins to serve an element, by two threads.
 fn begin<
     's,
     E,
@@ -125,37 +407,33 @@ fn begin<
     controller: &'s Controller<D, K>,
     gate: &'s G,
     part: Part<K>,
-) -> Running<K> {
-    let Part {
-        mut port,
-        served,
-        glances,
-        intents,
-    } = part;
+) -> Running<K>
+    ensures { result ≡ part }
+{
+    let asked = Snapshot::of(&part);
+    let (server, intents) = part.split();
     let Ok((inlet, outlet)) = pipe(alloc, PIPE) else {
-        port.retire(rt, controller);
-        return Running::Ended(Done {
-            port,
-            served,
-            glances,
-            done: Err(Refusal::NoMemory),
-        });
+        return Running {
+            part: asked,
+            state: Err(give_up(rt, controller, server)),
+        };
     };
-    match scope.spawn(move || serve_part(rt, controller, gate, port, served, glances, outlet)) {
-        Ok(server) => {
-            let sends = scope
-                .spawn(move || send_intents(rt, inlet, intents))
-                .is_ok();
-            Running::Thread(server, sends)
-        }
-        Err(refused) => {
-            drop(inlet);
-            Running::Ended(refuse((refused.value)()))
-        }
+    match begin_serving(rt, scope, controller, gate, server, inlet, outlet) {
+        Ok((server, inlet)) => Running {
+            part: asked,
+            state: Ok(Pair {
+                server,
+                sender: begin_sending(rt, alloc, scope, inlet, intents),
+            }),
+        },
+        Err(done) => Running {
+            part: asked,
+            state: Err(done),
+        },
     }
 }
 
-// Begins to serve all elements.
+// Begins to serve all elements, for which there is room in a list.
 fn begin_all<
     's,
     E,
@@ -170,11 +448,18 @@ fn begin_all<
     controller: &'s Controller<D, K>,
     gate: &'s G,
     parts: Vec<Part<K>>,
-    all: &mut Vec<Running<K>>,
-) {
+    all: Vec<Running<K>>,
+) -> Vec<Running<K>>
+    requires room { length parts.items ≤ vec_capacity all }
+    requires empty { all.items ≡ [] }
+    ensures { result.items ≡ parts.items }
+{
+    let mut all = all;
     for part in parts {
-        let _kept = all.push(begin(rt, alloc, scope, controller, gate, part));
+        let running = begin(rt, alloc, scope, controller, gate, part);
+        all.push_reserved(running);
     }
+    all
 }
 
 // Keeps checkpoints until the controller ends, and tells how things stand.
@@ -207,19 +492,87 @@ fn keep<
     }
 }
 
-// Waits for the end of an element.
-fn end<K: Name, R: Threads>(rt: &R, running: Running<K>) -> Done<K> {
-    match running {
-        Running::Thread(server, true) => server.join(rt),
-        Running::Thread(server, false) => refuse(server.join(rt)),
-        Running::Ended(done) => done,
+// What was sent, once the thread that sends has ended.
+fn end_sending<R: Threads>(rt: &R, sender: Result<PromisedHandle<Sent, Sends>, Sent>) -> Sent
+    ensures { MatchResult sender
+        (λ s. HasSent s.promise.inlet.value.pipe s.promise.intents.value.items result.finished result.all)
+        (λ s. result ≡ s) }
+{
+    match sender {
+        Ok(sender) => sender.join(rt),
+        Err(sent) => sent,
     }
 }
 
+// Waits for the end of an element.
+fn end<K: Name, R: Threads>(rt: &R, running: Running<K>) -> Done<K>
+    ensures { IsEnded K.memory running result }
+{
+    let Running { part: _, state } = running;
+    match state {
+        Ok(pair) => {
+            let Pair { server, sender } = pair;
+            let stopped = server.join(rt);
+            settle(stopped, end_sending(rt, sender))
+        }
+        Err(done) => done,
+    }
+}
+
+// Waits for the end of all elements, for which there is room in a list.
+fn end_all<K: Name, R: Threads>(rt: &R, all: Vec<Running<K>>, done: Vec<Done<K>>) -> Vec<Done<K>>
+    requires room { length all.items ≤ vec_capacity done }
+    requires empty { done.items ≡ [] }
+    ensures { AreEnded K.memory all.items result.items }
+{
+    let mut done = done;
+    for running in all {
+        done.push_reserved(end(rt, running));
+    }
+    done
+}
+
+// Serves all elements by threads of a scope, with room for a list of them as they run, and as they end.
+fn serve_within<
+    's,
+    E,
+    D: Disk + Drop + Send,
+    K: Name + Send + Sync,
+    G: Gate + Sync,
+    V: Watcher + Sync,
+    R: Threads + Wait + Sync,
+>(
+    rt: &'s R,
+    alloc: Global,
+    scope: &Scope<'s, E>,
+    controller: &'s Controller<D, K>,
+    gate: &'s G,
+    watcher: &'s V,
+    parts: Vec<Part<K>>,
+    room: (Vec<Running<K>>, Vec<Done<K>>),
+) -> Vec<Done<K>>
+    requires all { (length parts.items ≤ vec_capacity room.0) × (room.0.items ≡ []) }
+    requires done { (length parts.items ≤ vec_capacity room.1) × (room.1.items ≡ []) }
+    ensures { AreEnded K.memory parts.items result.items }
+{
+    let (all, done) = room;
+    let keeper = keep(rt, scope, controller, watcher);
+    let all = begin_all(rt, alloc, scope, controller, gate, parts, all);
+    let done = end_all(rt, all, done);
+    controller.end(rt);
+    if let Some(keeper) = keeper {
+        let _kept = keeper.join(rt);
+    }
+    done
+}
+
 /// Serves all elements at once, each by a thread that sends what it asks for and one that serves it, beside the thread
-/// that keeps checkpoints, which tells the watcher how things stand. The ports come back in the order of the parts, each retired. An element one of whose threads
-/// can't be made is refused with `NoMemory`, and nothing of it is served. Without a thread that keeps checkpoints the
-/// servers make the turns that they need.
+/// that keeps checkpoints, which tells the watcher how things stand. The ports come back in the order of the parts, each
+/// retired. An element one of whose threads can't be made is refused with `NoMemory`, and nothing of it is served.
+/// Without a thread that keeps checkpoints the servers make the turns that they need.
+///
+/// Each port comes back with what was done of what its part asks for, which is a beginning of it, in its order: an entry
+/// for each request, and each glance in its place. It is all of it where nothing was refused.
 ///
 /// `AllocError` where there is no room for a list of the elements: then no thread began, and the ports are gone with
 /// the parts, not retired.
@@ -236,19 +589,19 @@ pub fn serve_elements<
     gate: &G,
     watcher: &V,
     parts: Vec<Part<K>>,
-) -> Result<Vec<Done<K>>, AllocError> {
-    let mut all = Vec::with_capacity(alloc, parts.len())?;
-    let mut done = Vec::with_capacity(alloc, parts.len())?;
-    thread::scope(thread::scope_env(), rt, move |scope| {
-        let keeper = keep(rt, scope, controller, watcher);
-        begin_all(rt, alloc, scope, controller, gate, parts, &mut all);
-        for running in all {
-            let _kept = done.push(end(rt, running));
-        }
-        controller.end(rt);
-        if let Some(keeper) = keeper {
-            let _kept = keeper.join(rt);
-        }
-        Ok(done)
-    })
+) -> Result<Vec<Done<K>>, AllocError>
+    ensures ends { IfOk result (λ all. AreEnded K.memory parts.items all.items) }
+{
+    let all = Vec::with_capacity(alloc, parts.len())?;
+    let done = Vec::with_capacity(alloc, parts.len())?;
+    let room = (all, done);
+    Ok(thread::scope(
+        thread::scope_env(),
+        rt,
+        move |scope| -> Vec<Done<K>>
+            requires all { (length parts.items ≤ vec_capacity room.0) × (room.0.items ≡ []) }
+            requires done { (length parts.items ≤ vec_capacity room.1) × (room.1.items ≡ []) }
+            ensures { AreEnded K.memory parts.items result.items }
+        { serve_within(rt, alloc, scope, controller, gate, watcher, parts, room) },
+    ))
 }

@@ -17,6 +17,6 @@ pub use gate::{Gate, Open};
 pub use glances::{Glanced, Glances};
 pub use im_controller::Standing;
 pub use intent::Intent;
-pub use sender::send_all;
+pub use sender::{Sent, send_all};
 pub use server::{Served, serve_element};
 pub use watching::{Unwatched, Watcher};

@@ -1,33 +1,48 @@
 //! The thread that sends what an element asks for.
-ghost use Rattle.std.specs.Prelude.{◌≡◌, []};
+ghost use Rattle.std.specs.Prelude.{◌≡◌, [], true};
 ghost use mathlib.Core.List.{IsPrefix};
 
 use crate::intent::Intent;
 use im_pipes::{Finished, Inlet};
 use std::sync::Wait;
 
-// Sends intents in their order, until one is handed back.
-fn send_each<R: Wait>(rt: &R, inlet: &mut Inlet<Intent>, intents: &[Intent])
+/// What a sender came to.
+#[derive(Drop)]
+pub struct Sent {
+    /// What it sent, and whether the end mark was.
+    pub finished: Finished<Intent>,
+    /// Nothing was handed back.
+    pub all: bool,
+}
+
+// Sends intents in their order, until one is handed back. Whether none was.
+fn send_each<R: Wait>(rt: &R, inlet: &mut Inlet<Intent>, intents: &[Intent]) -> bool
     requires { inlet.old.items ≡ [] }
     ensures same { inlet.new.pipe ≡ inlet.old.pipe }
     ensures contents { IsPrefix inlet.new.items intents.now }
+    ensures whole { result ≡ true → inlet.new.items ≡ intents.now }
 {
     for intent in intents {
         match inlet.send(rt, *intent) {
             Ok(()) => {}
-            Err(_) => return,
+            Err(_) => return false,
         }
     }
+    true
 }
 
 /// Sends what an element asks for in its order, and then the end mark. It ends early where one is handed back, and waits while the
 /// pipe is full.
-pub fn send_all<R: Wait>(rt: &R, inlet: Inlet<Intent>, intents: &[Intent]) -> Finished<Intent>
+pub fn send_all<R: Wait>(rt: &R, inlet: Inlet<Intent>, intents: &[Intent]) -> Sent
     requires { inlet.items ≡ [] }
-    ensures same { result.pipe ≡ inlet.pipe }
-    ensures contents { IsPrefix result.items intents.now }
+    ensures same { result.finished.pipe ≡ inlet.pipe }
+    ensures contents { IsPrefix result.finished.items intents.now }
+    ensures whole { result.all ≡ true → result.finished.items ≡ intents.now }
 {
     let mut inlet = inlet;
-    send_each(rt, &mut inlet, intents);
-    inlet.finish(rt)
+    let all = send_each(rt, &mut inlet, intents);
+    Sent {
+        finished: inlet.finish(rt),
+        all,
+    }
 }

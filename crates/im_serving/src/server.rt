@@ -1,11 +1,12 @@
 //! The thread that serves what an element asks for.
-ghost use Rattle.std.specs.Prelude.{◌≡◌, ◌≤◌, ◌+◌, ◌++◌, ◌∷◌, [], Ok, ℕ, List, false, length};
-ghost use Rattle.std.specs.Prelude.{OnOk, OnErr, IfOk};
+ghost use Rattle.std.specs.Prelude.{◌≡◌, ◌≤◌, ◌+◌, ◌++◌, ◌∷◌, [], Ok, ℕ, List, true, false, length};
+ghost use Rattle.std.specs.Prelude.{OnOk, OnErr, IfOk, MatchResult};
+ghost use mathlib.Core.List.{IsPrefix};
 ghost use Rattle.im_types.specs.Trace.{IsLegal};
 ghost use Rattle.im_types.specs.declared.commands.Call.TheVariants.{Command as Commands};
 ghost use Rattle.im_types.specs.declared.commands.Command.TheVariants.{Request as Asks};
 ghost use Rattle.im_controller.specs.Lines.{EndsIn, line_of};
-ghost use Rattle.im_serving.specs.Serving.{AreDone, AreGlanced, IsAskedIn};
+ghost use Rattle.im_serving.specs.Serving.{AreDone, AreGlanced, HasBegun, IsAskedIn};
 
 use crate::gate::Gate;
 use crate::glances::Glances;
@@ -278,6 +279,7 @@ fn serve_one<D: Disk, K: Name, G: Gate, R: Wait>(
     ensures element { port.new.element ≡ port.old.element }
     ensures count { OnOk result (length served.new.entries.items ≡ length served.old.entries.items + 1) }
     ensures few { length served.new.entries.items ≤ length served.old.entries.items + 1 }
+    ensures kept { OnErr result (length served.new.entries.items ≡ length served.old.entries.items) }
     ensures seen { AreGlanced K.memory port.old.element glances.old.last glances.old.glance glances.old.made.items
         → AreGlanced K.memory port.old.element glances.new.last glances.new.glance glances.new.made.items }
     ensures made { glances.new.made ≡ glances.old.made }
@@ -321,6 +323,8 @@ fn serve_intent<D: Disk, K: Name, G: Gate, R: Wait>(
         ≡ length served.old.entries.items + length glances.old.made.items + 1) }
     ensures few { length served.new.entries.items + length glances.new.made.items
         ≤ length served.old.entries.items + length glances.old.made.items + 1 }
+    ensures kept { OnErr result ((length served.new.entries.items ≡ length served.old.entries.items)
+        × (glances.new.made.items ≡ glances.old.made.items)) }
     ensures seen { AreGlanced K.memory port.old.element glances.old.last glances.old.glance glances.old.made.items
         → AreGlanced K.memory port.old.element glances.new.last glances.new.glance glances.new.made.items }
 {
@@ -330,7 +334,7 @@ fn serve_intent<D: Disk, K: Name, G: Gate, R: Wait>(
     }
 }
 
-// Does what comes out of the pipe, to its end.
+// Does what comes out of the pipe, to its end. It is refused where no end mark comes.
 fn serve_all<D: Disk, K: Name, G: Gate, R: Wait>(
     rt: &R,
     controller: &Controller<D, K>,
@@ -343,7 +347,9 @@ fn serve_all<D: Disk, K: Name, G: Gate, R: Wait>(
     requires { outlet.old.ended ≡ false }
     ensures element { port.new.element ≡ port.old.element }
     ensures same { outlet.new.pipe ≡ outlet.old.pipe }
-    ensures open { OnErr result (outlet.new.ended ≡ false) }
+    ensures open { MatchResult result (λ _. outlet.new.ended ≡ true) (λ _. outlet.new.ended ≡ false) }
+    ensures begun { OnErr result (AreDone served.old.entries.items glances.old.made.items outlet.old.items
+        → HasBegun served.new.entries.items glances.new.made.items outlet.new.items) }
     ensures done { OnOk result (AreDone served.old.entries.items glances.old.made.items outlet.old.items
         → AreDone served.new.entries.items glances.new.made.items outlet.new.items) }
     ensures count { OnOk result (length served.new.entries.items + length glances.new.made.items
@@ -363,7 +369,7 @@ fn serve_all<D: Disk, K: Name, G: Gate, R: Wait>(
                 }
             }
             Received::End => return Ok(()),
-            Received::Gone => return Ok(()),
+            Received::Gone => return Err(Refusal::NoMemory),
         }
     }
     unreachable!()
@@ -373,6 +379,7 @@ fn serve_all<D: Disk, K: Name, G: Gate, R: Wait>(
 fn drain<R: Wait>(rt: &R, outlet: &mut Outlet<Intent>)
     requires { outlet.old.ended ≡ false }
     ensures same { outlet.new.pipe ≡ outlet.old.pipe }
+    ensures begins { IsPrefix outlet.old.items outlet.new.items }
     ensures more { length outlet.old.items ≤ length outlet.new.items }
 {
     for _ in rt.forever() {
@@ -404,6 +411,41 @@ fn await_rest<D: Disk, K: Name, R: Wait>(
     Ok(())
 }
 
+// Serves what an element asks for, to the pipe's end, and leaves its port as it is.
+fn serve_to_end<D: Disk, K: Name, G: Gate, R: Wait>(
+    rt: &R,
+    controller: &Controller<D, K>,
+    port: &mut Port<K>,
+    served: &mut Served,
+    glances: &mut Glances<K>,
+    outlet: &mut Outlet<Intent>,
+    gate: &G,
+) -> Result<(), Refusal>
+    requires { outlet.old.ended ≡ false }
+    ensures element { port.new.element ≡ port.old.element }
+    ensures same { outlet.new.pipe ≡ outlet.old.pipe }
+    ensures ended { OnOk result (outlet.new.ended ≡ true) }
+    ensures done { OnOk result (AreDone served.old.entries.items glances.old.made.items outlet.old.items
+        → AreDone served.new.entries.items glances.new.made.items outlet.new.items) }
+    ensures begun { AreDone served.old.entries.items glances.old.made.items outlet.old.items
+        → HasBegun served.new.entries.items glances.new.made.items outlet.new.items }
+    ensures count { OnOk result (length served.new.entries.items + length glances.new.made.items
+        + length outlet.old.items
+        ≡ length served.old.entries.items + length glances.old.made.items + length outlet.new.items) }
+    ensures few { length served.new.entries.items + length glances.new.made.items + length outlet.old.items
+        ≤ length served.old.entries.items + length glances.old.made.items + length outlet.new.items }
+    ensures seen { AreGlanced K.memory port.old.element glances.old.last glances.old.glance glances.old.made.items
+        → AreGlanced K.memory port.old.element glances.new.last glances.new.glance glances.new.made.items }
+{
+    match serve_all(rt, controller, port, served, glances, outlet, gate) {
+        Ok(()) => await_rest(rt, controller, port, served),
+        Err(refusal) => {
+            drain(rt, outlet);
+            Err(refusal)
+        }
+    }
+}
+
 /// Serves what an element asks for as it comes out of a pipe: its operations through its port, each under the next
 /// number, and its glances in their place among them. The gate is called round each operation. Before a request that
 /// finds its window full it waits for the oldest entry that is kept, and confirms all before the first that still waits;
@@ -417,7 +459,8 @@ fn await_rest<D: Disk, K: Name, R: Wait>(
 ///
 /// Refused with what the port refuses, `JournalFull` where no turn makes room, `PaneGone` where nothing is shown any
 /// more, and `NoMemory` where there is no room for one answer more: then it serves nothing more, but receives until the
-/// pipe ends, so that its sender returns.
+/// pipe ends, so that its sender returns. `NoMemory` too where the pipe ends without an end mark, as where its sender is
+/// gone. What was done then is a beginning of what was received.
 pub fn serve_element<D: Disk, K: Name, G: Gate, R: Wait>(
     rt: &R,
     controller: &Controller<D, K>,
@@ -430,8 +473,11 @@ pub fn serve_element<D: Disk, K: Name, G: Gate, R: Wait>(
     requires { outlet.old.ended ≡ false }
     ensures element { port.new.element ≡ port.old.element }
     ensures same { outlet.new.pipe ≡ outlet.old.pipe }
+    ensures ended { OnOk result (outlet.new.ended ≡ true) }
     ensures done { OnOk result (AreDone served.old.entries.items glances.old.made.items outlet.old.items
         → AreDone served.new.entries.items glances.new.made.items outlet.new.items) }
+    ensures begun { AreDone served.old.entries.items glances.old.made.items outlet.old.items
+        → HasBegun served.new.entries.items glances.new.made.items outlet.new.items }
     ensures count { OnOk result (length served.new.entries.items + length glances.new.made.items
         + length outlet.old.items
         ≡ length served.old.entries.items + length glances.old.made.items + length outlet.new.items) }
@@ -440,13 +486,7 @@ pub fn serve_element<D: Disk, K: Name, G: Gate, R: Wait>(
     ensures seen { AreGlanced K.memory port.old.element glances.old.last glances.old.glance glances.old.made.items
         → AreGlanced K.memory port.old.element glances.new.last glances.new.glance glances.new.made.items }
 {
-    let done = match serve_all(rt, controller, port, served, glances, outlet, gate) {
-        Ok(()) => await_rest(rt, controller, port, served),
-        Err(refusal) => {
-            drain(rt, outlet);
-            Err(refusal)
-        }
-    };
+    let done = serve_to_end(rt, controller, port, served, glances, outlet, gate);
     port.retire(rt, controller);
     done
 }

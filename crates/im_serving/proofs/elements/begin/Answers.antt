@@ -1,9 +1,16 @@
-use denote.Param.{param}
-use denote.Param.Send.{sendable}
-use Rattle.std.proofs.Crossing.{crosses}
+use Rattle.std.proofs.Common.{◌≡◌, ◌∙◌, sym, ap, subst}
+use Rattle.im_serving.specs.Elements.{Asked, Deeds, IsUnserved}
+use Rattle.im_serving.proofs.ElementLemmas.{unserved_part}
 use Rattle.im_serving.proofs.elements.begin.Goals as goal
-use Rattle.im_serving.proofs.Crosses.{Controller-row-sync, Port-row-send, Served-row-send, Glances-row-send, Outlet-row-send}
 
-pub spawn-requires-send-F : goal.spawn-requires-send-F
-spawn-requires-send-F g c κs within = let controller = Controller-row-sync (param 1 g.row.D) (param 2 g.row.K) g.D.Disk g.K.Name c.type_bounds.send-D in let port = Port-row-send (param 2 g.row.K) g.K.Name in
-    let r = c.type_bounds.sync-R in let gate = c.type_bounds.sync-G in let o = Outlet-row-send in let s = Served-row-send in let l = Glances-row-send (param 2 g.row.K) g.K.Name in search (sendable, crosses) depth 40
+pub invariant_of-result : goal.invariant_of-result
+invariant_of-result g c =
+    let part = c.of-asked.result.value in
+    let same : c.split-server.result.0 ≡ part.deeds = c.split-server.ensures.deeds ∙ sym (ap (λ (p : Asked). p.deeds) c.of-asked.ensures) in
+    unserved_part g.K.Name.memory part.deeds c.give_up.result part.intents (subst (λ (p : Deeds). IsUnserved g.K.Name.memory p c.give_up.result) same c.give_up.ensures)
+
+pub invariant_of-result-in-Err-begin_serving : goal.invariant_of-result-in-Err-begin_serving
+invariant_of-result-in-Err-begin_serving g c =
+    let part = c.of-asked.result.value in
+    let same : c.split-server.result.0 ≡ part.deeds = c.split-server.ensures.deeds ∙ sym (ap (λ (p : Asked). p.deeds) c.of-asked.ensures) in
+    unserved_part g.K.Name.memory part.deeds c.in-Err.done part.intents (subst (λ (p : Deeds). IsUnserved g.K.Name.memory p c.in-Err.done) same c.in-Err.ensures.err)

@@ -1,0 +1,17 @@
+use Rattle.std.proofs.Common.{rules}
+use Rattle.std.specs.Prelude.{Err}
+use Rattle.im_types.specs.declared.refusals.Refusal.TheVariants.{NoMemory}
+use Rattle.im_serving.proofs.ElementLemmas.{given_up}
+use Rattle.im_serving.proofs.elements.give_up.Goals as goal
+
+pub returns : goal.returns
+returns g c = given_up g.K.Name.memory c.args.server (record {
+  deeds = record {
+    element = c.retire.new.self.element;
+    entries = c.server.inside.served.entries.items;
+    last = c.server.inside.glances.last;
+    seen = c.server.inside.glances.glance;
+    made = c.server.inside.glances.made.items;
+  };
+  result = Err NoMemory;
+}) (search rules)

@@ -1,0 +1,61 @@
+-- What becomes of elements that are served all at once. (Own.)
+use Rattle.std.specs.Prelude.{◌≡◌, ℕ, Bool, true, List, [], ◌∷◌, Option, Result, Err, OnOk}
+use mathlib.Core.List.{IsPrefix}
+use Rattle.im_types.specs.declared.operations.Entry.{Entry}
+use Rattle.im_types.specs.declared.changes.Change.{Change}
+use Rattle.im_types.specs.declared.refusals.Refusal.{Refusal}
+use Rattle.im_types.specs.declared.refusals.Refusal.TheVariants.{NoMemory}
+use Rattle.im_types.specs.Contents.{Contents}
+use Rattle.im_pipes.specs.Ends.{PipeEnd, PipeId}
+use Rattle.im_serving.specs.declared.intent.Intent.{Intent}
+use Rattle.im_serving.specs.declared.glances.Glanced.{Glanced}
+use Rattle.im_serving.specs.Serving.{AreDone, AreGlanced, HasBegun}
+
+-- what was done for an element: the entries of its requests, the number of the last that was answered, what it has seen, and its glances
+pub record Deeds : Type 0 where
+  pub element : ℕ
+  pub entries : List Entry
+  pub last : Option ℕ
+  pub seen : List Change
+  pub made : List Glanced
+
+-- a part as contracts see it: what was done for its element before, and what it asks for
+pub record Asked : Type 0 where
+  pub deeds : Deeds
+  pub intents : List Intent
+
+-- how a part has ended: what was done for its element, and what was refused, if anything was
+pub record End : Type 0 where
+  pub deeds : Deeds
+  pub result : Result (Unit {0}) Refusal
+
+-- A server came from these deeds to those, where this was asked for: it did it in its order, all of it where nothing was refused, else a beginning of it. And
+-- each glance tells what the element had seen. What was done is counted from the start, so nothing was done before.
+pub record HasServed (m : Contents) (p q : Deeds) (result : Result (Unit {0}) Refusal) (intents : List Intent) : Type 0 where
+  pub element : q.element ≡ p.element
+  pub begun : AreDone p.entries p.made [] → HasBegun q.entries q.made intents
+  pub done : OnOk result (AreDone p.entries p.made [] → AreDone q.entries q.made intents)
+  pub seen : AreGlanced m p.element p.last p.seen p.made → AreGlanced m p.element q.last q.seen q.made
+
+-- a part has ended so, by what it asks for
+abbrev pub IsEnded : Contents → Asked → End → Type 0
+IsEnded m p d = HasServed m p.deeds d.deeds d.result p.intents
+
+-- so has each of these, in their order
+abbrev pub AreEnded : Contents → List Asked → List End → Type 0
+AreEnded m [] [] = Unit {0}
+AreEnded m [] (d ∷ ends) = ⊥
+AreEnded m (p ∷ parts) [] = ⊥
+AreEnded m (p ∷ parts) (d ∷ ends) = IsEnded m p d × AreEnded m parts ends
+
+-- nothing was done, for want of memory or of a thread
+abbrev pub IsUnserved : Contents → Deeds → End → Type 0
+IsUnserved m p d = HasServed m p d.deeds d.result [] × (d.result ≡ Err NoMemory)
+
+-- a server did what it received, and where nothing was refused it received the end mark
+abbrev pub HasStopped : Contents → Deeds → End → PipeEnd Intent → Type 0
+HasStopped m p d outlet = HasServed m p d.deeds d.result outlet.items × OnOk d.result (outlet.ended ≡ true)
+
+-- what was sent into a pipe is a beginning of what is asked for, and all of it where nothing was handed back
+abbrev pub HasSent : PipeId Intent → List Intent → PipeEnd Intent → Bool → Type 0
+HasSent pipe intents finished all = (finished.pipe ≡ pipe) × IsPrefix finished.items intents × (all ≡ true → finished.items ≡ intents)
