@@ -1,8 +1,11 @@
 -- Messages and the items among them.
-use Rattle.std.proofs.Common.{◌≡◌, Bool, true, false, List, [], ◌∷◌, ◌++◌, map, sym, refl, ap, ◌∙◌, Option, Some, None}
+use Rattle.std.proofs.Common.{◌≡◌, ◌-◌, Bool, true, false, List, [], ◌∷◌, ◌++◌, length, length-append, append_assoc, map, sym, refl, ap, ◌∙◌, Option, Some, None}
+use Rattle.std.proofs.Math.Nat.{add-sub_cancel}
+use Rattle.std.proofs.lemmas.List.{take_at}
+use Rattle.std.specs.List.{remove, slice_get}
 use Rattle.im_pipes.specs.declared.rule.Log.{Log}
-use Rattle.im_pipes.specs.Rule.{log, with_sent, with_received}
-use Rattle.im_pipes.specs.Ends.{items_of, messages_of}
+use Rattle.im_pipes.specs.Rule.{log, with_sent}
+use Rattle.im_pipes.specs.Ends.{handed_of, items_of, messages_of}
 
 module _ {T : Type 0} where
   items_of_map : (items : List T) → items_of (map Some items) ≡ items
@@ -59,37 +62,57 @@ module _ {T : Type 0} where
       let sent : l.sent ++ None ∷ [] ≡ messages_of true (items_of m.sent) = ap (λ (k : Log T). k.sent ++ None ∷ []) i ∙ ap (λ k. map Some k ++ None ∷ []) (sym same) in
       (same, p ∙ same_log _ _ _ _ _ _ _ _ (ap (λ (k : Log T). k.sends) i) (ap (λ (k : Log T). k.receives) i) sent (ap (λ (k : Log T). k.received) i))
 
-  -- an item more was received
-  pub received_item : (l m : Log T) (x : T) → l ≡ log false true [] (messages_of false (items_of l.received)) → m ≡ with_received l (Some x)
-      → (items_of m.received ≡ items_of l.received ++ x ∷ []) × (m ≡ log false true [] (messages_of false (items_of m.received)))
-  received_item l m x i p =
-      let items = items_of l.received in
-      let e : m.received ≡ map Some items ++ Some x ∷ [] = ap (λ (k : Log T). k.received) p ∙ ap (λ (k : Log T). k.received ++ Some x ∷ []) i in
-      let more : items_of m.received ≡ items ++ x ∷ [] = ap items_of e ∙ items_more items x in
-      let received : l.received ++ Some x ∷ [] ≡ map Some (items_of m.received) = ap (λ (k : Log T). k.received ++ Some x ∷ []) i ∙ (sym (map_more items x) ∙ ap (λ k. map Some k) (sym more)) in
-      (more, p ∙ same_log _ _ _ _ _ _ _ _ (ap (λ (k : Log T). k.sends) i) (ap (λ (k : Log T). k.receives) i) (ap (λ (k : Log T). k.sent) i) received)
+  -- what an outlet knows: these items were handed out, and then the end mark where it ended, and those messages are held
+  abbrev pub Knows : Log T → Bool → List T → List (Option T) → Type 0
+  Knows l ended items held = l ≡ log false true [] (messages_of ended items ++ held)
 
-  -- the end mark was received
-  pub received_mark : (l m : Log T) → l ≡ log false true [] (messages_of false (items_of l.received)) → m ≡ with_received l None
-      → (items_of m.received ≡ items_of l.received) × (m ≡ log false true [] (messages_of true (items_of m.received)))
-  received_mark l m i p =
-      let items = items_of l.received in
-      let e : m.received ≡ map Some items ++ None ∷ [] = ap (λ (k : Log T). k.received) p ∙ ap (λ (k : Log T). k.received ++ None ∷ []) i in
-      let same : items_of m.received ≡ items = ap items_of e ∙ items_marked items in
-      let received : l.received ++ None ∷ [] ≡ messages_of true (items_of m.received) = ap (λ (k : Log T). k.received ++ None ∷ []) i ∙ ap (λ k. map Some k ++ None ∷ []) (sym same) in
-      (same, p ∙ same_log _ _ _ _ _ _ _ _ (ap (λ (k : Log T). k.sends) i) (ap (λ (k : Log T). k.receives) i) (ap (λ (k : Log T). k.sent) i) received)
+  items_of_messages : (ended : Bool) (items : List T) → items_of (messages_of ended items) ≡ items
+  items_of_messages true items = items_marked items
+  items_of_messages false items = items_of_map items
 
-  -- both ends in one pass: what was received begins what was sent
-  pub begins_items : (l m both : Log T) (held : List (Option T)) → both ≡ log true true l.sent m.received → both.sent ≡ both.received ++ held
-      → items_of l.sent ≡ items_of m.received ++ items_of held
-  begins_items l m both held p t =
-      let sent : l.sent ≡ m.received ++ held = sym (ap (λ (k : Log T). k.sent) p) ∙ (t ∙ ap (λ (k : Log T). k.received ++ held) p) in
-      ap items_of sent ∙ items_join m.received held
+  handed_join : (handed held : List (Option T)) → handed_of (handed ++ held) held ≡ handed
+  handed_join handed held = take_at handed held _ (sym (ap (λ n. n - length held) (length-append handed held) ∙ add-sub_cancel (length handed) (length held)))
+
+  -- so they are those that contracts see
+  pub handed_items : (l : Log T) (ended : Bool) (items : List T) (held : List (Option T)) → Knows l ended items held → items_of (handed_of l.received held) ≡ items
+  handed_items l ended items held k = ap (λ (m : Log T). items_of (handed_of m.received held)) k ∙ (ap items_of (handed_join (messages_of ended items) held) ∙ items_of_messages ended items)
+
+  pub knows_handed : (l : Log T) (ended : Bool) (items : List T) (held : List (Option T)) → Knows l ended items held → Knows l ended (items_of (handed_of l.received held)) held
+  knows_handed l ended items held k = k ∙ ap (λ xs. log false true [] (messages_of ended xs ++ held)) (sym (handed_items l ended items held k))
+
+  -- the first that is held, and the others
+  first_of : (held others : List (Option T)) (message : Option T) → Some message ≡ slice_get held 0 → others ≡ remove held 0 → held ≡ message ∷ others
+  first_of [] others message e r = absurd (cc e)
+  first_of (x ∷ held) others message e r = let h : message ≡ x = cc e in cc (h, r)
+
+  -- the first that is held was handed out, an item
+  pub item_next : (l : Log T) (ended : Bool) (items : List T) (held others : List (Option T)) (message : Option T) (x : T) → Knows l ended items held → ended ≡ false
+      → Some message ≡ slice_get held 0 → others ≡ remove held 0 → message ≡ Some x → Knows l false (items ++ x ∷ []) others
+  item_next l ended items held others message x k open_ e r is =
+      let first : held ≡ Some x ∷ others = first_of held others message e r ∙ ap (λ m. m ∷ others) is in
+      k ∙ ((λ j. log false true [] (messages_of (open_ j) items ++ first j))
+      ∙ ap (λ xs. log false true [] xs) (sym (append_assoc (map Some items) (Some x ∷ []) others) ∙ ap (λ xs. xs ++ others) (sym (map_more items x))))
+
+  -- or the end mark
+  pub mark_next : (l : Log T) (ended : Bool) (items : List T) (held others : List (Option T)) (message : Option T) → Knows l ended items held → ended ≡ false
+      → Some message ≡ slice_get held 0 → others ≡ remove held 0 → message ≡ None → Knows l true items others
+  mark_next l ended items held others message k open_ e r is =
+      let first : held ≡ None ∷ others = first_of held others message e r ∙ ap (λ m. m ∷ others) is in
+      k ∙ ((λ j. log false true [] (messages_of (open_ j) items ++ first j)) ∙ ap (λ xs. log false true [] xs) (sym (append_assoc (map Some items) (None ∷ []) others)))
+
+  sent_of : (l m both : Log T) (ended : Bool) (items : List T) (held rest : List (Option T)) → Knows m ended items held → both ≡ log true true l.sent m.received → both.sent ≡ both.received ++ rest
+      → l.sent ≡ messages_of ended items ++ (held ++ rest)
+  sent_of l m both ended items held rest k p t =
+      sym (ap (λ (j : Log T). j.sent) p) ∙ (t ∙ (ap (λ (j : Log T). j.received ++ rest) p ∙ (ap (λ (j : Log T). j.received ++ rest) k ∙ append_assoc (messages_of ended items) held rest)))
+
+  -- both ends in one pass: what was handed out begins what was sent
+  pub begins_items : (l m both : Log T) (ended : Bool) (items : List T) (held rest : List (Option T)) → Knows m ended items held → both ≡ log true true l.sent m.received → both.sent ≡ both.received ++ rest
+      → items_of l.sent ≡ items ++ items_of (held ++ rest)
+  begins_items l m both ended items held rest k p t =
+      ap items_of (sent_of l m both ended items held rest k p t) ∙ (items_join (messages_of ended items) (held ++ rest) ∙ ap (λ xs. xs ++ items_of (held ++ rest)) (items_of_messages ended items))
 
   -- and after the end mark it is all of it
-  pub whole_items : (l m both : Log T) (marked : Bool) (held : List (Option T)) → l ≡ log true false (messages_of marked (items_of l.sent)) []
-      → m ≡ log false true [] (messages_of true (items_of m.received)) → both ≡ log true true l.sent m.received → both.sent ≡ both.received ++ held
-      → items_of m.received ≡ items_of l.sent
-  whole_items l m both marked held i k p t =
-      ends marked (items_of m.received) (items_of l.sent) held
-      (sym (ap (λ (k : Log T). k.sent) i) ∙ (sym (ap (λ (k : Log T). k.sent) p) ∙ (t ∙ (ap (λ (k : Log T). k.received ++ held) p ∙ ap (λ (k : Log T). k.received ++ held) k))))
+  pub whole_items : (l m both : Log T) (marked : Bool) (items : List T) (held rest : List (Option T)) → l ≡ log true false (messages_of marked (items_of l.sent)) []
+      → Knows m true items held → both ≡ log true true l.sent m.received → both.sent ≡ both.received ++ rest → items ≡ items_of l.sent
+  whole_items l m both marked items held rest i k p t =
+      ends marked items (items_of l.sent) (held ++ rest) (sym (ap (λ (j : Log T). j.sent) i) ∙ sent_of l m both true items held rest k p t)

@@ -2,7 +2,7 @@
 use Rattle.std.proofs.Common.{◌≡◌, ◌≢◌, ℕ, zero, suc, true, false, true≢false, List, [], ◌∷◌, ◌++◌, length, set, sym, refl, ap, ◌∙◌, subst, ⊎_elim, append_assoc, Option}
 use mathlib.Core.Option.{some, some-ne-none}
 use lib.ListN.{get_elem?}
-use Rattle.crossbeam_channel.specs.Fifo.{Pushes, Pops, Forks, Merges}
+use Rattle.crossbeam_channel.specs.Fifo.{Pushes, Pops, Forks, Merges, Learns}
 use Rattle.atomic_table.proofs.Lists.{at_set, at_snoc}
 use Rattle.im_pipes.specs.declared.rule.Log.{Log}
 use Rattle.im_pipes.specs.Rule.{log, with_sent, with_received, Fits, IsRelayed}
@@ -81,3 +81,7 @@ module _ {T : Type 0} where
       let Now : ℕ → Log T → Type 0 = λ j y. j ≢ other → Fits h.0 port h.2 h.3 j y in
       let now : All Now vs = all_set Now views port both (λ _. ((λ _. mine.0 a), λ _. (refl, theirs.1))) (λ j y _ e apart. ((h.5 j y e).0, λ p. absurd (apart (((h.5 j y e).1 p).0 ∙ sym theirs.0)))) in
       (h.0, port, h.2, h.3, h.4, all_set (Fits h.0 port h.2 h.3) vs other (log false false [] []) ((λ p. absurd (true≢false (sym p))), λ p. absurd (true≢false (sym p))) (λ j y apart e. now j y e apart))
+
+  -- and what it knows then
+  pub learns : (port : ℕ) (v : Log T) → v.sends ≡ true → v.receives ≡ true → Learns IsRelayed port v (λ held. v.sent ≡ v.received ++ held)
+  learns port v a b items views h at = let mine = h.5 port v at in (mine.0 a).1 ∙ (h.4 ∙ ap (λ xs. xs ++ items) (sym (mine.1 b).1))

@@ -1,5 +1,5 @@
 -- What contracts see of an end of a pipe. (Own.)
-use Rattle.std.specs.Prelude.{◌≡◌, Bool, true, false, List, [], ◌∷◌, ◌++◌, map, Option, Some, None}
+use Rattle.std.specs.Prelude.{◌≡◌, Bool, true, false, List, [], ◌∷◌, ◌++◌, ◌-◌, length, take, map, Option, Some, None}
 use Rattle.atomic_table.specs.Seated.{TableId}
 use Rattle.atomic_table.specs.declared.badge.Badge.{Badge}
 use Rattle.crossbeam_channel.specs.declared.flavors.array.Key.{Key}
@@ -32,6 +32,10 @@ items_of (None ∷ messages) = items_of messages
 abbrev pub messages_of : {T : Type 0} → Bool → List T → List (Option T)
 messages_of true items = map Some items ++ None ∷ []
 messages_of false items = map Some items
+
+-- what was handed out of these messages, of which those are held
+abbrev pub handed_of : {T : Type 0} → List (Option T) → List (Option T) → List (Option T)
+handed_of received held = take (length received - length held) received
 
 -- the two ends of a new pipe
 pub record AreNewEnds {T : Type 0} (inlet outlet : PipeEnd T) : Type 0 where

@@ -9,11 +9,15 @@ ghost use Rattle.im_pipes.specs.Ends.{AreNewEnds, Receives};
 ghost use Rattle.im_pipes.specs.Rule.{with_sent, with_received};
 
 use crate::rule::{InOrder, Log, Sent, Taken, TwoEnds, Whole};
+use arrayvec::ArrayVec;
 use crossbeam_channel::{Pass, RuledReceiver, RuledSender, bounded_with};
 use im_types::Refusal;
 use std::alloc::{AllocError, Global};
 use std::marker::Model;
 use std::sync::Wait;
+
+// How many messages an outlet holds.
+const AHEAD: usize = 8;
 
 /// The end of a pipe that sends. Contracts see which pipe it is, and what was sent.
 #[derive(Drop)]
@@ -61,26 +65,29 @@ impl<T: Drop> Model for Finished<T> {
 }
 
 /// The end of a pipe that receives. Contracts see which pipe it is, what was received, and whether the end mark was.
+/// What it holds, to be handed out later and in order, isn't received yet.
 #[derive(Drop)]
 pub struct Outlet<T: Drop> {
     receiver: RuledReceiver<Option<T>, Log<T>, InOrder>,
     pass: Pass<Option<T>, Log<T>>,
+    held: ArrayVec<Option<T>, AHEAD>,
     ended: bool,
 }
 
 impl<T: Drop> Model for Outlet<T> {
-    ghost use Rattle.std.specs.Prelude.{◌≡◌, [], true, false};
+    ghost use Rattle.std.specs.Prelude.{◌≡◌, ◌++◌, [], true, false};
     ghost use Rattle.crossbeam_channel.specs.Claims.{view as known, IsSeatAt};
     ghost use Rattle.crossbeam_channel.specs.Ends.{receives_on};
-    ghost use Rattle.im_pipes.specs.Ends.{PipeEnd, items_of, messages_of, pipe_of};
+    ghost use Rattle.im_pipes.specs.Ends.{PipeEnd, handed_of, items_of, messages_of, pipe_of};
     ghost use Rattle.im_pipes.specs.Rule.{log};
 
     ghost Value = { PipeEnd T };
 
-    ghost view = { λ s. record { pipe = pipe_of s.pass; items = items_of (known s.pass).received; ended = s.ended } };
+    ghost view = { λ s. record { pipe = pipe_of s.pass; items = items_of (handed_of (known s.pass).received s.held.items); ended = s.ended } };
 
     ghost invariant = { λ s. IsSeatAt (receives_on s.receiver) s.pass
-        × (known s.pass ≡ log false true [] (messages_of s.ended (items_of (known s.pass).received))) };
+        × (known s.pass ≡ log false true []
+        (messages_of s.ended (items_of (handed_of (known s.pass).received s.held.items)) ++ s.held.items)) };
 }
 
 /// What came out of a pipe.
@@ -94,8 +101,8 @@ pub enum Received<T> {
     Gone,
 }
 
-/// The two ends of a new pipe, which holds at most so many messages, above 0: items, and one end mark. `NoMemory`
-/// where there is no room for it. (Own.)
+/// The two ends of a new pipe, which holds at most so many messages, above 0, and eight more that its outlet took
+/// ahead: items, and one end mark. `NoMemory` where there is no room for it. (Own.)
 pub fn pipe<T: Drop>(alloc: Global, capacity: usize) -> Result<(Inlet<T>, Outlet<T>), Refusal>
     requires { 0 < capacity }
     ensures found { IfOk result (λ ends. AreNewEnds ends.0 ends.1) }
@@ -117,6 +124,7 @@ fn new_ends<T: Drop>(alloc: Global, capacity: usize) -> Result<(Inlet<T>, Outlet
         Outlet {
             receiver,
             pass: receives,
+            held: ArrayVec::new(),
             ended: false,
         },
     ))
@@ -141,7 +149,7 @@ fn put<T: Drop, R: Wait>(
     }
 }
 
-// Receives a message.
+// Receives a message, and waits for it.
 fn take<T: Drop, R: Wait>(
     rt: &R,
     receiver: &RuledReceiver<Option<T>, Log<T>, InOrder>,
@@ -154,6 +162,24 @@ fn take<T: Drop, R: Wait>(
         (λ message. view pass.new ≡ with_received (view pass.old) message) }
 {
     match receiver.recv_as::<Taken, R>(rt, pass) {
+        Ok(message) => Some(message),
+        Err(_) => None,
+    }
+}
+
+// Receives a message, if one is there.
+fn take_next<T: Drop, R: Wait>(
+    rt: &R,
+    receiver: &RuledReceiver<Option<T>, Log<T>, InOrder>,
+    pass: &mut Pass<Option<T>, Log<T>>,
+) -> Option<Option<T>>
+    requires seat { IsSeatAt (receives_on receiver.now) pass.old }
+    requires receives { (view pass.old).receives ≡ true }
+    ensures seat { IsSeatAt (receives_on receiver.now) pass.new }
+    ensures received { MatchOption result (view pass.new ≡ view pass.old)
+        (λ message. view pass.new ≡ with_received (view pass.old) message) }
+{
+    match receiver.try_recv_as::<Taken, R>(rt, pass) {
         Ok(message) => Some(message),
         Err(_) => None,
     }
@@ -196,6 +222,41 @@ impl<T: Drop> Inlet<T> {
 }
 
 impl<T: Drop> Outlet<T> {
+    // Takes one message more, if one is there and there is room for it. Whether it did.
+    fn gather_one<R: Wait>(&mut self, rt: &R) -> bool
+        ensures { self.new ≡ self.old }
+    {
+        if self.held.is_full() {
+            return false;
+        }
+        match take_next(rt, &self.receiver, &mut self.pass) {
+            Some(message) => {
+                self.held.push(message);
+                true
+            }
+            None => false,
+        }
+    }
+
+    // Where nothing is held, waits for a message, and takes what else is there then: so a sender that waits is woken
+    // once for all of them.
+    fn gather<R: Wait>(&mut self, rt: &R)
+        ensures { self.new ≡ self.old }
+    {
+        if !self.held.is_empty() {
+            return;
+        }
+        match take(rt, &self.receiver, &mut self.pass) {
+            Some(message) => self.held.push(message),
+            None => return,
+        }
+        for _ in 0..AHEAD {
+            if !self.gather_one(rt) {
+                return;
+            }
+        }
+    }
+
     /// Receives the next item or the end mark, and waits while the pipe is empty. `Gone`, and nothing was received,
     /// where the channel fails, as after the end of an inlet that didn't finish. (Own.)
     pub fn receive<R: Wait>(&mut self, rt: &R) -> Received<T>
@@ -203,7 +264,8 @@ impl<T: Drop> Outlet<T> {
         ensures same { self.new.pipe ≡ self.old.pipe }
         ensures contents { Receives self.old result self.new }
     {
-        match take(rt, &self.receiver, &mut self.pass) {
+        self.gather(rt);
+        match self.held.pop_at(0) {
             Some(Some(item)) => Received::Item(item),
             Some(None) => {
                 self.ended = true;
@@ -223,6 +285,7 @@ impl<T: Drop> Outlet<T> {
         let Outlet {
             receiver: _receiver,
             pass: receives,
+            held: _,
             ended: _,
         } = self;
         let Finished {
