@@ -149,11 +149,12 @@ fn put<T: Drop, R: Wait>(
     }
 }
 
-// Receives a message, and waits for it.
+// Receives a message: one that is there, or it waits for one.
 fn take<T: Drop, R: Wait>(
     rt: &R,
     receiver: &RuledReceiver<Option<T>, Log<T>, InOrder>,
     pass: &mut Pass<Option<T>, Log<T>>,
+    waits: bool,
 ) -> Option<Option<T>>
     requires seat { IsSeatAt (receives_on receiver.now) pass.old }
     requires receives { (view pass.old).receives ≡ true }
@@ -161,24 +162,12 @@ fn take<T: Drop, R: Wait>(
     ensures received { MatchOption result (view pass.new ≡ view pass.old)
         (λ message. view pass.new ≡ with_received (view pass.old) message) }
 {
-    match receiver.recv_as::<Taken, R>(rt, pass) {
-        Ok(message) => Some(message),
-        Err(_) => None,
+    if waits {
+        return match receiver.recv_as::<Taken, R>(rt, pass) {
+            Ok(message) => Some(message),
+            Err(_) => None,
+        };
     }
-}
-
-// Receives a message, if one is there.
-fn take_next<T: Drop, R: Wait>(
-    rt: &R,
-    receiver: &RuledReceiver<Option<T>, Log<T>, InOrder>,
-    pass: &mut Pass<Option<T>, Log<T>>,
-) -> Option<Option<T>>
-    requires seat { IsSeatAt (receives_on receiver.now) pass.old }
-    requires receives { (view pass.old).receives ≡ true }
-    ensures seat { IsSeatAt (receives_on receiver.now) pass.new }
-    ensures received { MatchOption result (view pass.new ≡ view pass.old)
-        (λ message. view pass.new ≡ with_received (view pass.old) message) }
-{
     match receiver.try_recv_as::<Taken, R>(rt, pass) {
         Ok(message) => Some(message),
         Err(_) => None,
@@ -229,7 +218,7 @@ impl<T: Drop> Outlet<T> {
         if self.held.is_full() {
             return false;
         }
-        match take_next(rt, &self.receiver, &mut self.pass) {
+        match take(rt, &self.receiver, &mut self.pass, false) {
             Some(message) => {
                 self.held.push(message);
                 true
@@ -246,7 +235,7 @@ impl<T: Drop> Outlet<T> {
         if !self.held.is_empty() {
             return;
         }
-        match take(rt, &self.receiver, &mut self.pass) {
+        match take(rt, &self.receiver, &mut self.pass, true) {
             Some(message) => self.held.push(message),
             None => return,
         }
