@@ -15,6 +15,7 @@ imem serve a.img = talk on a.img, unwatched
 imem serve a.img --watch = talk on a.img, watched
 imem serve --watch a.img = talk on a.img, watched
 imem inspect a.img = tell of a.img
+imem migrate a.img b.img = move a.img on to b.img
 
 # Bad words are refused with status 2, and what is said names them
 imem mend = status 2
@@ -48,6 +49,15 @@ imem run a.img = status 2
 says Usage: imem run <IMAGE> <SCRIPT> = yes
 imem mend = status 2
 says Usage: imem [COMMAND] = yes
+imem migrate = status 2
+says OLD = yes
+imem migrate a.img = status 2
+says NEW = yes
+says Usage: imem migrate <OLD> <NEW> = yes
+imem migrate a.img b.img c.img = status 2
+says 'c.img' = yes
+imem migrate a.img b.img --cells 5 = status 2
+says --cells = yes
 
 # An option takes decimal digits alone, of a number below 2^32
 imem format a.img --cells 4294967296 = status 2
@@ -94,6 +104,10 @@ says reset PLACE = yes
 says Exit status: 0 all was served = yes
 imem format --help = status 0
 says Exit status: 0 the image is made = yes
+imem migrate --help = status 0
+says imem migrate old.img new.img = yes
+says 14 BadHeader = yes
+says Exit status: 0 the image is moved on = yes
 
 # The version is told with the layout that is written
 imem --version = status 0

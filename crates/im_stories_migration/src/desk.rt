@@ -1,0 +1,90 @@
+//! What a story has in its hands.
+
+use anyhow::{Result, anyhow};
+use im_disk::{Disk, MemDisk, Mode};
+
+/// How the calls of a disk fail in the next migration.
+#[derive(Clone, Copy)]
+pub struct Fuse {
+    /// How many calls pass.
+    pub passes: u64,
+    /// How the later ones fail.
+    pub mode: Mode,
+}
+
+/// Two files, as they were marked, how their calls fail next, and what was printed and told last.
+#[derive(Drop)]
+pub struct Desk<'a> {
+    /// The folder's files, and standard output.
+    pub rt: &'a HostRuntime,
+    /// The old file.
+    pub old: Option<MemDisk>,
+    /// The new file.
+    pub new: Option<MemDisk>,
+    /// The old file's bytes, as they were marked.
+    pub old_marked: Vec<u8>,
+    /// The new file's.
+    pub new_marked: Vec<u8>,
+    /// How their calls fail next, of the old one and of the new one.
+    pub fuses: (Option<Fuse>, Option<Fuse>),
+    /// How many calls the last migration made of each.
+    pub calls: (u64, u64),
+    /// What was printed last.
+    pub printed: String,
+    /// What was told beside that.
+    pub notes: String,
+}
+
+impl<'a> Desk<'a> {
+    /// Nothing yet.
+    pub fn new(rt: &'a HostRuntime) -> Desk<'a> {
+        let alloc = rt.alloc();
+        Desk {
+            rt,
+            old: None,
+            new: None,
+            old_marked: Vec::new(alloc),
+            new_marked: Vec::new(alloc),
+            fuses: (None, None),
+            calls: (0, 0),
+            printed: String::new(alloc),
+            notes: String::new(alloc),
+        }
+    }
+
+    /// The old file.
+    pub fn old(&self) -> Result<&MemDisk> {
+        match &self.old {
+            Some(disk) => Ok(disk),
+            None => Err(anyhow!("there is no old file")),
+        }
+    }
+
+    /// The new file.
+    pub fn new_file(&self) -> Result<&MemDisk> {
+        match &self.new {
+            Some(disk) => Ok(disk),
+            None => Err(anyhow!("there is no new file")),
+        }
+    }
+}
+
+/// Puts bytes there, as whoever damages the file does, and they are on the disk.
+pub fn put(disk: &mut MemDisk, at: usize, bytes: &[u8]) -> Result<()> {
+    let size = disk.bytes().len();
+    if at > size || bytes.len() > size - at {
+        return Err(anyhow!("past the end of the file"));
+    }
+    if disk.write_at(at, bytes).is_err() || disk.sync().is_err() {
+        return Err(anyhow!("the bytes weren't put"));
+    }
+    Ok(())
+}
+
+/// The line at this place of a text, from 0.
+pub fn line(text: &str, at: usize) -> Result<&str> {
+    match text.lines().nth(at) {
+        Some(line) => Ok(line),
+        None => Err(anyhow!("there is no line {at}")),
+    }
+}

@@ -1,0 +1,92 @@
+//! The program's work on files.
+
+use crate::desk::Desk;
+use crate::disks::disk_of;
+use crate::writers::{Notes, Paper};
+use anyhow::{Result, anyhow};
+use im_disk::{MemDisk, Unknown};
+use im_program::{Work, act_alone, migrate_file, read_words, refuse};
+use std::fs;
+
+// Does what a command line asks one thread for. The status.
+fn act(desk: &mut Desk, words: &[&str]) -> Result<u8> {
+    let rt = desk.rt;
+    let alloc = rt.alloc();
+    let mut out = Paper::new(alloc);
+    let mut notes = Notes::new(alloc);
+    let mut nothing = b"".as_slice();
+    let status = match read_words(alloc, words) {
+        Ok(Work::Alone(job)) => {
+            let (status, _) = act_alone(rt, &job, &mut nothing, &mut out, false, Unknown);
+            status
+        }
+        Ok(Work::Migrate { old, new }) => {
+            match migrate_file(rt, old, new, &mut out, &mut notes, Unknown, Unknown) {
+                Ok((status, _)) => status,
+                Err(refusal) => refuse(alloc, refusal, &mut out),
+            }
+        }
+        _ => return Err(anyhow!("the words ask for no work of one thread")),
+    };
+    desk.printed = out.into_text()?;
+    desk.notes = notes.text;
+    Ok(status)
+}
+
+// Makes a file of these lines, each of them its words up to a slash.
+fn save(desk: &Desk, file: &str, words: &[&str], said: &mut String) -> Result<()> {
+    let mut text = Vec::new(desk.rt.alloc());
+    for word in words {
+        let (part, end) = if *word == "/" {
+            ("", "\n")
+        } else {
+            (*word, " ")
+        };
+        text.extend_from_slice(part.as_bytes())?;
+        text.extend_from_slice(end.as_bytes())?;
+    }
+    fs::write(desk.rt, file, text)?;
+    Ok(said.push_str("saved")?)
+}
+
+// Makes a file of a disk.
+fn keep(desk: &Desk, disk: &MemDisk, file: &str, said: &mut String) -> Result<()> {
+    let length = disk.bytes().len();
+    fs::write(desk.rt, file, disk.bytes())?;
+    Ok(write!(said, "{length} bytes")?)
+}
+
+// The bytes of a file, as a disk.
+fn load(desk: &Desk, file: &str, said: &mut String) -> Result<MemDisk> {
+    let bytes = fs::read(desk.rt, file)?;
+    let length = bytes.len();
+    write!(said, "{length} bytes")?;
+    disk_of(desk.rt.alloc(), bytes.as_slice())
+}
+
+// How long a file is, if it is there.
+fn length_of(desk: &Desk, file: &str, said: &mut String) -> Result<()> {
+    if fs::metadata(desk.rt, file).is_err() {
+        return Ok(said.push_str("none")?);
+    }
+    let length = fs::read(desk.rt, file)?.len();
+    Ok(write!(said, "{length} bytes")?)
+}
+
+/// Makes a call on files. Whether the words are one.
+pub fn tell(desk: &mut Desk, words: &[&str], said: &mut String) -> Result<bool> {
+    match words {
+        ["run", command @ ..] => {
+            let status = act(desk, command)?;
+            write!(said, "{status}")?;
+        }
+        ["save", file, text @ ..] => save(desk, file, text, said)?,
+        ["keep", "old", file] => keep(desk, desk.old()?, file, said)?,
+        ["keep", "new", file] => keep(desk, desk.new_file()?, file, said)?,
+        ["load", "old", file] => desk.old = Some(load(desk, file, said)?),
+        ["load", "new", file] => desk.new = Some(load(desk, file, said)?),
+        ["file", file] => length_of(desk, file, said)?,
+        _ => return Ok(false),
+    }
+    Ok(true)
+}
