@@ -12,6 +12,7 @@ ghost use Rattle.im_image.specs.Reading.{HasSizes};
 ghost use Rattle.im_migration.specs.Migration.{IsBlank, IsLaidDown, moved_header};
 ghost use Rattle.im_migration.specs.Laying.{IsBeside, IsLaid, StaysBlank};
 
+use crate::follower::Follower;
 use im_disk::{DeviceFault, Disk, open_gate};
 use im_image::{Header, encode_page};
 use im_memory::Memory;
@@ -31,8 +32,19 @@ fn write_beside<N: Disk>(new: &mut N, at: usize, bytes: &[u8]) -> Result<(), Dev
     new.write_at(at, bytes) // Where both gates were closed a stop leaves them so: they aren't in the range.
 }
 
+// Tells how many pages and slots were written.
+fn tell<F: Follower>(follower: &F, limits: Limits, pages: usize, slots: usize) {
+    let all = (area_pages(limits) as u64).saturating_add(limits.slots as u64);
+    follower.writes((pages as u64).saturating_add(slots as u64), all);
+}
+
 // Writes the pages of a memory into the first area.
-fn write_pages<N: Disk>(new: &mut N, memory: &Memory, limits: Limits) -> Result<(), DeviceFault>
+fn write_pages<N: Disk, F: Follower>(
+    new: &mut N,
+    memory: &Memory,
+    limits: Limits,
+    follower: &F,
+) -> Result<(), DeviceFault>
     requires sizes { HasSizes (sizes_of limits) memory.now.contents }
     requires size { N.honest new.old
         → length (N.now new.old).bytes ≡ layout.image_length layout_in_use (sizes_of limits) }
@@ -45,6 +57,7 @@ fn write_pages<N: Disk>(new: &mut N, memory: &Memory, limits: Limits) -> Result<
 {
     let mut page = [0; PAGE];
     for i in 0..area_pages(limits) {
+        tell(follower, limits, i, 0);
         encode_page(memory, limits, i, &mut page);
         write_beside(new, area_at(limits, 0) + PAGE * i, &page)?; // No header is open, whatever a stop leaves of the page.
     }
@@ -52,7 +65,11 @@ fn write_pages<N: Disk>(new: &mut N, memory: &Memory, limits: Limits) -> Result<
 }
 
 // Closes the gate of each slot of the journal.
-fn close_slots<N: Disk>(new: &mut N, limits: Limits) -> Result<(), DeviceFault>
+fn close_slots<N: Disk, F: Follower>(
+    new: &mut N,
+    limits: Limits,
+    follower: &F,
+) -> Result<(), DeviceFault>
     requires size { N.honest new.old
         → length (N.now new.old).bytes ≡ layout.image_length layout_in_use (sizes_of limits) }
     ensures laid { OnOk result (N.honest new.new → (r : Records)
@@ -66,7 +83,9 @@ fn close_slots<N: Disk>(new: &mut N, limits: Limits) -> Result<(), DeviceFault>
     ensures failures { Counts result (N.failures new.old) (N.failures new.new) }
 {
     let at = journal_at(limits);
+    let pages = area_pages(limits);
     for slot in 0..limits.slots as usize {
+        tell(follower, limits, pages, slot);
         write_beside(new, at + SLOT * slot, &[CLOSED])?; // No header is open, whatever a stop leaves of the gate.
     }
     Ok(())
@@ -89,10 +108,11 @@ fn write_header<N: Disk>(new: &mut N, header: &Header) -> Result<(), DeviceFault
 ///
 /// A crash at any moment of it leaves a file in which no header is open, or the image. Once it has answered `Ok`, the image
 /// is on the disk.
-pub(crate) fn lay_down<N: Disk>(
+pub(crate) fn lay_down<N: Disk, F: Follower>(
     new: &mut N,
     header: &Header,
     memory: &Memory,
+    follower: &F,
 ) -> Result<(), DeviceFault>
     requires sizes { HasSizes (sizes_of header.now.limits) memory.now.contents }
     requires header { seen header.now ≡ moved_header (sizes_of header.now.limits) header.now.count }
@@ -108,8 +128,8 @@ pub(crate) fn lay_down<N: Disk>(
     ensures failures { Counts result (N.failures new.old) (N.failures new.new) }
 {
     let _records = memory.records();
-    write_pages(new, memory, header.limits)?; // A stop in it leaves no header open, and so in the next two.
-    close_slots(new, header.limits)?;
+    write_pages(new, memory, header.limits, follower)?; // A stop in it leaves no header open, and so in the next two.
+    close_slots(new, header.limits, follower)?;
     write_header(new, header)?;
     // A stop leaves the gate closed, or open over what is on the disk then. Once this is done it is open for good.
     open_gate(new, 0)

@@ -5,8 +5,10 @@
 //! means; in the first case the same is done again. docs/MIGRATION.md tells it for whoever has such an image.
 #![tactic(auto)]
 
+mod follower;
 mod laying;
 mod moving;
 mod place;
 
+pub use follower::{Follower, Unfollowed};
 pub use moving::{length_for, migrate};

@@ -13,6 +13,7 @@ ghost use Rattle.im_migration.specs.Migration.{BlankOrSame, FaultOfTwo, HasCount
 ghost use Rattle.im_migration.specs.Migration.{IsUnwritten, MayRefuseMigration, MeansSame, moved_header};
 ghost use Rattle.im_migration.specs.Laying.{IsMoved};
 
+use crate::follower::Follower;
 use crate::laying::lay_down;
 use crate::place::find_place;
 use im_disk::Disk;
@@ -35,7 +36,7 @@ fn header_for(limits: Limits, count: u64) -> Header
 }
 
 // Puts what was read of an image into a new file, and tells its count.
-fn put<N: Disk>(new: &mut N, image: &Image) -> Result<u64, Refusal>
+fn put<N: Disk, F: Follower>(new: &mut N, image: &Image, follower: &F) -> Result<u64, Refusal>
     requires { AreParts image.now }
     ensures leaves { N.honest new.new → LeavesWithin N.now N.past new.old new.new
         (λ file. IsBlank file ⊎ IsMoved image.now file) }
@@ -54,7 +55,7 @@ fn put<N: Disk>(new: &mut N, image: &Image) -> Result<u64, Refusal>
     let limits = image.header.limits;
     find_place(new, limits)?;
     let count = image.journal.count();
-    match lay_down(new, &header_for(limits, count), &image.memory) {
+    match lay_down(new, &header_for(limits, count), &image.memory, follower) {
         Ok(()) => Ok(count),
         Err(_) => Err(Refusal::Device),
     }
@@ -62,7 +63,7 @@ fn put<N: Disk>(new: &mut N, image: &Image) -> Result<u64, Refusal>
 
 /// Moves an image of the first version on: puts the memory that it means, after its journal's run, into the new file as
 /// an image of the layout in use, at generation 1 and with all its commands counted in area 0. The old file is only read.
-/// Answers the new file, and the count.
+/// Answers the new file, and the count. The follower is told how far it has come.
 ///
 /// Each file that a crash may leave since the start, those aside that it could leave before, has both headers closed, or
 /// means what the old file means. So a migration that was stopped is begun again. Each refusal gives the new file back.
@@ -73,10 +74,11 @@ fn put<N: Disk>(new: &mut N, image: &Image) -> Result<u64, Refusal>
 ///   after a sync, a header in it is open. Nothing was written.
 /// - `NoMemory` where `alloc` refused the room for the memory, or for what is read. Nothing was written.
 /// - `Device` where a call of either disk failed. The new file may be written in part, and its headers are as above.
-pub fn migrate<O: Disk, N: Disk>(
+pub fn migrate<O: Disk, N: Disk, F: Follower>(
     alloc: Global,
     old: &mut O,
     mut new: N,
+    follower: &F,
 ) -> Result<(N, u64), (Refusal, N)>
     // Of the new file: what a stop leaves, and what is there once it is done.
     ensures leaves { MatchResult result
@@ -104,7 +106,7 @@ pub fn migrate<O: Disk, N: Disk>(
         × MatchResult result (λ r. N.honest r.0 → N.honest new) (λ e. N.honest e.1 → N.honest new) }
 {
     match read_old(alloc, old) {
-        Ok(image) => match put(&mut new, &image) {
+        Ok(image) => match put(&mut new, &image, follower) {
             Ok(count) => Ok((new, count)),
             Err(refusal) => Err((refusal, new)),
         },

@@ -2,6 +2,7 @@
 
 use crate::words::Job;
 use im_disk::OpenFault;
+use im_migration::Follower;
 use im_serving::{Standing, Watcher};
 use im_text::{Observer, Progress, Reason, Waited, make_now};
 use im_types::Entry;
@@ -10,6 +11,9 @@ use std::io::Eprint;
 
 // How many requests are served between two lines of progress.
 const STRIDE: u64 = 4_096;
+
+// How many pages and slots of a migration are written between two such lines.
+const WRITES: u64 = 1_024;
 
 // How many turns of checkpoints are made between two lines that tell how a run stands.
 const TURNS: u64 = 1_024;
@@ -97,6 +101,17 @@ impl<R: Eprint + AllocGlobal> Observer for Console<'_, R> {
             Reason::Output(_) | Reason::Memory => eprintln!(self.rt; "imem: {reason}"),
             _ => eprintln!(self.rt; "imem: {path}: {reason}"),
         };
+    }
+}
+
+impl<R: Eprint> Follower for Console<'_, R> {
+    fn writes(&self, written: u64, all: u64) {
+        if self.is_watched && written % WRITES == 0 {
+            let path = self.script;
+            let _printed = eprintln!(self.rt;
+                "imem: {path}: {written} of {all} pages and slots written"
+            );
+        }
     }
 }
 

@@ -12,7 +12,7 @@ ghost use Rattle.im_program.specs.Moving.{MigratedFrom, TellsCount, migrated_lin
 use crate::work::{kind_of_fault, refusal_of};
 use im_disk::{Disk, FileDisk, OpenFault, Start};
 use im_image::read_header;
-use im_migration::{length_for, migrate};
+use im_migration::{Follower, length_for, migrate};
 use im_text::{Observer, Reason, diagnose, end, put_through};
 use im_types::Refusal;
 use std::alloc::{AllocError, Global};
@@ -40,12 +40,12 @@ fn print_migrated<W: Write>(alloc: Global, count: u64, out: &mut W) -> Result<()
 }
 
 /// Moves the image of the first version on one disk on to another, and gives that one back. Its count goes to `out`, as
-/// the line `migrated COUNT`, or the line `refused N NAME` of what [`migrate`] refuses, and the observer is told why. The
-/// status is 0, or 1 where something was refused, or where a write of the output failed.
+/// the line `migrated COUNT`, or the line `refused N NAME` of what [`migrate`] refuses. The observer is told how far it has
+/// come, and why it is refused. The status is 0, or 1 where something was refused, or where a write of the output failed.
 ///
 /// Each file of the new disk that a crash may leave since the start, those aside that it could leave before, is no image,
 /// or means what the old one means; with status 0 each file left does the latter. The old disk is only read.
-pub fn migrate_on<O: Disk, N: Disk, W: Write, V: Observer>(
+pub fn migrate_on<O: Disk, N: Disk, W: Write, V: Observer + Follower>(
     alloc: Global,
     old: &mut O,
     new: N,
@@ -62,7 +62,7 @@ pub fn migrate_on<O: Disk, N: Disk, W: Write, V: Observer>(
     ensures reads { O.honest old.new → OnlyReads O.now O.past old.old old.new }
     ensures honest { (O.honest old.new → O.honest old.old) × (N.honest result.1 → N.honest new) }
 {
-    match migrate(alloc, old, new) {
+    match migrate(alloc, old, new, observer) {
         Ok((new, count)) => {
             let told = print_migrated(alloc, count, out);
             (end(alloc, told, out, observer), new)
@@ -146,7 +146,13 @@ fn new_file<R: Files<File = File>, S: Start>(
 /// told why. What [`migrate_on`] refuses is its status and its last line.
 ///
 /// That a file is ever opened is no clause: none knows what a folder holds.
-pub fn migrate_file<R: Files<File = File> + AllocGlobal, S: Start, T: Start, W: Write, V: Observer>(
+pub fn migrate_file<
+    R: Files<File = File> + AllocGlobal,
+    S: Start,
+    T: Start,
+    W: Write,
+    V: Observer + Follower,
+>(
     rt: &R,
     old: &str,
     new: &str,

@@ -6,7 +6,7 @@ use crate::writers::{Notes, Paper};
 use anyhow::{Result, anyhow};
 use im_disk::{FuseDisk, MemDisk, Mode};
 use im_engine::Engine;
-use im_migration::{length_for, migrate};
+use im_migration::{Unfollowed, length_for, migrate};
 use im_report::inspect_on;
 use im_story::{add_refusal, number, place};
 use im_types::{LAST, Refusal};
@@ -35,7 +35,7 @@ pub fn move_on(
     old: &mut FuseDisk,
     new: FuseDisk,
 ) -> (Result<u64, Refusal>, FuseDisk) {
-    match migrate(alloc, old, new) {
+    match migrate(alloc, old, new, &Unfollowed) {
         Ok((new, count)) => (Ok(count), new),
         Err((refusal, new)) => (Err(refusal), new),
     }

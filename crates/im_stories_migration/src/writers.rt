@@ -1,6 +1,7 @@
 //! Writers in memory, and who is told of the work beside its output.
 
 use anyhow::{Result, anyhow};
+use im_migration::Follower;
 use im_text::{Observer, Progress, Reason};
 use im_types::Entry;
 use std::alloc::Global;
@@ -65,4 +66,8 @@ impl Observer for Notes {
     fn refused(&mut self, reason: Reason) {
         let _noted = writeln!(self.text, "{reason}");
     }
+}
+
+impl Follower for Notes {
+    fn writes(&self, _written: u64, _all: u64) {}
 }
