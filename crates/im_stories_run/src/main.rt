@@ -67,9 +67,9 @@ fetch x
 reset x+1
 ";
 
-// A reader whose window is full before its last request: the fetch before the store is awaited and confirmed, and what
-// was shown then has the store. Here its requests begin, there come so many of an address in no block, and here is the
-// rest.
+// A reader whose window is full before its last request: the fetch before the store is awaited, and confirmed with all
+// behind it, and what was shown then has the store. Here its requests begin, there come so many of an address in no
+// block, and here is the rest.
 const READS: &str = "setup
 alloc x i 1
 element 1
@@ -220,19 +220,31 @@ fn run<G: Gate + Sync, R: Threads + Wait + Sync>(
     run_as(rt, alloc, disk, text, gate, false, said)
 }
 
-// Says the lines of cells and of entries that an image's report has, and gives its disk back.
-fn report(alloc: Global, disk: MemDisk, said: &mut String) -> Result<MemDisk> {
+// Says the lines of an image's report that are of windows, or else of cells and of entries, and gives its disk back.
+fn report_lines(
+    alloc: Global,
+    disk: MemDisk,
+    of_windows: bool,
+    said: &mut String,
+) -> Result<MemDisk> {
     let mut out = Paper::new(alloc);
     let (status, disk) = inspect_on(alloc, disk, &mut out, &mut Nobody);
     let text = out.into_text()?;
     said.push_str("the report\n")?;
     for line in text.as_str().split('\n') {
-        if line.starts_with("cell") || line.starts_with("entry") {
+        if of_windows && line.starts_with("element")
+            || !of_windows && (line.starts_with("cell") || line.starts_with("entry"))
+        {
             writeln!(said, "{line}")?;
         }
     }
     writeln!(said, "status {status}")?;
     Ok(disk)
+}
+
+// The lines of cells and of entries.
+fn report(alloc: Global, disk: MemDisk, said: &mut String) -> Result<MemDisk> {
+    report_lines(alloc, disk, false, said)
 }
 
 // A server that waits for a store which nobody sends is stalled; the store of a later run answers it.
@@ -290,7 +302,8 @@ fn tell_glances<R: Threads + Wait + Sync>(rt: &R, alloc: Global, said: &mut Stri
     said.push_str("# a glance behind a confirmed fetch, beside the writer\n")?;
     let disk = new_image(alloc)?;
     let text = reads(alloc)?;
-    let _disk = run(rt, alloc, disk, text.as_str(), &Open, said)?;
+    let disk = run(rt, alloc, disk, text.as_str(), &Open, said)?;
+    let _disk = report_lines(alloc, disk, true, said)?;
     said.push_str("# glances round a reset\n")?;
     let disk = new_image(alloc)?;
     let _disk = run(rt, alloc, disk, RESETS, &Open, said)?;
