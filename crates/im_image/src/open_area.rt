@@ -39,8 +39,8 @@ fn zero_area(alloc: Global, version: Version, limits: Limits) -> Result<Vec<u8>,
 }
 
 // Takes room for an area, and gives it back unused. An allocator keeps a large block for the next ones only after it
-// was given one of that size (the C library's does so); before that each comes from the system, in pages that are made
-// anew, which is half of what an opening takes.
+// was given one of that size (the C library's does so up to 32 MiB, which the largest area is longer than); before that
+// each comes from the system, in pages that are made anew, which is half of what an opening takes.
 fn give_back_an_area(alloc: Global, version: Version, limits: Limits) -> Result<(), AllocError> {
     let _room: Vec<u8> = Vec::with_capacity(alloc, PAGE * version.area_pages(limits))?;
     Ok(())
@@ -83,7 +83,7 @@ fn read_area<D: Disk>(
 
 /// The memory that the area of a header in force shows. `BadPage` exactly where it shows none.
 ///
-/// It only reads, the area. Memory: its records, and as much as the area is long, at most 2,179,072 bytes, or the
+/// It only reads, the area. Memory: its records, and as much as the area is long, at most 33,882,112 bytes, or the
 /// memory, as the bytes are given back before it is made; `NoMemory` where it is refused. `Device`: the read failed.
 pub fn read_memory<D: Disk>(alloc: Global, disk: &mut D, header: &Header) -> Result<Memory, Refusal>
     requires area { header.now.area ≤ 1 }
