@@ -17,7 +17,7 @@ use Rattle.im_listed.specs.History.{given}
 use Rattle.im_listed.specs.Image.{ImageState, Carries, begun_in}
 use Rattle.im_c.specs.declared.plain.LtCommand.{LtCommand}
 use Rattle.im_c.specs.declared.plain.LtOutcome.{LtOutcome}
-use Rattle.im_c.specs.declared.plain.LtWindow.{LtWindow}
+use Rattle.im_c.specs.declared.plain.LtBounds.{LtBounds}
 use Rattle.im_c.specs.declared.plain.LtStep.{LtStep}
 use Rattle.im_c.specs.Plain.{meant, outcome_of, entry_outcome, refused, no_call}
 
@@ -69,12 +69,12 @@ pub record CollectsFrom (i : ImageState) (element number : ℕ) (out : LtOutcome
   pub alive : i.lost ≡ false → out ≡ entry_outcome (ask i.engine.memory.windows (record { element = element; number = number }))
 
 -- a window's bounds, or why there are none
-abbrev pub window_of : Result (ℕ × ℕ) Refusal → LtWindow
+abbrev pub window_of : Result (ℕ × ℕ) Refusal → LtBounds
 window_of (Ok b) = record { refusal = 0; base = b.0; next = b.1 }
 window_of (Err refusal) = record { refusal = number_of refusal; base = 0; next = 0 }
 
 -- the window of an element
-pub record ShowsWindow (i : ImageState) (element : ℕ) (out : LtWindow) : Type 0 where
+pub record ShowsWindow (i : ImageState) (element : ℕ) (out : LtBounds) : Type 0 where
   pub lost : i.lost ≡ true → out ≡ window_of (Err Device)
   pub alive : i.lost ≡ false → out ≡ window_of (bounds i.engine.memory.windows element)
 
