@@ -33,6 +33,8 @@ idle_after i = record i { engine = begun_in i }
 pub record Serves (old : ImageState) (c : LtCommand) (out : LtOutcome) (new : ImageState) : Type 0 where
   pub unknown : meant c ≡ None → (out ≡ no_call) × (new ≡ idle_after old)
   pub lost : (command : Command) → meant c ≡ Some command → old.lost ≡ true → (out ≡ outcome_of (Err Device)) × (new ≡ old)
+  -- so the answer isn't `Failed`
+  pub works : (command : Command) → meant c ≡ Some command → old.lost ≡ false → old.engine.failed ≡ false
   pub known : (command : Command) → meant c ≡ Some command → old.lost ≡ false
       → (answer : Result Outcome Refusal) × (out ≡ outcome_of answer) × Answered (begun_in old) command answer new.engine
       × Carries old.engine.disk.now new (MeansEither (begun_in old) command)
@@ -59,6 +61,8 @@ turn_outcome (Err refusal) = refused (number_of refusal)
 -- what a turn comes to, and what the caller's file does on the way
 pub record Turns (old : ImageState) (out : LtOutcome) (new : ImageState) : Type 0 where
   pub lost : old.lost ≡ true → (out ≡ outcome_of (Err Device)) × (new ≡ old)
+  -- so the answer isn't `Failed`
+  pub works : old.lost ≡ false → old.engine.failed ≡ false
   pub alive : old.lost ≡ false
       → (answer : Result TurnDone Refusal) × (out ≡ turn_outcome answer) × TurnAnswered (begun_in old) answer new.engine
       × Carries old.engine.disk.now new (MeansState (begun_in old))

@@ -306,6 +306,7 @@ pub extern "C" fn lt_format(
         ≡ carried (blank (record { cells = cells; elements = elements; slots = slots })) (steps_of i)) }
     ensures means { result ≡ 0
         → IfSome next.new.value (λ i. LeavesNow i.engine.disk.now (MeansState i.engine)) }
+    ensures same { result ≢ 0 → next.new ≡ next.old }
 {
     let Some(limits) = Limits::new(cells, elements, slots) else {
         return Refusal::BadLimits.number();
@@ -344,6 +345,7 @@ pub extern "C" fn lt_open(alloc: Global, bytes: &[u8], next: &mut LtImage) -> u8
     ensures means { result ≡ 0
         → IfSome next.new.value (λ i. LeavesNow i.engine.disk.now (MeansState i.engine)) }
     ensures fault { result ≢ 0 → TellsFault bytes.now result }
+    ensures same { result ≢ 0 → next.new ≡ next.old }
 {
     match opened(alloc, bytes) {
         Ok(image) => {
