@@ -3,11 +3,13 @@
  *
  * The life of a handle, threads, and what each call promises: docs/EMBEDDING.md.
  *
- * Every pointer points to what its type says, aligned, and for a call alone: but for a handle's own place, which may
- * be both where it comes from and `next`, no two of them overlap. What they point to is initialized, `next` too: a
- * handle of zero bytes holds nothing. None of them is null. No call aborts, and none keeps a pointer.
+ * Every pointer points to what its type says, aligned, and for a call alone: no two of them overlap. With a count, a
+ * length, a room or places behind it, it points to so many. What they point to is initialized, `next`, outcomes and
+ * buffers too, and a handle of zero bytes holds nothing. None of them is null, not even where the length is 0. No call
+ * aborts, and none keeps a pointer.
  *
- * A call takes its handle by value and hands it out at `next`. What was handed over may not be handed over again: so
+ * A call takes its handle by value and hands it out at `next`, which may be the place that it came from. What was
+ * handed over may not be handed over again: so
  *     lt_memory_step(m, &command, &m, &outcome);
  * A handle that is written over is lost, and so is its memory.
  */
@@ -52,7 +54,8 @@ enum lt_answer {
     LT_CONFIRMED = 128
 };
 
-/* Why a call is refused. 0 is no refusal. */
+/* Why a call is refused. 0 is no refusal. The other numbers up to 24 are those of the program imem: no call here
+ * answers them, and lt_refusal_name names them, too. */
 enum lt_refusal {
     LT_OK = 0,
     LT_GAP = 1,           /* a number beyond the next one */
@@ -63,7 +66,7 @@ enum lt_refusal {
     LT_NOT_ANSWERED = 6,  /* a confirmation of an entry that waits */
     LT_JOURNAL_FULL = 7,  /* the journal has no room: turns make some */
     LT_DEVICE = 8,        /* the steps couldn't be listed, or the caller lost one: the image has to be opened again */
-    LT_FAILED = 9,        /* an earlier call failed */
+    LT_FAILED = 9,        /* an earlier call failed: of no call here, since LT_DEVICE is answered again */
     LT_NO_MEMORY = 10,    /* of lt_memory_new, lt_format, lt_open and lt_inspect */
     LT_WRONG_LENGTH = 12, /* of lt_open and lt_inspect, as the next four: the image's first fault */
     LT_NO_HEADER = 13,
@@ -71,8 +74,8 @@ enum lt_refusal {
     LT_BAD_PAGE = 15,
     LT_BAD_RECORD = 16,
     LT_BAD_LIMITS = 17,   /* of lt_memory_new and lt_format */
-    LT_OLD_VERSION = 21,  /* of lt_open: an image of the first layout, which `imem migrate` makes one of this layout of */
-    LT_NO_CALL = 255      /* an unknown tag, no such step, or no group */
+    LT_OLD_VERSION = 21,  /* of lt_open: an image of the first layout, of which `imem migrate` makes one of this */
+    LT_NO_CALL = 255      /* an unknown tag, no such write, or no group */
 };
 
 /* A request of an element, under a number of its own: 1, 2, 3 and so on. Or a confirmation. */
@@ -114,10 +117,10 @@ void lt_memory_free(struct lt_memory memory);
 /* ---- An image
  *
  * The caller reads the file, hands its bytes to lt_open, and does all writing. Each of lt_format, lt_open, lt_serve,
- * lt_serve_group and lt_turn leaves a list of steps (lt_steps, lt_step, lt_step_bytes). The caller carries them out on
- * its file, all of them, in their order, before it tells anybody the answer and before the next such call: that begins
- * a new list, where this one ended. Where it can't carry out a step it calls lt_failed, and opens the file anew. A crash
- * at any moment on the way leaves a file that means the memory before the call or after it. */
+ * lt_serve_group and lt_turn leaves a list of steps (lt_steps, lt_step_at, lt_step_bytes). The caller carries them out
+ * on its file, all of them, in their order, before it tells anybody the answer and before the next such call: that
+ * begins a new list, where this one ended. Where it can't carry out a step it calls lt_failed, and opens the file anew.
+ * A crash at any moment on the way leaves a file that means the memory before the call or after it. */
 
 /* A handle. Zero bytes hold nothing. */
 struct lt_image {
@@ -126,7 +129,7 @@ struct lt_image {
 
 /* The entries of an element's window are kept from `base` on; `next` is the number of its next new request. Where
  * `refusal` isn't 0, the rest is 0. */
-struct lt_window {
+struct lt_bounds {
     uint8_t refusal;
     uint64_t base;
     uint64_t next;
@@ -160,7 +163,7 @@ enum lt_turn_tag {
 uint64_t lt_image_length(uint32_t cells, uint16_t elements, uint32_t slots);
 
 /* Makes the image of an empty memory: 0, and `next` holds it; else the refusal, and `next` is as it was. The caller's
- * file has the length of lt_image_length. */
+ * file has the length of lt_image_length, and may hold any bytes. */
 uint8_t lt_format(uint32_t cells, uint16_t elements, uint32_t slots, struct lt_image *next);
 
 /* Opens the image of these bytes, which are all of the file: 0, and `next` holds it; else the refusal, and `next` is
@@ -172,9 +175,10 @@ uint8_t lt_open(const uint8_t *bytes, size_t length, struct lt_image *next);
 size_t lt_serve(struct lt_image image, const struct lt_command *command, struct lt_image *next,
                 struct lt_outcome *outcome);
 
-/* 1 to 16 requests, each of another element, whose steps are put on the disk together: 0, and what each came to, at its
- * place of `outcomes`. Else the outcomes are as they were: LT_DEVICE after a lost step, or LT_NO_CALL where these are no
- * such requests, or there aren't as many places as requests. */
+/* 1 to 16 requests, each of another element, which are put on the disk together: 0, and what each came to, at its
+ * place of `outcomes`: LT_DEVICE of each where the steps couldn't be listed. Else the outcomes are as they were:
+ * LT_DEVICE after a lost step, or LT_NO_CALL where these are no such requests, or there aren't as many places as
+ * requests. lt_steps tells how many steps it left. */
 uint8_t lt_serve_group(struct lt_image image, const struct lt_command *commands, size_t count, struct lt_image *next,
                        struct lt_outcome *outcomes, size_t places);
 
@@ -184,14 +188,15 @@ size_t lt_turn(struct lt_image image, struct lt_image *next, struct lt_outcome *
 /* How many steps the last call left. */
 size_t lt_steps(struct lt_image image, struct lt_image *next);
 
-/* The step with this index, from 0, at `step`. */
-void lt_step(struct lt_image image, size_t index, struct lt_image *next, struct lt_step *step);
+/* The step with this index, from 0, at `step`; of the kind LT_NO_STEP, and else zeros, where there is none. */
+void lt_step_at(struct lt_image image, size_t index, struct lt_image *next, struct lt_step *step);
 
 /* The bytes of the write with this index, which has just `length` of them: 0. Else LT_NO_CALL, and the buffer is as it
- * was. The buffer is initialized. */
+ * was. */
 uint8_t lt_step_bytes(struct lt_image image, size_t index, struct lt_image *next, uint8_t *buffer, size_t length);
 
-/* Says that a step couldn't be carried out: from then on each call is answered with LT_DEVICE. */
+/* Says that a step couldn't be carried out: from then on each answer is LT_DEVICE, but for LT_NO_CALL, and no call
+ * leaves a step. lt_room and lt_count tell what they told before. */
 void lt_failed(struct lt_image image, struct lt_image *next);
 
 /* What is kept under an element's number, at `outcome`: LT_NO_ELEMENT, LT_FORGOTTEN, LT_GAP, or the entry. No steps
@@ -199,8 +204,8 @@ void lt_failed(struct lt_image image, struct lt_image *next);
 void lt_collect(struct lt_image image, uint16_t element, uint64_t number, struct lt_image *next,
                 struct lt_outcome *outcome);
 
-/* The window of an element, at `window`. */
-void lt_window(struct lt_image image, uint16_t element, struct lt_image *next, struct lt_window *window);
+/* The window of an element, at `window`: LT_NO_ELEMENT, or its bounds. */
+void lt_window(struct lt_image image, uint16_t element, struct lt_image *next, struct lt_bounds *window);
 
 /* How many more commands there is room for. */
 uint32_t lt_room(struct lt_image image, struct lt_image *next);
@@ -216,9 +221,9 @@ void lt_close(struct lt_image image);
  * refusal, and nothing is changed. */
 uint8_t lt_inspect(const uint8_t *bytes, size_t length, char *buffer, size_t room, size_t *written);
 
-/* The name of the refusal with this number: its length, and the name at the start of the buffer where it has room for
- * it, of which the rest is as it was. LT_OK, and a number that is none of these, have no letter, and none has more than
- * 15. */
+/* The name of the refusal with this number, 1 to 24 or LT_NO_CALL: its length, and the name, with no zero behind it, at
+ * the start of the buffer where it has room for it, of which the rest is as it was. LT_OK, and any other number, has no
+ * letter, and none has more than 11. */
 size_t lt_refusal_name(uint8_t refusal, char *buffer, size_t room);
 
 #ifdef __cplusplus

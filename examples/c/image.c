@@ -1,10 +1,14 @@
-#define _POSIX_C_SOURCE 200809L
+#define _DEFAULT_SOURCE
 
 #include "image.h"
 
+#include <errno.h>
 #include <fcntl.h>
+#include <libgen.h>
 #include <stdio.h>
 #include <stdlib.h>
+#include <string.h>
+#include <sys/file.h>
 #include <unistd.h>
 
 static void stop(const char *what, uint8_t refusal) {
@@ -22,7 +26,8 @@ static void fail(const char *what) {
 static int write_all(int file, const uint8_t *bytes, size_t length, off_t place) {
     while (length > 0) {
         ssize_t done = pwrite(file, bytes, length, place);
-        if (done < 0) return -1;
+        if (done < 0 && errno == EINTR) continue;
+        if (done <= 0) return -1;
         bytes += done;
         place += done;
         length -= (size_t)done;
@@ -35,7 +40,7 @@ static int carry_out(struct image *image, size_t index) {
     struct lt_step step = {0, 0, 0};
     uint8_t *bytes;
     int done = -1;
-    lt_step(image->held, index, &image->held, &step);
+    lt_step_at(image->held, index, &image->held, &step);
     if (step.kind == LT_SYNC) return fsync(image->file);
     bytes = calloc((size_t)step.length, 1);
     if (bytes && lt_step_bytes(image->held, index, &image->held, bytes, (size_t)step.length) == 0)
@@ -53,12 +58,28 @@ static void carry_out_all(struct image *image, size_t count) {
         }
 }
 
+/* Opens the file, which is this program's alone from then on, as long as the others ask for the lock, as imem does. */
+static int open_alone(const char *path, int flags) {
+    int file = open(path, flags, 0666);
+    if (file < 0 || flock(file, LOCK_EX | LOCK_NB) < 0) fail(path);
+    return file;
+}
+
+/* Puts a file's name on the disk. */
+static void sync_folder(const char *path) {
+    char *copy = strdup(path);
+    int folder = copy ? open(dirname(copy), O_RDONLY | O_DIRECTORY) : -1;
+    if (folder < 0 || fsync(folder) < 0) fail(path);
+    close(folder);
+    free(copy);
+}
+
 void image_format(struct image *image, const char *path, uint32_t cells, uint16_t elements, uint32_t slots) {
     uint8_t refusal = lt_format(cells, elements, slots, &image->held);
     if (refusal) stop("format", refusal);
-    image->file = open(path, O_RDWR | O_CREAT | O_TRUNC, 0666);
-    if (image->file < 0) fail(path);
+    image->file = open_alone(path, O_RDWR | O_CREAT);
     if (ftruncate(image->file, (off_t)lt_image_length(cells, elements, slots)) < 0) fail(path);
+    sync_folder(path);
     carry_out_all(image, lt_steps(image->held, &image->held));
 }
 
@@ -66,8 +87,7 @@ void image_open(struct image *image, const char *path) {
     off_t length;
     uint8_t *bytes, refusal;
     ssize_t done;
-    image->file = open(path, O_RDWR);
-    if (image->file < 0) fail(path);
+    image->file = open_alone(path, O_RDWR);
     length = lseek(image->file, 0, SEEK_END);
     bytes = calloc((size_t)length + 1, 1);
     if (length < 0 || !bytes) fail(path);

@@ -48,6 +48,7 @@ def main(library):
                     runs.remove(run)
         for at, name in enumerate(NAMES):
             print(name, memory.step("take", 0, 6 + at, base + at)[1])
+        print("reset", memory.step("reset", 0, 10, base)[0])
         print("kept", [answer for _, _, answer in memory.answered([(0, 1), (0, 9)])])
         for call in (lambda: memory.step("take", 0, 99), lambda: memory.step(77, 0, 10), lambda: memory.collect(9, 1)):
             try:

@@ -1,6 +1,7 @@
 """Luntrebis for Python, over the shared form of its library for C. `use(PATH)` loads it, before all else."""
 import contextlib
 import ctypes as c
+import fcntl
 import os
 
 from calls import SIZE, Command, Handle, Outcome, Step, Window, load
@@ -51,6 +52,22 @@ def inspect(data):
         passed(LIBRARY.lt_inspect(data, len(data), text, len(text), length))
         text = text if length.value <= len(text) else c.create_string_buffer(length.value)
     return text.raw[: length.value].decode()
+
+
+def open_alone(path, flags):
+    """The file, which is this program's alone as long as all others ask for the lock, as `imem` does."""
+    file = os.fdopen(os.open(path, os.O_RDWR | flags, 0o666), "r+b")
+    fcntl.flock(file, fcntl.LOCK_EX | fcntl.LOCK_NB)
+    return file
+
+
+def sync_folder(path):
+    """Puts a file's name on the disk."""
+    folder = os.open(os.path.dirname(path) or ".", os.O_RDONLY)
+    try:
+        os.fsync(folder)
+    finally:
+        os.close(folder)
 
 
 class Held(contextlib.AbstractContextManager):
@@ -119,10 +136,11 @@ class Image(Held):
             undo.callback(self.close)
             if limits:
                 passed(LIBRARY.lt_format(*limits, self._handle))
-                self._file = open(path, "w+b")
+                self._file = open_alone(path, os.O_CREAT)
                 self._file.truncate(LIBRARY.lt_image_length(*limits))
+                sync_folder(path)
             else:
-                self._file = open(path, "r+b")
+                self._file = open_alone(path, 0)
                 data = self._file.read()
                 passed(LIBRARY.lt_open(data, len(data), self._handle))
             self._carry_out(self._pass("lt_steps"))
@@ -144,7 +162,7 @@ class Image(Held):
 
     def _carry_out_step(self, index):
         step = Step()
-        self._pass("lt_step", index, to=[step])
+        self._pass("lt_step_at", index, to=[step])
         if step.kind != WRITE:
             return os.fsync(self._file)
         data = c.create_string_buffer(step.length)
@@ -189,3 +207,11 @@ class Image(Held):
         self._pass("lt_window", element, to=[window])
         passed(window.refusal)
         return window.base, window.next
+
+    def room(self):
+        """How many more commands there is room for."""
+        return self._pass("lt_room")
+
+    def count(self):
+        """How many commands have been accepted since the image was made."""
+        return self._pass("lt_count")

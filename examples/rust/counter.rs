@@ -5,7 +5,7 @@
 
 use std::io::{Result, Write};
 
-use luntrebis::{Answer, Image};
+use luntrebis::{Answer, Image, Tag};
 
 #[allow(dead_code)] // It has the memory without a disk, too.
 mod luntrebis;
@@ -25,12 +25,12 @@ fn main() -> Result<()> {
     let path = std::env::args().nth(1).expect("usage: counter IMAGE");
     let mut image =
         if std::fs::exists(&path)? { Image::open(&path)? } else { Image::format(&path, 16, 1, 16)? };
-    let base = tell(1, image.serve(2, 0, 1, 1, 0)?)? as u32;
-    tell(2, image.serve(7, 0, base, 2, 0)?)?;
+    let base = tell(1, image.serve(Tag::AllocM, 0, 1, 1, 0)?)? as u32;
+    tell(2, image.serve(Tag::Put, 0, base, 2, 0)?)?;
     for number in (3..15).step_by(2) {
-        let count = tell(number, image.serve(6, 0, base, number, 0)?)?;
-        tell(number + 1, image.serve(7, 0, base, number + 1, count + 1)?)?;
+        let count = tell(number, image.serve(Tag::Take, 0, base, number, 0)?)?;
+        tell(number + 1, image.serve(Tag::Put, 0, base, number + 1, count + 1)?)?;
     }
-    println!("counted {}", tell(15, image.serve(6, 0, base, 15, 0)?)?);
+    println!("counted {}", tell(15, image.serve(Tag::Take, 0, base, 15, 0)?)?);
     Ok(())
 }

@@ -3,6 +3,7 @@
 use std::fs::{File, OpenOptions};
 use std::io::{Error, Read, Result};
 use std::os::unix::fs::FileExt;
+use std::path::Path;
 
 #[repr(C)]
 #[derive(Clone, Copy)]
@@ -45,7 +46,7 @@ unsafe extern "C" {
     fn lt_serve(image: Handle, command: &Command, next: &mut Handle, outcome: &mut Outcome) -> usize;
     fn lt_turn(image: Handle, next: &mut Handle, outcome: &mut Outcome) -> usize;
     fn lt_steps(image: Handle, next: &mut Handle) -> usize;
-    fn lt_step(image: Handle, index: usize, next: &mut Handle, step: &mut Step);
+    fn lt_step_at(image: Handle, index: usize, next: &mut Handle, step: &mut Step);
     fn lt_step_bytes(image: Handle, index: usize, next: &mut Handle, buffer: *mut u8, length: usize) -> u8;
     fn lt_failed(image: Handle, next: &mut Handle);
     fn lt_close(image: Handle);
@@ -53,6 +54,21 @@ unsafe extern "C" {
 
 const JOURNAL_FULL: u8 = 7;
 const WRITE: u8 = 1;
+
+/// What is asked.
+#[derive(Clone, Copy)]
+#[repr(u8)]
+pub enum Tag {
+    AllocI = 1,
+    AllocM,
+    Release,
+    Fetch,
+    Store,
+    Take,
+    Put,
+    Confirm,
+    Reset,
+}
 
 /// The tag of an answer, and the value.
 pub type Answer = (u8, u64);
@@ -85,6 +101,19 @@ fn refused(number: u8) -> Error {
     Error::other(format!("refused {number}"))
 }
 
+/// The file, which is this program's alone as long as all others ask for the lock, as `imem` does.
+fn open_alone(way: &mut OpenOptions, path: &str) -> Result<File> {
+    let file = way.read(true).write(true).open(path)?;
+    file.try_lock()?;
+    Ok(file)
+}
+
+/// Puts a file's name on the disk.
+fn sync_folder(path: &str) -> Result<()> {
+    let folder = Path::new(path).parent().filter(|it| it.is_dir());
+    File::open(folder.unwrap_or(Path::new(".")))?.sync_all()
+}
+
 /// A memory with no disk. It stays on its thread: a `Handle` holds a raw pointer.
 pub struct Memory {
     handle: Handle,
@@ -98,8 +127,8 @@ impl Memory {
     }
 
     /// One command.
-    pub fn step(&mut self, tag: u8, element: u16, address: u32, number: u64, value: u64) -> Told<Answer> {
-        let command = Command { tag, element, address, number, value };
+    pub fn step(&mut self, tag: Tag, element: u16, address: u32, number: u64, value: u64) -> Told<Answer> {
+        let command = Command { tag: tag as u8, element, address, number, value };
         self.call(|handle, next, outcome| unsafe { lt_memory_step(handle, &command, next, outcome) })
     }
 
@@ -130,17 +159,16 @@ pub struct Image {
 impl Image {
     /// Makes the file anew, and the image of an empty memory of so many cells, elements and journal slots.
     pub fn format(path: &str, cells: u32, elements: u16, slots: u32) -> Result<Image> {
-        let file = OpenOptions::new().read(true).write(true).create(true).truncate(false).open(path)?;
         let handle = made(|next| unsafe { lt_format(cells, elements, slots, next) }).map_err(refused)?;
-        let image = Image { handle, file };
-        image.file.set_len(0)?;
-        image.file.set_len(unsafe { lt_image_length(cells, elements, slots) })?;
-        image.begin()
+        let file = open_alone(OpenOptions::new().create(true).truncate(false), path)?;
+        file.set_len(unsafe { lt_image_length(cells, elements, slots) })?;
+        sync_folder(path)?;
+        Image { handle, file }.begin()
     }
 
     /// Opens the image of the file.
     pub fn open(path: &str) -> Result<Image> {
-        let mut file = OpenOptions::new().read(true).write(true).open(path)?;
+        let mut file = open_alone(&mut OpenOptions::new(), path)?;
         let mut bytes = Vec::new();
         file.read_to_end(&mut bytes)?;
         let handle = made(|next| unsafe { lt_open(bytes.as_ptr(), bytes.len(), next) }).map_err(refused)?;
@@ -148,8 +176,8 @@ impl Image {
     }
 
     /// One command, with turns of a checkpoint where the journal is full.
-    pub fn serve(&mut self, tag: u8, element: u16, address: u32, number: u64, value: u64) -> Result<Answer> {
-        let command = Command { tag, element, address, number, value };
+    pub fn serve(&mut self, tag: Tag, element: u16, address: u32, number: u64, value: u64) -> Result<Answer> {
+        let command = Command { tag: tag as u8, element, address, number, value };
         loop {
             let outcome = self.call(|handle, next, outcome| unsafe { lt_serve(handle, &command, next, outcome) })?;
             match outcome.refusal {
@@ -193,7 +221,7 @@ impl Image {
 
     fn carry_out_step(&mut self, index: usize) -> Result<()> {
         let mut step = Step::default();
-        self.handle.pass(|handle, next| unsafe { lt_step(handle, index, next, &mut step) });
+        self.handle.pass(|handle, next| unsafe { lt_step_at(handle, index, next, &mut step) });
         if step.kind != WRITE {
             return self.file.sync_all();
         }

@@ -10,7 +10,7 @@ static void serve(uint8_t tag, uint32_t a, uint64_t n) {
     if (o.refusal) { printf("refused %d\n", o.refusal); exit(1); }
     for (size_t at = 0; at < steps; at++) {
         struct lt_step step = {0,0,0};
-        lt_step(image, at, &image, &step);
+        lt_step_at(image, at, &image, &step);
         if (step.kind == LT_WRITE) writes++; else syncs++;
     }
     commands++;

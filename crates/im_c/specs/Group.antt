@@ -47,6 +47,8 @@ outcome_served (Refused refusal) = outcome_of (Err refusal)
 pub record ServesGroup (old : ImageState) (commands : List LtCommand) (before : List LtOutcome) (answer : ℕ) (after : List LtOutcome) (new : ImageState) : Type 0 where
   pub unknown : (IsGroup commands (length before) → ⊥) → (answer ≡ 255) × (after ≡ before) × (new ≡ idle_after old)
   pub lost : IsGroup commands (length before) → old.lost ≡ true → (answer ≡ number_of Device) × (after ≡ before) × (new ≡ old)
+  -- so no answer is `Failed`
+  pub works : IsGroup commands (length before) → old.lost ≡ false → old.engine.failed ≡ false
   pub known : IsGroup commands (length before) → old.lost ≡ false
       → (answer ≡ 0) × (answers : List Served) × (after ≡ map outcome_served answers)
       × GroupAnswered (begun_in old) (requests_of commands) answers new.engine

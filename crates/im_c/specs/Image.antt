@@ -17,7 +17,7 @@ use Rattle.im_listed.specs.History.{given}
 use Rattle.im_listed.specs.Image.{ImageState, Carries, begun_in}
 use Rattle.im_c.specs.declared.plain.LtCommand.{LtCommand}
 use Rattle.im_c.specs.declared.plain.LtOutcome.{LtOutcome}
-use Rattle.im_c.specs.declared.plain.LtWindow.{LtWindow}
+use Rattle.im_c.specs.declared.plain.LtBounds.{LtBounds}
 use Rattle.im_c.specs.declared.plain.LtStep.{LtStep}
 use Rattle.im_c.specs.Plain.{meant, outcome_of, entry_outcome, refused, no_call}
 
@@ -33,6 +33,8 @@ idle_after i = record i { engine = begun_in i }
 pub record Serves (old : ImageState) (c : LtCommand) (out : LtOutcome) (new : ImageState) : Type 0 where
   pub unknown : meant c ≡ None → (out ≡ no_call) × (new ≡ idle_after old)
   pub lost : (command : Command) → meant c ≡ Some command → old.lost ≡ true → (out ≡ outcome_of (Err Device)) × (new ≡ old)
+  -- so the answer isn't `Failed`
+  pub works : (command : Command) → meant c ≡ Some command → old.lost ≡ false → old.engine.failed ≡ false
   pub known : (command : Command) → meant c ≡ Some command → old.lost ≡ false
       → (answer : Result Outcome Refusal) × (out ≡ outcome_of answer) × Answered (begun_in old) command answer new.engine
       × Carries old.engine.disk.now new (MeansEither (begun_in old) command)
@@ -59,6 +61,8 @@ turn_outcome (Err refusal) = refused (number_of refusal)
 -- what a turn comes to, and what the caller's file does on the way
 pub record Turns (old : ImageState) (out : LtOutcome) (new : ImageState) : Type 0 where
   pub lost : old.lost ≡ true → (out ≡ outcome_of (Err Device)) × (new ≡ old)
+  -- so the answer isn't `Failed`
+  pub works : old.lost ≡ false → old.engine.failed ≡ false
   pub alive : old.lost ≡ false
       → (answer : Result TurnDone Refusal) × (out ≡ turn_outcome answer) × TurnAnswered (begun_in old) answer new.engine
       × Carries old.engine.disk.now new (MeansState (begun_in old))
@@ -69,12 +73,12 @@ pub record CollectsFrom (i : ImageState) (element number : ℕ) (out : LtOutcome
   pub alive : i.lost ≡ false → out ≡ entry_outcome (ask i.engine.memory.windows (record { element = element; number = number }))
 
 -- a window's bounds, or why there are none
-abbrev pub window_of : Result (ℕ × ℕ) Refusal → LtWindow
+abbrev pub window_of : Result (ℕ × ℕ) Refusal → LtBounds
 window_of (Ok b) = record { refusal = 0; base = b.0; next = b.1 }
 window_of (Err refusal) = record { refusal = number_of refusal; base = 0; next = 0 }
 
 -- the window of an element
-pub record ShowsWindow (i : ImageState) (element : ℕ) (out : LtWindow) : Type 0 where
+pub record ShowsWindow (i : ImageState) (element : ℕ) (out : LtBounds) : Type 0 where
   pub lost : i.lost ≡ true → out ≡ window_of (Err Device)
   pub alive : i.lost ≡ false → out ≡ window_of (bounds i.engine.memory.windows element)
 

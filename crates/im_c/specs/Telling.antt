@@ -32,7 +32,7 @@ pub record IsTold (file : List ℕ) (count : ℕ) (old new : List ℕ) : Type 0 
   pub whole : count ≡ length text
   pub put : PutsText text old new
 
--- the name of the refusal with this number, where a call for C may answer it
+-- the name of the refusal with this number
 abbrev pub refusal_name : ℕ → List ℕ
 refusal_name number =
     if number == 1 then codes "Gap"
@@ -45,12 +45,19 @@ refusal_name number =
     else if number == 8 then codes "Device"
     else if number == 9 then codes "Failed"
     else if number == 10 then codes "NoMemory"
+    else if number == 11 then codes "TraceFull"
     else if number == 12 then codes "WrongLength"
     else if number == 13 then codes "NoHeader"
     else if number == 14 then codes "BadHeader"
     else if number == 15 then codes "BadPage"
     else if number == 16 then codes "BadRecord"
     else if number == 17 then codes "BadLimits"
+    else if number == 18 then codes "BadScript"
+    else if number == 19 then codes "Stalled"
+    else if number == 20 then codes "OffPlan"
     else if number == 21 then codes "OldVersion"
+    else if number == 22 then codes "NotBlank"
+    else if number == 23 then codes "BadPlan"
+    else if number == 24 then codes "PaneGone"
     else if number == 255 then codes "NoCall"
     else codes ""

@@ -19,7 +19,7 @@ ghost use Rattle.im_types.specs.Sizes.{AreLimits};
 
 use crate::parts::Parts;
 use crate::plain::{
-    LtCommand, LtOutcome, LtStep, LtWindow, NO_CALL, entry_outcome, meant, outcome_of, refused,
+    LtBounds, LtCommand, LtOutcome, LtStep, NO_CALL, entry_outcome, meant, outcome_of, refused,
 };
 use im_checkpoint::TurnDone;
 use im_listed::{Image, Step};
@@ -188,16 +188,16 @@ fn collected(image: &Image, element: u16, number: u64) -> LtOutcome
 }
 
 // The bounds of a window, as C spells them.
-fn window_of(answer: Result<(u64, u64), Refusal>) -> LtWindow
+fn window_of(answer: Result<(u64, u64), Refusal>) -> LtBounds
     ensures { result ≡ window_of answer }
 {
     match answer {
-        Ok((base, next)) => LtWindow {
+        Ok((base, next)) => LtBounds {
             refusal: 0,
             base,
             next,
         },
-        Err(refusal) => LtWindow {
+        Err(refusal) => LtBounds {
             refusal: refusal.number(),
             base: 0,
             next: 0,
@@ -206,7 +206,7 @@ fn window_of(answer: Result<(u64, u64), Refusal>) -> LtWindow
 }
 
 // The window of an element, as C spells it.
-fn shown_window(image: &Image, element: u16) -> LtWindow
+fn shown_window(image: &Image, element: u16) -> LtBounds
     ensures { ShowsWindow image.now element result }
 {
     window_of(image.window(element))
@@ -306,6 +306,7 @@ pub extern "C" fn lt_format(
         ≡ carried (blank (record { cells = cells; elements = elements; slots = slots })) (steps_of i)) }
     ensures means { result ≡ 0
         → IfSome next.new.value (λ i. LeavesNow i.engine.disk.now (MeansState i.engine)) }
+    ensures same { result ≢ 0 → next.new ≡ next.old }
 {
     let Some(limits) = Limits::new(cells, elements, slots) else {
         return Refusal::BadLimits.number();
@@ -344,6 +345,7 @@ pub extern "C" fn lt_open(alloc: Global, bytes: &[u8], next: &mut LtImage) -> u8
     ensures means { result ≡ 0
         → IfSome next.new.value (λ i. LeavesNow i.engine.disk.now (MeansState i.engine)) }
     ensures fault { result ≢ 0 → TellsFault bytes.now result }
+    ensures same { result ≢ 0 → next.new ≡ next.old }
 {
     match opened(alloc, bytes) {
         Ok(image) => {
@@ -419,7 +421,7 @@ pub extern "C" fn lt_collect(
 
 /// The window of an element, at `window`. Refused with `NoElement` and with `Device`. Nothing changes.
 #[unsafe(no_mangle)]
-pub extern "C" fn lt_window(image: LtImage, element: u16, next: &mut LtImage, window: &mut LtWindow)
+pub extern "C" fn lt_window(image: LtImage, element: u16, next: &mut LtImage, window: &mut LtBounds)
     requires some { IsSome image.value }
     ensures answer { Shows image.value next.new.value (λ i. ShowsWindow i element window.new) }
 {
@@ -472,7 +474,7 @@ pub extern "C" fn lt_steps(image: LtImage, next: &mut LtImage) -> usize
 
 /// The step with this index, from 0, at `step`.
 #[unsafe(no_mangle)]
-pub extern "C" fn lt_step(image: LtImage, index: usize, next: &mut LtImage, step: &mut LtStep)
+pub extern "C" fn lt_step_at(image: LtImage, index: usize, next: &mut LtImage, step: &mut LtStep)
     requires some { IsSome image.value }
     ensures step { Shows image.value next.new.value (λ i. step.new ≡ step_of (slice_get (steps_of i) index)) }
 {

@@ -13,9 +13,9 @@ mod plain;
 pub use group::lt_serve_group;
 pub use image::{
     LtImage, lt_close, lt_collect, lt_count, lt_failed, lt_format, lt_image_length, lt_open,
-    lt_room, lt_serve, lt_step, lt_step_bytes, lt_steps, lt_turn, lt_window,
+    lt_room, lt_serve, lt_step_at, lt_step_bytes, lt_steps, lt_turn, lt_window,
 };
 pub use inspecting::lt_inspect;
 pub use memory::{LtMemory, lt_memory_collect, lt_memory_free, lt_memory_new, lt_memory_step};
 pub use naming::lt_refusal_name;
-pub use plain::{LtCommand, LtOutcome, LtStep, LtWindow};
+pub use plain::{LtBounds, LtCommand, LtOutcome, LtStep};

@@ -1,5 +1,5 @@
 //! A memory with no disk, as C holds it.
-ghost use Rattle.std.specs.Prelude.{◌≡◌, ◌⊎◌, Some, IsSome, IfSome, IfOk, IfErr};
+ghost use Rattle.std.specs.Prelude.{◌≡◌, ◌≢◌, ◌⊎◌, Some, IsSome, IfSome, IfOk, IfErr};
 ghost use Rattle.std.specs.declared.option.Option.{Option};
 ghost use Rattle.im_types.specs.Contents.{empty_contents};
 ghost use Rattle.im_types.specs.Window.{ask};
@@ -99,6 +99,7 @@ pub extern "C" fn lt_memory_new(alloc: Global, cells: u32, elements: u16, next: 
     ensures only { AreLimits cells elements 16 → (result ≡ 0) ⊎ (result ≡ 10) }
     ensures made { result ≡ 0 → IsSome next.new.value }
     ensures empty { result ≡ 0 → IfSome next.new.value (λ m. m.contents ≡ empty_contents cells elements) }
+    ensures same { result ≢ 0 → next.new ≡ next.old }
 {
     let Some(limits) = Limits::new(cells, elements, 16) else {
         return Refusal::BadLimits.number();

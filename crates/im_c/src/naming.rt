@@ -4,7 +4,7 @@ ghost use Rattle.im_c.specs.Telling.{PutsText, refusal_name};
 
 use crate::inspecting::put_text;
 
-// The name of the refusal with this number, if it is one that a call for C may answer.
+// The name of the refusal with this number.
 fn name_of(number: u8) -> &'static str
     ensures { result.now ≡ refusal_name number }
 {
@@ -19,13 +19,20 @@ fn name_of(number: u8) -> &'static str
         8 => "Device",
         9 => "Failed",
         10 => "NoMemory",
+        11 => "TraceFull",
         12 => "WrongLength",
         13 => "NoHeader",
         14 => "BadHeader",
         15 => "BadPage",
         16 => "BadRecord",
         17 => "BadLimits",
+        18 => "BadScript",
+        19 => "Stalled",
+        20 => "OffPlan",
         21 => "OldVersion",
+        22 => "NotBlank",
+        23 => "BadPlan",
+        24 => "PaneGone",
         255 => "NoCall",
         _ => "",
     }

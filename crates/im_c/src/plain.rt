@@ -49,7 +49,7 @@ pub struct LtOutcome {
 /// `refusal` is 0, or the number of the refusal; then the rest is 0.
 #[repr(C)]
 #[derive(Clone, Copy)]
-pub struct LtWindow {
+pub struct LtBounds {
     /// 0, or the number of the refusal.
     pub refusal: u8,
     /// The first number that is kept.

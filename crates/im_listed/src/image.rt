@@ -161,6 +161,8 @@ impl Image {
     /// Serves one command, as [`Engine::serve`] does. `Device` where the list couldn't grow, or a step was lost.
     pub fn serve(&mut self, command: &Command) -> Result<Outcome, Refusal>
         ensures lost { self.old.lost ≡ true → (result ≡ Err Refusal.Device) × (self.new ≡ self.old) }
+        // So the answer isn't `Failed`.
+        ensures works { self.old.lost ≡ false → self.old.engine.failed ≡ false }
         ensures answered { self.old.lost ≡ false → Answered (begun_in self.old) command.now result self.new.engine }
         // On the way the file means the memory before the command or after it, and at the end what was answered.
         ensures carried { self.old.lost ≡ false
@@ -189,6 +191,8 @@ impl Image {
         requires empty { served.old.items ≡ [] }
         ensures lost { self.old.lost ≡ true
             → (served.new.items ≡ []) × (self.new ≡ self.old) }
+        // So no answer is `Failed`.
+        ensures works { self.old.lost ≡ false → self.old.engine.failed ≡ false }
         ensures answered { self.old.lost ≡ false
             → GroupAnswered (begun_in self.old) members.now.items served.new.items self.new.engine }
         // On the way the file means the memory before the group or after all of it.
@@ -208,6 +212,8 @@ impl Image {
     /// lost.
     pub fn turn(&mut self) -> Result<TurnDone, Refusal>
         ensures lost { self.old.lost ≡ true → (result ≡ Err Refusal.Device) × (self.new ≡ self.old) }
+        // So the answer isn't `Failed`.
+        ensures works { self.old.lost ≡ false → self.old.engine.failed ≡ false }
         ensures answered { self.old.lost ≡ false → TurnAnswered (begun_in self.old) result self.new.engine }
         // On the way the file means the same memory.
         ensures carried { self.old.lost ≡ false
