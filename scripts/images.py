@@ -211,6 +211,14 @@ def spell_area(data, area, limits, memory, dice):
             PLACE.pack_into(data, at + 32 + 32 * (number % limits.window), op[0], 0, code, 0, op[1], op[2], value, 0)
 
 
+def new(limits):
+    """A new image."""
+    data = bytearray(limits.length())
+    spell_area(data, 0, limits, Memory(limits.cells, limits.elements, limits.version), random.Random(1))
+    data[: HEADER.size] = spell_header(OPEN, 0, 1, 0, limits)
+    return bytes(data)
+
+
 def new_with_a_block(limits):
     """A new image on which element 0 has made a block of all cells."""
     data, memory = bytearray(limits.length()), Memory(limits.cells, limits.elements, limits.version)
