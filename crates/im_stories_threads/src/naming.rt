@@ -3,6 +3,7 @@
 ghost use Rattle.std.specs.Prelude.{◌≡◌};
 ghost use Rattle.im_controller.specs.Kept.{begun_in};
 
+use crate::growths::ask;
 use crate::plans::{Planned, play_planned};
 use crate::scenes::{Scene, show};
 use crate::stops::stop;
@@ -24,6 +25,8 @@ pub enum Act {
     Stops(Crash),
     /// Requests are served under a plan.
     Plays(Planned),
+    /// Ports are asked, of which each call may want memory.
+    Asks,
 }
 
 // Does it by a controller that has a name.
@@ -50,6 +53,7 @@ fn act_named<K: Name + Send + Sync, R: Threads + Wait + Sync>(
         Act::Shows(scene) => show(rt, alloc, scene, limits, controller, said),
         Act::Stops(crash) => stop(rt, alloc, crash, limits, controller),
         Act::Plays(planned) => play_planned(rt, alloc, planned, controller, said),
+        Act::Asks => ask(rt, alloc, controller, said),
     }
 }
 
