@@ -14,6 +14,7 @@ use Rattle.im_types.specs.declared.records.NodeRecord.TheVariants.{Free as FreeN
 use Rattle.im_types.specs.Records.{cell_bytes, node_bytes, session_bytes, FitsCell, FitsNode, FitsWindow}
 use Rattle.im_types.specs.Chains.{HaveChains, all_uses, bit, is_listed}
 use Rattle.im_types.specs.Pages.{Records, IsRow, SpellsArea, ShowsRecords, Shows, cells_shown}
+use Rattle.im_records.proofs.Parts.{cells_fit}
 use Rattle.im_image.specs.Fresh.{repeated, new_cell, new_node, new_row, new_area}
 use Rattle.im_image.proofs.Rows.{length-repeated}
 
@@ -81,9 +82,6 @@ length-row pages size count bytes is fits =
   where
     both : {a b : ℕ} → a ≡ size * count → b ≡ 4096 * pages - size * count → a + b ≡ 4096 * pages
     both ea eb = omega arith
-
-cells_fit : (n : ℕ) → 32 * n ≤ 4096 * ((n + 128 - 1) / 128)
-cells_fit n = omega arith
 
 nodes_fit : (n : ℕ) → 16 * n ≤ 4096 * ((n + 256 - 1) / 256)
 nodes_fit n = omega arith

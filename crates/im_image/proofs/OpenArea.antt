@@ -1,13 +1,14 @@
 -- What the area of a header in force shows.
-use Rattle.std.proofs.Common.{◌≡◌, ℕ, List, length, ◌==◌, nat_lt, Bool, true, false, Option, None, Some, if◌then◌else◌, refl, sym, ap, subst, ◌∙◌, arith}
+use Rattle.std.proofs.Common.{◌≡◌, ℕ, ◌+◌, ◌-◌, ◌≤◌, List, length, take, drop, slice_range, ◌==◌, nat_lt, Bool, true, false, Option, None, Some, if◌then◌else◌, refl, sym, ap, subst, ◌∙◌, arith}
 use Rattle.im_types.specs.declared.refusals.Refusal.{Refusal}
 use Rattle.im_types.specs.declared.refusals.Refusal.TheVariants.{WrongLength}
 use Rattle.im_types.specs.Contents.{Contents}
-use Rattle.im_types.specs.Layout.{Layout, area_of, image_length}
+use Rattle.im_types.specs.Layout.{Layout, Sizes, area_at, area_bytes, area_of, image_length}
 use Rattle.im_types.specs.Header.{Header, header_of, header_fault, header_place, place_fault, or_else}
 use Rattle.im_types.specs.Pages.{Shows}
 use Rattle.im_types.specs.Meaning.{IsShown}
 use Rattle.std.proofs.lemmas.Bool.Decides.{nat_tests}
+use Rattle.std.proofs.lemmas.List.{take-take, drop-take, drop-drop}
 
 eq_true : (m n : ℕ) → (m == n) ≡ true → m ≡ n
 eq_true m n is = grind (arith, nat_tests)
@@ -41,3 +42,20 @@ length_of_image l file good = by_length (nat_lt (length file) 8192) refl
 
 pub length_by : (l : Layout) (h : Header) (file : List ℕ) → header_fault l file ≡ None → h ≡ header_of file → length file ≡ image_length l h.sizes
 length_by l h file good is = length_of_image l file good ∙ ap (λ (k : Header). image_length l k.sizes) (sym is)
+
+-- a part of an area, by its place in the file
+pub part_of_area : (l : Layout) (s : Sizes) (begin also number at n : ℕ) (file : List ℕ) → begin ≡ area_at l s also → also ≡ number → at + n ≤ area_bytes l s → take n (drop (begin + at) file) ≡ take n (drop at (area_of l s number file))
+part_of_area l s begin also number at n file is same inside = ap (λ (k : ℕ). take n (drop (k + at) file)) (is ∙ ap (area_at l s) same) ∙ part_of_range (area_at l s number) (area_bytes l s) at n file inside
+  where
+    enough : (a b c : ℕ) → a + b ≤ c → b ≤ c - a
+    enough a b c le = omega arith
+
+    parted : (p a b c : ℕ) → a + b ≤ c → a + (c - a) ≡ (p + c) - p
+    parted p a b c le = omega arith
+
+    part_of_range : (a bytes at n : ℕ) (file : List ℕ) → at + n ≤ bytes → take n (drop (a + at) file) ≡ take n (drop at (slice_range file a (a + bytes)))
+    part_of_range a bytes at n file inside =
+        ap (take n) (sym (drop-drop at a file))
+        ∙ sym (take-take n (bytes - at) (drop at (drop a file)) (enough at n bytes inside))
+        ∙ ap (take n) (sym (drop-take at (bytes - at) (drop a file)))
+        ∙ ap (λ (k : ℕ). take n (drop at (take k (drop a file)))) (parted a at n bytes inside)

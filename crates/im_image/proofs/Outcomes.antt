@@ -6,7 +6,7 @@ use Rattle.im_types.specs.declared.refusals.Refusal.{Refusal}
 use Rattle.im_types.specs.declared.refusals.Refusal.TheVariants.{NoMemory, Device, BadPage, BadRecord}
 use Rattle.im_types.specs.Contents.{Contents}
 use Rattle.im_types.specs.Header.{Header, header_of, header_fault, layout_in}
-use Rattle.im_types.specs.Layout.{Layout, layout_in_use, ring_of, image_length}
+use Rattle.im_types.specs.Layout.{Layout, ring_of, image_length}
 use Rattle.im_types.specs.Journal.{Tail, tail}
 use Rattle.im_types.specs.Meaning.{Reached, IsShown, Reads, accept_in, can_stand, reached_by, reached_after, read_journal}
 use Rattle.im_types.specs.Step.{step, is_accepted}

@@ -1,12 +1,10 @@
 -- A memory that is put together from the records of an area.
 use Rattle.std.proofs.Common.{◌≡◌, ⊎_elim, ℕ, ◌+◌, ◌*◌, ◌<◌, ◌≤◌, List, [], length, take, set, get_or, sym, ap, ◌∙◌, subst, arith, length-set}
-use Rattle.std.specs.Prelude.{Err, IsErrOf}
 use Rattle.std.specs.List.{sum_by}
 use Rattle.std.proofs.lemmas.Bool.{cases_lt}
 use Rattle.std.proofs.lemmas.List.{get_or-set_same, get_or-set_other, ext_get_or}
 use Rattle.std.proofs.lemmas.List.Sums.{sum_by-set, sum_by_more}
 use Rattle.im_types.specs.declared.TheConstants.{WINDOW, NONE}
-use Rattle.im_types.specs.declared.refusals.Refusal.{Refusal}
 use Rattle.im_types.specs.declared.operations.Waiter.{Waiter}
 use Rattle.im_types.specs.declared.records.CellRecord.{CellRecord}
 use Rattle.im_types.specs.declared.records.NodeRecord.{NodeRecord}
@@ -23,10 +21,6 @@ use Rattle.im_contents.proofs.BlockLemmas.{length-cells_shown}
 use Rattle.im_contents.proofs.ContentsLemmas.{memory_unique}
 use Rattle.im_memory.specs.Restoring.{Parts, AreComplete}
 use Rattle.im_memory.proofs.RestoreLemmas.{lists-fit}
-
--- a refusal of one call is that of another
-pub refused-same : {T U : Type 0} (a b : Refusal) → IsErrOf {T = T} {E = Refusal} (Err a) b → IsErrOf {T = U} {E = Refusal} (Err a) b
-refused-same a b e = let same : a ≡ b = cc in ap Err same
 
 -- the first of a list's elements stand in their places
 pub record Begun {X : Type 0} (none : X) (xs now : List X) (i : ℕ) : Type 0 where

@@ -1,17 +1,16 @@
 -- Why an image isn't opened, and what one that is opened means.
-use Rattle.std.proofs.Common.{◌≡◌, ◌⊎◌, inl, inr, ⊎_elim, ℕ, ◌<◌, ◌≤◌, nat_lt, ◌==◌, Bool, true, false, not, ◌&&◌, ◌||◌, List, length, Option, None, Some, is_none, Result, Ok, Err, refl, sym, ap, ◌∙◌, subst, arith, if◌then◌else◌}
+use Rattle.std.proofs.Common.{◌≡◌, ◌⊎◌, inl, inr, ⊎_elim, ℕ, ◌≤◌, nat_lt, ◌==◌, Bool, true, false, not, ◌&&◌, List, length, Option, None, Some, is_none, Result, Ok, Err, refl, sym, ap, ◌∙◌, subst, if◌then◌else◌}
 use Rattle.std.specs.Prelude.{IfOk, IfErr}
-use Rattle.std.proofs.lemmas.Bool.Decides.{nat_tests}
 use Rattle.im_types.specs.declared.refusals.Refusal.{Refusal}
-use Rattle.im_types.specs.declared.refusals.Refusal.TheVariants.{WrongLength, NoMemory, Device, OldVersion}
+use Rattle.im_types.specs.declared.refusals.Refusal.TheVariants.{WrongLength, NoMemory, Device}
 use Rattle.im_types.specs.Layout.{Layout, layout_1, layout_2, layout_in_use, layout_named, image_length}
-use Rattle.im_types.specs.Header.{Header, header_in, header_of, header_place, header_fault, place_in_force, place_fault, layout_in, is_old, or_else}
+use Rattle.im_types.specs.Header.{Header, header_in, header_of, header_place, place_in_force, place_fault, layout_in, is_old, or_else}
 use Rattle.im_types.specs.Meaning.{Reached, Reads, Opens, OpensBy}
 use Rattle.im_disk.specs.Moment.{Moment}
 use Rattle.im_image.specs.declared.in_force.Beginning.{Beginning}
 use Rattle.im_image.specs.declared.header.Header.{Header as CodeHeader}
 use Rattle.im_image.specs.declared.reading.Image.{Image}
-use Rattle.im_image.specs.Headers.{MayNotOpen, beginning_fault, layout_at}
+use Rattle.im_image.specs.Headers.{MayNotOpen, layout_at}
 use Rattle.im_image.specs.Beginning.{IsBeginning}
 use Rattle.im_image.specs.Reading.{IsImageOf, reached}
 use Rattle.im_image.proofs.Beginning.{fault_of_long, long}
@@ -29,10 +28,6 @@ young true true n other = cc
 young true false n other = refl
 young false v n other = refl
 
-short : (a v n : Bool) → a ≡ false → (a && v && n) ≡ false
-short true v n other = cc
-short false v n other = refl
-
 at_fault : (a v n : Bool) → (v && n) ≡ false → (a && v && n) ≡ false
 at_fault true true n other = other
 at_fault true false n other = refl
@@ -48,15 +43,6 @@ opens_young file outcome other reads = opens_by (is_old file) false file outcome
 -- and what opening it comes to is what reading it does
 pub young_opens : (file : List ℕ) (outcome : Result Reached Refusal) → ((header_of file).version == 1) ≡ false → Opens file outcome → Reads (layout_in file) file outcome
 young_opens file outcome other opens = opens_by false (is_old file) file outcome (sym (young (not (nat_lt (length file) 8192)) ((header_of file).version == 1) (is_none (place_fault (layout_in file) (header_place 0 file) (header_place 1 file))) other)) opens
-
--- a short file
-pub opens_short : (file : List ℕ) → length file < 8192 → Opens file (Err WrongLength)
-opens_short file lt =
-    opens_by (is_old file) false file (Err WrongLength) (short (not (nat_lt (length file) 8192)) ((header_of file).version == 1) (is_none (place_fault (layout_in file) (header_place 0 file) (header_place 1 file))) (ap not (less (length file) lt)))
-    (reads-fault (layout_in file) file WrongLength (ap (λ (b : Bool). if b then Some WrongLength else beginning_fault (layout_in file) (length file) (header_place 0 file) (header_place 1 file)) (less (length file) lt)))
-  where
-    less : (n : ℕ) → n < 8192 → nat_lt n 8192 ≡ true
-    less n le = grind (arith, nat_tests)
 
 -- a file whose beginning isn't that of one to open
 pub not_open_in : (file : List ℕ) (e : Refusal) → 8192 ≤ length file → MayNotOpen (length file) (header_place 0 file) (header_place 1 file) e → Opens file (Err e)

@@ -3,8 +3,11 @@ use Rattle.std.specs.Prelude.{◌≡◌, ℕ, ◌≤◌, List, length, None, Ok}
 use Rattle.im_types.specs.declared.TheConstants.{LAST}
 use Rattle.im_types.specs.Contents.{Contents}
 use Rattle.im_types.specs.Header.{Header, header_of, header_fault, layout_in}
-use Rattle.im_types.specs.Layout.{Sizes, layout_named, sizes_of, ring_of}
+use Rattle.im_types.specs.declared.records.CellRecord.{CellRecord}
+use Rattle.im_types.specs.Layout.{Layout, Sizes, layout_named, sizes_of, ring_of, area_of, image_length}
 use Rattle.im_types.specs.Meaning.{Reached, IsShown, Reads}
+use Rattle.im_types.specs.Pages.{Records, SpellsArea}
+use Rattle.im_records.specs.Rows.{AreFirstCells}
 use Rattle.im_journal.specs.Holding.{JournalState, Holds}
 use Rattle.im_image.specs.Headers.{seen}
 use Rattle.im_image.specs.declared.reading.Image.{Image}
@@ -19,6 +22,19 @@ pub record JournalOf (h : Header) (j : JournalState) : Type 0 where
 pub record HasSizes (s : Sizes) (m : Contents) : Type 0 where
   pub cells : length m.cells ≡ s.cells
   pub elements : length m.windows ≡ s.elements
+
+-- this is the number of one of the two areas of an image of these sizes, and a file that is honest is as long as one
+pub record IsAreaOf (l : Layout) (s : Sizes) (area : ℕ) (Honest : Type 0) (file : List ℕ) : Type 0 where
+  pub number : area ≤ 1
+  pub long : Honest → length file ≡ image_length l s
+
+-- a row is the first cells of one of the two areas of a file
+abbrev pub HasFirstCells : Layout → Sizes → ℕ → List ℕ → List CellRecord → Type 0
+HasFirstCells l s area file row = AreFirstCells l s (area_of l s area file) row
+
+-- one of the two areas of a file spells these records
+abbrev pub HasRecords : Layout → Sizes → ℕ → List ℕ → Records → Type 0
+HasRecords l s area file r = SpellsArea l s (area_of l s area file) r
 
 -- a file is sound up to its headers, of which this one is in force
 pub record HasHeader (h : Header) (file : List ℕ) : Type 0 where

@@ -86,8 +86,9 @@ fn lists_of(alloc: Global, limits: Limits, records: &AreaRecords) -> Result<List
     read_contents(alloc, limits, cells, nodes, windows)
 }
 
-// The memory that records show, in the room of its cells.
-fn show(alloc: Global, limits: Limits, records: AreaRecords) -> Result<Memory, Refusal>
+/// The memory that records show, in the room of its cells. `BadPage` exactly where they show none; `NoMemory` where
+/// there is no room for it, or for what is read.
+pub(crate) fn show(alloc: Global, limits: Limits, records: AreaRecords) -> Result<Memory, Refusal>
     requires { length records.nodes ≤ NONE }
     ensures found { IfOk result (λ m. ShowsRecords (sizes_of limits) records m.contents) }
     ensures bad { IsErrOf result Refusal.BadPage → (m : Contents) → ShowsRecords (sizes_of limits) records m → ⊥ }
@@ -116,41 +117,6 @@ pub fn decode(
     ensures only { IfErr result (λ e. (e ≡ Refusal.BadPage) ⊎ (e ≡ Refusal.NoMemory)) }
 {
     match read_area(alloc, version, area, limits) {
-        Ok(records) => show(alloc, limits, records),
-        Err(refusal) => Err(refusal),
-    }
-}
-
-// The records of an area whose bytes are given back.
-fn read_own(
-    alloc: Global,
-    version: Version,
-    area: Vec<u8>,
-    limits: Limits,
-) -> Result<AreaRecords, Refusal>
-    requires { length area.items ≡ layout.area_bytes (layout_of version) (sizes_of limits) }
-    ensures found { IfOk result (λ r. SpellsArea (layout_of version) (sizes_of limits) area.items r) }
-    ensures bad { IsErrOf result Refusal.BadPage → (r : Records)
-        → SpellsArea (layout_of version) (sizes_of limits) area.items r → ⊥ }
-    ensures only { IfErr result (λ e. (e ≡ Refusal.BadPage) ⊎ (e ≡ Refusal.NoMemory)) }
-{
-    read_area(alloc, version, &area, limits)
-}
-
-/// The same of bytes that nobody needs afterwards: they are given back before the memory is made.
-pub(crate) fn decode_own(
-    alloc: Global,
-    version: Version,
-    area: Vec<u8>,
-    limits: Limits,
-) -> Result<Memory, Refusal>
-    requires { length area.items ≡ layout.area_bytes (layout_of version) (sizes_of limits) }
-    ensures found { IfOk result (λ m. Shows (layout_of version) (sizes_of limits) area.items m.contents) }
-    ensures bad { IsErrOf result Refusal.BadPage → (m : Contents) → Shows (layout_of version) (sizes_of limits) area.items m
-        → ⊥ }
-    ensures only { IfErr result (λ e. (e ≡ Refusal.BadPage) ⊎ (e ≡ Refusal.NoMemory)) }
-{
-    match read_own(alloc, version, area, limits) {
         Ok(records) => show(alloc, limits, records),
         Err(refusal) => Err(refusal),
     }

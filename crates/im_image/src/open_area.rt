@@ -1,90 +1,224 @@
 //! Reading the area in force.
-ghost use Rattle.std.specs.Prelude.{◌≡◌, ◌⊎◌, ◌≤◌, ◌+◌, length, drop, take, IfOk, OnOk, IsErrOf};
+ghost use Rattle.std.specs.Prelude.{◌≡◌, ◌⊎◌, ◌≤◌, ◌+◌, ◌*◌, ◌/◌, [], length, drop, take, IfOk, OnOk, IsErrOf};
 ghost use Rattle.im_types.specs.Contents.{Contents};
 ghost use Rattle.im_types.specs.Layout as layout;
 ghost use Rattle.im_types.specs.Layout.{layout_of, area_of, sizes_of};
 ghost use Rattle.im_types.specs.Header.{layout_in};
 ghost use Rattle.im_types.specs.Meaning.{IsShown};
+ghost use Rattle.im_types.specs.Pages.{Records};
 ghost use Rattle.im_disk.specs.Moment.{Counts, Faults};
 ghost use Rattle.im_disk.specs.Since.{OnlyReads};
 ghost use Rattle.im_image.specs.Headers.{seen};
-ghost use Rattle.im_image.specs.Reading.{HasHeader, HasSizes};
+ghost use Rattle.im_image.specs.Reading.{HasHeader, HasSizes, HasFirstCells, HasRecords, IsAreaOf};
 
-use crate::area::decode_own;
+use crate::area::show;
 use crate::header::Header;
+use im_cell::CellRow;
 use im_disk::{DeviceFault, Disk};
 use im_memory::Memory;
-use im_types::layout::{PAGE, Version};
+use im_records::{AreaRecords, read_more_cells, read_rest_of_area};
+use im_types::layout::{CELL_RECORD, CELLS_ON_A_PAGE, PAGE, Version};
 use im_types::{Limits, Refusal};
 use std::alloc::{AllocError, Global};
 
-// Reads a part of a file.
-fn read_part<D: Disk>(disk: &mut D, at: usize, part: &mut [u8]) -> Result<(), DeviceFault>
-    requires { D.honest disk.old → at + length part.old ≤ length (D.now disk.old).bytes }
-    ensures read { OnOk result (D.honest disk.new
-        → part.new ≡ take (length part.old) (drop at (D.now disk.old).bytes)) }
+// How many cells are read at a time: those of 64 pages.
+const PIECE_CELLS: usize = 64 * CELLS_ON_A_PAGE;
+
+// Reads a part of an area, from behind so many of its cells on.
+fn read_part<D: Disk>(
+    disk: &mut D,
+    version: Version,
+    limits: Limits,
+    number: u8,
+    cells: usize,
+    part: &mut [u8],
+) -> Result<(), DeviceFault>
+    requires area { IsAreaOf (layout_of version) (sizes_of limits) number (D.honest disk.old) (D.now disk.old).bytes }
+    requires few { cells ≤ limits.cells }
+    requires inside { CELL_RECORD * cells + length part.old
+        ≤ layout.area_bytes (layout_of version) (sizes_of limits) }
+    ensures read { OnOk result (D.honest disk.new → part.new ≡ take (length part.old)
+        (drop (CELL_RECORD * cells) (area_of (layout_of version) (sizes_of limits) number (D.now disk.old).bytes))) }
     ensures reads { D.honest disk.new → OnlyReads D.now D.past disk.old disk.new }
     ensures honest { D.honest disk.new → D.honest disk.old }
     ensures failures { Counts result (D.failures disk.old) (D.failures disk.new) }
 {
+    let begin = version.area_at(limits, number as usize);
     // A read changes nothing, so a stop before or within it leaves what was there.
-    disk.read(at, part)
+    disk.read(begin + CELL_RECORD * cells, part)
 }
 
-// As many zeros as an area has bytes.
-fn zero_area(alloc: Global, version: Version, limits: Limits) -> Result<Vec<u8>, AllocError>
-    ensures { IfOk result (λ v. length v.items ≡ layout.area_bytes (layout_of version) (sizes_of limits)) }
+// So many zeros.
+fn zeros(alloc: Global, count: usize) -> Result<Vec<u8>, AllocError>
+    ensures { IfOk result (λ v. length v.items ≡ count) }
 {
-    vec![in alloc; 0; PAGE * version.area_pages(limits)]
+    vec![in alloc; 0; count]
 }
 
-// Takes room for an area, and gives it back unused. An allocator keeps a large block for the next ones only after it
-// was given one of that size (the C library's does so up to 32 MiB, which the largest area is longer than); before that
-// each comes from the system, in pages that are made anew, which is half of what an opening takes.
-fn give_back_an_area(alloc: Global, version: Version, limits: Limits) -> Result<(), AllocError> {
-    let _room: Vec<u8> = Vec::with_capacity(alloc, PAGE * version.area_pages(limits))?;
-    Ok(())
+// How many pieces of cells are read one by one: as many as leave a cell for the last read.
+fn piece_count(limits: Limits) -> usize
+    ensures { PIECE_CELLS * result ≤ limits.cells }
+{
+    (limits.cells as usize - 1) / PIECE_CELLS
 }
 
-// Reads an area.
-fn read_area<D: Disk>(
+// Reads a piece of an area's cells, and puts them behind those of the pieces before it.
+fn read_piece<D: Disk>(
+    disk: &mut D,
+    version: Version,
+    limits: Limits,
+    number: u8,
+    piece: &mut [u8],
+    cells: &mut CellRow,
+) -> Result<(), Refusal>
+    requires area { IsAreaOf (layout_of version) (sizes_of limits) number (D.honest disk.old) (D.now disk.old).bytes }
+    requires few { CELL_RECORD * length cells.old + length piece.old ≤ CELL_RECORD * limits.cells }
+    ensures found { OnOk result (D.honest disk.new
+        → HasFirstCells (layout_of version) (sizes_of limits) number (D.now disk.old).bytes cells.old
+        → HasFirstCells (layout_of version) (sizes_of limits) number (D.now disk.old).bytes cells.new) }
+    ensures count { OnOk result (length cells.new ≡ length cells.old + length piece.old / CELL_RECORD) }
+    ensures bad { IsErrOf result Refusal.BadPage → D.honest disk.new → (r : Records)
+        → HasRecords (layout_of version) (sizes_of limits) number (D.now disk.old).bytes r → ⊥ }
+    ensures faults { Faults (λ e. (e ≡ Refusal.BadPage) ⊎ (e ≡ Refusal.NoMemory) ⊎ (e ≡ Refusal.Device)) result
+        (D.failures disk.old) (D.failures disk.new) }
+    ensures reads { D.honest disk.new → OnlyReads D.now D.past disk.old disk.new }
+    ensures honest { D.honest disk.new → D.honest disk.old }
+{
+    match read_part(disk, version, limits, number, cells.len(), piece) {
+        Ok(()) => read_more_cells(cells, version, limits, piece),
+        Err(_) => Err(Refusal::Device),
+    }
+}
+
+// Reads all pieces of an area's cells, each into the same room: bytes that are read at once take pages of memory that
+// are made anew, which costs more than the reading.
+fn read_pieces<D: Disk>(
     alloc: Global,
     disk: &mut D,
     version: Version,
     limits: Limits,
     number: u8,
+    cells: &mut CellRow,
+) -> Result<(), Refusal>
+    requires area { IsAreaOf (layout_of version) (sizes_of limits) number (D.honest disk.old) (D.now disk.old).bytes }
+    requires none { cells.old ≡ [] }
+    ensures found { OnOk result (D.honest disk.new
+        → HasFirstCells (layout_of version) (sizes_of limits) number (D.now disk.old).bytes cells.new) }
+    ensures few { OnOk result (length cells.new ≤ limits.cells) }
+    ensures bad { IsErrOf result Refusal.BadPage → D.honest disk.new → (r : Records)
+        → HasRecords (layout_of version) (sizes_of limits) number (D.now disk.old).bytes r → ⊥ }
+    ensures faults { Faults (λ e. (e ≡ Refusal.BadPage) ⊎ (e ≡ Refusal.NoMemory) ⊎ (e ≡ Refusal.Device)) result
+        (D.failures disk.old) (D.failures disk.new) }
+    ensures reads { D.honest disk.new → OnlyReads D.now D.past disk.old disk.new }
+    ensures honest { D.honest disk.new → D.honest disk.old }
+{
+    let Ok(mut piece) = zeros(alloc, CELL_RECORD * PIECE_CELLS) else {
+        return Err(Refusal::NoMemory);
+    };
+    for i in 0..piece_count(limits) {
+        let part = piece.as_mut_slice();
+        if let Err(refusal) = read_piece(disk, version, limits, number, part, cells) {
+            return Err(refusal);
+        }
+    }
+    Ok(())
+}
+
+// The first cells of an area, in room for all of them: those of its pieces.
+fn first_cells<D: Disk>(
+    alloc: Global,
+    disk: &mut D,
+    version: Version,
+    limits: Limits,
+    number: u8,
+) -> Result<CellRow, Refusal>
+    requires area { IsAreaOf (layout_of version) (sizes_of limits) number (D.honest disk.old) (D.now disk.old).bytes }
+    ensures found { IfOk result (λ cells. D.honest disk.new
+        → HasFirstCells (layout_of version) (sizes_of limits) number (D.now disk.old).bytes cells) }
+    ensures few { IfOk result (λ cells. length cells ≤ limits.cells) }
+    ensures bad { IsErrOf result Refusal.BadPage → D.honest disk.new → (r : Records)
+        → HasRecords (layout_of version) (sizes_of limits) number (D.now disk.old).bytes r → ⊥ }
+    ensures faults { Faults (λ e. (e ≡ Refusal.BadPage) ⊎ (e ≡ Refusal.NoMemory) ⊎ (e ≡ Refusal.Device)) result
+        (D.failures disk.old) (D.failures disk.new) }
+    ensures reads { D.honest disk.new → OnlyReads D.now D.past disk.old disk.new }
+    ensures honest { D.honest disk.new → D.honest disk.old }
+{
+    let Ok(mut cells) = CellRow::with_capacity(alloc, limits.cells as usize) else {
+        return Err(Refusal::NoMemory);
+    };
+    if piece_count(limits) == 0 {
+        return Ok(cells);
+    }
+    match read_pieces(alloc, disk, version, limits, number, &mut cells) {
+        Ok(()) => Ok(cells),
+        Err(refusal) => Err(refusal),
+    }
+}
+
+// Reads an area from behind so many of its cells to its end.
+fn read_rest<D: Disk>(
+    alloc: Global,
+    disk: &mut D,
+    version: Version,
+    limits: Limits,
+    number: u8,
+    cells: usize,
 ) -> Result<Vec<u8>, Refusal>
-    requires number { number ≤ 1 }
-    requires length { D.honest disk.old
-        → length (D.now disk.old).bytes ≡ layout.image_length (layout_of version) (sizes_of limits) }
-    ensures area { IfOk result (λ v. D.honest disk.new
-        → v.items ≡ area_of (layout_of version) (sizes_of limits) number (D.now disk.old).bytes) }
-    ensures size { IfOk result (λ v. length v.items ≡ layout.area_bytes (layout_of version) (sizes_of limits)) }
+    requires area { IsAreaOf (layout_of version) (sizes_of limits) number (D.honest disk.old) (D.now disk.old).bytes }
+    requires few { cells ≤ limits.cells }
+    ensures rest { IfOk result (λ v. D.honest disk.new → v.items
+        ≡ drop (CELL_RECORD * cells) (area_of (layout_of version) (sizes_of limits) number (D.now disk.old).bytes)) }
+    ensures size { IfOk result (λ v. CELL_RECORD * cells + length v.items
+        ≡ layout.area_bytes (layout_of version) (sizes_of limits)) }
     ensures faults { Faults (λ e. (e ≡ Refusal.NoMemory) ⊎ (e ≡ Refusal.Device)) result
         (D.failures disk.old) (D.failures disk.new) }
     ensures reads { D.honest disk.new → OnlyReads D.now D.past disk.old disk.new }
     ensures honest { D.honest disk.new → D.honest disk.old }
 {
-    let Ok(()) = give_back_an_area(alloc, version, limits) else {
+    let left = PAGE * version.area_pages(limits) - CELL_RECORD * cells;
+    let Ok(mut rest) = zeros(alloc, left) else {
         return Err(Refusal::NoMemory);
     };
-    let Ok(mut area) = zero_area(alloc, version, limits) else {
-        return Err(Refusal::NoMemory);
-    };
-    match read_part(
-        disk,
-        version.area_at(limits, number as usize),
-        area.as_mut_slice(),
-    ) {
-        Ok(()) => Ok(area),
+    match read_part(disk, version, limits, number, cells, rest.as_mut_slice()) {
+        Ok(()) => Ok(rest),
         Err(_) => Err(Refusal::Device),
+    }
+}
+
+// The records of an area.
+fn read_records<D: Disk>(
+    alloc: Global,
+    disk: &mut D,
+    version: Version,
+    limits: Limits,
+    number: u8,
+) -> Result<AreaRecords, Refusal>
+    requires area { IsAreaOf (layout_of version) (sizes_of limits) number (D.honest disk.old) (D.now disk.old).bytes }
+    ensures found { IfOk result (λ r. D.honest disk.new
+        → HasRecords (layout_of version) (sizes_of limits) number (D.now disk.old).bytes r) }
+    ensures count { IfOk result (λ r. length r.nodes ≡ layout.node_count (layout_of version) (sizes_of limits)) }
+    ensures bad { IsErrOf result Refusal.BadPage → D.honest disk.new → (r : Records)
+        → HasRecords (layout_of version) (sizes_of limits) number (D.now disk.old).bytes r → ⊥ }
+    ensures faults { Faults (λ e. (e ≡ Refusal.BadPage) ⊎ (e ≡ Refusal.NoMemory) ⊎ (e ≡ Refusal.Device)) result
+        (D.failures disk.old) (D.failures disk.new) }
+    ensures reads { D.honest disk.new → OnlyReads D.now D.past disk.old disk.new }
+    ensures honest { D.honest disk.new → D.honest disk.old }
+{
+    let cells = match first_cells(alloc, disk, version, limits, number) {
+        Ok(cells) => cells,
+        Err(refusal) => return Err(refusal),
+    };
+    match read_rest(alloc, disk, version, limits, number, cells.len()) {
+        Ok(rest) => read_rest_of_area(alloc, version, limits, cells, &rest),
+        Err(refusal) => Err(refusal),
     }
 }
 
 /// The memory that the area of a header in force shows. `BadPage` exactly where it shows none.
 ///
-/// It only reads, the area. Memory: its records, and as much as the area is long, at most 33,882,112 bytes, or the
-/// memory, as the bytes are given back before it is made; `NoMemory` where it is refused. `Device`: the read failed.
+/// It only reads, the area: pieces of 8,192 cells while there are more, each with one call, and then all that is left
+/// with one more. Memory: its records, and with them the bytes of a piece, 262,144, or of what is left, at most 589,824,
+/// which are given back before the memory is made; `NoMemory` where it is refused. `Device`: a read failed.
 pub fn read_memory<D: Disk>(alloc: Global, disk: &mut D, header: &Header) -> Result<Memory, Refusal>
     requires area { header.now.area ≤ 1 }
     requires sound { D.honest disk.old → HasHeader (seen header.now) (D.now disk.old).bytes }
@@ -98,8 +232,8 @@ pub fn read_memory<D: Disk>(alloc: Global, disk: &mut D, header: &Header) -> Res
     ensures honest { D.honest disk.new → D.honest disk.old }
 {
     let version = header.layout();
-    match read_area(alloc, disk, version, header.limits, header.area) {
-        Ok(area) => decode_own(alloc, version, area, header.limits),
+    match read_records(alloc, disk, version, header.limits, header.area) {
+        Ok(records) => show(alloc, header.limits, records),
         Err(refusal) => Err(refusal),
     }
 }

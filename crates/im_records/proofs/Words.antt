@@ -1,7 +1,7 @@
 -- Bytes that are compared by eight at once.
 use Rattle.std.specs.Prelude.{IsTrue, ◌↔◌, nat_eq}
 use Rattle.std.proofs.lemmas.Bool.Decides.{nat_tests}
-use Rattle.std.proofs.Common.{◌≡◌, ℕ, zero, suc, ◌+◌, ◌-◌, ◌<◌, ◌≤◌, List, length, get_or, slice_range, Bool, true, false, inl, inr, refl, sym, ap, ◌∙◌, arith, take, drop}
+use Rattle.std.proofs.Common.{◌≡◌, ℕ, zero, suc, ◌+◌, ◌-◌, ◌<◌, ◌≤◌, List, length, get_or, slice_range, true, inl, inr, refl, sym, ap, ◌∙◌, arith, take, drop}
 use Rattle.std.proofs.lemmas.Bool.{cases_eq}
 use Rattle.std.proofs.lemmas.List.{get_or-take, get_or-drop}
 use Rattle.std.proofs.lemmas.Grind.{same_number_lists}

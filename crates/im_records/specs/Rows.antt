@@ -1,8 +1,8 @@
 -- Records in a row, without what stands behind them. (Own.)
-use Rattle.std.specs.Prelude.{◌≡◌, ℕ, ◌<◌, List, length, slice_index_or}
+use Rattle.std.specs.Prelude.{◌≡◌, ℕ, ◌<◌, List, length, take, drop, slice_index_or}
 use Rattle.im_types.specs.declared.TheConstants.{NONE}
 use Rattle.im_types.specs.Contents.{Window, new_window}
-use Rattle.im_types.specs.Layout.{Layout, cell_record_bytes, node_record_bytes, session_record_bytes, record_at}
+use Rattle.im_types.specs.Layout.{Layout, Sizes, node_count, cell_record_bytes, node_record_bytes, session_record_bytes, record_at}
 use Rattle.im_types.specs.declared.records.CellRecord.{CellRecord}
 use Rattle.im_types.specs.declared.records.CellRecord.TheVariants.{Free as FreeCell}
 use Rattle.im_types.specs.declared.records.NodeRecord.{NodeRecord}
@@ -43,3 +43,11 @@ AreNodes nodes bytes row = IsRow node_record_bytes node_bytes (FitsNode nodes) (
 -- bytes are so many sessions, and zeros
 abbrev pub AreSessions : Layout → ℕ → List ℕ → List Window → Type 0
 AreSessions l elements bytes row = IsRow (session_record_bytes l) (session_bytes l) (FitsWindow l) new_window elements bytes row
+
+-- a piece is what an area has from a place on
+abbrev pub StandsAt : ℕ → List ℕ → List ℕ → Type 0
+StandsAt at piece area = piece ≡ take (length piece) (drop at area)
+
+-- a row is the first cells of an area
+abbrev pub AreFirstCells : Layout → Sizes → List ℕ → List CellRecord → Type 0
+AreFirstCells l s area row = BeginWithCells (length row) s.cells (node_count l s) area row

@@ -1,18 +1,18 @@
 //! The records of a whole area.
-ghost use Rattle.std.specs.Prelude.{◌≡◌, ◌⊎◌, ◌*◌, List, length, IfOk, IfErr, IsErrOf};
+ghost use Rattle.std.specs.Prelude.{◌≡◌, ◌⊎◌, ◌+◌, ◌*◌, ◌/◌, ◌≤◌, ℕ, List, length, drop, IfOk, OnOk, IfErr, IsErrOf};
 ghost use Rattle.im_types.specs.Contents.{Window};
 ghost use Rattle.im_types.specs.Layout as layout;
 ghost use Rattle.im_types.specs.Layout.{layout_of, sizes_of};
 ghost use Rattle.im_types.specs.declared.records.CellRecord.{CellRecord as CellRecordSpec};
 ghost use Rattle.im_types.specs.declared.records.NodeRecord.{NodeRecord as NodeRecordSpec};
 ghost use Rattle.im_types.specs.Pages.{Records, SpellsArea};
-ghost use Rattle.im_records.specs.Rows.{AreCells, AreNodes, AreSessions};
+ghost use Rattle.im_records.specs.Rows.{StandsAt, AreFirstCells, AreCells, AreNodes, AreSessions};
 
-use crate::rows::{read_cells, read_nodes};
+use crate::rows::{push_cells, read_nodes, rest_of_cells};
 use crate::session::read_sessions;
 use crate::window::WindowRecord;
 use im_cell::CellRow;
-use im_types::layout::{Version, cell_bytes};
+use im_types::layout::{CELL_RECORD, Version, cell_bytes};
 use im_types::{Limits, NodeRecord, Refusal};
 use std::alloc::Global;
 use std::marker::Model;
@@ -66,20 +66,52 @@ impl AreaRecords {
     }
 }
 
-fn cells_of(
-    alloc: Global,
+/// Puts the cells of a piece of an area, which is read some at a time, behind those before it: as many as have their
+/// record whole in the piece. The row has the area's first cells, and the piece begins with the record of the next.
+///
+/// `BadPage` where a record of it isn't spelled as it should be or isn't within its bounds, so that no area with this
+/// piece there spells records. `NoMemory` where the row has no room for a cell and is refused it. After either, some
+/// cells of the piece may stand in the row. The time is proportional to the bytes.
+pub fn read_more_cells(
+    cells: &mut CellRow,
     version: Version,
     limits: Limits,
-    part: &[u8],
-) -> Result<CellRow, Refusal>
-    requires { length part.now ≡ layout.page_bytes * layout.cell_pages (sizes_of limits) }
-    ensures found { IfOk result (λ row. AreCells limits.cells
-        (layout.node_count (layout_of version) (sizes_of limits)) part.now row) }
-    ensures bad { IsErrOf result Refusal.BadPage → (row : List CellRecordSpec)
-        → AreCells limits.cells (layout.node_count (layout_of version) (sizes_of limits)) part.now row → ⊥ }
+    piece: &[u8],
+) -> Result<(), Refusal>
+    requires { length cells.old + length piece.now / CELL_RECORD ≤ limits.cells }
+    ensures found { OnOk result ((area : List ℕ) → StandsAt (CELL_RECORD * length cells.old) piece.now area
+        → AreFirstCells (layout_of version) (sizes_of limits) area cells.old
+        → AreFirstCells (layout_of version) (sizes_of limits) area cells.new) }
+    ensures count { OnOk result (length cells.new ≡ length cells.old + length piece.now / CELL_RECORD) }
+    ensures bad { IsErrOf result Refusal.BadPage → (area : List ℕ) (r : Records)
+        → StandsAt (CELL_RECORD * length cells.old) piece.now area
+        → SpellsArea (layout_of version) (sizes_of limits) area r → ⊥ }
     ensures only { IfErr result (λ e. (e ≡ Refusal.BadPage) ⊎ (e ≡ Refusal.NoMemory)) }
 {
-    read_cells(alloc, limits.cells, version.node_count(limits) as u32, part)
+    let nodes = version.node_count(limits) as u32;
+    push_cells(cells, piece.len() / CELL_RECORD, limits.cells, nodes, piece)
+}
+
+fn cells_of(
+    version: Version,
+    limits: Limits,
+    cells: CellRow,
+    part: &[u8],
+) -> Result<CellRow, Refusal>
+    requires few { length cells ≤ limits.cells }
+    requires part { CELL_RECORD * length cells + length part.now
+        ≡ layout.page_bytes * layout.cell_pages (sizes_of limits) }
+    ensures found { IfOk result (λ row. (area : List ℕ) → StandsAt (CELL_RECORD * length cells) part.now area
+        → AreFirstCells (layout_of version) (sizes_of limits) area cells
+        → AreCells limits.cells (layout.node_count (layout_of version) (sizes_of limits))
+        (layout.cell_part (sizes_of limits) area) row) }
+    ensures bad { IsErrOf result Refusal.BadPage → (area : List ℕ) (row : List CellRecordSpec)
+        → StandsAt (CELL_RECORD * length cells) part.now area
+        → AreCells limits.cells (layout.node_count (layout_of version) (sizes_of limits))
+        (layout.cell_part (sizes_of limits) area) row → ⊥ }
+    ensures only { IfErr result (λ e. (e ≡ Refusal.BadPage) ⊎ (e ≡ Refusal.NoMemory)) }
+{
+    rest_of_cells(cells, limits.cells, version.node_count(limits) as u32, part)
 }
 
 fn nodes_of(
@@ -112,6 +144,58 @@ fn windows_of(
     read_sessions(alloc, version, limits.elements, part)
 }
 
+/// The records that the bytes of an area of a version spell, of which the first cells were read, none or more
+/// ([`read_more_cells`]), and these are the bytes behind them. `BadPage` where no area with them at its end spells
+/// records: one isn't spelled as it should be, a number isn't within its bounds, or a byte behind the last record of a
+/// kind isn't zero. `NoMemory` where there is no room for the records.
+///
+/// The time is proportional to the bytes. Of which memory the records are isn't asked here: links may lead anywhere
+/// within their range.
+pub fn read_rest_of_area(
+    alloc: Global,
+    version: Version,
+    limits: Limits,
+    cells: CellRow,
+    rest: &[u8],
+) -> Result<AreaRecords, Refusal>
+    requires few { length cells ≤ limits.cells }
+    requires length { CELL_RECORD * length cells + length rest.now
+        ≡ layout.area_bytes (layout_of version) (sizes_of limits) }
+    ensures found { IfOk result (λ r. (area : List ℕ) → rest.now ≡ drop (CELL_RECORD * length cells) area
+        → AreFirstCells (layout_of version) (sizes_of limits) area cells
+        → SpellsArea (layout_of version) (sizes_of limits) area r) }
+    ensures count { IfOk result (λ r. length r.nodes ≡ layout.node_count (layout_of version) (sizes_of limits)) }
+    ensures bad { IsErrOf result Refusal.BadPage → (area : List ℕ) (r : Records)
+        → rest.now ≡ drop (CELL_RECORD * length cells) area
+        → SpellsArea (layout_of version) (sizes_of limits) area r → ⊥ }
+    ensures only { IfErr result (λ e. (e ≡ Refusal.BadPage) ⊎ (e ≡ Refusal.NoMemory)) }
+{
+    let at = cell_bytes(limits) - CELL_RECORD * cells.len();
+    let behind_cells = &rest[at..];
+    let cells = match cells_of(version, limits, cells, &rest[..at]) {
+        Ok(row) => row,
+        Err(refusal) => return Err(refusal),
+    };
+    let nodes = match nodes_of(
+        alloc,
+        version,
+        limits,
+        &behind_cells[..version.node_bytes(limits)],
+    ) {
+        Ok(row) => row,
+        Err(refusal) => return Err(refusal),
+    };
+    let sessions = &rest[at + version.node_bytes(limits)..];
+    match windows_of(alloc, version, limits, sessions) {
+        Ok(windows) => Ok(AreaRecords {
+            cells,
+            nodes,
+            windows,
+        }),
+        Err(refusal) => Err(refusal),
+    }
+}
+
 /// The records that the bytes of an area of a version spell. `BadPage` exactly where they spell none: a record isn't spelled as it
 /// should be, a number isn't within its bounds, or a byte behind the last record of a kind isn't zero. `NoMemory` where
 /// there is no room for the records.
@@ -130,27 +214,8 @@ pub fn read_area(
         → ⊥ }
     ensures only { IfErr result (λ e. (e ≡ Refusal.BadPage) ⊎ (e ≡ Refusal.NoMemory)) }
 {
-    let behind_cells = &area[cell_bytes(limits)..];
-    let cells = match cells_of(alloc, version, limits, &area[..cell_bytes(limits)]) {
-        Ok(row) => row,
-        Err(refusal) => return Err(refusal),
-    };
-    let nodes = match nodes_of(
-        alloc,
-        version,
-        limits,
-        &behind_cells[..version.node_bytes(limits)],
-    ) {
-        Ok(row) => row,
-        Err(refusal) => return Err(refusal),
-    };
-    let sessions = &area[cell_bytes(limits) + version.node_bytes(limits)..];
-    match windows_of(alloc, version, limits, sessions) {
-        Ok(windows) => Ok(AreaRecords {
-            cells,
-            nodes,
-            windows,
-        }),
-        Err(refusal) => Err(refusal),
+    match CellRow::with_capacity(alloc, limits.cells as usize) {
+        Ok(cells) => read_rest_of_area(alloc, version, limits, cells, area),
+        Err(_) => Err(Refusal::NoMemory),
     }
 }

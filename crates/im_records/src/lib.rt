@@ -5,7 +5,7 @@
 //! the layer above.
 #![tactic(auto)]
 
-// A whole area, read at once.
+// An area, read at once or some at a time.
 mod area;
 // Whether a record is within its bounds.
 mod bounds;
@@ -28,7 +28,7 @@ mod spell;
 // A window of kept entries, as a session record has it.
 mod window;
 
-pub use area::{AreaRecords, read_area};
+pub use area::{AreaRecords, read_area, read_more_cells, read_rest_of_area};
 pub use im_types::layout::{
     CELLS_ON_A_PAGE, NODES_ON_A_PAGE, PAGE, SESSIONS_ON_A_PAGE, area_pages, cell_pages, node_count,
     node_pages, session_pages,

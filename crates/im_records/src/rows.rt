@@ -1,9 +1,10 @@
 // The rows of records that the parts of an area are.
-ghost use Rattle.std.specs.Prelude.{◌≡◌, ◌⊎◌, ◌*◌, ◌≤◌, length, Some, IfSome, IfOk, IfErr, IsErrOf, List};
+ghost use Rattle.std.specs.Prelude.{◌≡◌, ◌⊎◌, ◌+◌, ◌*◌, ◌≤◌, ℕ, List, length, take, Some, IfSome, IfOk, OnOk, IfErr};
+ghost use Rattle.std.specs.Prelude.{IsErrOf};
 ghost use Rattle.im_types.specs.Records.{cell_bytes, node_bytes, FitsCell, FitsNode};
 ghost use Rattle.im_types.specs.declared.records.CellRecord.{CellRecord as CellRecordSpec};
 ghost use Rattle.im_types.specs.declared.records.NodeRecord.{NodeRecord as NodeRecordSpec};
-ghost use Rattle.im_records.specs.Rows.{Spells, BeginWithCells, BeginWithNodes, AreCells, AreNodes};
+ghost use Rattle.im_records.specs.Rows.{Spells, StandsAt, BeginWithCells, BeginWithNodes, AreCells, AreNodes};
 
 use crate::bounds::{are_zero, fits_cell, fits_node};
 use crate::read::{read_cell, read_node};
@@ -26,21 +27,31 @@ fn cell_within(cells: u32, nodes: u32, bytes: &[u8]) -> Option<CellRecord>
     }
 }
 
-fn first_cells(alloc: Global, cells: u32, nodes: u32, bytes: &[u8]) -> Result<CellRow, Refusal>
-    requires { CELL_RECORD * cells ≤ length bytes.now }
-    ensures found { IfOk result (λ row. BeginWithCells cells cells nodes bytes.now row) }
-    ensures bad { IsErrOf result Refusal.BadPage → (row : List CellRecordSpec)
-        → BeginWithCells cells cells nodes bytes.now row → ⊥ }
+/// Puts so many records of a piece of the cells' part of an area behind those before it. `BadPage` where one of them
+/// isn't spelled as it should be or isn't within its bounds, `NoMemory` where the row has no room for it; then those
+/// before it may stand in the row.
+pub(crate) fn push_cells(
+    row: &mut CellRow,
+    count: usize,
+    cells: u32,
+    nodes: u32,
+    piece: &[u8],
+) -> Result<(), Refusal>
+    requires few { length row.old + count ≤ cells }
+    requires inside { CELL_RECORD * count ≤ length piece.now }
+    ensures found { OnOk result ((area : List ℕ) → StandsAt (CELL_RECORD * length row.old) piece.now area
+        → BeginWithCells (length row.old) cells nodes area row.old
+        → BeginWithCells (length row.old + count) cells nodes area row.new) }
+    ensures count { OnOk result (length row.new ≡ length row.old + count) }
+    ensures bad { IsErrOf result Refusal.BadPage → (area : List ℕ) (all : List CellRecordSpec)
+        → StandsAt (CELL_RECORD * length row.old) piece.now area → BeginWithCells cells cells nodes area all → ⊥ }
     ensures only { IfErr result (λ e. (e ≡ Refusal.BadPage) ⊎ (e ≡ Refusal.NoMemory)) }
 {
-    let Ok(mut row) = CellRow::with_capacity(alloc, cells as usize) else {
-        return Err(Refusal::NoMemory);
-    };
-    for i in 0..cells as usize {
+    for i in 0..count {
         let Some(cell) = cell_within(
             cells,
             nodes,
-            &bytes[CELL_RECORD * i..CELL_RECORD * i + CELL_RECORD],
+            &piece[CELL_RECORD * i..CELL_RECORD * i + CELL_RECORD],
         ) else {
             return Err(Refusal::BadPage);
         };
@@ -48,26 +59,37 @@ fn first_cells(alloc: Global, cells: u32, nodes: u32, bytes: &[u8]) -> Result<Ce
             return Err(Refusal::NoMemory);
         }
     }
-    Ok(row)
+    Ok(())
 }
 
-/// The records of the cells in their part of an area. `BadPage` where a record isn't spelled as it should be or isn't
-/// within its bounds, or where a byte behind the records isn't zero.
-pub(crate) fn read_cells(
-    alloc: Global,
+/// The records of the cells of an area, of which the first are in the row, and the others in what is left of their
+/// part. `BadPage` where one of those isn't spelled as it should be or isn't within its bounds, or where a byte behind
+/// the records isn't zero.
+pub(crate) fn rest_of_cells(
+    row: CellRow,
     cells: u32,
     nodes: u32,
     part: &[u8],
 ) -> Result<CellRow, Refusal>
-    requires { CELL_RECORD * cells ≤ length part.now }
-    ensures found { IfOk result (λ row. AreCells cells nodes part.now row) }
-    ensures bad { IsErrOf result Refusal.BadPage → (row : List CellRecordSpec) → AreCells cells nodes part.now row → ⊥ }
+    requires few { length row ≤ cells }
+    requires inside { CELL_RECORD * cells ≤ CELL_RECORD * length row + length part.now }
+    ensures found { IfOk result (λ all. (n : ℕ) (area : List ℕ) → CELL_RECORD * length row + length part.now ≡ n
+        → StandsAt (CELL_RECORD * length row) part.now area → BeginWithCells (length row) cells nodes area row
+        → AreCells cells nodes (take n area) all) }
+    ensures bad { IsErrOf result Refusal.BadPage → (n : ℕ) (area : List ℕ) (all : List CellRecordSpec)
+        → CELL_RECORD * length row + length part.now ≡ n → StandsAt (CELL_RECORD * length row) part.now area
+        → AreCells cells nodes (take n area) all → ⊥ }
     ensures only { IfErr result (λ e. (e ≡ Refusal.BadPage) ⊎ (e ≡ Refusal.NoMemory)) }
 {
-    if !are_zero(&part[CELL_RECORD * cells as usize..]) {
+    let left = cells as usize - row.len();
+    if !are_zero(&part[CELL_RECORD * left..]) {
         return Err(Refusal::BadPage);
     }
-    first_cells(alloc, cells, nodes, part)
+    let mut row = row;
+    match push_cells(&mut row, left, cells, nodes, part) {
+        Ok(()) => Ok(row),
+        Err(refusal) => Err(refusal),
+    }
 }
 
 // The waiter node that these bytes spell, if it is within its bounds.

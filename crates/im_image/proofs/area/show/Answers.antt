@@ -1,4 +1,4 @@
-use Rattle.im_image.proofs.Restored.{refused-same}
+use Rattle.im_records.proofs.RowLemmas.{refused-same}
 use Rattle.im_image.proofs.area.show.Goals as goal
 
 pub returns-in-Err-clause-bad : goal.returns-in-Err-clause-bad

@@ -1,4 +1,4 @@
-use Rattle.std.proofs.Common.{sym, ◌≡◌, ◌==◌, ◌∙◌, ap}
+use Rattle.std.proofs.Common.{sym, ◌==◌, ◌∙◌, ap}
 use Rattle.im_types.specs.Header.{Header}
 use Rattle.im_types.specs.Layout.{Layout, image_length, sizes_of}
 use Rattle.im_image.specs.Headers.{seen}

@@ -1,5 +1,5 @@
 use Rattle.im_image.proofs.Beginning.{good_beginning}
-use Rattle.im_image.proofs.ToOpen.{not_open, opens_short}
+use Rattle.im_image.proofs.ToOpen.{not_open}
 use Rattle.im_image.proofs.in_force.read_header_to_open.Goals as goal
 
 pub returns-in-Ok-Some-clause-good : goal.returns-in-Ok-Some-clause-good

@@ -1,22 +1,42 @@
-use Rattle.std.proofs.Common.{◌≡◌, sym, ap, subst, ◌∙◌}
+use Rattle.std.proofs.Common.{◌≡◌, length, refl, sym, ap, subst, ◌∙◌}
 use Rattle.im_types.specs.Header.{Header, layout_in}
-use Rattle.im_types.specs.Layout.{Layout, layout_named, layout_of, sizes_of}
+use Rattle.im_types.specs.Layout.{Layout, layout_named, layout_of, sizes_of, area_of, image_length}
 use Rattle.im_types.specs.Meaning.{IsShown}
+use Rattle.im_records.proofs.RowLemmas.{refused-same}
 use Rattle.im_image.specs.Headers.{seen}
 use Rattle.im_image.proofs.OpenArea.{length_by, shown-in}
+use Rattle.im_image.proofs.Restored.{shows-none}
 use Rattle.im_image.proofs.open_area.read_memory.Goals as goal
 
-pub read_area-requires-clause-length : goal.read_area-requires-clause-length
-read_area-requires-clause-length g c = λ h.
+pub read_records-requires : goal.read_records-requires
+read_records-requires g c =
     let file = (g.D.Disk.now c.args.disk.now).bytes in
+    let l = layout_of c.layout-version.result in
+    let header = seen c.args.header.now in
+    let long : g.D.Disk.honest c.args.disk.now → length file ≡ image_length l header.sizes = λ h.
     let sound = c.requires.sound h in
-    let named : layout_in file ≡ layout_of c.layout-version.result = sym (c.layout-version.ensures ∙ ap (λ (x : Header). layout_named x.version) sound.is) in
-    length_by (layout_of c.layout-version.result) (seen c.args.header.now) file (rw named at sound.good) sound.is
+    let named : layout_in file ≡ l = sym (c.layout-version.ensures ∙ ap (λ (x : Header). layout_named x.version) sound.is) in
+    length_by l header file (rw named at sound.good) sound.is in
+    record { area = record { number = c.requires.area; long = long } }
 
 pub returns-in-Ok-clause-bad : goal.returns-in-Ok-clause-bad
 returns-in-Ok-clause-bad g c = λ e h m shown.
     let file = (g.D.Disk.now c.args.disk.now).bytes in
-    let is = (c.requires.sound (c.read_area.ensures.honest h)).is in
-    let named : layout_in file ≡ layout_of c.layout-version.result = sym (c.layout-version.ensures ∙ ap (λ (x : Header). layout_named x.version) is) in
-    c.decode_own.ensures.bad e m
-    (shown-in (layout_of c.layout-version.result) (seen c.args.header.now) file _ m is (c.in-Ok.ensures.area h) (subst (λ (l : Layout). IsShown l file m) named shown))
+    let header = c.args.header.now in
+    let is = (c.requires.sound (c.read_records.ensures.honest h)).is in
+    let l = layout_of c.layout-version.result in
+    let s = sizes_of header.limits in
+    let named : layout_in file ≡ l = sym (c.layout-version.ensures ∙ ap (λ (x : Header). layout_named x.version) is) in
+    shows-none c.layout-version.result s (area_of l s header.area file) c.in-Ok.records header.limits.in_range (c.in-Ok.ensures.found h) (c.show.ensures.bad e) m
+    (shown-in l (seen header) file (area_of l s header.area file) m is refl (subst (λ (l : Layout). IsShown l file m) named shown))
+
+pub returns-in-Err-clause-bad : goal.returns-in-Err-clause-bad
+returns-in-Err-clause-bad g c = λ e h m shown.
+    let file = (g.D.Disk.now c.args.disk.now).bytes in
+    let header = c.args.header.now in
+    let is = (c.requires.sound (c.read_records.ensures.honest h)).is in
+    let l = layout_of c.layout-version.result in
+    let s = sizes_of header.limits in
+    let named : layout_in file ≡ l = sym (c.layout-version.ensures ∙ ap (λ (x : Header). layout_named x.version) is) in
+    let shows = shown-in l (seen header) file (area_of l s header.area file) m is refl (subst (λ (l : Layout). IsShown l file m) named shown) in
+    c.in-Err.ensures.bad (refused-same c.in-Err.refusal _ e) h shows.records shows.spelled

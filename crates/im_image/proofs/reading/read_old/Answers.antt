@@ -1,7 +1,6 @@
 use Rattle.std.proofs.Common.{◌≡◌, sym, subst}
 use Rattle.im_types.specs.Header.{header_of, header_fault}
 use Rattle.im_types.specs.Layout.{Layout}
-use Rattle.im_types.specs.Header.{layout_in}
 use Rattle.std.proofs.Common.{None}
 use Rattle.im_disk.specs.Moment.{Moment}
 use Rattle.im_disk.proofs.SinceLemmas.{reads_then}

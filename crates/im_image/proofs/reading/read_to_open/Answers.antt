@@ -1,11 +1,10 @@
-use Rattle.std.proofs.Common.{◌≡◌, inl, inr, ⊎_elim, Ok, sym, subst}
-use Rattle.im_types.specs.Header.{header_of, layout_in}
-use Rattle.im_types.specs.Meaning.{Reads}
+use Rattle.std.proofs.Common.{◌≡◌, inl, inr, ⊎_elim, sym, subst}
+use Rattle.im_types.specs.Header.{header_of}
 use Rattle.im_disk.specs.Moment.{Moment}
 use Rattle.im_disk.proofs.SinceLemmas.{reads_then}
 use Rattle.im_journal.specs.Holding.{Holds}
 use Rattle.im_image.specs.Headers.{seen}
-use Rattle.im_image.specs.Reading.{HasHeader, IsImageOf, reached}
+use Rattle.im_image.specs.Reading.{HasHeader, IsImageOf}
 use Rattle.im_image.proofs.Outcomes.{read-ok}
 use Rattle.im_image.proofs.ToOpen.{to_open_means, to_open_named, to_open_fault, header_version}
 use Rattle.im_image.proofs.reading.read_to_open.Goals as goal

@@ -1,4 +1,4 @@
-use Rattle.std.proofs.Common.{◌≡◌, Bool, true, sym, ap, ◌∙◌, take, ℕ, List}
+use Rattle.std.proofs.Common.{◌≡◌, Bool, true, sym, ap, ◌∙◌, take, ℕ}
 use Rattle.std.specs.Prelude.{IsTrue}
 use Rattle.im_types.specs.Bytes.{same_bytes}
 use Rattle.im_types.specs.Layout.{layout_of}

@@ -1,0 +1,8 @@
+use Rattle.std.proofs.Common.{◌*◌}
+use Rattle.std.proofs.lemmas.Result.{IfOk-weaker}
+use Rattle.im_types.specs.Layout.{sizes_of, page_bytes, cell_pages}
+use Rattle.im_records.proofs.area.cells_of.Goals as goal
+
+pub returns-clause-found : goal.returns-clause-found
+returns-clause-found c =
+    IfOk-weaker c.rest_of_cells.result _ _ (λ row found area stands first. found (page_bytes * cell_pages (sizes_of c.args.limits)) area c.requires.part stands first) (rw c.node_count.ensures at c.rest_of_cells.ensures.found)

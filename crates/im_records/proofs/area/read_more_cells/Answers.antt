@@ -1,0 +1,16 @@
+use Rattle.std.proofs.Common.{ℕ, ◌*◌, sym, subst}
+use Rattle.im_types.specs.declared.TheConstants.{NONE}
+use Rattle.im_types.specs.declared.records.CellRecord.TheVariants.{Free as FreeCell}
+use Rattle.im_types.specs.Layout.{layout_of, sizes_of, node_count, page_bytes, cell_pages}
+use Rattle.im_types.specs.Records.{cell_bytes, FitsCell}
+use Rattle.im_records.specs.Rows.{BeginWithCells}
+use Rattle.im_records.proofs.Parts.{cells_fit, beginning_of_row}
+use Rattle.im_records.proofs.area.read_more_cells.Goals as goal
+
+pub returns-clause-bad : goal.returns-clause-bad
+returns-clause-bad c = λ e area r stands spells.
+    let s = sizes_of c.args.limits in
+    let n = node_count (layout_of c.args.version) s in
+    c.push_cells.ensures.bad e area r.cells stands
+    (subst (λ (nodes : ℕ). BeginWithCells s.cells s.cells nodes area r.cells) (sym c.node_count-nodes.ensures)
+    (beginning_of_row 32 cell_bytes (FitsCell s.cells n) (FreeCell 0 NONE) s.cells (page_bytes * cell_pages s) area r.cells (cells_fit s.cells) spells.cells))
