@@ -1,0 +1,118 @@
+//! What is asked of a memory, what it answers, and what an engine shows of it.
+
+use anyhow::{Result, anyhow};
+use im_disk::FuseDisk;
+use im_engine::Engine;
+use im_story::add_outcome;
+use im_types::{Entry, Kind, Op, Outcome, Refusal, Reply, Request};
+
+/// How many requests there are.
+pub const ALL: usize = 4;
+
+/// How many of them make the block.
+pub const FIRST: usize = 1;
+
+/// The requests by their place: one makes a block of two cells, the others are a store and two fetches there. So none
+/// is answered otherwise when it is asked again.
+pub fn asked(at: usize) -> Request {
+    let (element, number, op) = match at {
+        0 => (0, 1, Op::Alloc(Kind::I, 2)),
+        1 => (2, 1, Op::Store(0, 5)),
+        2 => (1, 1, Op::Fetch(0)),
+        _ => (1, 2, Op::Fetch(1)),
+    };
+    Request {
+        element,
+        number,
+        op,
+    }
+}
+
+// What is kept for them.
+fn answer(at: usize) -> Entry {
+    match at {
+        0 => Entry::Answered(Reply::Base(0)),
+        1 => Entry::Answered(Reply::Stored),
+        2 => Entry::Answered(Reply::Value(5)),
+        _ => Entry::Waiting,
+    }
+}
+
+/// Adds an answer.
+pub fn add_answer(said: &mut String, outcome: Outcome) -> Result<()> {
+    said.push_str(" ")?;
+    add_outcome(said, Ok(outcome))?;
+    said.push_str(",")?;
+    Ok(())
+}
+
+// Whether the request of this place was answered, or else its number isn't used.
+fn is_kept(engine: &Engine<FuseDisk>, at: usize, is_answered: bool) -> bool {
+    let Request {
+        element,
+        number,
+        op: _,
+    } = asked(at);
+    match engine.collect(element, number) {
+        Ok(entry) => is_answered && entry == answer(at),
+        Err(refusal) => !is_answered && refusal == Refusal::Gap,
+    }
+}
+
+/// Whether a memory has answered so many of the requests, and nothing else was asked.
+pub fn has_first(engine: &Engine<FuseDisk>, many: usize) -> bool {
+    for at in 0..ALL {
+        if !is_kept(engine, at, at < many) {
+            return false;
+        }
+    }
+    engine.count() == many as u64
+}
+
+/// What an engine shows beside its memory.
+#[derive(Clone, Copy, PartialEq, Eq)]
+pub struct State {
+    /// The calls of its disk so far.
+    pub calls: u64,
+    /// The commands so far.
+    pub count: u64,
+    /// The room for more.
+    pub room: u64,
+    /// Whether its disk has failed.
+    pub failed: bool,
+}
+
+/// What an engine shows now.
+pub fn state_of(engine: &Engine<FuseDisk>) -> State {
+    State {
+        calls: engine.disk().calls(),
+        count: engine.count(),
+        room: u64::from(engine.room()),
+        failed: engine.failed(),
+    }
+}
+
+/// By which bytes are known again.
+pub fn sum_of(bytes: &[u8]) -> u64 {
+    let mut sum = 0u64;
+    for byte in bytes {
+        sum = sum.wrapping_mul(31).wrapping_add(u64::from(*byte));
+    }
+    sum
+}
+
+/// Sees that a call which makes none of the disk is refused for want of memory, and that all is as it was.
+pub fn lacks_memory(refusal: Refusal, is_same: bool) -> Result<()> {
+    if is_same && refusal == Refusal::NoMemory {
+        return Ok(());
+    }
+    Err(anyhow!("refused {refusal}, as it was before: {is_same}"))
+}
+
+/// Sees the same of a call that may be refused by the disk, whose record can't grow.
+pub fn is_refused(refusal: Refusal, is_same: bool) -> Result<()> {
+    if is_same && refusal == Refusal::Device {
+        return Ok(());
+    }
+    lacks_memory(refusal, is_same)
+}

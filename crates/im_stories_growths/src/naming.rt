@@ -1,0 +1,46 @@
+//! A controller gets a name, and its ports are asked.
+
+ghost use Rattle.std.specs.Prelude.{◌≡◌};
+ghost use Rattle.im_controller.specs.Kept.{begun_in};
+
+use crate::asked::State;
+use crate::ports::ask;
+use anyhow::Result;
+use im_controller::{Name, Opening};
+use im_disk::{Disk, FuseDisk};
+use im_engine::Engine;
+use std::alloc::Global;
+use std::marker::Brand;
+use std::sync::Wait;
+
+// Asks the ports of a controller that has a name.
+fn act_named<K: Name, R: Wait>(
+    rt: &R,
+    alloc: Global,
+    opening: Opening<FuseDisk>,
+    before: State,
+    said: &mut String,
+) -> Result<Engine<FuseDisk>>
+    requires memory { opening.engine.memory ≡ K.memory }
+    requires lines { opening.lines_name ≡ K.lines_name }
+    requires marked { opening.marked_name ≡ K.marked_name }
+    requires ports { opening.ports ≡ K.ports }
+    requires book { opening.book ≡ K.book }
+    requires plan { opening.plan ≡ K.plan }
+    requires begun { begun_in ⟦<FuseDisk as Disk>⟧.now ⟦<FuseDisk as Disk>⟧.past ⟦<FuseDisk as Disk>⟧.failures
+        opening.engine ≡ K.begun }
+    requires honest { ⟦<FuseDisk as Disk>⟧.honest opening.engine.disk → K.honest }
+{
+    ask(rt, alloc, opening.named::<K>(), before, said)
+}
+
+/// Asks the ports of a controller of its own, over an engine that showed this.
+pub fn act_on<R: Wait>(
+    rt: &R,
+    alloc: Global,
+    opening: Opening<FuseDisk>,
+    before: State,
+    said: &mut String,
+) -> Result<Engine<FuseDisk>> {
+    act_named::<Brand, R>(rt, alloc, opening, before, said)
+}
