@@ -143,3 +143,32 @@ answers 0 to 3 = base 0, refused 1 Gap, waiting, refused 4 Mismatch
 answers 4 to 7 = waiting, refused 8 Device, 2 refused 9 Failed
 count = 2
 room = 30
+
+# Cells that an opening reads in three parts are found again, and so is who waits at one
+-- An area has 157 pages of cells, one of nodes and two of sessions. Those of the cells from 8,192 and from 16,384 on are
+-- read by calls of their own.
+format 20000 2 16 = formatted
+0.1 alloc i 20000 = base 0
+1.1 store 0 1 = stored
+1.2 store 8191 2 = stored
+1.3 store 8192 3 = stored
+1.4 store 16383 4 = stored
+1.5 store 16384 5 = stored
+1.6 store 19999 6 = stored
+1.7 fetch 12000 = waiting
+turns 167 = began, page 0 to 159, synced, in force, 3 swept, idle; room 163x8 11 14 2x16
+close = closed
+crash lost = crashed
+open = opened
+count = 8
+room = 16
+cell 0 = full 1 in block 0 of 20000 i
+cell 8191 = full 2 in block 0 of 20000 i
+cell 8192 = full 3 in block 0 of 20000 i
+cell 16383 = full 4 in block 0 of 20000 i
+cell 16384 = full 5 in block 0 of 20000 i
+cell 19999 = full 6 in block 0 of 20000 i
+waiting 12000 = 1.7
+1.8 store 12000 7 = stored
+collect 1.7 = value 7
+1.9 fetch 16385 = waiting
