@@ -173,7 +173,7 @@ fn show_too_much<R: Wait>(rt: &R, alloc: Global, limits: Limits, said: &mut Stri
     show_no_trace(rt, alloc, disk, said)
 }
 
-// State each call that takes memory, but for those of threads.
+// Shows each call that takes memory, but for those of threads.
 fn show<R: Wait>(rt: &R, alloc: Global, said: &mut String) -> Result<()> {
     let Some(limits) = Limits::new(4, 3, 16) else {
         return Err(anyhow!("these are no sizes"));
