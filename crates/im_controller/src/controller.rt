@@ -15,12 +15,12 @@ use crate::bell::Bell;
 use crate::books::Tally;
 use crate::groups::hold;
 use crate::inbox::Inbox;
+use crate::keeping::{Kept, keep_once, make_room, mark_ended};
 use crate::name::{Name, Shown};
 use crate::ports::Port;
 use crate::receipts::Receipt;
 use crate::shared::{
-    Kept, Shared, Sleepers, keep_once, lend, make_glance, make_port, mark_ended, stands_for,
-    who_is_answered, who_sleeps,
+    Shared, Sleepers, lend, make_glance, make_port, stands_for, who_is_answered, who_sleeps,
 };
 use crate::tellers::{Silent, Teller};
 use crate::turns::Turns;
@@ -42,24 +42,17 @@ pub struct Controller<D: Disk, K: Name> {
     pub(crate) turns: Turns,
     pub(crate) answers: Bell,
     pub(crate) work: Bell,
-    pub(crate) keeper: usize,
 }
 
 impl<D: Disk, K: Name> Controller<D, K> {
-    // A controller over these. The keeper's place in the queue is behind those of the elements.
-    pub(crate) fn over(
-        shared: Shared<D, K>,
-        inbox: Inbox,
-        turns: Turns,
-        keeper: usize,
-    ) -> Controller<D, K> {
+    // A controller over these.
+    pub(crate) fn over(shared: Shared<D, K>, inbox: Inbox, turns: Turns) -> Controller<D, K> {
         Controller {
             shared: Mutex::new(shared),
             inbox: Mutex::new(inbox),
             turns,
             answers: Bell::new(),
             work: Bell::new(),
-            keeper,
         }
     }
 
@@ -99,9 +92,10 @@ impl<D: Disk, K: Name> Controller<D, K> {
     }
 
     /// The loop of the thread that keeps checkpoints: one turn for each holding of the lock, asleep while there is
-    /// nothing to do, until the controller ends. While the journal has less room than there are elements it keeps its
-    /// place at the head of the queue, so that groups don't shrink to what one turn makes free. `Device` where a call
-    /// of the disk failed in its turn, and `Failed` where an earlier one did.
+    /// nothing to do, until the controller ends. It goes last in the queue, so that its turns are made while no port
+    /// asks; where the journal has less room than there are elements, whoever is about to lend the engine makes turns
+    /// in its place, and where it had its turn already it keeps that. `Device` where a call of the disk failed in its
+    /// turn, and `Failed` where an earlier one did.
     pub fn keep_checkpoints<R: Wait>(&self, rt: &R) -> Result<(), Refusal>
         ensures only { IfErr result IsTurnFault }
     {
@@ -118,7 +112,7 @@ impl<D: Disk, K: Name> Controller<D, K> {
         ensures only { IfErr result IsTurnFault }
     {
         let mut listens = teller.listens();
-        let mut turn = self.turns.wait(rt, self.keeper);
+        let mut turn = self.turns.wait_to_keep(rt);
         for _ in rt.forever() {
             let mut guard = self.shared.lock(rt);
             let kept = keep_once(&mut *guard);
@@ -143,7 +137,7 @@ impl<D: Disk, K: Name> Controller<D, K> {
                 }
             }
             listens = teller.listens();
-            turn = self.turns.wait(rt, self.keeper);
+            turn = self.turns.wait_to_keep(rt);
         }
         unreachable!()
     }
@@ -173,6 +167,7 @@ impl<D: Disk, K: Name> Controller<D, K> {
     {
         let turn = self.turns.wait(rt, place as usize);
         let mut guard = self.shared.lock(rt);
+        make_room(&mut *guard);
         let answer = lend(rt, &mut *guard, tally, command);
         let sleepers = who_sleeps(&mut *guard);
         let _lock = MutexGuard::unlock(guard);

@@ -63,7 +63,6 @@ pub fn finish<D: Disk, K: Name, R: Wait>(
         turns: _,
         answers: _,
         work: _,
-        keeper: _,
     } = controller;
     let Shared {
         engine,
@@ -73,8 +72,7 @@ pub fn finish<D: Disk, K: Name, R: Wait>(
         servers: _,
         plan: _,
         reserve,
-        ended: _,
-        idle: _,
+        keeper: _,
     } = shared.into_inner();
     pane.end(rt);
     let Log {

@@ -13,6 +13,7 @@ ghost use Rattle.im_controller.specs.Admitted.{is_asked, is_picked, picked, admi
 
 use crate::books::Tally;
 use crate::inbox::Inbox;
+use crate::keeping::make_room;
 use crate::log::Log;
 use crate::name::Name;
 use crate::panes::{choose, places_with, show_put};
@@ -299,8 +300,9 @@ pub fn lend_group<D: Disk, K: Name, R: Wait>(
     lend_members(rt, shared, &lent)
 }
 
-// Serves all that is asked and whose answer has a free place, group by group.
+// Serves all that is asked and whose answer has a free place, group by group, once there is room for all elements.
 fn serve_asked<D: Disk, K: Name, R: Wait>(rt: &R, shared: &mut Shared<D, K>, inbox: &Mutex<Inbox>) {
+    make_room(shared);
     let mut from = 0;
     for _ in 0..shared.log.elements() {
         let room = shared.log.room();

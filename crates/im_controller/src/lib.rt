@@ -11,6 +11,7 @@ mod controller;
 mod finishing;
 mod groups;
 mod inbox;
+mod keeping;
 mod log;
 mod name;
 mod opening;

@@ -12,6 +12,7 @@ ghost use Rattle.im_controller.specs.Servers.{is_unmade};
 use crate::books::{Books, Reserve};
 use crate::controller::Controller;
 use crate::inbox::Inbox;
+use crate::keeping::Keeper;
 use crate::log::{Log, Unclaimed, free_places};
 use crate::name::{Lines, Marked, Name, Shown};
 use crate::servers::Servers;
@@ -269,9 +270,8 @@ impl<D: Disk> Opening<D> {
             servers,
             plan,
             reserve,
-            ended: false,
-            idle: false,
+            keeper: Keeper::Absent,
         };
-        Controller::over(shared, inbox, turns, ports as usize)
+        Controller::over(shared, inbox, turns)
     }
 }

@@ -17,6 +17,7 @@ ghost use Rattle.im_controller.specs.Planned.{TellsOf, TellsFound};
 ghost use Rattle.im_controller.specs.Waits.{Awaits, IsTold, IsFoundOf, entry_of};
 
 use crate::books::{Reserve, Tally};
+use crate::keeping::{Keeper, wake_keeper};
 use crate::log::Log;
 use crate::name::{Name, Shown};
 use crate::panes::{put_ahead, show_put};
@@ -52,8 +53,7 @@ pub struct Shared<D: Disk, K: Name> {
     pub(crate) servers: Servers,
     pub(crate) plan: Option<Plan>,
     pub(crate) reserve: Reserve<K>,
-    pub(crate) ended: bool,
-    pub(crate) idle: bool,
+    pub(crate) keeper: Keeper,
 }
 
 impl<D: Disk, K: Name> Model for Shared<D, K> {
@@ -314,50 +314,6 @@ pub(crate) fn stands_for<D: Disk, K: Name>(
     Some(stands(shared))
 }
 
-// What the checkpointing thread comes to in one holding of the lock.
-#[derive(Clone, Copy)]
-pub(crate) enum Kept {
-    Ended,
-    Worked,
-    Pressed, // It worked, and more has to be made free before all elements are served.
-    Idle,
-}
-
-// One holding of the lock by the checkpointing thread: one turn, unless the controller has ended.
-pub(crate) fn keep_once<D: Disk, K: Name>(shared: &mut Shared<D, K>) -> Result<Kept, Refusal>
-    ensures { IfErr result IsTurnFault }
-{
-    if shared.ended {
-        return Ok(Kept::Ended);
-    }
-    match lend_turn(shared) {
-        Ok(TurnDone::Idle) => Ok(fall_asleep(shared)),
-        Ok(_) => {
-            if shared.engine.room() < shared.log.elements() as u32 {
-                return Ok(Kept::Pressed);
-            }
-            Ok(Kept::Worked)
-        }
-        Err(refusal) => {
-            if refusal == Refusal::JournalFull {
-                return Ok(fall_asleep(shared)); // Only a command makes it work again.
-            }
-            Err(refusal)
-        }
-    }
-}
-
-// There is nothing to do: whoever lends next wakes the checkpointing thread.
-fn fall_asleep<D: Disk, K: Name>(shared: &mut Shared<D, K>) -> Kept {
-    shared.idle = true;
-    Kept::Idle
-}
-
-// Ends the loops that keep checkpoints.
-pub(crate) fn mark_ended<D: Disk, K: Name>(shared: &mut Shared<D, K>) {
-    shared.ended = true;
-}
-
 // Who is to be woken.
 #[derive(Clone, Copy)]
 pub(crate) struct Sleepers {
@@ -367,10 +323,8 @@ pub(crate) struct Sleepers {
 
 // Who sleeps and may have something to do now.
 pub(crate) fn who_sleeps<D: Disk, K: Name>(shared: &mut Shared<D, K>) -> Sleepers {
-    let keeper = shared.idle;
-    shared.idle = false;
     Sleepers {
-        keeper,
+        keeper: wake_keeper(&mut shared.keeper),
         servers: shared.servers.is_one_waiting(),
     }
 }

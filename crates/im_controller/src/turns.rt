@@ -1,15 +1,20 @@
 //! First come, first served: a queue in front of the lock. A lock that isn't fair is taken again by whoever lets it go,
 //! before those that it wakes, and then no group gets large. Those for whom an answer waits go past the queue together,
 //! as they have but to take it, and nobody else before the last of them has gone on: by then most ask again, and are
-//! served by one group. No clause speaks of it.
+//! served by one group. The thread that keeps checkpoints goes where nobody else waits, or once so many others have gone
+//! before it. No clause speaks of it.
 use arrayvec::ArrayVec;
 use std::alloc::{AllocError, Global};
 use std::sync::{Condvar, Mutex, Wait};
+
+// How many others go before the keeper at most, once it is first.
+const PATIENCE: u32 = 16;
 
 #[derive(Drop)]
 struct Queue {
     within: usize, // How many are past it, and haven't gone on.
     waiting: ArrayVec<usize, 65>, // The places of 64 elements, and the keeper's.
+    bypassed: u32, // How many others went before the keeper, since it is first.
 }
 
 #[derive(Drop)]
@@ -40,8 +45,21 @@ fn is_among(place: usize, elements: &[u16]) -> bool {
 }
 
 impl Queue {
-    // Takes out who goes past it next: all of these elements that wait in it, or else the first in it.
-    fn take_next(&mut self, elements: &[u16]) -> ArrayVec<usize, 65> {
+    // Where in a list of those who wait the next one is: the first, but for a keeper that lets others go before it.
+    fn next_of(&mut self, waiting: &[usize], keeper: usize) -> usize {
+        if waiting.first() != Some(&keeper) {
+            return 0;
+        }
+        if waiting.len() > 1 && self.bypassed < PATIENCE {
+            self.bypassed = self.bypassed.saturating_add(1);
+            return 1;
+        }
+        self.bypassed = 0;
+        0
+    }
+
+    // Takes out who goes past it next: all of these elements that wait in it, or else the next one.
+    fn take_next(&mut self, elements: &[u16], keeper: usize) -> ArrayVec<usize, 65> {
         let mut next = ArrayVec::new();
         let mut rest = ArrayVec::new();
         for place in self.waiting.as_slice() {
@@ -52,8 +70,11 @@ impl Queue {
             };
             let _room = list.try_push(*place);
         }
-        if next.is_empty() && !rest.is_empty() {
-            let _room = next.try_push(rest.remove(0));
+        if next.is_empty() {
+            let at = self.next_of(rest.as_slice(), keeper);
+            if at < rest.len() {
+                let _room = next.try_push(rest.remove(at));
+            }
         }
         self.waiting = rest;
         self.within = next.len();
@@ -74,9 +95,20 @@ impl Turns {
             queue: Mutex::new(Queue {
                 within: 0,
                 waiting: ArrayVec::new(),
+                bypassed: 0,
             }),
             places: all,
         })
+    }
+
+    // The place of the thread that keeps checkpoints, behind those of the elements.
+    fn keeper(&self) -> usize {
+        self.places.len().saturating_sub(1)
+    }
+
+    // Waits until it is the keeper's turn.
+    pub(crate) fn wait_to_keep<R: Wait>(&self, rt: &R) -> Turn {
+        self.wait(rt, self.keeper())
     }
 
     // Waits until it is this thread's turn. Where the queue is full, it goes past it.
@@ -123,7 +155,7 @@ impl Turns {
         if queue.within > 0 {
             return;
         }
-        let next = queue.take_next(answered);
+        let next = queue.take_next(answered, self.keeper());
         drop(guard);
         for place in next.as_slice() {
             self.call(rt, *place);

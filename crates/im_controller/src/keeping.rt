@@ -1,0 +1,105 @@
+//! The thread that keeps checkpoints, and who makes turns in its place.
+ghost use Rattle.std.specs.Prelude.{◌≡◌, IfErr};
+ghost use Rattle.im_controller.specs.Lends.{IsTurnFault};
+
+use crate::name::Name;
+use crate::shared::{Shared, lend_turn};
+use im_checkpoint::TurnDone;
+use im_disk::Disk;
+use im_types::Refusal;
+
+// More turns than a checkpoint of the largest image takes, with all slots that it closes.
+const TURNS: u32 = 65_536;
+
+// What the thread that keeps checkpoints does.
+#[derive(Clone, Copy)]
+pub(crate) enum Keeper {
+    Absent, // It hasn't held the lock yet.
+    Works,
+    Sleeps,
+    Ended,
+}
+
+// What the checkpointing thread comes to in one holding of the lock.
+#[derive(Clone, Copy)]
+pub(crate) enum Kept {
+    Ended,
+    Worked,
+    Pressed, // It worked, and more has to be made free before all elements are served.
+    Idle,
+}
+
+// Whether the journal has less room than there are elements.
+fn is_pressed<D: Disk, K: Name>(shared: &Shared<D, K>) -> bool {
+    shared.engine.room() < shared.log.elements() as u32
+}
+
+// Makes turns in the keeper's place, by whoever is about to lend the engine, until all elements have room: so no thread
+// has to wait for another one between a group and the next. Without a keeper, or where it has found nothing to do, none
+// is made.
+pub(crate) fn make_room<D: Disk, K: Name>(shared: &mut Shared<D, K>) {
+    if !matches!(shared.keeper, Keeper::Works) {
+        return;
+    }
+    for _ in 0..TURNS {
+        if !is_pressed(shared) || !is_turn_made(shared) {
+            return;
+        }
+    }
+}
+
+// One turn, and whether it did anything.
+fn is_turn_made<D: Disk, K: Name>(shared: &mut Shared<D, K>) -> bool {
+    match lend_turn(shared) {
+        Ok(TurnDone::Idle) => false,
+        Ok(_) => true,
+        Err(_) => false, // The next call of the engine tells of it.
+    }
+}
+
+// One holding of the lock by the checkpointing thread: one turn, unless the controller has ended.
+pub(crate) fn keep_once<D: Disk, K: Name>(shared: &mut Shared<D, K>) -> Result<Kept, Refusal>
+    ensures { IfErr result IsTurnFault }
+{
+    if matches!(shared.keeper, Keeper::Ended) {
+        return Ok(Kept::Ended);
+    }
+    shared.keeper = Keeper::Works;
+    match lend_turn(shared) {
+        Ok(TurnDone::Idle) => Ok(fall_asleep(shared)),
+        Ok(_) => {
+            if is_pressed(shared) {
+                return Ok(Kept::Pressed);
+            }
+            Ok(Kept::Worked)
+        }
+        Err(refusal) => {
+            if refusal == Refusal::JournalFull {
+                return Ok(fall_asleep(shared)); // Only a command makes it work again.
+            }
+            Err(refusal)
+        }
+    }
+}
+
+// There is nothing to do: whoever lends next wakes the checkpointing thread.
+fn fall_asleep<D: Disk, K: Name>(shared: &mut Shared<D, K>) -> Kept {
+    shared.keeper = Keeper::Sleeps;
+    Kept::Idle
+}
+
+// Ends the loops that keep checkpoints.
+pub(crate) fn mark_ended<D: Disk, K: Name>(shared: &mut Shared<D, K>) {
+    shared.keeper = Keeper::Ended;
+}
+
+// Whether the keeper sleeps: then it is to work.
+pub(crate) fn wake_keeper(keeper: &mut Keeper) -> bool {
+    match *keeper {
+        Keeper::Sleeps => {
+            *keeper = Keeper::Works;
+            true
+        }
+        Keeper::Absent | Keeper::Works | Keeper::Ended => false,
+    }
+}
