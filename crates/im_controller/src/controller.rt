@@ -15,7 +15,7 @@ use crate::bell::Bell;
 use crate::books::Tally;
 use crate::groups::hold;
 use crate::inbox::Inbox;
-use crate::keeping::{Kept, keep_once, make_room, mark_ended};
+use crate::keeper::{Kept, keep_once, make_room, mark_ended};
 use crate::name::{Name, Shown};
 use crate::ports::Port;
 use crate::receipts::Receipt;

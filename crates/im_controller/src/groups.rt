@@ -13,7 +13,7 @@ ghost use Rattle.im_controller.specs.Admitted.{is_asked, is_picked, picked, admi
 
 use crate::books::Tally;
 use crate::inbox::Inbox;
-use crate::keeping::make_room;
+use crate::keeper::make_room;
 use crate::log::Log;
 use crate::name::Name;
 use crate::panes::{choose, places_with, show_put};

@@ -11,7 +11,7 @@ mod controller;
 mod finishing;
 mod groups;
 mod inbox;
-mod keeping;
+mod keeper;
 mod log;
 mod name;
 mod opening;

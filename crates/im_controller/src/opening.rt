@@ -12,7 +12,7 @@ ghost use Rattle.im_controller.specs.Servers.{is_unmade};
 use crate::books::{Books, Reserve};
 use crate::controller::Controller;
 use crate::inbox::Inbox;
-use crate::keeping::Keeper;
+use crate::keeper::Keeper;
 use crate::log::{Log, Unclaimed, free_places};
 use crate::name::{Lines, Marked, Name, Shown};
 use crate::servers::Servers;

@@ -17,7 +17,7 @@ ghost use Rattle.im_controller.specs.Planned.{TellsOf, TellsFound};
 ghost use Rattle.im_controller.specs.Waits.{Awaits, IsTold, IsFoundOf, entry_of};
 
 use crate::books::{Reserve, Tally};
-use crate::keeping::{Keeper, wake_keeper};
+use crate::keeper::{Keeper, wake_keeper};
 use crate::log::Log;
 use crate::name::{Name, Shown};
 use crate::panes::{put_ahead, show_put};
