@@ -1,5 +1,5 @@
 -- Blocks stay whole.
-use Rattle.std.proofs.Common.{◌≡◌, inl, inr, ⊎_elim, ℕ, zero, suc, ◌+◌, ◌<◌, ◌≤◌, List, [], ◌∷◌, ◌++◌, map, take, length, get_or, set, replicate, Some, None, refl, sym, ap, ◌∙◌, subst, arith, length-set}
+use Rattle.std.proofs.Common.{◌≡◌, inl, inr, ⊎_elim, ℕ, zero, suc, ◌+◌, ◌<◌, ◌≤◌, List, [], ◌∷◌, ◌++◌, map, take, length, get_or, set, Some, None, refl, sym, ap, ◌∙◌, subst, arith, length-set}
 use Rattle.std.specs.Prelude.{Option}
 use Rattle.std.proofs.lemmas.Bool.{cases_lt, cases_eq}
 use Rattle.std.proofs.lemmas.List.{get_or-set_same, get_or-set_other, get_or_past, take_more}
@@ -13,29 +13,16 @@ use Rattle.im_types.specs.declared.cells.Cell.TheVariants.{Empty}
 use Rattle.im_types.specs.declared.records.CellRecord.{CellRecord}
 use Rattle.im_cell.specs.declared.slots.Slot.{Slot}
 use Rattle.im_cell.specs.declared.records.Record.{Record}
-use Rattle.im_types.specs.declared.TheConstants.{NONE}
 use Rattle.im_cell.specs.declared.records.Record.TheVariants.{Empty as IsEmpty, Waiting as IsWaiting, Full as IsFull, Clashed as IsClashed, Free}
 use Rattle.im_cell.specs.Records.{slot_of, slots_of, record_shown}
 use Rattle.im_cell.specs.Slots.{slot_at, block_in, block_at, with_cell, new_slot, empty_slot, shown_slot, HasBlocks}
 
+-- something is not nothing
 some_none : {X : Type 0} (x : X) → Some x ≡ None → ⊥
 some_none x e = cc
 
 some_same : (b c : Block) → Some b ≡ Some c → b ≡ c
 some_same b c e = cc
-
-get_or-nothing : (n a : ℕ) → get_or {A = Option Slot} (replicate n None) a None ≡ None
-get_or-nothing zero zero = refl
-get_or-nothing zero (suc a) = refl
-get_or-nothing (suc n) zero = refl
-get_or-nothing (suc n) (suc a) = get_or-nothing n a
-
--- where all is free there is no block
-pub HasBlocks-free : (n : ℕ) → HasBlocks (replicate n None)
-HasBlocks-free n = record {
-  within = λ a block is. absurd (some_none block (sym is ∙ ap block_in (get_or-nothing n a)));
-  whole = λ a block is. absurd (some_none block (sym is ∙ ap block_in (get_or-nothing n a)));
-}
 
 -- another cell in the same block
 pub HasBlocks-set : (slots : List (Option Slot)) (a : ℕ) (slot : Slot) (cell : Cell) → slot_at slots a ≡ Some slot → HasBlocks slots → HasBlocks (set slots a (new_slot slot.block cell))
@@ -121,6 +108,7 @@ change_each-fill change (y ∷ xs) (suc base) n x same =
 
 -- the cells of a block are empty
 module _ (slots : List (Option Slot)) (block : Block) (at : block_at slots block.base ≡ Some block) (blocks : HasBlocks slots) where
+  -- emptied one by one, they are filled
   pub emptied-fill : change_each (with_cell Empty) slots block.base block.length ≡ fill slots block.base block.length (new_slot block Empty)
   emptied-fill = change_each-fill (with_cell Empty) slots block.base block.length (new_slot block Empty) (λ b lo hi h. empty_there (slot_at slots b) (blocks.whole block.base block at b lo hi))
     where
@@ -128,6 +116,7 @@ module _ (slots : List (Option Slot)) (block : Block) (at : block_at slots block
       empty_there None is = absurd (some_none block (sym is))
       empty_there (Some slot) is = ap (λ b. new_slot b Empty) (some_same slot.block block is)
 
+  -- the blocks are as they were
   pub HasBlocks-emptied : HasBlocks (fill slots block.base block.length (new_slot block Empty))
   HasBlocks-emptied = subst HasBlocks emptied-fill (record {
     within = λ a b is. let w = blocks.within a b (sym (same a) ∙ is) in (w.0, w.1, omega (arith, long));
@@ -150,6 +139,7 @@ pub record IsBlock (slots : List (Option Slot)) (block : Block) : Type 0 where
   pub some : 0 < block.length
   pub inside : block.base + block.length ≤ length slots
 
+-- a slot that stands at the base of its own block
 pub IsBlock-base : (slots : List (Option Slot)) (a : ℕ) (slot : Slot) → slot_at slots a ≡ Some slot → slot.block.base ≡ a → HasBlocks slots → IsBlock slots slot.block
 IsBlock-base slots a slot at base blocks =
     let here : block_at slots slot.block.base ≡ Some slot.block = ap (block_at slots) base ∙ ap block_in at in
@@ -163,11 +153,6 @@ IsBlock-base slots a slot at base blocks =
 -- the same, where a look-up at an address of the table found it
 pub IsBlock-found : (slots value : List (Option Slot)) (a : ℕ) (found : Option Slot) (slot : Slot) → slots ≡ value → found ≡ slot_at value a → found ≡ Some slot → slot.block.base ≡ a → HasBlocks slots → IsBlock slots slot.block
 IsBlock-found slots value a found slot same look is base blocks = IsBlock-base slots a slot (ap (λ s. slot_at s a) same ∙ sym look ∙ is) base blocks
-
--- the slots of new records
-pub slots-new : (n : ℕ) → slots_of (replicate n (Free 0 NONE)) ≡ replicate n None
-slots-new zero = refl
-slots-new (suc n) = ap (λ slots. None ∷ slots) (slots-new n)
 
 -- the slots of records are those that they show
 slot-shown : (kept : Record) → slot_of kept ≡ shown_slot (record_shown kept)
@@ -188,10 +173,6 @@ slots-shown records row view = each records ∙ ap (map shown_slot) view
 pub row-more : (cells row new : List CellRecord) (i : ℕ) (d : CellRecord) → row ≡ take i cells → i < length cells → new ≡ row ++ get_or cells i d ∷ [] → new ≡ take (i + 1) cells
 row-more cells row new i d begun inside pushed =
     pushed ∙ ap (λ (row : List CellRecord). row ++ get_or cells i d ∷ []) begun ∙ sym (take_more cells i d inside)
-
--- a record set at an address, spelled otherwise
-pub set-same : (records : List Record) (at a : ℕ) (kept : Record) → at ≡ a → set records at kept ≡ set records a kept
-set-same records at a kept same = ap (λ i. set records i kept) same
 
 -- the same of a block that was found at an address of the table
 pub IsBlock-at : (slots value : List (Option Slot)) (a : ℕ) (block : Block) → slots ≡ value → block.base ≡ a → block_at value a ≡ Some block → HasBlocks slots → IsBlock slots block

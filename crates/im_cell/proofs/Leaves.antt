@@ -1,6 +1,7 @@
 -- The leaves of a tree, as cells change.
-use Rattle.std.proofs.Common.{◌≡◌, ℕ, zero, suc, ◌+◌, ◌-◌, ◌*◌, ◌/◌, ◌<◌, ◌≤◌, List, [], ◌∷◌, length, map, take, drop, set, get_or, Bool, Option, None, Some, inl, inr, refl, sym, ap, ◌∙◌, subst, arith}
+use Rattle.std.proofs.Common.{◌≡◌, ℕ, zero, suc, ◌+◌, ◌-◌, ◌*◌, ◌/◌, ◌<◌, ◌≤◌, ◌^◌, List, [], ◌∷◌, length, map, take, drop, set, get_or, Bool, Option, None, Some, inl, inr, refl, sym, ap, ◌∙◌, subst, arith}
 use Rattle.std.specs.Prelude.{option_map, cond}
+use Rattle.std.proofs.Math.Nat.{add-mul, one-mul, le-div_iff_mul-le, div-lt_iff_lt-mul}
 use Rattle.std.proofs.lemmas.Bool.{cases_lt}
 use Rattle.std.proofs.lemmas.List.{length-take}
 use Rattle.im_types.specs.Place.{begins_free, place, fill}
@@ -24,6 +25,7 @@ module _ {X : Type 0} where
   marks-set (Some z ∷ cells) zero x y e = refl
   marks-set (c ∷ cells) (suc a) x y e = ap (λ ms. mark c ∷ ms) (marks-set cells a x y e)
 
+  -- so many marks come free first where so many cells do
   begins-marks : (n : ℕ) (cells : List (Option X)) → begins_free n (map mark cells) ≡ begins_free n cells
   begins-marks zero cells = refl
   begins-marks (suc n) [] = refl
@@ -55,30 +57,51 @@ module _ {X : Type 0} where
   fill-behind (y ∷ xs) (suc base) n x zero less = absurd (omega arith)
   fill-behind (y ∷ xs) (suc base) n x (suc from) less = fill-behind xs base n x from (omega arith)
 
-part-before : (xs : List (Option Bool)) (base n : ℕ) (x : Option Bool) (j : ℕ) → j < base / PART → part_at (fill xs base n x) j ≡ part_at xs j
-unfolding part_at
-part-before xs base n x j less = fill-before xs base n x (j * PART) PART (omega arith)
+module _ (p : ℕ) where
+  -- the cells of a leaf before a fill
+  pub part-before : (xs : List (Option Bool)) (base n : ℕ) (x : Option Bool) (j : ℕ) → (j + 1) * p ≤ base → part_at p (fill xs base n x) j ≡ part_at p xs j
+  unfolding part_at
+  part-before xs base n x j less = let e = add-mul j 1 p in let o = one-mul p in fill-before xs base n x (j * p) p (omega arith)
 
-part-behind : (xs : List (Option Bool)) (base n : ℕ) (x : Option Bool) (j : ℕ) → 0 < n → (base + n - 1) / PART < j → part_at (fill xs base n x) j ≡ part_at xs j
-unfolding part_at
-part-behind xs base n x j some less = ap (take PART) (fill-behind xs base n x (j * PART) (omega arith))
+  -- the cells of a leaf behind a fill
+  pub part-behind : (xs : List (Option Bool)) (base n : ℕ) (x : Option Bool) (j : ℕ) → base + n ≤ j * p → part_at p (fill xs base n x) j ≡ part_at p xs j
+  unfolding part_at
+  part-behind xs base n x j less = ap (take p) (fill-behind xs base n x (j * p) less)
 
--- the tree after a fill, where the leaves over it are made anew
-pub IsTree-filled : (old new : List Summary) (xs : List (Option Bool)) (base n : ℕ) (x : Option Bool) → IsTree old xs → 0 < n → length new ≡ length old
-    → HasJoined new → ((j : ℕ) → base / PART ≤ j → j ≤ (base + n - 1) / PART → IsLeaf new (fill xs base n x) j)
-    → ((j : ℕ) → (base / PART ≤ j → j ≤ (base + n - 1) / PART → ⊥) → node_at new (leaves_of old + j) ≡ node_at old (leaves_of old + j)) → IsTree new (fill xs base n x)
-IsTree-filled old new xs base n x t some same joins over others = record {
+  -- the cells of a leaf that has none of a fill
+  pub part-beside : (xs : List (Option Bool)) (base n : ℕ) (x : Option Bool) (j : ℕ) → 0 < p → 0 < n → (base / p ≤ j → j ≤ (base + n - 1) / p → ⊥)
+      → part_at p (fill xs base n x) j ≡ part_at p xs j
+  part-beside xs base n x j some filled out = elim (cases_lt j (base / p)) [
+    | inl before ↦ let next : j + 1 ≤ base / p = omega arith in part-before xs base n x j ((le-div_iff_mul-le some).0 next)
+    | inr from ↦ elim (cases_lt ((base + n - 1) / p) j) [
+      | inl behind ↦ let past : base + n - 1 < j * p = (div-lt_iff_lt-mul some).0 behind in part-behind xs base n x j (omega arith)
+      | inr upto ↦ absurd (out from upto)
+    ]
+  ]
+
+  -- the cells of a leaf are no more than a leaf has
+  pub part-few : (cells : List (Option Bool)) (j : ℕ) → length (part_at p cells j) ≤ p
+  unfolding part_at
+  part-few cells j = let l = length-take p (drop (j * p) cells) in omega arith
+
+-- the tree over other cells, where the leaves from the first to the last are made anew, and neither the cells nor the node of another leaf changed
+pub IsTree-renewed : (p : ℕ) (old new : List Summary) (xs ys : List (Option Bool)) (first last : ℕ) → IsTree p old xs → length ys ≡ length xs → length new ≡ length old
+    → HasJoined new → ((j : ℕ) → j < leaves_of old → first ≤ j → j ≤ last → IsLeaf p new ys j)
+    → ((j : ℕ) → j < leaves_of old → (first ≤ j → j ≤ last → ⊥) → part_at p ys j ≡ part_at p xs j)
+    → ((j : ℕ) → j < leaves_of old → (first ≤ j → j ≤ last → ⊥) → node_at new (leaves_of old + j) ≡ node_at old (leaves_of old + j)) → IsTree p new ys
+IsTree-renewed p old new xs ys first last t long same joins over parts others = record {
   height = t.height;
   power = half ∙ t.power;
   even = omega (arith, same, half, t.even);
-  inside = omega (arith, length-fill xs base n x, half, t.inside);
-  few = omega (arith, length-fill xs base n x, t.few);
+  inside = subst (λ k. length ys ≤ p * k) (sym half) (omega (arith, long, t.inside));
+  few = omega (arith, long, t.few);
   small = omega (arith, half, t.small);
-  leaves = λ j less. elim (cases_lt j (base / PART)) [
-    | inl before ↦ stays j (omega arith) (part-before xs base n x j before) (λ a b. omega arith)
-    | inr from ↦ elim (cases_lt ((base + n - 1) / PART) j) [
-      | inl behind ↦ stays j (omega arith) (part-behind xs base n x j some behind) (λ a b. omega arith)
-      | inr upto ↦ over j from upto
+  wide = subst (λ k. p * k < 2 ^ 37) (sym half) t.wide;
+  leaves = λ j less. elim (cases_lt j first) [
+    | inl before ↦ stays j (omega arith) (λ a b. omega arith)
+    | inr from ↦ elim (cases_lt last j) [
+      | inl behind ↦ stays j (omega arith) (λ a b. omega arith)
+      | inr upto ↦ over j (omega arith) from upto
     ]
   ];
   inner = joins;
@@ -87,12 +110,15 @@ IsTree-filled old new xs base n x t some same joins over others = record {
     half : leaves_of new ≡ leaves_of old
     half = ap (λ k. k / 2) same
 
-    stays : (j : ℕ) → j < leaves_of old → part_at (fill xs base n x) j ≡ part_at xs j → (base / PART ≤ j → j ≤ (base + n - 1) / PART → ⊥) → IsLeaf new (fill xs base n x) j
-    stays j less part out =
-        subst (λ cells. Summarises (node_at new (leaves_of new + j)) cells) (sym part)
-        (subst (λ s. Summarises s (part_at xs j)) (sym (ap (λ k. node_at new (k + j)) half ∙ others j out)) (t.leaves j less))
+    stays : (j : ℕ) → j < leaves_of old → (first ≤ j → j ≤ last → ⊥) → IsLeaf p new ys j
+    stays j less out =
+        subst (λ cells. Summarises (node_at new (leaves_of new + j)) cells) (sym (parts j less out))
+        (subst (λ s. Summarises s (part_at p xs j)) (sym (ap (λ k. node_at new (k + j)) half ∙ others j less out)) (t.leaves j less))
 
--- the cells of a leaf are no more than a leaf has
-pub part-few : (cells : List (Option Bool)) (j : ℕ) → length (part_at cells j) ≤ PART
-unfolding part_at
-part-few cells j = let l = length-take PART (drop (j * PART) cells) in omega arith
+-- the tree after a fill, where the leaves over it are made anew
+pub IsTree-filled : (old new : List Summary) (xs : List (Option Bool)) (base n : ℕ) (x : Option Bool) → IsTree PART old xs → 0 < n → length new ≡ length old
+    → HasJoined new → ((j : ℕ) → base / PART ≤ j → j ≤ (base + n - 1) / PART → IsLeaf PART new (fill xs base n x) j)
+    → ((j : ℕ) → (base / PART ≤ j → j ≤ (base + n - 1) / PART → ⊥) → node_at new (leaves_of old + j) ≡ node_at old (leaves_of old + j)) → IsTree PART new (fill xs base n x)
+IsTree-filled old new xs base n x t some same joins over others =
+    IsTree-renewed PART old new xs (fill xs base n x) (base / PART) ((base + n - 1) / PART) t (length-fill xs base n x) same joins (λ j less from upto. over j from upto)
+    (λ j less out. part-beside PART xs base n x j (omega arith) some out) (λ j less out. others j out)

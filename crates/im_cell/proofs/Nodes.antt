@@ -17,6 +17,7 @@ pub record JoinsFrom (old new : List Summary) (k last : ℕ) : Type 0 where
   pub joins : (i : ℕ) → 0 < i → k ≤ i → i ≤ last → IsJoined new i
   pub others : (i : ℕ) → (k ≤ i → i ≤ last → ⊥) → node_at new i ≡ node_at old i
 
+-- one node more, from the last one down
 pub JoinsFrom-next : (old new : List Summary) (at k last : ℕ) (v : Summary) → at + 1 ≡ k → k ≤ last + 1 → at < length new → v ≡ joined (node_at new (2 * at)) (node_at new (2 * at + 1))
     → JoinsFrom old new k last → JoinsFrom old (set new at v) at last
 JoinsFrom-next old new at k last v next high_k inside is j = record {

@@ -110,17 +110,21 @@ module _ {X : Type 0} where
   not_free-front (suc n) (None ∷ xs) lt = not_free-front n xs (omega arith)
   not_free-front (suc n) (Some x ∷ xs) lt = refl
 
+  -- the place is at the first cell, where so many come free
   pub place-here : (n : ℕ) (xs : List (Option X)) → 0 < n → n ≤ front xs → place n xs ≡ Some 0
   place-here n [] some le = absurd (omega arith)
   place-here n (x ∷ xs) some le = ap (λ b. cond b (Some 0) (option_map suc (place n xs))) (free-front n (x ∷ xs) le)
 
+  -- it is not, where fewer do
   pub place-there : (n : ℕ) (x : Option X) (xs : List (Option X)) → front (x ∷ xs) < n → place n (x ∷ xs) ≡ option_map suc (place n xs)
   place-there n x xs lt = ap (λ b. cond b (Some 0) (option_map suc (place n xs))) (not_free-front n (x ∷ xs) lt)
 
+  -- there is none that is longer than the longest run
   pub place-none : (xs : List (Option X)) (n : ℕ) → longest xs < n → place n xs ≡ None
   place-none [] n lt = refl
   place-none (x ∷ xs) n lt = place-there n x xs (omega arith) ∙ ap (option_map suc) (place-none xs n (omega arith))
 
+  -- the place lies in the first of two parts, where that has room
   pub first : (xs ys : List (Option X)) (n : ℕ) → 0 < n → n ≤ longest xs → place n (xs ++ ys) ≡ place n xs
   first [] ys n some le = absurd (omega arith)
   first (x ∷ xs) ys n some le = elim (is_it (x ∷ xs)) [
@@ -139,6 +143,7 @@ module _ {X : Type 0} where
         (cases_lt (front (x ∷ xs)) n)
   ]
 
+  -- it lies across both, where that has none and the two runs that meet have
   pub across : (xs ys : List (Option X)) (n : ℕ) → 0 < n → longest xs < n → n ≤ back xs + front ys → place n (xs ++ ys) ≡ Some (length xs - back xs)
   across [] ys n some short le = place-here n ys some (omega arith)
   across (x ∷ xs) ys n some short le = elim (is_it (x ∷ xs)) [
@@ -154,6 +159,7 @@ module _ {X : Type 0} where
         ∙ ap (λ k. Some k) (let e : suc (length xs - back xs) ≡ length (x ∷ xs) - back (x ∷ xs) = omega arith in e)
   ]
 
+  -- else it lies in the second
   pub second : (xs ys : List (Option X)) (n : ℕ) → longest xs < n → back xs + front ys < n → place n (xs ++ ys) ≡ option_map (λ k. length xs + k) (place n ys)
   second [] ys n short none = option_map-zero (place n ys)
   second (x ∷ xs) ys n short none = elim (is_it (x ∷ xs)) [
@@ -215,6 +221,7 @@ module _ {X : Type 0} where
       go [] p = refl
       go (x ∷ xs) p = part-back x (xs ++ ys) (append-part (x ∷ xs) ys p) ∙ go xs p
 
+  -- the longest run of two parts
   pub longest-append : (xs ys : List (Option X)) → longest (xs ++ ys) ≡ max (max (longest xs) (longest ys)) (back xs + front ys)
   longest-append [] ys = let f = front-longest ys in omega arith
     where

@@ -1,6 +1,6 @@
 -- Summaries of two parts, one behind the other.
 use Rattle.std.proofs.Common.{◌≡◌, ⊎_elim, ℕ, ◌+◌, ◌<◌, ◌^◌, List, ◌++◌, length, Bool, Option, sym, ap, ◌∙◌, arith}
-use Rattle.std.specs.Prelude.{if◌then◌else◌, ◌==◌}
+use Rattle.std.specs.Prelude.{if◌then◌else◌, ◌==◌, ◌&&◌, eqb, true}
 use Rattle.std.proofs.lemmas.Bool.Decides.{nat_tests}
 use Rattle.std.proofs.lemmas.List.{length-append}
 use Rattle.im_types.specs.declared.TheConstants.{NONE}
@@ -8,6 +8,7 @@ use Rattle.im_cell.specs.declared.summaries.Summary.{Summary}
 use Rattle.im_cell.specs.Summaries.{front, back, Summarises, back_in, back_of, front_on, back_on, across_of, joined}
 use Rattle.im_cell.proofs.Splits.{front-few, back-few, ends, front-whole, front-part, back-whole, back-part, longest-append}
 
+-- tests of equal numbers, and of others
 if_same : (n m a b : ℕ) → n ≡ m → (if n == m then a else b) ≡ a
 if_same n m a b e = grind (arith, nat_tests)
 
@@ -80,3 +81,13 @@ module _ (left right : Summary) (xs ys : List (Option Bool)) (l : Summarises lef
     last = last-joined;
     most = let m = longest-append xs ys in omega (arith, l.most, r.most, across-is);
   }
+
+-- two summaries that are found the same
+same-numbers : (a b c x y z : ℕ) → (eqb a x && (eqb b y && eqb c z)) ≡ true → (a ≡ x) × (b ≡ y) × (c ≡ z)
+same-numbers a b c x y z e = grind (arith, nat_tests)
+
+pub same-summary : (s t : Summary) → (eqb s.longest t.longest && (eqb s.front t.front && eqb s.back t.back)) ≡ true → s ≡ t
+same-summary s t e =
+    let is = same-numbers s.longest s.front s.back t.longest t.front t.back e in
+    ap (λ n. record { longest = n; front = s.front; back = s.back }) is.0 ∙ ap (λ n. record { longest = t.longest; front = n; back = s.back }) is.1
+    ∙ ap (λ n. record { longest = t.longest; front = t.front; back = n }) is.2

@@ -1,3 +1,4 @@
 pub mod Slots
 pub mod Summaries
 pub mod Records
+pub mod Chunks

@@ -5,11 +5,10 @@ use Rattle.im_types.specs.declared.records.PresenceTag.TheVariants.{Empty as Tag
 use Rattle.im_types.specs.declared.records.CellRecord.{CellRecord}
 use Rattle.im_types.specs.declared.records.CellRecord.TheVariants.{Free as FreeCell, Held as BlockCell}
 use Rattle.im_cell.specs.declared.slots.Slot.{Slot}
-use Rattle.im_cell.specs.declared.summaries.Summary.{Summary}
 use Rattle.im_cell.specs.declared.records.Record.{Record}
 use Rattle.im_cell.specs.declared.records.Record.TheVariants.{Empty as IsEmpty, Waiting as IsWaiting, Full as IsFull, Clashed as IsClashed, Free}
-use Rattle.im_cell.specs.Slots.{new_slot, HasBlocks}
-use Rattle.im_cell.specs.Summaries.{mark, IsTree}
+use Rattle.im_cell.specs.Slots.{new_slot}
+use Rattle.im_cell.specs.Summaries.{mark}
 
 -- the slot that a record keeps
 abbrev pub slot_of : Record → Option Slot
@@ -34,10 +33,3 @@ slots_of records = map slot_of records
 -- which of the cells of these records are free
 abbrev pub marks_of : List Record → List (Option Bool)
 marks_of records = map mark (slots_of records)
-
--- what every table keeps
-pub record IsTable (records : List Record) (nodes : List Summary) : Type 0 where
-  -- the tree is one of summaries of the cells
-  pub tree : IsTree nodes (marks_of records)
-  -- each block lies in the table, and all its cells are its own
-  pub blocks : HasBlocks (slots_of records)

@@ -1,8 +1,10 @@
 -- Summaries of parts of a table: how many free cells there are at either end, and in the longest run. A tree of them leads
 -- to the least place. (Own.)
-use Rattle.std.specs.Prelude.{◌≡◌, ℕ, zero, suc, ◌+◌, ◌*◌, ◌/◌, ◌%◌, ◌^◌, ◌<◌, ◌≤◌, ◌==◌, max, List, [], ◌∷◌, length, take, drop, Bool, true, false, Option, None, Some, slice_index_or, replicate, if◌then◌else◌}
+use Rattle.std.specs.Prelude.{◌≡◌, ℕ, zero, suc, ◌+◌, ◌*◌, ◌/◌, ◌%◌, ◌^◌, ◌<◌, ◌≤◌, ◌==◌, max, option_map, List, [], ◌∷◌, length, take, drop, Bool, true, false, Option, None, Some, slice_index_or, if◌then◌else◌}
 use Rattle.im_types.specs.declared.TheConstants.{NONE}
-use Rattle.im_cell.specs.declared.tree.TheConstants.{PART}
+use Rattle.im_types.specs.Place.{place}
+use Rattle.im_cell.specs.declared.tree.Way.{Way}
+use Rattle.im_cell.specs.declared.tree.Way.TheVariants.{Across, Within}
 use Rattle.im_cell.specs.declared.summaries.Summary.{Summary}
 
 module _ {X : Type 0} where
@@ -86,9 +88,9 @@ node_at nodes k = slice_index_or nodes k no_cells
 abbrev pub IsJoined : List Summary → ℕ → Type 0
 IsJoined nodes k = node_at nodes k ≡ joined (node_at nodes (2 * k)) (node_at nodes (2 * k + 1))
 
--- the cells of a leaf; fewer of the last one, none behind it
-unfoldable pub part_at : List (Option Bool) → ℕ → List (Option Bool)
-part_at cells j = take PART (drop (j * PART) cells)
+-- the cells of a leaf, where a leaf has so many; fewer of the last one, none behind it
+unfoldable pub part_at : ℕ → List (Option Bool) → ℕ → List (Option Bool)
+part_at p cells j = take p (drop (j * p) cells)
 
 -- how many leaves a tree of this height has
 abbrev pub leaves_at : ℕ → ℕ
@@ -104,24 +106,38 @@ abbrev pub HasJoined : List Summary → Type 0
 HasJoined nodes = (k : ℕ) → 0 < k → k < leaves_of nodes → IsJoined nodes k
 
 -- a leaf is the summary of its cells
-abbrev pub IsLeaf : List Summary → List (Option Bool) → ℕ → Type 0
-IsLeaf nodes cells j = Summarises (node_at nodes (leaves_of nodes + j)) (part_at cells j)
+abbrev pub IsLeaf : ℕ → List Summary → List (Option Bool) → ℕ → Type 0
+IsLeaf p nodes cells j = Summarises (node_at nodes (leaves_of nodes + j)) (part_at p cells j)
 
--- a tree of summaries over the cells: node 1 is its root, and the nodes below node k are 2 k and 2 k + 1
-pub record IsTree (nodes : List Summary) (cells : List (Option Bool)) : Type 0 where
+-- nodes for a tree with so many leaves, or up to twice as many: each node is joined
+pub record IsGrown (nodes : List Summary) (leaves : ℕ) : Type 0 where
   pub height : ℕ
   pub power : leaves_of nodes ≡ leaves_at height
   pub even : length nodes ≡ 2 * leaves_of nodes
-  pub inside : length cells ≤ PART * leaves_of nodes
-  pub few : length cells < 2 ^ 32
-  pub small : leaves_of nodes < 2 ^ 32
-  pub leaves : (j : ℕ) → j < leaves_of nodes → IsLeaf nodes cells j
+  pub enough : leaves ≤ leaves_of nodes
+  pub few : leaves_of nodes ≤ 2 * leaves + 1
   pub inner : HasJoined nodes
 
--- nodes for a tree over so many cells, each of them the summary of no cell
-pub record IsRoom (nodes : List Summary) (cells : ℕ) : Type 0 where
+-- a tree of summaries over the cells, p of them to a leaf: node 1 is its root, and the nodes below node k are 2 k and 2 k + 1
+pub record IsTree (p : ℕ) (nodes : List Summary) (cells : List (Option Bool)) : Type 0 where
   pub height : ℕ
-  pub blank : nodes ≡ replicate (2 * leaves_at height) no_cells
-  pub inside : cells ≤ PART * leaves_at height
-  pub few : cells < 2 ^ 32
-  pub small : leaves_at height < 2 ^ 32
+  pub power : leaves_of nodes ≡ leaves_at height
+  pub even : length nodes ≡ 2 * leaves_of nodes
+  pub inside : length cells ≤ p * leaves_of nodes
+  pub few : length cells < 2 ^ 32
+  pub small : leaves_of nodes < 2 ^ 32
+  pub wide : p * leaves_of nodes < 2 ^ 37
+  pub leaves : (j : ℕ) → j < leaves_of nodes → IsLeaf p nodes cells j
+  pub inner : HasJoined nodes
+
+-- the least place of a block is that among the cells of a leaf, which has room and lies in the table
+pub record IsInLeaf (p leaves : ℕ) (cells : List (Option Bool)) (n leaf : ℕ) : Type 0 where
+  pub below : leaf < leaves
+  pub place_is : place n cells ≡ option_map (λ m. leaf * p + m) (place n (part_at p cells leaf))
+  pub room : n ≤ longest (part_at p cells leaf)
+  pub fits : leaf * p + length (part_at p cells leaf) ≤ length cells
+
+-- the least place of a block lies there
+abbrev pub Leads : ℕ → ℕ → List (Option Bool) → ℕ → Way → Type 0
+Leads p leaves cells n (Across base) = place n cells ≡ Some base
+Leads p leaves cells n (Within leaf) = IsInLeaf p leaves cells n leaf

@@ -4,6 +4,8 @@
 //! cell, or none for a free cell.
 #![tactic(auto)]
 
+mod chunk;
+mod chunks;
 mod records;
 mod room;
 mod row;

@@ -80,8 +80,8 @@ fn free_first(records: &[Record]) -> u32
     free
 }
 
-// How many free cells come last, of so many; NONE where all are free.
-fn back_in(cells: usize, run: u32) -> u32
+/// How many free cells come last, of so many; [`NONE`] where all are free.
+pub(crate) fn back_in(cells: usize, run: u32) -> u32
     ensures { result ≡ back_in cells run }
 {
     if run as usize == cells { NONE } else { run }
@@ -92,6 +92,14 @@ pub(crate) fn sum_up(records: &[Record]) -> Summary
     requires { length records.now < 2 ^ 32 }
     ensures { Summarises result (marks_of records.now) }
 {
+    let front = free_first(records);
+    if front as usize == records.len() {
+        return Summary {
+            longest: front,
+            front,
+            back: NONE,
+        };
+    }
     let mut run = 0;
     let mut longest = 0;
     for record in records {
@@ -100,7 +108,7 @@ pub(crate) fn sum_up(records: &[Record]) -> Summary
     }
     Summary {
         longest,
-        front: free_first(records),
+        front,
         back: back_in(records.len(), run),
     }
 }

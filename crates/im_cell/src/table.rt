@@ -1,27 +1,33 @@
 //! The table. Its blocks lie at the least place: first fit in order of address (Knuth, The Art of Computer
 //! Programming 1, section 2.5), by a tree over the cells.
-ghost use Rattle.std.specs.Prelude.{◌≡◌, ◌<◌, ◌≤◌, None, Some, false, true, length, map, replicate, slice_set};
+ghost use Rattle.std.specs.Prelude.{◌≡◌, ◌+◌, ◌-◌, ◌/◌, ◌<◌, ◌≤◌, [], None, Some, false, true, length, map, replicate, slice_set};
+ghost use Rattle.std.specs.Prelude.{vec_capacity};
+ghost use Rattle.std.specs.List.{All};
 ghost use Rattle.std.specs.Prelude.{IsTrue, IsNone, IsSome, IfSome, IfOk, IfErr};
 ghost use Rattle.im_types.specs.Place.{place, fill, change_each, IsLeastFree};
 ghost use Rattle.im_cell.specs.Slots.{slot_at, block_at, cell_at, with_cell, empty_slot, shown_slot};
 ghost use Rattle.im_cell.specs.Slots.{is_releasable, length_at, HasBlocks};
+ghost use Rattle.im_cell.specs.Records.{slots_of};
+ghost use Rattle.im_cell.specs.Chunks.{cells_in, AreChunksOf};
 
+use crate::chunk::{CHUNK, Chunk};
+use crate::chunks::{any_waiting, fill_cells, find, raise, set, slot};
 use crate::records::{FREE, Record};
-use crate::room::TableRoom;
-use crate::row::CellRow;
+use crate::room::{TableRoom, chunks_of};
+use crate::row::{CellRow, Piece};
 use crate::slots::Slot;
 use crate::summaries::Summary;
-use crate::tree::{any_waiting, fill_cells, find, raise, tree_over};
 use im_types::{Block, Cell, CellRecord, Kind, NONE, Refusal};
-use std::alloc::Global;
+use std::alloc::{AllocError, Global};
 use std::marker::Model;
 
 /// A table of cells, numbered from 0, each free or in a block. Once made it takes no more memory.
 #[derive(Drop)]
 pub struct CellTable {
-    // One for each cell.
-    records: Vec<Record>,
-    // A tree of summaries over them.
+    cells: u32,
+    // So many of them each.
+    chunks: Vec<Chunk>,
+    // A tree of summaries over the chunks.
     nodes: Vec<Summary>,
 }
 
@@ -31,11 +37,58 @@ impl Model for CellTable {
 
     ghost Value = { List (Option Slot) };
 
-    ghost use Rattle.im_cell.specs.Records.{slots_of, IsTable};
+    ghost use Rattle.im_cell.specs.Chunks.{cells_in, IsTable};
 
-    ghost view = { λ t. slots_of t.records.items };
+    ghost view = { λ t. cells_in t.chunks.items };
 
-    ghost invariant = { λ t. IsTable t.records.items t.nodes.items };
+    ghost invariant = { λ t. IsTable t.chunks.items t.nodes.items t.cells };
+}
+
+// The chunks of a table of so many cells, all of them free, put into room for them.
+fn free_chunks(alloc: Global, cells: u32, chunks: Vec<Chunk>) -> Result<Vec<Chunk>, AllocError>
+    requires none { chunks.items ≡ [] }
+    requires room { (cells + (CHUNK - 1)) / CHUNK ≤ vec_capacity chunks }
+    ensures sizes { IfOk result (λ all. AreChunksOf all.items cells) }
+    ensures count { IfOk result (λ all. length all.items ≡ (cells + (CHUNK - 1)) / CHUNK) }
+    ensures free { IfOk result (λ all. cells_in all.items ≡ replicate cells None) }
+{
+    let mut chunks = chunks;
+    for at in 0..chunks_of(cells) {
+        let own = (cells as usize - at * CHUNK).min(CHUNK);
+        chunks.push_reserved(Chunk::free(alloc, own)?);
+    }
+    Ok(chunks)
+}
+
+// The chunks of cells that were read, put into room for them.
+fn chunks_over(pieces: Vec<Piece>, chunks: Vec<Chunk>) -> Vec<Chunk>
+    requires few { All (λ piece. length piece ≤ CHUNK) pieces.items }
+    requires none { chunks.items ≡ [] }
+    requires room { length pieces.items ≤ vec_capacity chunks }
+    ensures { result.items ≡ map slots_of pieces.items }
+{
+    let mut chunks = chunks;
+    for piece in pieces {
+        chunks.push_reserved(Chunk::over(piece));
+    }
+    chunks
+}
+
+fn free_table(alloc: Global, room: TableRoom) -> Result<CellTable, AllocError>
+    ensures { IfOk result (λ table. table ≡ replicate room None) }
+{
+    let TableRoom {
+        cells,
+        chunks,
+        mut nodes,
+    } = room;
+    let chunks = free_chunks(alloc, cells, chunks)?;
+    raise(nodes.as_mut_slice(), chunks.as_slice());
+    Ok(CellTable {
+        cells,
+        chunks,
+        nodes,
+    })
 }
 
 impl CellTable {
@@ -44,13 +97,10 @@ impl CellTable {
         ensures free { IfOk result (λ table. table ≡ replicate cells None) }
         ensures err { IfErr result (λ refusal. refusal ≡ Refusal.NoMemory) }
     {
-        let Ok(records) = vec![in alloc; FREE; cells as usize] else {
-            return Err(Refusal::NoMemory);
-        };
-        let Ok(nodes) = tree_over(alloc, records.as_slice()) else {
-            return Err(Refusal::NoMemory);
-        };
-        Ok(CellTable { records, nodes })
+        match TableRoom::new(alloc, cells) {
+            Ok(room) => free_table(alloc, room).map_err(|_| Refusal::NoMemory),
+            Err(refusal) => Err(refusal),
+        }
     }
 
     /// A table with the cells that these records show, in order of address. The holes that records of free cells name
@@ -76,24 +126,34 @@ impl CellTable {
         requires blocks { HasBlocks (map shown_slot row) }
         ensures { result ≡ map shown_slot row }
     {
-        let CellRow { records } = row;
-        let TableRoom { mut nodes, .. } = room;
-        raise(nodes.as_mut_slice(), records.as_slice());
-        CellTable { records, nodes }
+        let CellRow { mut pieces, .. } = row;
+        let TableRoom {
+            cells,
+            chunks,
+            mut nodes,
+        } = room;
+        pieces.truncate(chunks_of(cells));
+        let chunks = chunks_over(pieces, chunks);
+        raise(nodes.as_mut_slice(), chunks.as_slice());
+        CellTable {
+            cells,
+            chunks,
+            nodes,
+        }
     }
 
     /// How many cells the table has.
     pub fn cells(&self) -> u32
         ensures { result ≡ length self.now }
     {
-        self.records.len() as u32
+        self.cells
     }
 
-    // The cell at an address and its block, unless it is free.
-    fn slot(&self, a: u32) -> Option<Slot>
+    /// The cell at an address and its block; `None` in no block, which includes each address past the last cell.
+    pub fn slot(&self, a: u32) -> Option<Slot>
         ensures { result ≡ slot_at self.now a }
     {
-        self.records.get(a as usize)?.slot()
+        slot(self.chunks.as_slice(), a)
     }
 
     /// The cell at an address; `None` in no block, which includes each address past the last cell.
@@ -108,7 +168,7 @@ impl CellTable {
         ensures block { result ≡ block_at self.now a }
         ensures whole { HasBlocks self.now }
     {
-        Some(self.records.get(a as usize)?.slot()?.block)
+        Some(slot(self.chunks.as_slice(), a)?.block)
     }
 
     /// Puts another state into the cell at an address in a block.
@@ -116,10 +176,7 @@ impl CellTable {
         requires { IsSome (slot_at self.old a) }
         ensures { self.new ≡ slice_set self.old a (with_cell cell (slot_at self.old a)) }
     {
-        let Some(slot) = self.slot(a) else {
-            unreachable!()
-        };
-        self.records[a as usize] = Record::new(slot.block, cell);
+        set(self.chunks.as_mut_slice(), a, cell);
     }
 
     /// The least base where `n` cells, at least one, are free: that of the block which [`CellTable::place`] would make;
@@ -128,7 +185,7 @@ impl CellTable {
         requires { 0 < n }
         ensures { result ≡ place n self.now }
     {
-        find(self.records.as_slice(), self.nodes.as_slice(), n)
+        find(self.chunks.as_slice(), self.nodes.as_slice(), n)
     }
 
     /// Makes a block of `n` cells, at least one, at the least base where so many cells are free; `None` where there
@@ -140,14 +197,14 @@ impl CellTable {
         ensures made { IfSome result (λ base. self.new ≡ fill self.old base n (empty_slot base n kind)) }
         ensures same { IsNone result → self.new ≡ self.old }
     {
-        let base = find(self.records.as_slice(), self.nodes.as_slice(), n)?;
+        let base = find(self.chunks.as_slice(), self.nodes.as_slice(), n)?;
         let kept = Record::Empty(Block {
             base,
             length: n,
             kind,
         });
         fill_cells(
-            self.records.as_mut_slice(),
+            self.chunks.as_mut_slice(),
             self.nodes.as_mut_slice(),
             base,
             n,
@@ -157,13 +214,21 @@ impl CellTable {
     }
 
     // The block with this base, where none of its cells is waiting.
-    fn quiet_block(&self, base: u32) -> Option<Block>
-        ensures found { IfSome result (λ block. (block.base ≡ base) × (block_at self.now base ≡ Some block)
-            × (is_releasable self.now base ≡ true)) }
-        ensures none { IsNone result → is_releasable self.now base ≡ false }
+    fn quiet_block(&mut self, base: u32) -> Option<Block>
+        ensures found { IfSome result (λ block. (block.base ≡ base) × (block_at self.old base ≡ Some block)
+            × (is_releasable self.old base ≡ true)) }
+        ensures none { IsNone result → is_releasable self.old base ≡ false }
+        ensures same { self.new ≡ self.old }
     {
         let slot = self.slot(base)?;
-        if slot.block.base != base || any_waiting(self.records.as_slice(), slot.block) {
+        if slot.block.base != base {
+            return None;
+        }
+        if any_waiting(
+            self.chunks.as_mut_slice(),
+            slot.block.base,
+            slot.block.length,
+        ) {
             return None;
         }
         Some(slot.block)
@@ -180,7 +245,7 @@ impl CellTable {
             return false;
         };
         fill_cells(
-            self.records.as_mut_slice(),
+            self.chunks.as_mut_slice(),
             self.nodes.as_mut_slice(),
             block.base,
             block.length,
@@ -201,7 +266,7 @@ impl CellTable {
             return false;
         };
         fill_cells(
-            self.records.as_mut_slice(),
+            self.chunks.as_mut_slice(),
             self.nodes.as_mut_slice(),
             block.base,
             block.length,

@@ -2,24 +2,25 @@
 //! where cells change, the nodes above them are made anew: a complete binary tree in one list, its root node 1, the
 //! nodes below node k at 2 k and 2 k + 1.
 ghost use Rattle.std.specs.Prelude.{◌≡◌, ◌≢◌, ℕ, false, slice_set, ◌+◌, ◌*◌, ◌/◌};
-ghost use Rattle.std.specs.Prelude.{◌<◌, ◌≤◌, ◌^◌, length, take, drop, Some, IfOk};
+ghost use Rattle.std.specs.Prelude.{◌<◌, ◌≤◌, ◌^◌, length, take, drop, Some, IfOk, List, Option, Bool};
 ghost use Rattle.std.specs.List.{list_any};
 ghost use Rattle.im_types.specs.Place.{place, fill};
 ghost use Rattle.im_cell.specs.Slots.{is_waiting};
 ghost use Rattle.im_cell.specs.Records.{slot_of, slots_of, marks_of};
 ghost use Rattle.im_cell.specs.Summaries.{joined, node_at, part_at, leaves_at, leaves_of};
-ghost use Rattle.im_cell.specs.Summaries.{longest, IsJoined, HasJoined, IsLeaf, IsTree, IsRoom};
+ghost use Rattle.im_cell.specs.Summaries.{longest, IsJoined, Summarises, HasJoined, IsLeaf, IsGrown, IsTree, Leads};
 
+use crate::chunk::CHUNK;
 use crate::records::Record;
 use crate::summaries::{Summary, back_of, join, sum_up};
-use im_types::{Block, NONE};
+use im_types::NONE;
 use std::alloc::{AllocError, Global};
 
 /// How many cells a leaf has.
 pub(crate) const PART: usize = 16;
 
-// A node.
-fn node(nodes: &[Summary], k: usize) -> Summary
+/// A node.
+pub(crate) fn node(nodes: &[Summary], k: usize) -> Summary
     requires { k < length nodes.now }
     ensures { result ≡ node_at nodes.now k }
 {
@@ -29,7 +30,7 @@ fn node(nodes: &[Summary], k: usize) -> Summary
 // The cells of a leaf.
 fn part(records: &[Record], leaf: usize) -> &[Record]
     requires { leaf < 2 ^ 32 }
-    ensures { marks_of result.now ≡ part_at (marks_of records.now) leaf }
+    ensures { marks_of result.now ≡ part_at PART (marks_of records.now) leaf }
 {
     let from = leaf * PART;
     let to = from + PART;
@@ -55,19 +56,26 @@ fn find_in_part(records: &[Record], n: u32) -> u32
     at - n
 }
 
-/// The least place of a block of `n` cells.
-pub(crate) fn find(records: &[Record], nodes: &[Summary], n: u32) -> Option<u32>
-    requires tree { IsTree nodes.now (marks_of records.now) }
+/// Where the least place of a block lies.
+#[derive(Clone, Copy)]
+pub(crate) enum Way {
+    /// From this cell on, across two nodes.
+    Across(u32),
+    /// Among the cells of this leaf.
+    Within(usize),
+}
+
+/// The way from the root, which has room, to the least place of a block of `n` cells, where a leaf has so many.
+pub(crate) fn descend(nodes: &[Summary], width: usize, n: u32) -> Way
+    requires tree { (cells : List (Option Bool)) × (IsTree width nodes.now cells × (n ≤ longest cells)) }
     requires some { 0 < n }
-    ensures { result ≡ place n (slots_of records.now) }
+    ensures { (cells : List (Option Bool)) → IsTree width nodes.now cells → n ≤ longest cells →
+        Leads width (leaves_of nodes.now) cells n result }
 {
-    if node(nodes, 1).longest < n {
-        return None;
-    }
     let leaves = nodes.len() / 2;
     let mut k = 1;
     let mut base = 0;
-    let mut cells = PART * leaves;
+    let mut cells = width * leaves;
     while k < leaves {
         let left = node(nodes, 2 * k);
         let right = node(nodes, 2 * k + 1);
@@ -76,13 +84,28 @@ pub(crate) fn find(records: &[Record], nodes: &[Summary], n: u32) -> Option<u32>
         if left.longest >= n {
             k = 2 * k;
         } else if back + right.front >= n {
-            return Some((base + cells) as u32 - back);
+            return Way::Across((base + cells) as u32 - back);
         } else {
             base += cells;
             k = 2 * k + 1;
         }
     }
-    Some(base as u32 + find_in_part(part(records, k - leaves), n))
+    Way::Within(k - leaves)
+}
+
+/// The least place of a block of `n` cells.
+pub(crate) fn find(records: &[Record], nodes: &[Summary], n: u32) -> Option<u32>
+    requires tree { IsTree PART nodes.now (marks_of records.now) }
+    requires some { 0 < n }
+    ensures { result ≡ place n (slots_of records.now) }
+{
+    if node(nodes, 1).longest < n {
+        return None;
+    }
+    match descend(nodes, PART, n) {
+        Way::Across(base) => Some(base),
+        Way::Within(leaf) => Some((leaf * PART) as u32 + find_in_part(part(records, leaf), n)),
+    }
 }
 
 // Sums up the cells of the leaves from `first` to `last`.
@@ -90,7 +113,7 @@ fn renew_leaves(nodes: &mut [Summary], records: &[Record], first: usize, last: u
     requires few { leaves_of nodes.old < 2 ^ 32 }
     requires order { first ≤ last }
     requires inside { last < leaves_of nodes.old }
-    ensures leaves { (j : ℕ) → first ≤ j → j ≤ last → IsLeaf nodes.new (marks_of records.now) j }
+    ensures leaves { (j : ℕ) → first ≤ j → j ≤ last → IsLeaf PART nodes.new (marks_of records.now) j }
     ensures others { (k : ℕ) → (leaves_of nodes.old + first ≤ k → k ≤ leaves_of nodes.old + last → ⊥) →
         node_at nodes.new k ≡ node_at nodes.old k }
 {
@@ -100,6 +123,20 @@ fn renew_leaves(nodes: &mut [Summary], records: &[Record], first: usize, last: u
     }
 }
 
+/// Puts a summary into a node; whether that changed it.
+pub(crate) fn set_node(nodes: &mut [Summary], k: usize, new: Summary) -> bool
+    requires { k < length nodes.old }
+    ensures set { nodes.new ≡ slice_set nodes.old k new }
+    ensures same { result ≡ false → node_at nodes.new k ≡ node_at nodes.old k }
+{
+    let old = node(nodes, k);
+    if new == old {
+        return false;
+    }
+    nodes[k] = new;
+    true
+}
+
 // Joins the nodes below a node; whether that changed it.
 fn join_node(nodes: &mut [Summary], k: usize) -> bool
     requires { 2 * k + 1 < length nodes.old }
@@ -107,13 +144,8 @@ fn join_node(nodes: &mut [Summary], k: usize) -> bool
         slice_set nodes.old k (joined (node_at nodes.old (2 * k)) (node_at nodes.old (2 * k + 1))) }
     ensures same { result ≡ false → node_at nodes.new k ≡ node_at nodes.old k }
 {
-    let old = node(nodes, k);
     let new = join(node(nodes, 2 * k), node(nodes, 2 * k + 1));
-    if new == old {
-        return false;
-    }
-    nodes[k] = new;
-    true
+    set_node(nodes, k, new)
 }
 
 // Joins the nodes below each of the nodes from `first` to `last`; whether that changed any.
@@ -149,9 +181,9 @@ fn renew_path(nodes: &mut [Summary], from: usize)
     }
 }
 
-// Makes the nodes above those from `first` to `last` anew, up to a row that stays as it was: rows, as long as they have
-// more than one of these nodes, and then one node of each.
-fn renew_above(nodes: &mut [Summary], first: usize, last: usize)
+/// Makes the nodes above those from `first` to `last` anew, up to a row that stays as it was: rows, as long as they have
+/// more than one of these nodes, and then one node of each.
+pub(crate) fn renew_above(nodes: &mut [Summary], first: usize, last: usize)
     requires even { 2 * (leaves_of nodes.old) ≡ length nodes.old }
     requires inside { last < length nodes.old }
     requires inner { (k : ℕ) → 0 < k → k < leaves_of nodes.old → (first / 2 ≤ k → k ≤ last / 2 → ⊥) →
@@ -179,7 +211,7 @@ fn renew(nodes: &mut [Summary], records: &[Record], first: usize, last: usize)
     requires inside { last < leaves_of nodes.old }
     requires inner { HasJoined nodes.old }
     ensures inner { HasJoined nodes.new }
-    ensures leaves { (j : ℕ) → first ≤ j → j ≤ last → IsLeaf nodes.new (marks_of records.now) j }
+    ensures leaves { (j : ℕ) → first ≤ j → j ≤ last → IsLeaf PART nodes.new (marks_of records.now) j }
     ensures others { (j : ℕ) → (first ≤ j → j ≤ last → ⊥) →
         node_at nodes.new (leaves_of nodes.old + j) ≡ node_at nodes.old (leaves_of nodes.old + j) }
 {
@@ -188,55 +220,53 @@ fn renew(nodes: &mut [Summary], records: &[Record], first: usize, last: usize)
     renew_above(nodes, leaves + first, leaves + last);
 }
 
-// How many leaves a tree over so many cells has: a power of two.
-fn leaves_over(cells: usize) -> usize
-    requires { cells < 2 ^ 32 }
+// How many leaves a tree has that is to have so many: the next power of two.
+fn leaves_for(leaves: usize) -> usize
+    requires { leaves < 2 ^ 31 }
     ensures power { (height : ℕ) × (result ≡ leaves_at height) }
-    ensures inside { cells ≤ PART * result }
-    ensures some { 0 < result }
-    ensures few { result < 2 ^ 32 }
+    ensures enough { leaves ≤ result }
+    ensures few { result ≤ 2 * leaves + 1 }
 {
-    let mut leaves = 1;
-    while leaves * PART < cells {
-        leaves *= 2;
+    let mut count = 1;
+    while count < leaves {
+        count *= 2;
     }
-    leaves
+    count
 }
 
-/// Room for the tree over so many cells.
-pub(crate) fn room_for(alloc: Global, cells: usize) -> Result<Vec<Summary>, AllocError>
-    requires { cells < 2 ^ 32 }
-    ensures { IfOk result (λ nodes. IsRoom nodes.items cells) }
+/// Room for a tree with so many leaves.
+pub(crate) fn room_for(alloc: Global, leaves: usize) -> Result<Vec<Summary>, AllocError>
+    requires { leaves < 2 ^ 31 }
+    ensures { IfOk result (λ nodes. IsGrown nodes.items leaves) }
 {
     let none = Summary {
         longest: 0,
         front: 0,
         back: NONE,
     };
-    vec![in alloc; none; 2 * leaves_over(cells)]
+    vec![in alloc; none; 2 * leaves_for(leaves)]
 }
 
-/// Makes the tree over the cells of a table, in room for it.
+/// Makes the tree over the cells of a chunk, in room for it.
 pub(crate) fn raise(nodes: &mut [Summary], records: &[Record])
-    requires { IsRoom nodes.old (length records.now) }
-    ensures { IsTree nodes.new (marks_of records.now) }
+    requires grown { IsGrown nodes.old (CHUNK / PART) }
+    requires few { length records.now ≤ CHUNK }
+    ensures { IsTree PART nodes.new (marks_of records.now) }
 {
     let leaves = nodes.len() / 2;
     renew(nodes, records, 0, leaves - 1);
 }
 
-/// The tree over the cells of a table.
-pub(crate) fn tree_over(alloc: Global, records: &[Record]) -> Result<Vec<Summary>, AllocError>
-    requires { length records.now < 2 ^ 32 }
-    ensures { IfOk result (λ nodes. IsTree nodes.items (marks_of records.now)) }
+/// The summary of all cells.
+pub(crate) fn root(nodes: &[Summary], records: &[Record]) -> Summary
+    requires { IsTree PART nodes.now (marks_of records.now) }
+    ensures { Summarises result (marks_of records.now) }
 {
-    let mut nodes = room_for(alloc, records.len())?;
-    raise(nodes.as_mut_slice(), records);
-    Ok(nodes)
+    node(nodes, 1)
 }
 
-// Sets `n` records from `base` on.
-fn fill(records: &mut [Record], base: u32, n: u32, kept: Record)
+/// Sets `n` records from `base` on.
+pub(crate) fn fill(records: &mut [Record], base: u32, n: u32, kept: Record)
     requires { base + n ≤ length records.old }
     ensures { slots_of records.new ≡ fill (slots_of records.old) base n (slot_of kept) }
 {
@@ -253,10 +283,10 @@ pub(crate) fn fill_cells(
     n: u32,
     kept: Record,
 )
-    requires tree { IsTree nodes.old (marks_of records.old) }
+    requires tree { IsTree PART nodes.old (marks_of records.old) }
     requires some { 0 < n }
     requires inside { base + n ≤ length records.old }
-    ensures tree { IsTree nodes.new (marks_of records.new) }
+    ensures tree { IsTree PART nodes.new (marks_of records.new) }
     ensures slots { slots_of records.new ≡ fill (slots_of records.old) base n (slot_of kept) }
 {
     fill(records, base, n, kept);
@@ -265,12 +295,12 @@ pub(crate) fn fill_cells(
     renew(nodes, records, first, last);
 }
 
-/// Whether somebody waits for a cell of a block.
-pub(crate) fn any_waiting(records: &[Record], block: Block) -> bool
-    requires { block.base + block.length ≤ length records.now }
-    ensures { result ≡ list_any is_waiting (take block.length (drop block.base (slots_of records.now))) }
+/// Whether somebody waits for one of `n` cells from `base` on.
+pub(crate) fn any_waiting(records: &[Record], base: usize, n: usize) -> bool
+    requires { base + n ≤ length records.now }
+    ensures { result ≡ list_any is_waiting (take n (drop base (slots_of records.now))) }
 {
-    let base = block.base as usize;
-    let end = base + block.length as usize;
-    records[base..end].iter().any(|record| record.is_waiting())
+    records[base..base + n]
+        .iter()
+        .any(|record| record.is_waiting())
 }

@@ -30,13 +30,13 @@ use im_types::{Cell, Entry, Kind, Reply, Waiter};
 pub fn look(table: &CellTable, a: u32, kind: Kind) -> Result<Cell, Reply>
     ensures { result ≡ access_in kind (slot_at table.now a) }
 {
-    let Some(block) = table.block_of(a) else {
+    let Some(slot) = table.slot(a) else {
         return Err(Reply::NoCell);
     };
-    if block.kind != kind {
+    if slot.block.kind != kind {
         return Err(Reply::WrongKind);
     }
-    table.get(a).ok_or(Reply::NoCell)
+    Ok(slot.cell)
 }
 
 /// Reads the cell at an address for `who`: a full one gives its value, and where there is none yet, `who` waits behind

@@ -1,5 +1,5 @@
-use Rattle.std.proofs.Common.{refl}
-use Rattle.im_cell.proofs.Scan.{runs-more, Summarises-runs}
+use Rattle.std.proofs.Common.{refl, arith}
+use Rattle.im_cell.proofs.Scan.{runs-more, Summarises-runs, Summarises-all}
 use Rattle.im_cell.proofs.summaries.sum_up.Goals as goal
 
 pub loop-record-preserved : goal.loop-record-preserved
@@ -8,4 +8,7 @@ loop-record-preserved c =
     c.loop-record.invariant
 
 pub returns : goal.returns
-returns c = Summarises-runs c.args.records.now c.loop-record.run c.loop-record.longest c.loop-record.record-index _ c.loop-record-test.false c.free_first.ensures c.back_in.ensures refl c.loop-record.invariant
+returns c = Summarises-runs c.args.records.now c.loop-record.run c.loop-record.longest c.loop-record.record-index _ c.loop-record-test.false c.free_first-front.ensures c.back_in.ensures refl c.loop-record.invariant
+
+pub returns-then-front-records : goal.returns-then-front-records
+returns-then-front-records c = Summarises-all c.args.records.now c.free_first-front.result c.free_first-front.ensures (omega arith)

@@ -16,6 +16,6 @@ list_any-map (r ∷ records) = ap (λ b. is_waiting (slot_of r) || b) (list_any-
 pub returns : goal.returns
 returns c =
     let records = c.args.records.now in
-    let part : List Record = take c.args.block.length (drop c.args.block.base records) in
-    any_from_yields_List (λ r. is_waiting (slot_of r)) _ _ c.any.result c.any.ensures.ran (YieldsList-from_slice part (c.iter.ensures.rest ∙ ap (λ n. take n (drop c.args.block.base records)) (omega arith))) (λ x b q k. search (rules, tests))
-    ∙ list_any-map part ∙ ap (list_any is_waiting) (sym (ap (take c.args.block.length) (drop-map slot_of c.args.block.base records) ∙ take-map slot_of c.args.block.length (drop c.args.block.base records)))
+    let part : List Record = take c.args.n (drop c.args.base records) in
+    any_from_yields_List (λ r. is_waiting (slot_of r)) _ _ c.any.result c.any.ensures.ran (YieldsList-from_slice part (c.iter.ensures.rest ∙ ap (λ n. take n (drop c.args.base records)) (omega arith))) (λ x b q k. search (rules, tests))
+    ∙ list_any-map part ∙ ap (list_any is_waiting) (sym (ap (take c.args.n) (drop-map slot_of c.args.base records) ∙ take-map slot_of c.args.n (drop c.args.base records)))

@@ -13,7 +13,7 @@ clipped xs at from to w f t =
     let e : to - from ≡ min w (length (drop at xs)) = omega (arith, length-drop at xs) in
     ap (λ k. take k (drop from xs)) e ∙ ap (λ i. take (min w (length (drop at xs))) (drop i xs)) f ∙ ap (take (min w (length (drop at xs)))) (drop_min at xs) ∙ take_min w (drop at xs)
 
-marks-clipped : (records : List Record) (leaf : ℕ) → marks_of (take PART (drop (leaf * PART) records)) ≡ part_at (marks_of records) leaf
+marks-clipped : (records : List Record) (leaf : ℕ) → marks_of (take PART (drop (leaf * PART) records)) ≡ part_at PART (marks_of records) leaf
 unfolding part_at
 marks-clipped records leaf =
     sym (ap (take PART) (drop-map mark (leaf * PART) (slots_of records) ∙ ap (map mark) (drop-map slot_of (leaf * PART) records)) ∙ take-map mark PART (map slot_of (drop (leaf * PART) records)) ∙ ap (map mark) (take-map slot_of PART (drop (leaf * PART) records)))
