@@ -1,5 +1,5 @@
 -- The grammar of scripts: what a text says, line by line. (Own.)
-use Rattle.std.specs.Prelude.{⊤, ◌≡◌, ℕ, ◌==◌, ◌&&◌, Bool, List, [], ◌∷◌, ◌++◌, Option, Some, None, Result, Ok, Err, if◌then◌else◌, slice_index_or}
+use Rattle.std.specs.Prelude.{⊤, ◌≡◌, ℕ, ◌==◌, Bool, List, [], ◌∷◌, ◌++◌, Option, Some, None, Result, Ok, Err, if◌then◌else◌, slice_index_or}
 use Rattle.std.specs.Char.{is_ascii}
 use Rattle.std.specs.List.{list_all, slice_split}
 use Rattle.std.specs.Option.{option_map, option_and_then, option_map_or, option_or}
@@ -75,6 +75,10 @@ glance_at d _ words = None
 -- a line that glances, which has to be ASCII
 abbrev pub glance_of : Draft → List ℕ → Option Heard
 glance_of d line = if list_all is_ascii line then glance_at d d.stage (words_of line) else None
+
+-- a line by its words, where it may be a glance
+abbrev pub heard_in : Draft → List (List ℕ) → Option (Draft × Heard)
+heard_in d words = option_or (option_map (λ h. (d, h)) (glance_at d d.stage words)) (option_map (λ r. (r.0, Says r.1)) (words_after d words))
 
 -- a line: a glance, where there may be one, or what stands in any script
 abbrev pub heard : Bool → Draft → List ℕ → Option (Draft × Heard)

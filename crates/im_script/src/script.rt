@@ -106,7 +106,7 @@ impl<'a> Reader<'a> {
     ghost use Rattle.im_script.specs.declared.script.Heard.TheVariants.{Says};
     ghost use Rattle.std.specs.Option.{option_map};
     ghost use Rattle.im_script.specs.Script.{Follows, Hears, asked, begun_part, begun_setup, counted, draft_of};
-    ghost use Rattle.im_script.specs.Script.{glance_at, glance_of, heard, line_after, named, new_draft};
+    ghost use Rattle.im_script.specs.Script.{glance_at, heard, heard_in, line_after, named, new_draft, words_after};
 
     /// Nothing was read.
     pub fn new(alloc: Global) -> Reader<'a>
@@ -177,6 +177,16 @@ impl<'a> Reader<'a> {
         }
     }
 
+    /// Reads a line by its words: one without any says nothing, nor does a comment.
+    fn take_words(&mut self, words: &[&'a [u8]]) -> Result<Said, Refusal>
+        ensures { Follows result (words_after (draft_of self.old) (texts words.now)) (draft_of self.new) }
+    {
+        if words.is_empty() || words[0].first() == Some(&b'#') {
+            return Ok(Said::Nothing);
+        }
+        self.read_words(words)
+    }
+
     /// Reads a line.
     fn read_line(&mut self, alloc: Global, line: &'a [u8]) -> Result<Said, Refusal>
         ensures { Follows result (counted (draft_of self.old) line.entry.now) (draft_of self.new) }
@@ -185,10 +195,7 @@ impl<'a> Reader<'a> {
             return Err(Refusal::BadScript);
         }
         let words = split_words(alloc, line).map_err(|_| Refusal::NoMemory)?;
-        if words.is_empty() || words[0].first() == Some(&b'#') {
-            return Ok(Said::Nothing);
-        }
-        self.read_words(words.as_slice())
+        self.take_words(words.as_slice())
     }
 
     /// The fault of the line with this number, which was refused, in a script that may have glances or not.
@@ -237,18 +244,7 @@ impl<'a> Reader<'a> {
         }
     }
 
-    /// The glance that a line is, where it stands.
-    fn find_glance(&self, alloc: Global, line: &'a [u8]) -> Result<Option<Heard>, AllocError>
-        ensures { IfOk result (λ found. found ≡ glance_of (draft_of self.now) line.entry.now) }
-    {
-        if !is_plain(line) {
-            return Ok(None);
-        }
-        let words = split_words(alloc, line)?;
-        Ok(self.glance(words.as_slice()))
-    }
-
-    /// Reads a line that isn't a glance.
+    /// Reads a line of a script without glances.
     fn hear_said(&mut self, alloc: Global, line: &'a [u8]) -> Result<Heard, Refusal>
         ensures { Hears result (option_map (λ r. (r.0, Says r.1)) (counted (draft_of self.old) line.entry.now))
             (draft_of self.new) }
@@ -259,17 +255,38 @@ impl<'a> Reader<'a> {
         }
     }
 
+    /// Reads a line by its words, which may be a glance.
+    fn hear_words(&mut self, words: &[&'a [u8]]) -> Result<Heard, Refusal>
+        ensures { Hears result (heard_in (draft_of self.old) (texts words.now)) (draft_of self.new) }
+    {
+        if let Some(glance) = self.glance(words) {
+            return Ok(glance);
+        }
+        match self.take_words(words) {
+            Ok(said) => Ok(Heard::Says(said)),
+            Err(refusal) => Err(refusal),
+        }
+    }
+
+    /// Reads a line of a script that may have glances.
+    fn hear_any(&mut self, alloc: Global, line: &'a [u8]) -> Result<Heard, Refusal>
+        ensures { Hears result (heard true (draft_of self.old) line.entry.now) (draft_of self.new) }
+    {
+        if !is_plain(line) {
+            return Err(Refusal::BadScript);
+        }
+        let words = split_words(alloc, line).map_err(|_| Refusal::NoMemory)?;
+        self.hear_words(words.as_slice())
+    }
+
     /// Reads a line of a script that may have glances or not.
     fn hear_line(&mut self, alloc: Global, line: &'a [u8], glances: bool) -> Result<Heard, Refusal>
         ensures { Hears result (heard glances (draft_of self.old) line.entry.now) (draft_of self.new) }
     {
-        if !glances {
-            return self.hear_said(alloc, line);
-        }
-        match self.find_glance(alloc, line) {
-            Ok(Some(glance)) => Ok(glance),
-            Ok(None) => self.hear_said(alloc, line),
-            Err(_) => Err(Refusal::NoMemory),
+        if glances {
+            self.hear_any(alloc, line)
+        } else {
+            self.hear_said(alloc, line)
         }
     }
 
