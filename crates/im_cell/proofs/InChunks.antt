@@ -431,3 +431,19 @@ pub free-next : {X : Type 0} (chunks : List (List (Option X))) (n own m : ℕ) (
     → cells_in (chunks ++ chunk ∷ []) ≡ replicate m None
 free-next chunks n own m chunk free is sum =
     cells-push chunks chunk ∙ ap (λ cells. cells ++ chunk) free ∙ ap (λ c. replicate n None ++ c) is ∙ replicate-append-replicate n own None ∙ ap (λ k. replicate k None) (sym sum)
+
+-- the chunks of some cells: the first and the last one, and one between them
+pub same-chunk : (base n : ℕ) → 0 < n → (base + n - 1) / CHUNK ≤ base / CHUNK → base / CHUNK ≡ (base + n - 1) / CHUNK
+same-chunk base n some less = omega arith
+
+pub low-within : (base j : ℕ) → base / CHUNK < j → base ≤ j * CHUNK
+low-within base j above = omega arith
+
+pub high-within : (base n j : ℕ) → j < (base + n - 1) / CHUNK → j * CHUNK + CHUNK ≤ base + n
+high-within base n j below = omega arith
+
+pub above-first : (first j : ℕ) → first ≤ j → (j ≡ first → ⊥) → first < j
+above-first first j low past = omega arith
+
+pub below-last : (last j : ℕ) → j ≤ last → (j ≡ last → ⊥) → j < last
+below-last last j high past = omega arith

@@ -1,91 +1,180 @@
 -- What a chunk keeps, as its cells change.
-use Rattle.std.proofs.Common.{◌≡◌, ℕ, ◌/◌, List, length, map, set, Bool, true, false, Option, None, Some, refl, sym, ap, ◌∙◌, arith}
-use Rattle.std.specs.Prelude.{IsSome, ◌||◌}
+use Rattle.std.proofs.Common.{◌≡◌, ℕ, zero, suc, ◌+◌, ◌/◌, ◌*◌, ◌<◌, ◌≤◌, List, [], ◌∷◌, length, map, set, take, drop, replicate, Bool, true, false, Option, None, Some, inl, inr, refl, sym, ap, subst, ◌∙◌, arith, length-set}
+use Rattle.std.specs.Prelude.{IsSome, ◌||◌, not, eqb}
 use Rattle.std.specs.List.{list_any}
-use Rattle.std.proofs.lemmas.List.{map-set, length-map, length-replicate}
+use Rattle.std.proofs.lemmas.Bool.{cases_lt}
+use Rattle.std.proofs.lemmas.Bool.Decides.{nat_tests}
+use Rattle.std.proofs.lemmas.List.{map-set, length-map, length-replicate, get_or-replicate, get_or_past, take_all}
+use Rattle.im_cell.specs.declared.chunk.TheConstants.{CHUNK}
+use Rattle.im_cell.specs.declared.chunk.Kept.{Kept}
+use Rattle.im_cell.specs.declared.chunk.Kept.TheVariants.{Each, Leaves, Whole}
 use Rattle.im_cell.specs.declared.tree.TheConstants.{PART}
 use Rattle.im_cell.specs.declared.records.Record.{Record}
 use Rattle.im_cell.specs.declared.slots.Slot.{Slot}
 use Rattle.im_cell.specs.declared.summaries.Summary.{Summary}
-use Rattle.im_cell.specs.Slots.{slot_at, is_waiting}
-use Rattle.im_cell.specs.Records.{slot_of, slots_of, marks_of}
-use Rattle.im_cell.specs.Summaries.{mark, leaves_of, IsTree}
-use Rattle.im_cell.specs.Chunks.{slots_in, IsKept, IsChunk}
+use Rattle.im_types.specs.declared.cells.Cell.{Cell}
+use Rattle.im_cell.specs.Slots.{slot_at, is_waiting, with_cell}
+use Rattle.im_cell.specs.Records.{slot_of, slots_of}
+use Rattle.im_cell.specs.Summaries.{mark, IsTree}
+use Rattle.im_cell.specs.Chunks.{same_at, seen, slots_in, IsKept, IsChunk}
 use Rattle.im_cell.proofs.Leaves.{marks-set}
 use Rattle.im_cell.proofs.Same.{none-same}
+use Rattle.im_cell.proofs.Seen.{length-seen, seen-plain, seen-set}
 
--- records and their tree, in the room of another one
-pub IsKept-live : (whole : Option Record) (old records : List Record) (room nodes : List Summary) → IsKept whole old room → length records ≡ length old → length nodes ≡ length room
-    → IsTree PART nodes (marks_of records) → IsKept None records nodes
-IsKept-live whole old records room nodes k same_records same_nodes t = record {
-  few = omega (arith, k.few);
-  grown = record {
-    height = t.height;
-    power = t.power;
-    even = t.even;
-    enough = omega (arith, half, k.grown.enough);
-    few = omega (arith, half, k.grown.few);
-    inner = t.inner;
-  };
-  tree = λ e. t;
-}
-  where
-    half : leaves_of nodes ≡ leaves_of room
-    half = ap (λ k. k / 2) same_nodes
+-- no record stands for all, or each for its own
+pub not_each : (kept : Record) → Whole kept ≡ Each → ⊥
+not_each kept e = cc
+
+pub leaves_not_each : Leaves ≡ Each → ⊥
+leaves_not_each e = cc
+
+-- nothing is in two empty lists
+pub empty-alike : {X : Type 0} (xs ys : List X) → length xs ≡ 0 → length ys ≡ 0 → xs ≡ ys
+empty-alike [] [] e f = refl
+empty-alike [] (y ∷ ys) e f = absurd (omega arith)
+empty-alike (x ∷ xs) ys e f = absurd (omega arith)
+
+-- a cell in a block is one of the cells
+not_held : (o : Option Slot) → o ≡ None → IsSome o → ⊥
+not_held None e h = cc
+not_held (Some x) e h = cc
+
+pub held-with : (o : Option Slot) (cell : Cell) → IsSome o → IsSome (with_cell cell o)
+held-with None cell h = h
+held-with (Some slot) cell h = h
+
+pub held-inside : (cells : List (Option Slot)) (at : ℕ) → IsSome (slot_at cells at) → at < length cells
+held-inside cells at held = elim (cases_lt at (length cells)) [
+  | inl inside ↦ inside
+  | inr past ↦ absurd (not_held (slot_at cells at) (get_or_past cells at None past) held)
+]
+
+-- where no flag is set, nothing stands for any leaf
+pub flags-none : (n j : ℕ) → same_at (replicate n false) j ≡ false
+flags-none n j = elim (cases_lt j n) [
+  | inl inside ↦ get_or-replicate n j false false inside
+  | inr past ↦ get_or_past (replicate n false) j false (omega (arith, length-replicate n false))
+]
+
+-- so many cells from one on, where these are all
+pub all-taken : {X : Type 0} (xs : List X) (base n : ℕ) → n ≡ length xs → base + n ≤ length xs → take n (drop base xs) ≡ xs
+all-taken xs base n all inside =
+    ap (λ b. take n (drop b xs)) (let e : base ≡ 0 = omega arith in e) ∙ take_all n xs (omega arith)
+
+-- two numbers that aren't found apart
+pub not-apart : (n m : ℕ) → not (eqb n m) ≡ false → n ≡ m
+not-apart n m e = grind (arith, nat_tests)
+
+-- the slots of records that are all the same
+pub slots-same : (n : ℕ) (kept : Record) → slots_of (replicate n kept) ≡ replicate n (slot_of kept)
+slots-same zero kept = refl
+slots-same (suc n) kept = ap (λ slots. slot_of kept ∷ slots) (slots-same n kept)
+
+-- a chunk has a slot for each record
+pub length-slots_in : (kept : Kept) (same : List Bool) (records : List Record) → length (slots_in kept same records) ≡ length records
+length-slots_in Each same records = length-seen same (slots_of records) ∙ length-map records slot_of
+length-slots_in Leaves same records = length-seen same (slots_of records) ∙ length-map records slot_of
+length-slots_in (Whole kept) same records = length-replicate (length records) (slot_of kept)
+
+-- where each record stands for its own cell, the slots are theirs
+pub slots_in-each : (kept : Kept) (same : List Bool) (records : List Record) (nodes : List Summary) → kept ≡ Each → IsKept kept same records nodes → slots_in kept same records ≡ slots_of records
+slots_in-each Each same records nodes e k = seen-plain same (slots_of records) (k.plain refl)
+slots_in-each Leaves same records nodes e k = absurd (leaves_not_each e)
+slots_in-each (Whole kept) same records nodes e k = absurd (not_each kept e)
 
 -- another cell in the same block
-pub marks-of-set : (records : List Record) (at : ℕ) (kept : Record) → IsSome (slot_at (slots_of records) at) → IsSome (slot_of kept) → marks_of (set records at kept) ≡ marks_of records
-marks-of-set records at kept held some =
-    ap (map mark) (map-set slot_of records at kept) ∙ go (slot_at (slots_of records) at) refl held (slot_of kept) refl some
+pub marks-of-set : (cells : List (Option Slot)) (at : ℕ) (new : Option Slot) → IsSome (slot_at cells at) → IsSome new → map mark (set cells at new) ≡ map mark cells
+marks-of-set cells at new held some = go (slot_at cells at) refl held new refl some
   where
-    go : (was : Option Slot) → slot_at (slots_of records) at ≡ was → IsSome was → (now : Option Slot) → slot_of kept ≡ now → IsSome now → map mark (set (slots_of records) at (slot_of kept)) ≡ marks_of records
+    go : (was : Option Slot) → slot_at cells at ≡ was → IsSome was → (now : Option Slot) → new ≡ now → IsSome now → map mark (set cells at new) ≡ map mark cells
     go None is h now e s = absurd (cc)
     go (Some x) is h None e s = absurd (cc)
-    go (Some x) is h (Some y) e s = ap (λ o. map mark (set (slots_of records) at o)) e ∙ marks-set (slots_of records) at x y is
+    go (Some x) is h (Some y) e s = ap (λ o. map mark (set cells at o)) e ∙ marks-set cells at x y is
+
+-- the same of records, in a leaf for which none stands
+pub seen-of-set : (same : List Bool) (records : List Record) (at : ℕ) (new : Record) → same_at same (at / PART) ≡ false → seen same (slots_of (set records at new)) ≡ set (seen same (slots_of records)) at (slot_of new)
+seen-of-set same records at new own = ap (seen same) (map-set slot_of records at new) ∙ seen-set same (slots_of records) at (slot_of new) own
+
+pub IsTree-set : (same : List Bool) (records : List Record) (nodes : List Summary) (at : ℕ) (new : Record) → same_at same (at / PART) ≡ false → IsSome (slot_at (seen same (slots_of records)) at) → IsSome (slot_of new)
+    → IsTree PART nodes (map mark (seen same (slots_of records))) → IsTree PART nodes (map mark (seen same (slots_of (set records at new))))
+IsTree-set same records nodes at new own held some t =
+    subst (IsTree PART nodes) (sym (ap (map mark) (seen-of-set same records at new own) ∙ marks-of-set (seen same (slots_of records)) at (slot_of new) held some)) t
+
+-- what is kept once a record is another one
+pub IsKept-set : (now : Kept) (same : List Bool) (records : List Record) (nodes : List Summary) (at : ℕ) (new : Record) → length records ≤ CHUNK → length records ≤ PART * length same
+    → IsTree PART nodes (map mark (seen same (slots_of records))) → same_at same (at / PART) ≡ false → IsSome (slot_at (seen same (slots_of records)) at) → IsSome (slot_of new)
+    → (now ≡ Each → (j : ℕ) → same_at same j ≡ false) → IsKept now same (set records at new) nodes
+IsKept-set now same records nodes at new few room tree own held some plain = record {
+  few = omega (arith, few, length-set records at new);
+  room = omega (arith, room, length-set records at new);
+  tree = IsTree-set same records nodes at new own held some tree;
+  plain = plain;
+}
+
+-- the same where each record stands for its own cell
+pub slots_in-set : (kept : Kept) (same : List Bool) (records : List Record) (nodes : List Summary) (at : ℕ) (new : Record) → kept ≡ Each → IsKept kept same records nodes
+    → slots_in kept same (set records at new) ≡ set (slots_in kept same records) at (slot_of new)
+slots_in-set Each same records nodes at new e k = seen-of-set same records at new (k.plain refl (at / PART))
+slots_in-set Leaves same records nodes at new e k = absurd (leaves_not_each e)
+slots_in-set (Whole kept) same records nodes at new e k = absurd (not_each kept e)
+
+pub IsKept-set-each : (kept : Kept) (same : List Bool) (records : List Record) (nodes : List Summary) (at : ℕ) (new : Record) → kept ≡ Each → IsKept kept same records nodes
+    → IsSome (slot_at (slots_in kept same records) at) → IsSome (slot_of new) → IsKept kept same (set records at new) nodes
+IsKept-set-each Each same records nodes at new e k held some = IsKept-set Each same records nodes at new k.few k.room k.tree (k.plain refl (at / PART)) held some k.plain
+IsKept-set-each Leaves same records nodes at new e k held some = absurd (leaves_not_each e)
+IsKept-set-each (Whole kept) same records nodes at new e k held some = absurd (not_each kept e)
+
+-- the tree, where each record stands for its own cell; and over other cells
+pub tree-each : (kept : Kept) (same : List Bool) (records : List Record) (nodes : List Summary) → kept ≡ Each → IsKept kept same records nodes → IsTree PART nodes (map mark (slots_of records))
+tree-each Each same records nodes e k = subst (λ s. IsTree PART nodes (map mark s)) (seen-plain same (slots_of records) (k.plain refl)) k.tree
+tree-each Leaves same records nodes e k = absurd (leaves_not_each e)
+tree-each (Whole kept) same records nodes e k = absurd (not_each kept e)
+
+pub IsKept-filled : (kept : Kept) (same : List Bool) (old records : List Record) (room nodes : List Summary) → kept ≡ Each → IsKept kept same old room → length records ≡ length old
+    → IsTree PART nodes (map mark (slots_of records)) → IsKept kept same records nodes
+IsKept-filled Each same old records room nodes e k long tree = record {
+  few = omega (arith, k.few);
+  room = omega (arith, k.room);
+  tree = subst (λ s. IsTree PART nodes (map mark s)) (sym (seen-plain same (slots_of records) (k.plain refl))) tree;
+  plain = k.plain;
+}
+IsKept-filled Leaves same old records room nodes e k long tree = absurd (leaves_not_each e)
+IsKept-filled (Whole kept) same old records room nodes e k long tree = absurd (not_each kept e)
+
+-- what is kept of cells with a record each, under a tree
+pub IsKept-plain : (n : ℕ) (same : List Bool) (records : List Record) (nodes : List Summary) → same ≡ replicate n false → length records ≤ CHUNK → length records ≤ PART * n → IsTree PART nodes (map mark (slots_of records))
+    → IsKept Each same records nodes
+IsKept-plain n same records nodes is few room tree = record {
+  few = few;
+  room = omega (arith, room, ap length is, length-replicate n false);
+  tree = subst (λ s. IsTree PART nodes (map mark s)) (sym (seen-plain same (slots_of records) none)) tree;
+  plain = λ e. none;
+}
+  where
+    none : (j : ℕ) → same_at same j ≡ false
+    none j = ap (λ flags. same_at flags j) is ∙ flags-none n j
+
+pub seen-of-plain : (n : ℕ) (same : List Bool) (slots : List (Option Slot)) → same ≡ replicate n false → seen same slots ≡ slots
+seen-of-plain n same slots is = seen-plain same slots (λ j. ap (λ flags. same_at flags j) is ∙ flags-none n j)
 
 -- neither of two was so
 pub neither : (a b : Bool) → a || b ≡ false → (a ≡ false) × (b ≡ false)
 neither true b e = absurd (cc)
 neither false b e = (refl, e)
 
--- something is kept for the whole, or nothing is
-pub some_nothing : (kept : Record) → Some kept ≡ None → ⊥
-some_nothing kept e = cc
-
 -- a chunk with other slots, among which somebody waits only where somebody did before, or in the new record
-pub IsChunk-changed : (whole : Option Record) (old records : List Record) (room nodes : List Summary) (waits waiting : Bool) (kept : Record) → IsChunk whole old room waits
-    → IsKept None records nodes → waiting ≡ is_waiting (slot_of kept)
-    → (list_any is_waiting (slots_in whole old) ≡ false → is_waiting (slot_of kept) ≡ false → list_any is_waiting (slots_of records) ≡ false) → IsChunk None records nodes (waits || waiting)
-IsChunk-changed whole old records room nodes waits waiting kept c k is none = record {
-  kept = k;
+pub IsChunk-changed : (kept : Kept) (same : List Bool) (old : List Record) (room : List Summary) (now : Kept) (flags : List Bool) (records : List Record) (nodes : List Summary) (waits waiting : Bool) (new : Record)
+    → IsChunk kept same old room waits → IsKept now flags records nodes → waiting ≡ is_waiting (slot_of new)
+    → (list_any is_waiting (slots_in kept same old) ≡ false → is_waiting (slot_of new) ≡ false → list_any is_waiting (slots_in now flags records) ≡ false) → IsChunk now flags records nodes (waits || waiting)
+IsChunk-changed kept same old room now flags records nodes waits waiting new c k is none = record {
+  cells = k;
   quiet = λ e. let n = neither waits waiting e in none (c.quiet n.0) (sym is ∙ n.1);
 }
 
--- the same where no record is kept for the whole
-pub slots_in-alone : (whole : Option Record) (records : List Record) → whole ≡ None → slots_in whole records ≡ slots_of records
-slots_in-alone None records e = refl
-slots_in-alone (Some other) records e = absurd (some_nothing other e)
-
-pub IsChunk-alone : (whole : Option Record) (old records : List Record) (room nodes : List Summary) (waits waiting : Bool) (kept : Record) → whole ≡ None → IsChunk whole old room waits
-    → length records ≡ length old → length nodes ≡ length room → IsTree PART nodes (marks_of records) → waiting ≡ is_waiting (slot_of kept)
-    → (list_any is_waiting (slots_of old) ≡ false → is_waiting (slot_of kept) ≡ false → list_any is_waiting (slots_of records) ≡ false) → IsChunk whole records nodes (waits || waiting)
-IsChunk-alone None old records room nodes waits waiting kept e c same_records same_nodes tree is none =
-    IsChunk-changed None old records room nodes waits waiting kept c (IsKept-live None old records room nodes c.kept same_records same_nodes tree) is none
-IsChunk-alone (Some other) old records room nodes waits waiting kept e c same_records same_nodes tree is none = absurd (some_nothing other e)
-
--- a chunk, all of whose cells are made the same
-pub IsKept-whole : (whole : Option Record) (records : List Record) (nodes : List Summary) (kept : Record) → IsKept whole records nodes → IsKept (Some kept) records nodes
-IsKept-whole whole records nodes kept k = record { few = k.few; grown = k.grown; tree = λ e. absurd (some_nothing kept e) }
-
--- such a chunk, where somebody waits only if the record is waiting
-pub IsChunk-whole : (whole : Option Record) (records : List Record) (nodes : List Summary) (waiting : Bool) (kept : Record) → IsKept whole records nodes
-    → waiting ≡ is_waiting (slot_of kept) → IsChunk (Some kept) records nodes waiting
-IsChunk-whole whole records nodes waiting kept k is = record {
-  kept = IsKept-whole whole records nodes kept k;
-  quiet = λ e. none-same is_waiting (length records) (slot_of kept) (sym is ∙ e);
+-- a chunk, all of whose cells are made the same; somebody waits only if the record is waiting
+pub IsChunk-whole : (kept : Kept) (same : List Bool) (records : List Record) (nodes : List Summary) (waiting : Bool) (new : Record) → IsKept kept same records nodes
+    → waiting ≡ is_waiting (slot_of new) → IsChunk (Whole new) same records nodes waiting
+IsChunk-whole kept same records nodes waiting new k is = record {
+  cells = record { few = k.few; room = k.room; tree = k.tree; plain = λ e. absurd (not_each new e) };
+  quiet = λ e. none-same is_waiting (length records) (slot_of new) (sym is ∙ e);
 }
-
--- a chunk has a slot for each record
-pub length-slots_in : (whole : Option Record) (records : List Record) → length (slots_in whole records) ≡ length records
-length-slots_in None records = length-map records slot_of
-length-slots_in (Some kept) records = length-replicate (length records) (slot_of kept)

@@ -1,5 +1,5 @@
 -- The leaves of a tree, as cells change.
-use Rattle.std.proofs.Common.{◌≡◌, ℕ, zero, suc, ◌+◌, ◌-◌, ◌*◌, ◌/◌, ◌<◌, ◌≤◌, ◌^◌, List, [], ◌∷◌, length, map, take, drop, set, get_or, Bool, Option, None, Some, inl, inr, refl, sym, ap, ◌∙◌, subst, arith}
+use Rattle.std.proofs.Common.{◌≡◌, ℕ, zero, suc, ◌+◌, ◌-◌, ◌*◌, ◌/◌, ◌<◌, ◌≤◌, ◌^◌, List, [], ◌∷◌, ◌++◌, length, map, take, drop, set, get_or, replicate, Bool, Option, None, Some, inl, inr, refl, sym, ap, ◌∙◌, subst, arith}
 use Rattle.std.specs.Prelude.{option_map, cond}
 use Rattle.std.proofs.Math.Nat.{add-mul, one-mul, le-div_iff_mul-le, div-lt_iff_lt-mul}
 use Rattle.std.proofs.lemmas.Bool.{cases_lt}
@@ -57,6 +57,45 @@ module _ {X : Type 0} where
   fill-behind (y ∷ xs) (suc base) n x zero less = absurd (omega arith)
   fill-behind (y ∷ xs) (suc base) n x (suc from) less = fill-behind xs base n x from (omega arith)
 
+-- so many elements in a row that are written at once: what is before them, they, and what is behind them
+pub fill-pieces : {A X : Type 0} (f : A → Option X) (xs : List A) (base n to : ℕ) (y : A) → to ≡ base + n → to ≤ length xs
+    → map f (take base xs ++ (replicate n y ++ drop to xs)) ≡ fill (map f xs) base n (f y)
+fill-pieces f [] zero zero zero y e inside = refl
+fill-pieces f [] zero zero (suc to) y e inside = absurd (omega arith)
+fill-pieces f [] zero (suc n) to y e inside = absurd (omega arith)
+fill-pieces f [] (suc base) n to y e inside = absurd (omega arith)
+fill-pieces f (x ∷ xs) zero zero zero y e inside = refl
+fill-pieces f (x ∷ xs) zero zero (suc to) y e inside = absurd (omega arith)
+fill-pieces f (x ∷ xs) zero (suc n) zero y e inside = absurd (omega arith)
+fill-pieces f (x ∷ xs) zero (suc n) (suc to) y e inside = ap (λ zs. f y ∷ zs) (fill-pieces f xs zero n to y (omega arith) (omega arith))
+fill-pieces f (x ∷ xs) (suc base) n zero y e inside = absurd (omega arith)
+fill-pieces f (x ∷ xs) (suc base) n (suc to) y e inside = ap (λ zs. f x ∷ zs) (fill-pieces f xs base n to y (omega arith) (omega arith))
+
+-- the cells of a fill
+pub fill-taken : {X : Type 0} (xs : List (Option X)) (base n : ℕ) (x : Option X) (from w : ℕ) → base ≤ from → from + w ≤ base + n → from + w ≤ length xs
+    → take w (drop from (fill xs base n x)) ≡ replicate w x
+fill-taken xs base n x from zero low high inside = refl
+fill-taken [] base n x from (suc w) low high inside = absurd (omega arith)
+fill-taken (y ∷ xs) zero zero x from (suc w) low high inside = absurd (omega arith)
+fill-taken (y ∷ xs) zero (suc n) x zero (suc w) low high inside = ap (λ ys. x ∷ ys) (fill-taken xs zero n x zero w (omega arith) (omega arith) (omega arith))
+fill-taken (y ∷ xs) zero (suc n) x (suc from) (suc w) low high inside = fill-taken xs zero n x from (suc w) (omega arith) (omega arith) (omega arith)
+fill-taken (y ∷ xs) (suc base) n x zero (suc w) low high inside = absurd (omega arith)
+fill-taken (y ∷ xs) (suc base) n x (suc from) (suc w) low high inside = fill-taken xs base n x from (suc w) (omega arith) (omega arith) (omega arith)
+
+-- so many marks of one cell
+marks-same : {X : Type 0} (n : ℕ) (o : Option X) → replicate n (mark o) ≡ map mark (replicate n o)
+marks-same zero o = refl
+marks-same (suc n) o = ap (λ ms. mark o ∷ ms) (marks-same n o)
+
+-- the cells of a leaf within a fill
+pub part-within : {X : Type 0} (p : ℕ) (xs : List (Option Bool)) (base n : ℕ) (o : Option X) (j : ℕ) → base ≤ j * p → (j + 1) * p ≤ base + n → base + n ≤ length xs
+    → part_at p (fill xs base n (mark o)) j ≡ map mark (replicate p o)
+unfolding part_at
+part-within p xs base n o j low high inside =
+    let e = add-mul j 1 p in
+    let one = one-mul p in
+    fill-taken xs base n (mark o) (j * p) p low (omega arith) (omega arith) ∙ marks-same p o
+
 module _ (p : ℕ) where
   -- the cells of a leaf before a fill
   pub part-before : (xs : List (Option Bool)) (base n : ℕ) (x : Option Bool) (j : ℕ) → (j + 1) * p ≤ base → part_at p (fill xs base n x) j ≡ part_at p xs j
@@ -83,6 +122,12 @@ module _ (p : ℕ) where
   pub part-few : (cells : List (Option Bool)) (j : ℕ) → length (part_at p cells j) ≤ p
   unfolding part_at
   part-few cells j = let l = length-take p (drop (j * p) cells) in omega arith
+
+-- a leaf whose node is a summary of its cells
+pub IsLeaf-of : (p : ℕ) (old new : List Summary) (cells part : List (Option Bool)) (j : ℕ) (s : Summary) → length new ≡ length old → node_at new (leaves_of old + j) ≡ s
+    → part ≡ part_at p cells j → Summarises s part → IsLeaf p new cells j
+IsLeaf-of p old new cells part j s same is own sums =
+    subst (λ t. Summarises t (part_at p cells j)) (sym (ap (λ n. node_at new (n / 2 + j)) same ∙ is)) (subst (Summarises s) own sums)
 
 -- the tree over other cells, where the leaves from the first to the last are made anew, and neither the cells nor the node of another leaf changed
 pub IsTree-renewed : (p : ℕ) (old new : List Summary) (xs ys : List (Option Bool)) (first last : ℕ) → IsTree p old xs → length ys ≡ length xs → length new ≡ length old

@@ -6,6 +6,7 @@ pub mod Leaves
 pub mod Descent
 pub mod Blocks
 pub mod Scan
+pub mod Seen
 pub mod InChunks
 pub mod Same
 pub mod Kept

@@ -1,10 +1,10 @@
 -- Nodes that are joined anew, row by row.
-use Rattle.std.proofs.Common.{Bool, true, false, ◌≡◌, ◌≢◌, ℕ, ◌+◌, ◌*◌, ◌/◌, ◌<◌, ◌≤◌, List, length, set, inl, inr, refl, sym, ap, ◌∙◌, arith, length-set}
+use Rattle.std.proofs.Common.{Bool, true, false, ◌≡◌, ◌≢◌, ℕ, zero, suc, ◌+◌, ◌*◌, ◌/◌, ◌<◌, ◌≤◌, List, length, set, inl, inr, refl, sym, ap, ◌∙◌, arith, length-set}
 use Rattle.std.specs.Prelude.{◌||◌}
-use Rattle.std.proofs.lemmas.Bool.{cases_eq}
+use Rattle.std.proofs.lemmas.Bool.{cases_eq, cases_lt}
 use Rattle.std.proofs.lemmas.List.{get_or-set_same, get_or-set_other}
 use Rattle.im_cell.specs.declared.summaries.Summary.{Summary}
-use Rattle.im_cell.specs.Summaries.{joined, no_cells, node_at, leaves_of, IsJoined, HasJoined}
+use Rattle.im_cell.specs.Summaries.{joined, no_cells, node_at, leaves_at, leaves_of, IsRow, IsJoined, HasJoined}
 
 -- a node stays joined where it and the two below it stay
 pub joined-kept : (old new : List Summary) (k : ℕ) → node_at new k ≡ node_at old k → node_at new (2 * k) ≡ node_at old (2 * k) → node_at new (2 * k + 1) ≡ node_at old (2 * k + 1)
@@ -82,3 +82,31 @@ module _ (new : List Summary) (at : ℕ) (v : Summary) (inside : at < length new
         | inl e ↦ ap (node_at (set new at v)) e ∙ same ∙ ap (node_at new) (sym e)
         | inr ne ↦ one.others i (λ a b. ne (omega arith))
       ]
+
+-- a whole row is joined anew, above one whose nodes between the ends are all the same
+pub RowsFrom-row : (old new next : List Summary) (low high : ℕ) → 2 * leaves_of old ≡ length old → RowsFrom old new low high
+    → ((k : ℕ) → low / 2 ≤ k → k ≤ high / 2 → IsJoined next k) → ((k : ℕ) → (low / 2 ≤ k → k ≤ high / 2 → ⊥) → node_at next k ≡ node_at new k)
+    → RowsFrom old next (low / 2) (high / 2)
+RowsFrom-row old new next low high even r joins others = record {
+  joins = λ k some less out. elim (cases_lt k (low / 2)) [
+    | inl before ↦ stays k some less out (λ a b. omega arith)
+    | inr from ↦ elim (cases_lt (high / 2) k) [
+      | inl behind ↦ stays k some less out (λ a b. omega arith)
+      | inr upto ↦ joins k from upto
+    ]
+  ];
+  kept = λ k le. others k (λ a b. let o = r.inside in absurd (omega arith)) ∙ r.kept k le;
+  inside = let o = r.inside in omega arith;
+}
+  where
+    stays : (k : ℕ) → 0 < k → k < leaves_of old → (low / 2 / 2 ≤ k → k ≤ high / 2 / 2 → ⊥) → (low / 2 ≤ k → k ≤ high / 2 → ⊥) → IsJoined next k
+    stays k some less out beside =
+        joined-kept new next k (others k beside) (others (2 * k) (λ a b. out (omega arith) (omega arith))) (others (2 * k + 1) (λ a b. out (omega arith) (omega arith))) (r.joins k some less beside)
+
+-- the row above a row
+pub IsRow-up : (first last : ℕ) → first < last → IsRow first last → IsRow (first / 2) (last / 2)
+IsRow-up first last less r = go r.height refl
+  where
+    go : (h : ℕ) → r.height ≡ h → IsRow (first / 2) (last / 2)
+    go zero e = let f = r.from in let u = r.upto in let is = ap leaves_at e in absurd (omega arith)
+    go (suc h) e = let f = r.from in let u = r.upto in let is = ap leaves_at e in record { height = h; from = omega arith; upto = omega arith }

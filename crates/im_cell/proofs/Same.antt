@@ -7,6 +7,7 @@ use Rattle.std.proofs.lemmas.List.{length-replicate, length-map}
 use Rattle.im_types.specs.declared.TheConstants.{NONE}
 use Rattle.im_types.specs.Place.{place, fill}
 use Rattle.im_cell.specs.Summaries.{mark, front, back, longest, back_in, run_at, Summarises}
+use Rattle.im_cell.proofs.Leaves.{place-marks}
 use Rattle.im_cell.proofs.Splits.{longest-few, front-longest, place-here, place-none, ends}
 
 module _ {X : Type 0} where
@@ -90,6 +91,12 @@ module _ {X : Type 0} where
   pub place-free-here : (cells n : ℕ) (o : Option X) → 0 < n → run_at 0 o ≢ 0 → n ≤ cells → Some 0 ≡ place n (replicate cells o)
   place-free-here cells n None some ne fits = sym (place-here n (replicate cells None) some (omega (arith, front-none X cells)))
   place-free-here cells n (Some x) some ne fits = absurd (ne refl)
+
+  -- the place in a part that has room, where all its cells are the same
+  pub place-alike : (n cells : ℕ) (o : Option X) → 0 < n → n ≤ longest (map mark (replicate cells o)) → place n (map mark (replicate cells o)) ≡ Some 0
+  place-alike n cells None some room =
+      place-marks n (replicate {A = Option X} cells None) ∙ sym (place-free-here cells n None some (λ e. omega arith) (omega (arith, longest-few (map mark (replicate {A = Option X} cells None)), count-marks {X = X} cells None)))
+  place-alike n cells (Some x) some room = absurd (omega (arith, longest-held cells x))
 
   -- all cells are set
   pub fill-whole : (xs : List (Option X)) (n : ℕ) (x : Option X) → length xs ≡ n → fill xs 0 n x ≡ replicate n x

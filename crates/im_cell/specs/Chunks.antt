@@ -1,14 +1,16 @@
 -- A table's cells in chunks, one behind the other. (Own.)
-use Rattle.std.specs.Prelude.{◌≡◌, ℕ, ◌-◌, ◌*◌, ◌/◌, ◌≤◌, min, List, [], ◌∷◌, ◌++◌, length, map, slice_index_or, replicate, Bool, false, Option, None, Some}
+use Rattle.std.specs.Prelude.{◌≡◌, ℕ, zero, suc, ◌-◌, ◌*◌, ◌/◌, ◌≤◌, min, List, [], ◌∷◌, ◌++◌, length, map, slice_index_or, replicate, Bool, false, Option, if◌then◌else◌}
 use Rattle.std.specs.List.{list_any}
 use Rattle.im_cell.specs.declared.chunk.TheConstants.{CHUNK}
+use Rattle.im_cell.specs.declared.chunk.Kept.{Kept}
+use Rattle.im_cell.specs.declared.chunk.Kept.TheVariants.{Each, Leaves, Whole}
 use Rattle.im_cell.specs.declared.tree.TheConstants.{PART}
 use Rattle.im_cell.specs.declared.records.Record.{Record}
 use Rattle.im_cell.specs.declared.slots.Slot.{Slot}
 use Rattle.im_cell.specs.declared.summaries.Summary.{Summary}
-use Rattle.im_cell.specs.Slots.{is_waiting, HasBlocks}
-use Rattle.im_cell.specs.Records.{slot_of, slots_of, marks_of}
-use Rattle.im_cell.specs.Summaries.{mark, IsGrown, IsTree}
+use Rattle.im_cell.specs.Slots.{slot_at, is_waiting, HasBlocks}
+use Rattle.im_cell.specs.Records.{slot_of, slots_of}
+use Rattle.im_cell.specs.Summaries.{mark, IsTree}
 
 module _ {X : Type 0} where
   -- the cells of these chunks
@@ -28,22 +30,40 @@ module _ {X : Type 0} where
 abbrev pub marks_in : List (List (Option Slot)) → List (Option Bool)
 marks_in chunks = map mark (cells_in chunks)
 
--- the slots of a chunk: all the same, where one record is kept for the whole
-abbrev pub slots_in : Option Record → List Record → List (Option Slot)
-slots_in None records = slots_of records
-slots_in (Some kept) records = replicate (length records) (slot_of kept)
+-- whether the first cell of a leaf stands for all of them
+abbrev pub same_at : List Bool → ℕ → Bool
+same_at same j = slice_index_or same j false
 
--- records and nodes of a chunk, and the record that is kept for the whole, if one is
-pub record IsKept (whole : Option Record) (records : List Record) (nodes : List Summary) : Type 0 where
+-- the cell that stands for one
+abbrev pub stand_in : List Bool → ℕ → ℕ
+stand_in same i = if same_at same (i / PART) then i / PART * PART else i
+
+-- so many slots from one on, each that of the cell that stands for it
+abbrev pub seen_from : ℕ → ℕ → List Bool → List (Option Slot) → List (Option Slot)
+seen_from zero i same slots = []
+seen_from (suc n) i same slots = slot_at slots (stand_in same i) ∷ seen_from n (suc i) same slots
+
+-- the slots of cells, where the first one of some leaves stands for all of the leaf
+unfoldable pub seen : List Bool → List (Option Slot) → List (Option Slot)
+seen same slots = seen_from (length slots) 0 same slots
+
+-- the slots of a chunk: all the same, where one record is kept for the whole
+abbrev pub slots_in : Kept → List Bool → List Record → List (Option Slot)
+slots_in Each same records = seen same (slots_of records)
+slots_in Leaves same records = seen same (slots_of records)
+slots_in (Whole kept) same records = replicate (length records) (slot_of kept)
+
+-- what a chunk keeps of its cells; where a record is kept for the whole, the others and the tree are as they were before
+pub record IsKept (kept : Kept) (same : List Bool) (records : List Record) (nodes : List Summary) : Type 0 where
   pub few : length records ≤ CHUNK
-  -- there is room for a tree, which is one over the cells where no record is kept for the whole
-  pub grown : IsGrown nodes (CHUNK / PART)
-  pub tree : whole ≡ None → IsTree PART nodes (marks_of records)
+  pub room : length records ≤ PART * length same
+  pub tree : IsTree PART nodes (map mark (seen same (slots_of records)))
+  pub plain : kept ≡ Each → (j : ℕ) → same_at same j ≡ false
 
 -- what every chunk keeps; where nobody may wait, nobody does
-pub record IsChunk (whole : Option Record) (records : List Record) (nodes : List Summary) (waits : Bool) : Type 0 where
-  pub kept : IsKept whole records nodes
-  pub quiet : waits ≡ false → list_any is_waiting (slots_in whole records) ≡ false
+pub record IsChunk (kept : Kept) (same : List Bool) (records : List Record) (nodes : List Summary) (waits : Bool) : Type 0 where
+  pub cells : IsKept kept same records nodes
+  pub quiet : waits ≡ false → list_any is_waiting (slots_in kept same records) ≡ false
 
 -- what every table keeps
 pub record IsTable (chunks : List (List (Option Slot))) (nodes : List Summary) (cells : ℕ) : Type 0 where

@@ -105,6 +105,12 @@ leaves_of nodes = length nodes / 2
 abbrev pub HasJoined : List Summary → Type 0
 HasJoined nodes = (k : ℕ) → 0 < k → k < leaves_of nodes → IsJoined nodes k
 
+-- the nodes from the first one to the last one lie in one row of a tree
+pub record IsRow (first last : ℕ) : Type 0 where
+  pub height : ℕ
+  pub from : leaves_at height ≤ first
+  pub upto : last < 2 * leaves_at height
+
 -- a leaf is the summary of its cells
 abbrev pub IsLeaf : ℕ → List Summary → List (Option Bool) → ℕ → Type 0
 IsLeaf p nodes cells j = Summarises (node_at nodes (leaves_of nodes + j)) (part_at p cells j)

@@ -1,35 +1,47 @@
 //! So many cells of a table in a row, with a tree over them. Where all are made the same at once, one record is kept for
-//! the whole, until one of them is changed alone: so a long block is made and released without a step for each cell.
-ghost use Rattle.std.specs.Prelude.{◌≡◌, ◌/◌, ◌≤◌, ◌+◌, ◌<◌, ◌^◌, None, Some, length, map, replicate, slice_set, take, drop, IfOk, IsSome, MatchOption};
+//! the whole, until some of them are changed: so a long block is made and released without a step for each cell.
+ghost use Rattle.std.specs.Prelude.{◌≡◌, ◌/◌, ◌≤◌, ◌+◌, ◌<◌, None, length, map, replicate, slice_set, take, drop, IfOk, IsSome, MatchOption};
 ghost use Rattle.std.specs.List.{list_any};
 ghost use Rattle.im_types.specs.Place.{place, fill};
-ghost use Rattle.im_cell.specs.declared.summaries.Summary.{Summary as Sum};
 ghost use Rattle.im_cell.specs.Slots.{is_waiting, slot_at, with_cell};
-ghost use Rattle.im_cell.specs.Records.{slot_of, slots_of, marks_of};
-ghost use Rattle.im_cell.specs.Chunks.{slots_in, IsKept};
-ghost use Rattle.im_cell.specs.Summaries.{mark, Summarises, IsGrown, IsTree};
+ghost use Rattle.im_cell.specs.Records.{slot_of, slots_of};
+ghost use Rattle.im_cell.specs.Chunks.{same_at, seen, slots_in, IsKept};
+ghost use Rattle.im_cell.specs.Summaries.{mark, Summarises, IsTree};
 
+use crate::alike::{any_waiting, fill_leaves, find, record_at, write_out_all};
 use crate::records::{FREE, Record};
 use crate::row::Piece;
 use crate::slots::Slot;
-use crate::summaries::{Summary, back_in};
-use crate::tree::{PART, any_waiting, fill, fill_cells, find, raise, room_for, root};
-use im_types::{Cell, NONE};
+use crate::summaries::{Summary, sum_up_same};
+use crate::tree::{PART, fill_cells, raise, room_for, root};
+use im_types::Cell;
 use std::alloc::{AllocError, Global};
 use std::marker::Model;
 
 /// How many cells a chunk has; the last one has those that are left.
-pub(crate) const CHUNK: usize = 1024;
+pub(crate) const CHUNK: usize = 512;
+
+/// Which records of a chunk stand for its cells.
+#[derive(Clone, Copy)]
+pub(crate) enum Kept {
+    /// Each for its own.
+    Each,
+    /// The first one of some leaves for the whole leaf.
+    Leaves,
+    /// This one for all: the others, and the tree, are as they were before.
+    Whole(Record),
+}
 
 /// A chunk. Contracts see its slots.
 #[derive(Drop)]
 pub(crate) struct Chunk {
     // One for each cell.
     records: Vec<Record>,
-    // A tree of summaries over them.
+    // For each leaf, whether its first record stands for all of it.
+    same: Vec<bool>,
+    // A tree of summaries over the cells.
     nodes: Vec<Summary>,
-    // What each cell is, where all were made the same: records and tree are behind then.
-    whole: Option<Record>,
+    kept: Kept,
     // Whether somebody may wait for a cell of it.
     waits: bool,
 }
@@ -41,78 +53,71 @@ impl Model for Chunk {
 
     ghost Value = { List (Option Slot) };
 
-    ghost view = { λ c. slots_in c.whole c.records.items };
+    ghost view = { λ c. slots_in c.kept c.same.items c.records.items };
 
-    ghost invariant = { λ c. IsChunk c.whole c.records.items c.nodes.items c.waits };
+    ghost invariant = { λ c. IsChunk c.kept c.same.items c.records.items c.nodes.items c.waits };
 }
 
-// Brings records and tree up to what is kept for the whole, if anything is.
-fn write_out(whole: Option<Record>, records: &mut [Record], nodes: &mut [Summary])
-    requires { IsKept whole records.old nodes.old }
-    ensures kept { IsKept None records.new nodes.new }
-    ensures slots { slots_of records.new ≡ slots_in whole records.old }
+// Brings leaves and tree up to what is kept for the whole, if anything is.
+fn write_out_whole(kept: Kept, same: &mut [bool], records: &mut [Record], nodes: &mut [Summary])
+    requires { IsKept kept same.old records.old nodes.old }
+    ensures kept { IsKept Kept.Leaves same.new records.new nodes.new }
+    ensures seen { seen same.new (slots_of records.new) ≡ slots_in kept same.old records.old }
 {
-    if let Some(kept) = whole {
-        fill(records, 0, records.len() as u32, kept);
-        raise(nodes, records);
+    if let Kept::Whole(whole) = kept {
+        if records.len() > 0 {
+            fill_leaves(same, records, nodes, 0, records.len() as u32, whole);
+        }
     }
 }
 
-// Puts another record into a cell in a block.
+// Puts another record into a cell in a block. Each record stands for its own cell then.
 fn set_record(
-    whole: Option<Record>,
+    kept: Kept,
+    same: &mut [bool],
     records: &mut [Record],
     nodes: &mut [Summary],
     at: usize,
-    kept: Record,
+    new: Record,
 )
-    requires kept { IsKept whole records.old nodes.old }
-    requires held { IsSome (slot_at (slots_in whole records.old) at) }
-    requires some { IsSome (slot_of kept) }
-    ensures kept { IsKept None records.new nodes.new }
-    ensures slots { slots_of records.new ≡ slice_set (slots_in whole records.old) at (slot_of kept) }
+    requires kept { IsKept kept same.old records.old nodes.old }
+    requires held { IsSome (slot_at (slots_in kept same.old records.old) at) }
+    requires some { IsSome (slot_of new) }
+    ensures kept { IsKept Kept.Each same.new records.new nodes.new }
+    ensures seen { seen same.new (slots_of records.new)
+        ≡ slice_set (slots_in kept same.old records.old) at (slot_of new) }
 {
-    write_out(whole, records, nodes);
-    records[at] = kept;
+    write_out_whole(kept, same, records, nodes);
+    write_out_all(same, records);
+    records[at] = new;
 }
 
 // Makes some of the cells the same.
 fn fill_records(
-    whole: Option<Record>,
+    kept: Kept,
+    same: &mut [bool],
     records: &mut [Record],
     nodes: &mut [Summary],
     base: u32,
     n: u32,
-    kept: Record,
+    new: Record,
 )
-    requires kept { IsKept whole records.old nodes.old }
+    requires kept { IsKept kept same.old records.old nodes.old }
     requires inside { base + n ≤ length records.old }
     requires some { 0 < n }
-    ensures kept { IsKept None records.new nodes.new }
-    ensures slots { slots_of records.new ≡ fill (slots_in whole records.old) base n (slot_of kept) }
+    ensures kept { IsKept Kept.Leaves same.new records.new nodes.new }
+    ensures seen { seen same.new (slots_of records.new)
+        ≡ fill (slots_in kept same.old records.old) base n (slot_of new) }
 {
-    write_out(whole, records, nodes);
-    fill_cells(records, nodes, base, n, kept);
+    write_out_whole(kept, same, records, nodes);
+    fill_leaves(same, records, nodes, base, n, new);
 }
 
-// The summary of so many cells that are all the same.
-fn sum_up_same(cells: usize, kept: Record) -> Summary
-    requires { cells < 2 ^ 32 }
-    ensures { Summarises result (map mark (replicate cells (slot_of kept))) }
+// Whether cells lie in one leaf, or in two.
+fn is_short(base: u32, n: u32) -> bool
+    requires { 0 < n }
 {
-    if kept.run(0) == 0 {
-        Summary {
-            longest: 0,
-            front: 0,
-            back: back_in(cells, 0),
-        }
-    } else {
-        Summary {
-            longest: cells as u32,
-            front: cells as u32,
-            back: NONE,
-        }
-    }
+    (base as usize + n as usize - 1) / PART <= base as usize / PART + 1
 }
 
 // The least place of a block among cells that are all the same.
@@ -127,13 +132,14 @@ fn find_same(cells: usize, kept: Record, n: u32) -> Option<u32>
 }
 
 // Whether somebody waits for one of `n` cells from `base` on.
-fn is_waited_for(whole: Option<Record>, records: &[Record], base: usize, n: usize) -> bool
-    requires { base + n ≤ length records.now }
-    ensures { result ≡ list_any is_waiting (take n (drop base (slots_in whole records.now))) }
+fn is_waited_for(kept: Kept, same: &[bool], records: &[Record], base: usize, n: usize) -> bool
+    requires few { length records.now ≤ CHUNK }
+    requires inside { base + n ≤ length records.now }
+    ensures { result ≡ list_any is_waiting (take n (drop base (slots_in kept same.now records.now))) }
 {
-    match whole {
-        Some(kept) => n > 0 && kept.is_waiting(),
-        None => any_waiting(records, base, n),
+    match kept {
+        Kept::Whole(whole) => n > 0 && whole.is_waiting(),
+        _ => any_waiting(same, records, base, n),
     }
 }
 
@@ -143,12 +149,15 @@ impl Chunk {
         requires { cells ≤ CHUNK }
         ensures { IfOk result (λ chunk. chunk ≡ replicate cells None) }
     {
-        let nodes = room_for(alloc, CHUNK / PART)?;
+        let mut nodes = room_for(alloc, CHUNK / PART)?;
+        let same = vec![in alloc; false; CHUNK / PART]?;
         let records = vec![in alloc; FREE; cells]?;
+        raise(nodes.as_mut_slice(), records.as_slice());
         Ok(Chunk {
             records,
+            same,
             nodes,
-            whole: Some(FREE),
+            kept: Kept::Each,
             waits: false,
         })
     }
@@ -158,12 +167,17 @@ impl Chunk {
         requires { length piece ≤ CHUNK }
         ensures { result ≡ slots_of piece }
     {
-        let Piece { records, mut nodes } = piece;
+        let Piece {
+            records,
+            same,
+            mut nodes,
+        } = piece;
         raise(nodes.as_mut_slice(), records.as_slice());
         Chunk {
             records,
+            same,
             nodes,
-            whole: None,
+            kept: Kept::Each,
             waits: true,
         }
     }
@@ -175,15 +189,29 @@ impl Chunk {
         self.records.len()
     }
 
+    // The record that stands for a cell, where that isn't each for its own.
+    #[inline(never)]
+    fn record_for(&self, at: usize) -> Record
+        requires { at < length self.now }
+        ensures { slot_at self.now at ≡ slot_of result }
+    {
+        match self.kept {
+            Kept::Whole(whole) => whole,
+            _ => record_at(self.same.as_slice(), self.records.as_slice(), at),
+        }
+    }
+
     // The record of a cell; `None` past the last one.
     #[inline(always)]
     fn record(&self, at: usize) -> Option<Record>
         ensures { MatchOption result (slot_at self.now at ≡ None) (λ kept. slot_at self.now at ≡ slot_of kept) }
     {
-        let record = self.records.get(at)?;
-        match self.whole {
-            Some(kept) => Some(kept),
-            None => Some(*record),
+        if at >= self.records.len() {
+            return None;
+        }
+        match self.kept {
+            Kept::Each => Some(self.records[at]),
+            _ => Some(self.record_for(at)),
         }
     }
 
@@ -202,9 +230,9 @@ impl Chunk {
     pub(crate) fn summary(&self) -> Summary
         ensures { Summarises result (map mark self.now) }
     {
-        match self.whole {
-            Some(kept) => sum_up_same(self.records.len(), kept),
-            None => root(self.nodes.as_slice(), self.records.as_slice()),
+        match self.kept {
+            Kept::Whole(whole) => sum_up_same(self.records.len(), whole),
+            _ => root(self.nodes.as_slice()),
         }
     }
 
@@ -213,43 +241,34 @@ impl Chunk {
         requires { 0 < n }
         ensures { result ≡ place n self.now }
     {
-        match self.whole {
-            Some(kept) => find_same(self.records.len(), kept, n),
-            None => find(self.records.as_slice(), self.nodes.as_slice(), n),
+        match self.kept {
+            Kept::Whole(whole) => find_same(self.records.len(), whole, n),
+            _ => find(
+                self.same.as_slice(),
+                self.records.as_slice(),
+                self.nodes.as_slice(),
+                n,
+            ),
         }
     }
-    // Puts another record into a cell in a block, where one record is kept for the whole.
+
+    // Puts another record into a cell in a block, where one record may stand for some cells.
     #[inline(never)]
-    fn set_in_whole(&mut self, at: usize, kept: Record)
+    fn set_among_same(&mut self, at: usize, new: Record)
         requires held { IsSome (slot_at self.old at) }
-        requires some { IsSome (slot_of kept) }
-        ensures { self.new ≡ slice_set self.old at (slot_of kept) }
+        requires some { IsSome (slot_of new) }
+        ensures { self.new ≡ slice_set self.old at (slot_of new) }
     {
         set_record(
-            self.whole,
+            self.kept,
+            self.same.as_mut_slice(),
             self.records.as_mut_slice(),
             self.nodes.as_mut_slice(),
             at,
-            kept,
+            new,
         );
-        self.whole = None;
-        self.waits |= kept.is_waiting();
-    }
-
-    // Puts another record into a cell in a block.
-    #[inline(always)]
-    fn set(&mut self, at: usize, kept: Record)
-        requires held { IsSome (slot_at self.old at) }
-        requires some { IsSome (slot_of kept) }
-        ensures { self.new ≡ slice_set self.old at (slot_of kept) }
-    {
-        match self.whole {
-            Some(_) => self.set_in_whole(at, kept),
-            None => {
-                self.waits |= kept.is_waiting();
-                self.records[at] = kept;
-            }
-        }
+        self.kept = Kept::Each;
+        self.waits |= new.is_waiting();
     }
 
     /// Puts another state into a cell in a block.
@@ -258,74 +277,103 @@ impl Chunk {
         requires { IsSome (slot_at self.old at) }
         ensures { self.new ≡ slice_set self.old at (with_cell cell (slot_at self.old at)) }
     {
-        let Some(slot) = self.slot(at) else {
-            unreachable!()
-        };
-        self.set(at, Record::new(slot.block, cell));
+        match self.kept {
+            Kept::Each => {
+                let new = self.records[at].with(cell);
+                self.waits |= new.is_waiting();
+                self.records[at] = new;
+            }
+            _ => {
+                let new = self.record_for(at).with(cell);
+                self.set_among_same(at, new);
+            }
+        }
     }
 
     // Makes all cells the same.
-    fn fill_whole(&mut self, kept: Record)
-        ensures { self.new ≡ replicate (length self.old) (slot_of kept) }
+    fn fill_whole(&mut self, new: Record)
+        ensures { self.new ≡ replicate (length self.old) (slot_of new) }
     {
-        self.whole = Some(kept);
-        self.waits = kept.is_waiting();
+        self.kept = Kept::Whole(new);
+        self.waits = new.is_waiting();
     }
 
-    // Makes some of the cells the same, where one record is kept for the whole.
+    // Makes some of the cells the same, by one record for each leaf between the first and the last of them.
     #[inline(never)]
-    fn fill_in_whole(&mut self, base: u32, n: u32, kept: Record)
+    fn fill_long(&mut self, base: u32, n: u32, new: Record)
         requires inside { base + n ≤ length self.old }
         requires some { 0 < n }
-        ensures { self.new ≡ fill self.old base n (slot_of kept) }
+        ensures { self.new ≡ fill self.old base n (slot_of new) }
     {
         fill_records(
-            self.whole,
+            self.kept,
+            self.same.as_mut_slice(),
             self.records.as_mut_slice(),
             self.nodes.as_mut_slice(),
             base,
             n,
-            kept,
+            new,
         );
-        self.whole = None;
-        self.waits |= kept.is_waiting();
+        self.kept = Kept::Leaves;
+        self.waits |= new.is_waiting();
     }
 
     // Makes some of the cells the same.
-    fn fill_some(&mut self, base: u32, n: u32, kept: Record)
+    #[inline(never)]
+    fn fill_some(&mut self, base: u32, n: u32, new: Record)
         requires inside { base + n ≤ length self.old }
         requires some { 0 < n }
-        ensures { self.new ≡ fill self.old base n (slot_of kept) }
+        ensures { self.new ≡ fill self.old base n (slot_of new) }
     {
-        match self.whole {
-            Some(_) => self.fill_in_whole(base, n, kept),
-            None => {
+        match self.kept {
+            Kept::Each if is_short(base, n) => {
                 fill_cells(
                     self.records.as_mut_slice(),
                     self.nodes.as_mut_slice(),
                     base,
                     n,
-                    kept,
+                    new,
                 );
-                self.waits |= kept.is_waiting();
+                self.waits |= new.is_waiting();
             }
+            _ => self.fill_long(base, n, new),
         }
     }
 
     /// Makes `n` cells from `base` on the same: in one step where these are all.
-    pub(crate) fn fill(&mut self, base: u32, n: u32, kept: Record)
+    #[inline(always)]
+    pub(crate) fn fill(&mut self, base: u32, n: u32, new: Record)
         requires inside { base + n ≤ length self.old }
         requires some { 0 < n }
-        ensures { self.new ≡ fill self.old base n (slot_of kept) }
+        ensures { self.new ≡ fill self.old base n (slot_of new) }
     {
         if n as usize == self.len() {
-            self.fill_whole(kept)
+            self.fill_whole(new)
         } else {
-            self.fill_some(base, n, kept)
+            self.fill_some(base, n, new)
         }
     }
 
+    // Whether somebody waits for one of `n` cells from `base` on, seen cell by cell.
+    #[inline(never)]
+    fn look_for_waiting(&mut self, base: usize, n: usize) -> bool
+        requires { base + n ≤ length self.old }
+        ensures found { result ≡ list_any is_waiting (take n (drop base self.old)) }
+        ensures same { self.new ≡ self.old }
+    {
+        let found = is_waited_for(
+            self.kept,
+            self.same.as_slice(),
+            self.records.as_slice(),
+            base,
+            n,
+        );
+        self.waits = found || n != self.records.len();
+        found
+    }
+
     /// Whether somebody waits for one of `n` cells from `base` on. Where nobody waits for any cell, it is known from then on.
+    #[inline(always)]
     pub(crate) fn any_waiting(&mut self, base: usize, n: usize) -> bool
         requires { base + n ≤ length self.old }
         ensures found { result ≡ list_any is_waiting (take n (drop base self.old)) }
@@ -334,8 +382,6 @@ impl Chunk {
         if !self.waits {
             return false;
         }
-        let found = is_waited_for(self.whole, self.records.as_slice(), base, n);
-        self.waits = found || n != self.records.len();
-        found
+        self.look_for_waiting(base, n)
     }
 }

@@ -11,8 +11,8 @@ ghost use Rattle.im_cell.specs.Summaries.{mark, node_at, leaves_of, HasJoined, S
 use crate::chunk::{CHUNK, Chunk};
 use crate::records::Record;
 use crate::slots::Slot;
-use crate::summaries::Summary;
-use crate::tree::{Way, descend, node, renew_above, set_node};
+use crate::summaries::{Summary, sum_up_same};
+use crate::tree::{Way, descend, node, renew_above, renew_same, set_node};
 use im_types::{Cell, NONE};
 
 // The slot of a cell of a chunk; none of one past the last.
@@ -157,7 +157,7 @@ pub(crate) fn raise(nodes: &mut [Summary], chunks: &[Chunk])
     requires sizes { AreChunksOf chunks.now (length (cells_in chunks.now)) }
     requires few { length (cells_in chunks.now) < 2 ^ 32 }
     requires grown { IsGrown nodes.old (length chunks.now) }
-    requires small { length chunks.now ≤ 2 ^ 22 }
+    requires small { length chunks.now ≤ 2 ^ 23 }
     ensures { IsTree CHUNK nodes.new (marks_in chunks.now) }
 {
     let leaves = nodes.len() / 2;
@@ -216,7 +216,13 @@ fn fill_in_chunks(chunks: &mut [Chunk], nodes: &mut [Summary], base: u32, n: u32
     fill_chunks(chunks, base, n, kept);
     let first = base as usize / CHUNK;
     let last = (base as usize + n as usize - 1) / CHUNK;
-    renew(nodes, chunks, first, last);
+    let low = summary_at(chunks, first);
+    let high = if first < last {
+        summary_at(chunks, last)
+    } else {
+        low
+    };
+    renew_same(nodes, first, last, low, high, sum_up_same(CHUNK, kept));
 }
 
 /// Makes `n` cells from `base` on the same, and the tree above them anew.

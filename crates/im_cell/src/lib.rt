@@ -4,6 +4,7 @@
 //! cell, or none for a free cell.
 #![tactic(auto)]
 
+mod alike;
 mod chunk;
 mod chunks;
 mod records;

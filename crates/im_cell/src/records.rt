@@ -1,7 +1,7 @@
 //! How a cell is kept: one record for each, of 24 bytes. It has room for all that a page shows of a cell, so that cells
 //! that were read become those of a table where they lie.
 ghost use Rattle.std.specs.Prelude.{◌≡◌, ◌+◌, ◌<◌, ◌^◌, Some};
-ghost use Rattle.im_cell.specs.Slots.{is_waiting};
+ghost use Rattle.im_cell.specs.Slots.{is_waiting, with_cell};
 ghost use Rattle.im_cell.specs.Slots.{shown_slot};
 ghost use Rattle.im_cell.specs.Records.{slot_of, record_shown};
 ghost use Rattle.im_cell.specs.Summaries.{run_at};
@@ -71,6 +71,20 @@ impl Record {
             Cell::Full(value) => Record::Full(block, value),
             Cell::Clashed(value) => Record::Clashed(block, value),
         }
+    }
+
+    /// The record of the same cell in another state; a free one stays.
+    pub(crate) fn with(self, cell: Cell) -> Record
+        ensures { slot_of result ≡ with_cell cell (slot_of self) }
+    {
+        let block = match self {
+            Record::Empty(block) => block,
+            Record::Waiting(block, _, _) => block,
+            Record::Full(block, _) => block,
+            Record::Clashed(block, _) => block,
+            Record::Free(_, _) => return self,
+        };
+        Record::new(block, cell)
     }
 
     /// The cell and its block, unless it is free.

@@ -1,7 +1,7 @@
 //! Summaries of parts of a table: its free cells at either end, and in the longest run.
-ghost use Rattle.std.specs.Prelude.{◌≡◌, ◌<◌, ◌^◌, length};
-ghost use Rattle.im_cell.specs.Records.{marks_of};
-ghost use Rattle.im_cell.specs.Summaries.{front, Summarises, back_of, front_on, back_on, back_in, joined};
+ghost use Rattle.std.specs.Prelude.{◌≡◌, ◌<◌, ◌^◌, length, map, replicate};
+ghost use Rattle.im_cell.specs.Records.{slot_of, marks_of};
+ghost use Rattle.im_cell.specs.Summaries.{mark, front, Summarises, back_of, front_on, back_on, back_in, joined};
 
 use crate::records::Record;
 use im_types::NONE;
@@ -110,5 +110,25 @@ pub(crate) fn sum_up(records: &[Record]) -> Summary
         longest,
         front,
         back: back_in(records.len(), run),
+    }
+}
+
+/// The summary of so many cells that are all the same.
+pub(crate) fn sum_up_same(cells: usize, kept: Record) -> Summary
+    requires { cells < 2 ^ 32 }
+    ensures { Summarises result (map mark (replicate cells (slot_of kept))) }
+{
+    if kept.run(0) == 0 {
+        Summary {
+            longest: 0,
+            front: 0,
+            back: back_in(cells, 0),
+        }
+    } else {
+        Summary {
+            longest: cells as u32,
+            front: cells as u32,
+            back: NONE,
+        }
     }
 }

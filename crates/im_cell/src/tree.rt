@@ -2,13 +2,13 @@
 //! where cells change, the nodes above them are made anew: a complete binary tree in one list, its root node 1, the
 //! nodes below node k at 2 k and 2 k + 1.
 ghost use Rattle.std.specs.Prelude.{◌≡◌, ◌≢◌, ℕ, false, slice_set, ◌+◌, ◌*◌, ◌/◌};
-ghost use Rattle.std.specs.Prelude.{◌<◌, ◌≤◌, ◌^◌, length, take, drop, Some, IfOk, List, Option, Bool};
+ghost use Rattle.std.specs.Prelude.{◌<◌, ◌≤◌, ◌^◌, length, take, drop, replicate, Some, IfOk, List, Option, Bool};
 ghost use Rattle.std.specs.List.{list_any};
 ghost use Rattle.im_types.specs.Place.{place, fill};
 ghost use Rattle.im_cell.specs.Slots.{is_waiting};
 ghost use Rattle.im_cell.specs.Records.{slot_of, slots_of, marks_of};
 ghost use Rattle.im_cell.specs.Summaries.{joined, node_at, part_at, leaves_at, leaves_of};
-ghost use Rattle.im_cell.specs.Summaries.{longest, IsJoined, Summarises, HasJoined, IsLeaf, IsGrown, IsTree, Leads};
+ghost use Rattle.im_cell.specs.Summaries.{longest, IsRow, IsJoined, Summarises, HasJoined, IsLeaf, IsGrown, IsTree, Leads};
 
 use crate::chunk::CHUNK;
 use crate::records::Record;
@@ -27,8 +27,8 @@ pub(crate) fn node(nodes: &[Summary], k: usize) -> Summary
     nodes[k]
 }
 
-// The cells of a leaf.
-fn part(records: &[Record], leaf: usize) -> &[Record]
+/// The records of the cells of a leaf.
+pub(crate) fn part(records: &[Record], leaf: usize) -> &[Record]
     requires { leaf < 2 ^ 32 }
     ensures { marks_of result.now ≡ part_at PART (marks_of records.now) leaf }
 {
@@ -40,8 +40,8 @@ fn part(records: &[Record], leaf: usize) -> &[Record]
     &records[from.min(records.len())..]
 }
 
-// The base of the least place of a block in a leaf that has one.
-fn find_in_part(records: &[Record], n: u32) -> u32
+/// The base of the least place of a block among cells that have one.
+pub(crate) fn find_in_part(records: &[Record], n: u32) -> u32
     requires few { length records.now < 2 ^ 32 }
     requires room { n ≤ longest (marks_of records.now) }
     requires some { 0 < n }
@@ -93,19 +93,12 @@ pub(crate) fn descend(nodes: &[Summary], width: usize, n: u32) -> Way
     Way::Within(k - leaves)
 }
 
-/// The least place of a block of `n` cells.
-pub(crate) fn find(records: &[Record], nodes: &[Summary], n: u32) -> Option<u32>
-    requires tree { IsTree PART nodes.now (marks_of records.now) }
-    requires some { 0 < n }
-    ensures { result ≡ place n (slots_of records.now) }
+/// The summary of the cells of a leaf, each with a record of its own.
+pub(crate) fn sum_up_leaf(records: &[Record], leaf: usize) -> Summary
+    requires { leaf < 2 ^ 32 }
+    ensures { Summarises result (part_at PART (marks_of records.now) leaf) }
 {
-    if node(nodes, 1).longest < n {
-        return None;
-    }
-    match descend(nodes, PART, n) {
-        Way::Across(base) => Some(base),
-        Way::Within(leaf) => Some((leaf * PART) as u32 + find_in_part(part(records, leaf), n)),
-    }
+    sum_up(part(records, leaf))
 }
 
 // Sums up the cells of the leaves from `first` to `last`.
@@ -119,7 +112,7 @@ fn renew_leaves(nodes: &mut [Summary], records: &[Record], first: usize, last: u
 {
     let leaves = nodes.len() / 2;
     for leaf in first..last + 1 {
-        nodes[leaves + leaf] = sum_up(part(records, leaf));
+        nodes[leaves + leaf] = sum_up_leaf(records, leaf);
     }
 }
 
@@ -258,24 +251,82 @@ pub(crate) fn raise(nodes: &mut [Summary], records: &[Record])
 }
 
 /// The summary of all cells.
-pub(crate) fn root(nodes: &[Summary], records: &[Record]) -> Summary
-    requires { IsTree PART nodes.now (marks_of records.now) }
-    ensures { Summarises result (marks_of records.now) }
+pub(crate) fn root(nodes: &[Summary]) -> Summary
+    requires { (cells : List (Option Bool)) × IsTree PART nodes.now cells }
+    ensures { (cells : List (Option Bool)) → IsTree PART nodes.now cells → Summarises result cells }
 {
     node(nodes, 1)
 }
 
-/// Sets `n` records from `base` on.
-pub(crate) fn fill(records: &mut [Record], base: u32, n: u32, kept: Record)
-    requires { base + n ≤ length records.old }
-    ensures { slots_of records.new ≡ fill (slots_of records.old) base n (slot_of kept) }
+// Sets all records.
+fn fill_all(records: &mut [Record], kept: Record)
+    ensures { records.new ≡ replicate (length records.old) kept }
 {
-    for i in 0..n {
-        records[base as usize + i as usize] = kept;
+    for record in records.iter_mut() {
+        *record = kept;
     }
 }
 
-/// Sets `n` records from `base` on, and makes the tree above them anew.
+/// Sets `n` records from `base` on.
+pub(crate) fn fill(records: &mut [Record], base: usize, n: usize, kept: Record)
+    requires { base + n ≤ length records.old }
+    ensures { slots_of records.new ≡ fill (slots_of records.old) base n (slot_of kept) }
+{
+    fill_all(&mut records[base..base + n], kept);
+}
+
+// Puts a summary into the nodes from one on, up to another one.
+fn put(nodes: &mut [Summary], from: usize, to: usize, new: Summary)
+    requires { to ≤ length nodes.old }
+    ensures put { (k : ℕ) → from ≤ k → k < to → node_at nodes.new k ≡ new }
+    ensures others { (k : ℕ) → (from ≤ k → k < to → ⊥) → node_at nodes.new k ≡ node_at nodes.old k }
+{
+    for k in from..to {
+        nodes[k] = new;
+    }
+}
+
+// Joins the nodes below each of those from `first` to `last`, of a row, where those below all between are joined to the same.
+fn join_ends(nodes: &mut [Summary], first: usize, last: usize, between: Summary)
+    requires order { first ≤ last }
+    requires row { last < 2 * first }
+    requires inside { 2 * last + 1 < length nodes.old }
+    requires between { (k : ℕ) → first < k → k < last →
+        joined (node_at nodes.old (2 * k)) (node_at nodes.old (2 * k + 1)) ≡ between }
+    ensures joined { (k : ℕ) → first ≤ k → k ≤ last → IsJoined nodes.new k }
+    ensures between { (k : ℕ) → first < k → k < last → node_at nodes.new k ≡ between }
+    ensures others { (k : ℕ) → (first ≤ k → k ≤ last → ⊥) → node_at nodes.new k ≡ node_at nodes.old k }
+{
+    join_node(nodes, first);
+    put(nodes, first + 1, last, between);
+    join_node(nodes, last);
+}
+
+// Makes the nodes above those from `first` to `last` anew, of a row, where those between them are all the same: a join
+// for the two ends of each row above, and one for all between.
+fn renew_above_same(nodes: &mut [Summary], first: usize, last: usize, between: Summary)
+    requires even { 2 * (leaves_of nodes.old) ≡ length nodes.old }
+    requires inside { last < length nodes.old }
+    requires row { IsRow first last }
+    requires between { (k : ℕ) → first < k → k < last → node_at nodes.old k ≡ between }
+    requires inner { (k : ℕ) → 0 < k → k < leaves_of nodes.old → (first / 2 ≤ k → k ≤ last / 2 → ⊥) →
+        IsJoined nodes.old k }
+    ensures inner { HasJoined nodes.new }
+    ensures leaves { (k : ℕ) → leaves_of nodes.old ≤ k → node_at nodes.new k ≡ node_at nodes.old k }
+{
+    let mut low = first;
+    let mut high = last;
+    let mut same = between;
+    while low < high {
+        low /= 2;
+        high /= 2;
+        same = join(same, same);
+        join_ends(nodes, low, high, same);
+    }
+    renew_path(nodes, high);
+}
+
+/// Sets `n` records from `base` on, and makes the tree above them anew, leaf by leaf.
 pub(crate) fn fill_cells(
     records: &mut [Record],
     nodes: &mut [Summary],
@@ -289,18 +340,37 @@ pub(crate) fn fill_cells(
     ensures tree { IsTree PART nodes.new (marks_of records.new) }
     ensures slots { slots_of records.new ≡ fill (slots_of records.old) base n (slot_of kept) }
 {
-    fill(records, base, n, kept);
+    fill(records, base as usize, n as usize, kept);
     let first = base as usize / PART;
     let last = (base as usize + n as usize - 1) / PART;
     renew(nodes, records, first, last);
 }
 
-/// Whether somebody waits for one of `n` cells from `base` on.
-pub(crate) fn any_waiting(records: &[Record], base: usize, n: usize) -> bool
-    requires { base + n ≤ length records.now }
-    ensures { result ≡ list_any is_waiting (take n (drop base (slots_of records.now))) }
+/// Puts summaries into the leaves from `first` to `last`, one of them into each between, and makes the nodes above anew.
+pub(crate) fn renew_same(
+    nodes: &mut [Summary],
+    first: usize,
+    last: usize,
+    low: Summary,
+    high: Summary,
+    between: Summary,
+)
+    requires power { (height : ℕ) × (leaves_of nodes.old ≡ leaves_at height) }
+    requires even { 2 * (leaves_of nodes.old) ≡ length nodes.old }
+    requires order { first ≤ last }
+    requires inside { last < leaves_of nodes.old }
+    requires ends { first ≡ last → low ≡ high }
+    requires inner { HasJoined nodes.old }
+    ensures inner { HasJoined nodes.new }
+    ensures first { node_at nodes.new (leaves_of nodes.old + first) ≡ low }
+    ensures last { node_at nodes.new (leaves_of nodes.old + last) ≡ high }
+    ensures between { (j : ℕ) → first < j → j < last → node_at nodes.new (leaves_of nodes.old + j) ≡ between }
+    ensures others { (j : ℕ) → (first ≤ j → j ≤ last → ⊥) →
+        node_at nodes.new (leaves_of nodes.old + j) ≡ node_at nodes.old (leaves_of nodes.old + j) }
 {
-    records[base..base + n]
-        .iter()
-        .any(|record| record.is_waiting())
+    let leaves = nodes.len() / 2;
+    put(nodes, leaves + first + 1, leaves + last, between);
+    nodes[leaves + last] = high;
+    nodes[leaves + first] = low;
+    renew_above_same(nodes, leaves + first, leaves + last, between);
 }

@@ -1,20 +1,33 @@
-use Rattle.std.proofs.Common.{None, refl, sym, ap, subst, ◌∙◌, set, length-set}
+use Rattle.std.proofs.Common.{◌/◌, map, set, sym, ap, subst, ◌∙◌, arith}
 use Rattle.std.specs.Prelude.{IsSome}
-use Rattle.std.proofs.lemmas.List.{map-set}
+use Rattle.std.proofs.lemmas.List.{length-map}
+use Rattle.im_cell.specs.declared.chunk.Kept.TheVariants.{Each}
 use Rattle.im_cell.specs.declared.tree.TheConstants.{PART}
 use Rattle.im_cell.specs.Slots.{slot_at}
 use Rattle.im_cell.specs.Records.{slot_of, slots_of}
-use Rattle.im_cell.specs.Summaries.{IsTree}
-use Rattle.im_cell.proofs.Kept.{IsKept-live, marks-of-set}
+use Rattle.im_cell.specs.Summaries.{mark, IsTree}
+use Rattle.im_cell.specs.Chunks.{seen}
+use Rattle.im_cell.proofs.Kept.{held-inside, seen-of-set, IsKept-set}
+use Rattle.im_cell.proofs.Seen.{length-seen}
 use Rattle.im_cell.proofs.chunk.set_record.Goals as goal
+
+pub bounds-records-at : goal.bounds-records-at
+bounds-records-at c =
+    let same = c.write_out_all.new.same in
+    let records = c.write_out_all.new.records in
+    let held : IsSome (slot_at (seen same (slots_of records)) c.args.at) = subst (λ s. IsSome (slot_at s c.args.at)) (sym (c.write_out_all.ensures.seen ∙ c.write_out_whole.ensures.seen)) c.requires.held in
+    omega (arith, held-inside (seen same (slots_of records)) c.args.at held, length-seen same (slots_of records), length-map records slot_of)
 
 pub returns-clause-kept : goal.returns-clause-kept
 returns-clause-kept c =
-    let records = c.write_out.new.records in
-    let k = c.write_out.ensures.kept in
-    let held : IsSome (slot_at (slots_of records) c.args.at) = subst (λ s. IsSome (slot_at s c.args.at)) (sym c.write_out.ensures.slots) c.requires.held in
-    IsKept-live None records (set records c.args.at c.args.kept) c.write_out.new.nodes c.write_out.new.nodes k (length-set records c.args.at c.args.kept) refl
-    (subst (λ cells. IsTree PART c.write_out.new.nodes cells) (sym (marks-of-set records c.args.at c.args.kept held c.requires.some)) (k.tree refl))
+    let k = c.write_out_whole.ensures.kept in
+    let held : IsSome (slot_at (seen c.write_out_all.new.same (slots_of c.write_out_all.new.records)) c.args.at) =
+    subst (λ s. IsSome (slot_at s c.args.at)) (sym (c.write_out_all.ensures.seen ∙ c.write_out_whole.ensures.seen)) c.requires.held in
+    IsKept-set Each c.write_out_all.new.same c.write_out_all.new.records c.write_out_whole.new.nodes c.args.at c.args.new (omega (arith, k.few, c.write_out_all.auto.records)) (omega (arith, k.room, c.write_out_all.auto.records, c.write_out_all.auto.same))
+    (subst (λ s. IsTree PART c.write_out_whole.new.nodes (map mark s)) (sym c.write_out_all.ensures.seen) k.tree) (c.write_out_all.ensures.own (c.args.at / PART)) held c.requires.some
+    (λ e. c.write_out_all.ensures.own)
 
-pub returns-clause-slots : goal.returns-clause-slots
-returns-clause-slots c = map-set slot_of c.write_out.new.records c.args.at c.args.kept ∙ ap (λ s. set s c.args.at (slot_of c.args.kept)) c.write_out.ensures.slots
+pub returns-clause-seen : goal.returns-clause-seen
+returns-clause-seen c =
+    seen-of-set c.write_out_all.new.same c.write_out_all.new.records c.args.at c.args.new (c.write_out_all.ensures.own (c.args.at / PART))
+    ∙ ap (λ s. set s c.args.at (slot_of c.args.new)) (c.write_out_all.ensures.seen ∙ c.write_out_whole.ensures.seen)

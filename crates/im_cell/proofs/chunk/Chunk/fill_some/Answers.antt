@@ -1,16 +1,40 @@
-use Rattle.std.proofs.Common.{◌∙◌, ap, length, arith}
+use Rattle.std.proofs.Common.{◌∙◌, ap, sym, length, arith}
 use Rattle.std.specs.List.{list_any}
 use Rattle.std.proofs.lemmas.List.{with_items_is}
+use Rattle.im_types.specs.Place.{fill}
 use Rattle.im_cell.specs.Slots.{is_waiting}
 use Rattle.im_cell.specs.Records.{slot_of, slots_of}
-use Rattle.im_cell.proofs.Kept.{IsChunk-alone}
+use Rattle.im_cell.proofs.Kept.{length-slots_in, slots_in-each, tree-each, IsKept-filled, IsChunk-changed}
 use Rattle.im_cell.proofs.Same.{none-fill}
 use Rattle.im_cell.proofs.chunk.Chunk.fill_some.Goals as goal
 
+pub fill_cells-requires-clause-tree : goal.fill_cells-requires-clause-tree
+fill_cells-requires-clause-tree c =
+    let was = c.self.inside in
+    rw (c.as_mut_slice.ensures.value, c.as_mut_slice-in-Each.ensures.value) (tree-each was.kept was.same.items was.records.items was.nodes.items c.in-Each.is c.self.invariant.cells)
+
+pub fill_cells-requires-clause-inside : goal.fill_cells-requires-clause-inside
+fill_cells-requires-clause-inside c =
+    omega (arith, c.requires.inside, length-slots_in c.self.inside.kept c.self.inside.same.items c.self.inside.records.items, ap length c.self.view_is, c.as_mut_slice.ensures.len)
+
 pub invariant_of-self : goal.invariant_of-self
 invariant_of-self c =
-    let slots = rw c.as_mut_slice.ensures.value at c.fill_cells.ensures.slots in
-    rw (with_items_is c.self.inside.records c.fill_cells.new.records (omega (arith, c.fill_cells.auto.records, c.as_mut_slice.ensures.len)), with_items_is c.self.inside.nodes c.fill_cells.new.nodes (omega (arith, c.fill_cells.auto.nodes, c.as_mut_slice-in-None.ensures.len)))
-    (IsChunk-alone c.self.inside.whole c.self.inside.records.items c.fill_cells.new.records c.self.inside.nodes.items c.fill_cells.new.nodes c.self.inside.waits c.is_waiting.result c.args.kept c.in-None.is c.self.invariant
-    (c.fill_cells.auto.records ∙ ap length c.as_mut_slice.ensures.value) (c.fill_cells.auto.nodes ∙ ap length c.as_mut_slice-in-None.ensures.value) c.fill_cells.ensures.tree c.is_waiting.ensures
-    (λ none quiet. ap (list_any is_waiting) slots ∙ none-fill is_waiting (slots_of c.self.inside.records.items) c.args.base c.args.n (slot_of c.args.kept) none quiet))
+    let was = c.self.inside in
+    let done = c.fill_cells in
+    let slots = rw c.as_mut_slice.ensures.value at done.ensures.slots in
+    let kept = IsKept-filled was.kept was.same.items was.records.items done.new.records was.nodes.items done.new.nodes c.in-Each.is c.self.invariant.cells (done.auto.records ∙ ap length c.as_mut_slice.ensures.value) done.ensures.tree in
+    rw (with_items_is was.records done.new.records (omega (arith, done.auto.records, c.as_mut_slice.ensures.len)), with_items_is was.nodes done.new.nodes (omega (arith, done.auto.nodes, c.as_mut_slice-in-Each.ensures.len)))
+    (IsChunk-changed was.kept was.same.items was.records.items was.nodes.items was.kept was.same.items done.new.records done.new.nodes was.waits c.is_waiting.result c.args.new c.self.invariant kept c.is_waiting.ensures
+    (λ none quiet. ap (list_any is_waiting) (slots_in-each was.kept was.same.items done.new.records done.new.nodes c.in-Each.is kept ∙ slots)
+    ∙ none-fill is_waiting (slots_of was.records.items) c.args.base c.args.n (slot_of c.args.new)
+    (ap (list_any is_waiting) (sym (slots_in-each was.kept was.same.items was.records.items was.nodes.items c.in-Each.is c.self.invariant.cells)) ∙ none) quiet))
+
+pub returns-in-Each : goal.returns-in-Each
+returns-in-Each c =
+    let was = c.self.inside in
+    let done = c.fill_cells in
+    let slots = rw c.as_mut_slice.ensures.value at done.ensures.slots in
+    let kept = IsKept-filled was.kept was.same.items was.records.items done.new.records was.nodes.items done.new.nodes c.in-Each.is c.self.invariant.cells (done.auto.records ∙ ap length c.as_mut_slice.ensures.value) done.ensures.tree in
+    rw (with_items_is was.records done.new.records (omega (arith, done.auto.records, c.as_mut_slice.ensures.len)))
+    (slots_in-each was.kept was.same.items done.new.records done.new.nodes c.in-Each.is kept ∙ slots
+    ∙ ap (λ s. fill s c.args.base c.args.n (slot_of c.args.new)) (sym (slots_in-each was.kept was.same.items was.records.items was.nodes.items c.in-Each.is c.self.invariant.cells) ∙ c.self.view_is))

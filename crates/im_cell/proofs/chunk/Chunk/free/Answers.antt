@@ -1,14 +1,33 @@
-use Rattle.std.proofs.Common.{length, refl, arith}
+use Rattle.std.proofs.Common.{◌≡◌, ◌/◌, replicate, false, refl, ap, ◌∙◌, subst, arith, rules}
+use Rattle.std.specs.List.{list_any}
+use Rattle.std.proofs.lemmas.List.{with_items_is}
 use Rattle.im_types.specs.declared.TheConstants.{NONE}
 use Rattle.im_cell.specs.declared.records.Record.TheVariants.{Free}
+use Rattle.im_cell.specs.declared.chunk.TheConstants.{CHUNK}
+use Rattle.im_cell.specs.declared.tree.TheConstants.{PART}
 use Rattle.im_cell.specs.Slots.{is_waiting}
-use Rattle.im_cell.specs.Records.{slot_of}
+use Rattle.im_cell.specs.Records.{slot_of, slots_of, marks_of}
+use Rattle.im_cell.specs.Summaries.{IsTree}
+use Rattle.im_cell.proofs.Kept.{IsKept-plain, seen-of-plain, slots-same}
 use Rattle.im_cell.proofs.Same.{none-same}
-use Rattle.im_cell.proofs.Kept.{some_nothing}
 use Rattle.im_cell.proofs.chunk.Chunk.free.Goals as goal
 
 pub invariant_of-result : goal.invariant_of-result
-invariant_of-result c = record {
-  kept = record { few = omega (arith, c.in_ok-records.ensures.len, c.requires); grown = c.in_ok-nodes.ensures; tree = λ e. absurd (some_nothing (Free 0 NONE) e) };
-  quiet = λ e. none-same is_waiting (length c.in_ok-records.records.items) (slot_of (Free 0 NONE)) refl;
-}
+invariant_of-result c =
+    let same = c.in_ok-same.same.items in
+    let records = c.in_ok-records.records.items in
+    let flags : same ≡ replicate (CHUNK / PART) false = search rules in
+    let cells : records ≡ replicate c.args.cells (Free 0 NONE) = search rules in
+    rw (with_items_is c.in_ok-nodes.nodes c.raise.new.nodes (omega (arith, c.raise.auto.nodes, c.as_mut_slice.ensures.len))) (record {
+      cells = IsKept-plain (CHUNK / PART) same records c.raise.new.nodes flags (omega (arith, c.requires, c.in_ok-records.ensures.len)) (omega (arith, c.requires, c.in_ok-records.ensures.len))
+          (subst (λ rs. IsTree PART c.raise.new.nodes (marks_of rs)) c.as_slice.ensures.value c.raise.ensures);
+      quiet = λ e. ap (list_any is_waiting) (seen-of-plain (CHUNK / PART) same (slots_of records) flags ∙ ap slots_of cells ∙ slots-same c.args.cells (Free 0 NONE)) ∙ none-same is_waiting c.args.cells (slot_of (Free 0 NONE)) refl;
+    })
+
+pub returns : goal.returns
+returns c =
+    let same = c.in_ok-same.same.items in
+    let records = c.in_ok-records.records.items in
+    let flags : same ≡ replicate (CHUNK / PART) false = search rules in
+    let cells : records ≡ replicate c.args.cells (Free 0 NONE) = search rules in
+    seen-of-plain (CHUNK / PART) same (slots_of records) flags ∙ ap slots_of cells ∙ slots-same c.args.cells (Free 0 NONE)

@@ -1,0 +1,199 @@
+//! Leaves whose cells were all made the same: the record of the first one stands for them until one of them is changed
+//! alone. So what is made the same takes a step for each leaf, and one for each cell at its two ends.
+ghost use Rattle.std.specs.Prelude.{◌≡◌, false, true, ℕ, ◌+◌, ◌-◌, ◌*◌, ◌/◌, ◌^◌, ◌<◌, ◌≤◌, length, map, take, drop, Some};
+ghost use Rattle.std.specs.List.{list_any};
+ghost use Rattle.im_types.specs.Place.{place, fill};
+ghost use Rattle.im_cell.specs.Slots.{is_waiting, slot_at};
+ghost use Rattle.im_cell.specs.Records.{slot_of, slots_of};
+ghost use Rattle.im_cell.specs.Chunks.{same_at, seen};
+ghost use Rattle.im_cell.specs.Summaries.{mark, longest, part_at, IsTree};
+
+use crate::records::Record;
+use crate::summaries::{Summary, sum_up_same};
+use crate::tree::{PART, Way, descend, fill, find_in_part, node, part, renew_same, sum_up_leaf};
+
+/// Whether the first record of a leaf stands for all its cells.
+pub(crate) fn is_same(same: &[bool], leaf: usize) -> bool
+    ensures { result ≡ same_at same.now leaf }
+{
+    match same.get(leaf) {
+        Some(is) => *is,
+        None => false,
+    }
+}
+
+/// The record that stands for a cell.
+pub(crate) fn record_at(same: &[bool], records: &[Record], at: usize) -> Record
+    requires { at < length records.now }
+    ensures { slot_of result ≡ slot_at (seen same.now (slots_of records.now)) at }
+{
+    if is_same(same, at / PART) {
+        records[at / PART * PART]
+    } else {
+        records[at]
+    }
+}
+
+// Brings the records of a leaf up to its first one, where that stands for them.
+fn write_out(same: &mut [bool], records: &mut [Record], leaf: usize)
+    requires { leaf * PART < length records.old }
+    ensures seen { seen same.new (slots_of records.new) ≡ seen same.old (slots_of records.old) }
+    ensures own { same_at same.new leaf ≡ false }
+    ensures others { (j : ℕ) → same_at same.old j ≡ false → same_at same.new j ≡ false }
+{
+    if !is_same(same, leaf) {
+        return;
+    }
+    let base = leaf * PART;
+    let count = PART.min(records.len() - base);
+    let first = records[base];
+    fill(records, base, count, first);
+    same[leaf] = false;
+}
+
+/// Brings the records of all leaves up to their first ones.
+pub(crate) fn write_out_all(same: &mut [bool], records: &mut [Record])
+    ensures seen { seen same.new (slots_of records.new) ≡ seen same.old (slots_of records.old) }
+    ensures own { (j : ℕ) → same_at same.new j ≡ false }
+{
+    let leaves = (records.len() + PART - 1) / PART;
+    for leaf in 0..same.len() {
+        if leaf < leaves {
+            write_out(same, records, leaf);
+        } else {
+            same[leaf] = false;
+        }
+    }
+}
+
+// Makes the cells of the leaves from one on, up to another one, the same.
+fn make_same(same: &mut [bool], records: &mut [Record], from: usize, to: usize, kept: Record)
+    requires order { from ≤ to }
+    requires inside { to * PART ≤ length records.old }
+    requires room { to ≤ length same.old }
+    ensures seen { seen same.new (slots_of records.new)
+        ≡ fill (seen same.old (slots_of records.old)) (from * PART) (to * PART - from * PART) (slot_of kept) }
+    ensures others { (j : ℕ) → (from ≤ j → j < to → ⊥) → same_at same.new j ≡ same_at same.old j }
+{
+    for leaf in from..to {
+        records[leaf * PART] = kept;
+        same[leaf] = true;
+    }
+}
+
+// Makes `n` cells from `base` on the same: those of the leaves between the first and the last of them by one record each.
+fn fill_seen(same: &mut [bool], records: &mut [Record], base: usize, n: usize, kept: Record)
+    requires some { 0 < n }
+    requires inside { base + n ≤ length records.old }
+    requires room { length records.old ≤ PART * length same.old }
+    requires first { same_at same.old (base / PART) ≡ false }
+    requires last { same_at same.old ((base + n - 1) / PART) ≡ false }
+    ensures seen { seen same.new (slots_of records.new)
+        ≡ fill (seen same.old (slots_of records.old)) base n (slot_of kept) }
+    ensures others { (j : ℕ) → (base / PART < j → j < (base + n - 1) / PART → ⊥) →
+        same_at same.new j ≡ same_at same.old j }
+{
+    let first = base / PART;
+    let last = (base + n - 1) / PART;
+    if last <= first + 1 {
+        fill(records, base, n, kept);
+        return;
+    }
+    let inner = (first + 1) * PART;
+    let outer = last * PART;
+    fill(records, base, inner - base, kept);
+    make_same(same, records, first + 1, last, kept);
+    fill(records, outer, base + n - outer, kept);
+}
+
+/// Makes `n` cells from `base` on the same, and the tree above them anew.
+pub(crate) fn fill_leaves(
+    same: &mut [bool],
+    records: &mut [Record],
+    nodes: &mut [Summary],
+    base: u32,
+    n: u32,
+    kept: Record,
+)
+    requires tree { IsTree PART nodes.old (map mark (seen same.old (slots_of records.old))) }
+    requires some { 0 < n }
+    requires inside { base + n ≤ length records.old }
+    requires room { length records.old ≤ PART * length same.old }
+    ensures tree { IsTree PART nodes.new (map mark (seen same.new (slots_of records.new))) }
+    ensures seen { seen same.new (slots_of records.new)
+        ≡ fill (seen same.old (slots_of records.old)) base n (slot_of kept) }
+    ensures others { (j : ℕ) → (base / PART < j → j < (base + n - 1) / PART → ⊥) →
+        same_at same.old j ≡ false → same_at same.new j ≡ false }
+{
+    let first = base as usize / PART;
+    let last = (base as usize + n as usize - 1) / PART;
+    write_out(same, records, first);
+    write_out(same, records, last);
+    fill_seen(same, records, base as usize, n as usize, kept);
+    let low = sum_up_leaf(records, first);
+    let high = if first < last {
+        sum_up_leaf(records, last)
+    } else {
+        low
+    };
+    renew_same(nodes, first, last, low, high, sum_up_same(PART, kept));
+}
+
+// The base of the least place of a block in a leaf that has one.
+fn find_in_leaf(same: &[bool], records: &[Record], leaf: usize, n: u32) -> u32
+    requires below { leaf < 2 ^ 32 }
+    requires few { length records.now < 2 ^ 32 }
+    requires room { n ≤ longest (part_at PART (map mark (seen same.now (slots_of records.now))) leaf) }
+    requires some { 0 < n }
+    ensures { place n (part_at PART (map mark (seen same.now (slots_of records.now))) leaf) ≡ Some result }
+{
+    if is_same(same, leaf) {
+        0
+    } else {
+        find_in_part(part(records, leaf), n)
+    }
+}
+
+/// The least place of a block of `n` cells.
+pub(crate) fn find(same: &[bool], records: &[Record], nodes: &[Summary], n: u32) -> Option<u32>
+    requires tree { IsTree PART nodes.now (map mark (seen same.now (slots_of records.now))) }
+    requires some { 0 < n }
+    ensures { result ≡ place n (seen same.now (slots_of records.now)) }
+{
+    if node(nodes, 1).longest < n {
+        return None;
+    }
+    match descend(nodes, PART, n) {
+        Way::Across(base) => Some(base),
+        Way::Within(leaf) => Some((leaf * PART) as u32 + find_in_leaf(same, records, leaf, n)),
+    }
+}
+
+// The next cell to be looked at behind one: one record may stand for some.
+fn behind(same: &[bool], at: usize) -> usize
+    requires { at + PART < 2 ^ 64 }
+    ensures further { at < result }
+    ensures same { (k : ℕ) → at < k → k < result → (same_at same.now (at / PART) ≡ true) × (k / PART ≡ at / PART) }
+{
+    if is_same(same, at / PART) {
+        (at / PART + 1) * PART
+    } else {
+        at + 1
+    }
+}
+
+/// Whether somebody waits for one of `n` cells from `base` on.
+pub(crate) fn any_waiting(same: &[bool], records: &[Record], base: usize, n: usize) -> bool
+    requires few { length records.now < 2 ^ 32 }
+    requires inside { base + n ≤ length records.now }
+    ensures { result ≡ list_any is_waiting (take n (drop base (seen same.now (slots_of records.now)))) }
+{
+    let mut at = base;
+    while at < base + n {
+        if record_at(same, records, at).is_waiting() {
+            return true;
+        }
+        at = behind(same, at);
+    }
+    false
+}
