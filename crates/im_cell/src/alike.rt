@@ -122,8 +122,6 @@ pub(crate) fn fill_leaves(
     ensures tree { IsTree PART nodes.new (map mark (seen same.new (slots_of records.new))) }
     ensures seen { seen same.new (slots_of records.new)
         ≡ fill (seen same.old (slots_of records.old)) base n (slot_of kept) }
-    ensures others { (j : ℕ) → (base / PART < j → j < (base + n - 1) / PART → ⊥) →
-        same_at same.old j ≡ false → same_at same.new j ≡ false }
 {
     let first = base as usize / PART;
     let last = (base as usize + n as usize - 1) / PART;
