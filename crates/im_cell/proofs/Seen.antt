@@ -3,7 +3,9 @@ use Rattle.std.proofs.Common.{◌≡◌, ◌≢◌, ℕ, zero, suc, ◌+◌, ◌
 use Rattle.std.specs.Prelude.{min, ◌||◌}
 use Rattle.std.specs.List.{list_any}
 use Rattle.std.proofs.lemmas.Bool.{cases_lt, cases_eq}
-use Rattle.std.proofs.lemmas.List.{get_or-set_same, get_or-set_other, get_or_past, get_or-drop, get_or-take, get_or-map, length-take, length-drop, length-map, length-replicate, get_or-replicate, ext_get_or}
+use Rattle.std.proofs.Math.Seq.{take-add}
+use Rattle.std.proofs.lemmas.List.Folds.{list_any-append}
+use Rattle.std.proofs.lemmas.List.{drop-drop, get_or-set_same, get_or-set_other, get_or_past, get_or-drop, get_or-take, get_or-map, length-take, length-drop, length-map, length-replicate, get_or-replicate, ext_get_or}
 use Rattle.im_types.specs.Place.{fill}
 use Rattle.im_laws.proofs.PlaceLemmas.{get_or-fill}
 use Rattle.im_laws.proofs.BlockLemmas.{length-fill, get_or-fill_in}
@@ -317,3 +319,35 @@ module _ {X : Type 0} (p : Option X → Bool) where
   some-within base n xs k from upto inside e =
       any-some n (drop base xs) (k - base) (omega arith) (omega (arith, length-drop base xs))
       (ap p (get_or-drop base xs (k - base) None ∙ ap (λ i. get_or xs i None) (let f : base + (k - base) ≡ k = omega arith in f)) ∙ e)
+
+  -- where all of them are the same, one passes a test if each does
+  pub any-alike : (base n : ℕ) (xs : List (Option X)) (x : Option X) → 0 < n → base + n ≤ length xs → ((k : ℕ) → base ≤ k → k < base + n → get_or xs k None ≡ x)
+      → p x ≡ list_any p (take n (drop base xs))
+  any-alike base n xs x some inside alike = by_test (p x) refl
+    where
+      by_test : (b : Bool) → p x ≡ b → p x ≡ list_any p (take n (drop base xs))
+      by_test true e = e ∙ sym (some-within base n xs base (omega arith) (omega arith) (omega arith) (ap p (alike base (omega arith) (omega arith)) ∙ e))
+      by_test false e = e ∙ sym (none-within base n xs (λ k low high. ap p (alike k low high) ∙ e))
+
+  -- whether one of some cells passes, and of more of them
+  pub any-further : (base at next : ℕ) (xs : List (Option X)) → base ≤ at → at ≤ next
+      → list_any p (take (next - base) (drop base xs)) ≡ (list_any p (take (at - base) (drop base xs)) || list_any p (take (next - at) (drop at xs)))
+  any-further base at next xs low high =
+      ap (λ k. list_any p (take k (drop base xs))) (let e : next - base ≡ at - base + (next - at) = omega arith in e)
+      ∙ ap (list_any p) (take-add (at - base) (next - at) (drop base xs))
+      ∙ list_any-append p (take (at - base) (drop base xs)) (take (next - at) (drop (at - base) (drop base xs)))
+      ∙ ap (λ ys. list_any p (take (at - base) (drop base xs)) || list_any p (take (next - at) ys))
+      (drop-drop (at - base) base xs ∙ ap (λ k. drop k xs) (let e : base + (at - base) ≡ at = omega arith in e))
+
+-- cells of a leaf for which nothing stands
+pub within-own : (same : List Bool) (slots : List (Option Slot)) (base n : ℕ) → base + n ≤ length slots → ((k : ℕ) → base ≤ k → k < base + n → same_at same (k / PART) ≡ false)
+    → take n (drop base slots) ≡ take n (drop base (seen same slots))
+within-own same slots base n inside own =
+    ext_get_or None (take n (drop base slots)) (take n (drop base (seen same slots)))
+    (omega (arith, length-take n (drop base slots), length-take n (drop base (seen same slots)), length-drop base slots, length-drop base (seen same slots), length-seen same slots))
+    (λ i less. at i (omega (arith, length-take n (drop base slots))))
+  where
+    at : (i : ℕ) → i < n → get_or (take n (drop base slots)) i None ≡ get_or (take n (drop base (seen same slots))) i None
+    at i few =
+        get_or-take n (drop base slots) i None few ∙ get_or-drop base slots i None ∙ sym (at-own same slots (base + i) (own (base + i) (omega arith) (omega arith)))
+        ∙ sym (get_or-drop base (seen same slots) i None) ∙ sym (get_or-take n (drop base (seen same slots)) i None few)

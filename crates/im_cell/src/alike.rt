@@ -1,12 +1,12 @@
 //! Leaves whose cells were all made the same: the record of the first one stands for them until one of them is changed
 //! alone. So what is made the same takes a step for each leaf, and one for each cell at its two ends.
-ghost use Rattle.std.specs.Prelude.{◌≡◌, false, true, ℕ, ◌+◌, ◌-◌, ◌*◌, ◌/◌, ◌^◌, ◌<◌, ◌≤◌, length, map, take, drop, Some};
+ghost use Rattle.std.specs.Prelude.{◌≡◌, false, true, ℕ, ◌+◌, ◌-◌, ◌*◌, ◌/◌, ◌%◌, ◌^◌, ◌<◌, ◌≤◌, ◌≢◌, length, map, take, drop, Some};
 ghost use Rattle.std.specs.List.{list_any};
 ghost use Rattle.im_types.specs.Place.{place, fill};
 ghost use Rattle.im_cell.specs.Slots.{is_waiting, slot_at};
 ghost use Rattle.im_cell.specs.Records.{slot_of, slots_of};
 ghost use Rattle.im_cell.specs.Chunks.{same_at, seen};
-ghost use Rattle.im_cell.specs.Summaries.{mark, longest, part_at, IsTree};
+ghost use Rattle.im_cell.specs.Summaries.{mark, longest, part_at, IsTree, Summarises};
 
 use crate::records::Record;
 use crate::summaries::{Summary, sum_up_same};
@@ -81,29 +81,50 @@ fn make_same(same: &mut [bool], records: &mut [Record], from: usize, to: usize, 
     }
 }
 
-// Makes `n` cells from `base` on the same: those of the leaves between the first and the last of them by one record each.
+// Brings the records of a leaf up to its first one, where a bound of some cells lies within it.
+fn write_out_around(same: &mut [bool], records: &mut [Record], bound: usize)
+    requires { bound ≤ length records.old }
+    ensures seen { seen same.new (slots_of records.new) ≡ seen same.old (slots_of records.old) }
+    ensures own { bound % PART ≢ 0 → same_at same.new (bound / PART) ≡ false }
+    ensures others { (j : ℕ) → same_at same.old j ≡ false → same_at same.new j ≡ false }
+{
+    if bound % PART != 0 {
+        write_out(same, records, bound / PART);
+    }
+}
+
+// Makes `n` cells from `base` on the same: those of each leaf that has no other cell by one record.
 fn fill_seen(same: &mut [bool], records: &mut [Record], base: usize, n: usize, kept: Record)
     requires some { 0 < n }
     requires inside { base + n ≤ length records.old }
     requires room { length records.old ≤ PART * length same.old }
-    requires first { same_at same.old (base / PART) ≡ false }
-    requires last { same_at same.old ((base + n - 1) / PART) ≡ false }
-    ensures seen { seen same.new (slots_of records.new)
-        ≡ fill (seen same.old (slots_of records.old)) base n (slot_of kept) }
-    ensures others { (j : ℕ) → (base / PART < j → j < (base + n - 1) / PART → ⊥) →
-        same_at same.new j ≡ same_at same.old j }
+    requires few { length records.old < 2 ^ 32 }
+    requires first { base % PART ≢ 0 → same_at same.old (base / PART) ≡ false }
+    requires last { (base + n) % PART ≢ 0 → same_at same.old ((base + n) / PART) ≡ false }
+    ensures { seen same.new (slots_of records.new) ≡ fill (seen same.old (slots_of records.old)) base n (slot_of kept) }
 {
-    let first = base / PART;
-    let last = (base + n - 1) / PART;
-    if last <= first + 1 {
+    let from = (base + PART - 1) / PART;
+    let to = (base + n) / PART;
+    if to <= from {
         fill(records, base, n, kept);
         return;
     }
-    let inner = (first + 1) * PART;
-    let outer = last * PART;
-    fill(records, base, inner - base, kept);
-    make_same(same, records, first + 1, last, kept);
-    fill(records, outer, base + n - outer, kept);
+    fill(records, base, from * PART - base, kept);
+    make_same(same, records, from, to, kept);
+    fill(records, to * PART, base + n - to * PART, kept);
+}
+
+// The summary of the cells of a leaf.
+fn sum_up_seen(same: &[bool], records: &[Record], leaf: usize) -> Summary
+    requires few { length records.now < 2 ^ 32 }
+    requires there { leaf * PART < length records.now }
+    ensures { Summarises result (part_at PART (map mark (seen same.now (slots_of records.now))) leaf) }
+{
+    if is_same(same, leaf) {
+        sum_up_same(PART.min(records.len() - leaf * PART), records[leaf * PART])
+    } else {
+        sum_up_leaf(records, leaf)
+    }
 }
 
 /// Makes `n` cells from `base` on the same, and the tree above them anew.
@@ -123,18 +144,27 @@ pub(crate) fn fill_leaves(
     ensures seen { seen same.new (slots_of records.new)
         ≡ fill (seen same.old (slots_of records.old)) base n (slot_of kept) }
 {
+    let end = base as usize + n as usize;
     let first = base as usize / PART;
-    let last = (base as usize + n as usize - 1) / PART;
-    write_out(same, records, first);
-    write_out(same, records, last);
+    let last = (end - 1) / PART;
+    write_out_around(same, records, base as usize);
+    write_out_around(same, records, end);
     fill_seen(same, records, base as usize, n as usize, kept);
-    let low = sum_up_leaf(records, first);
-    let high = if first < last {
-        sum_up_leaf(records, last)
-    } else {
-        low
-    };
+    let low = sum_up_seen(same, records, first);
+    let high = sum_up_seen(same, records, last);
     renew_same(nodes, first, last, low, high, sum_up_same(PART, kept));
+}
+
+// Whether somebody waits for a cell of some records.
+fn is_any_waiting(records: &[Record]) -> bool
+    ensures { result ≡ list_any is_waiting (slots_of records.now) }
+{
+    for record in records {
+        if record.is_waiting() {
+            return true;
+        }
+    }
+    false
 }
 
 // The base of the least place of a block in a leaf that has one.
@@ -167,16 +197,17 @@ pub(crate) fn find(same: &[bool], records: &[Record], nodes: &[Summary], n: u32)
     }
 }
 
-// The next cell to be looked at behind one: one record may stand for some.
-fn behind(same: &[bool], at: usize) -> usize
-    requires { at + PART < 2 ^ 64 }
-    ensures further { at < result }
-    ensures same { (k : ℕ) → at < k → k < result → (same_at same.now (at / PART) ≡ true) × (k / PART ≡ at / PART) }
+// Whether somebody waits for one of some cells of a leaf.
+fn is_leaf_waiting(same: &[bool], records: &[Record], from: usize, to: usize) -> bool
+    requires order { from < to }
+    requires leaf { to ≤ from / PART * PART + PART }
+    requires inside { to ≤ length records.now }
+    ensures { result ≡ list_any is_waiting (take (to - from) (drop from (seen same.now (slots_of records.now)))) }
 {
-    if is_same(same, at / PART) {
-        (at / PART + 1) * PART
+    if is_same(same, from / PART) {
+        records[from / PART * PART].is_waiting()
     } else {
-        at + 1
+        is_any_waiting(&records[from..to])
     }
 }
 
@@ -186,12 +217,14 @@ pub(crate) fn any_waiting(same: &[bool], records: &[Record], base: usize, n: usi
     requires inside { base + n ≤ length records.now }
     ensures { result ≡ list_any is_waiting (take n (drop base (seen same.now (slots_of records.now)))) }
 {
+    let end = base + n;
     let mut at = base;
-    while at < base + n {
-        if record_at(same, records, at).is_waiting() {
+    while at < end {
+        let next = (at / PART * PART + PART).min(end);
+        if is_leaf_waiting(same, records, at, next) {
             return true;
         }
-        at = behind(same, at);
+        at = next;
     }
     false
 }

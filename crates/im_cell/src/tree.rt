@@ -286,6 +286,14 @@ fn put(nodes: &mut [Summary], from: usize, to: usize, new: Summary)
     }
 }
 
+// Joins the nodes below a node.
+fn join_below(nodes: &mut [Summary], k: usize)
+    requires { 2 * k + 1 < length nodes.old }
+    ensures { nodes.new ≡ slice_set nodes.old k (joined (node_at nodes.old (2 * k)) (node_at nodes.old (2 * k + 1))) }
+{
+    nodes[k] = join(node(nodes, 2 * k), node(nodes, 2 * k + 1));
+}
+
 // Joins the nodes below each of those from `first` to `last`, of a row, where those below all between are joined to the same.
 fn join_ends(nodes: &mut [Summary], first: usize, last: usize, between: Summary)
     requires order { first ≤ last }
@@ -297,9 +305,9 @@ fn join_ends(nodes: &mut [Summary], first: usize, last: usize, between: Summary)
     ensures between { (k : ℕ) → first < k → k < last → node_at nodes.new k ≡ between }
     ensures others { (k : ℕ) → (first ≤ k → k ≤ last → ⊥) → node_at nodes.new k ≡ node_at nodes.old k }
 {
-    join_node(nodes, first);
+    join_below(nodes, first);
     put(nodes, first + 1, last, between);
-    join_node(nodes, last);
+    join_below(nodes, last);
 }
 
 // Makes the nodes above those from `first` to `last` anew, of a row, where those between them are all the same: a join

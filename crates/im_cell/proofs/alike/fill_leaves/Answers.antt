@@ -1,14 +1,13 @@
-use Rattle.std.proofs.Common.{◌≡◌, ℕ, ◌+◌, ◌-◌, ◌/◌, length, map, replicate, inl, inr, false, ap, sym, ◌∙◌, subst, arith}
+use Rattle.std.proofs.Common.{◌≡◌, ℕ, ◌+◌, ◌-◌, ◌/◌, length, map, replicate, inl, inr, refl, ap, sym, ◌∙◌, subst, arith}
 use Rattle.std.proofs.lemmas.Bool.{cases_eq}
 use Rattle.std.proofs.lemmas.List.{length-map}
 use Rattle.im_types.specs.Place.{fill}
 use Rattle.im_cell.specs.declared.tree.TheConstants.{PART}
 use Rattle.im_cell.specs.Records.{slot_of, slots_of}
-use Rattle.im_cell.specs.Chunks.{same_at, seen}
-use Rattle.im_cell.specs.Summaries.{mark, node_at, leaves_of, part_at, Summarises, IsLeaf, IsTree}
+use Rattle.im_cell.specs.Chunks.{seen}
+use Rattle.im_cell.specs.Summaries.{mark, node_at, leaves_of, part_at, IsLeaf, IsTree}
 use Rattle.im_cell.proofs.Leaves.{marks-fill, part-within, IsLeaf-of, IsTree-filled}
-use Rattle.im_cell.proofs.Seen.{length-seen, part-own}
-use Rattle.im_cell.proofs.alike.fill_leaves.Goals.{then-first-last, else-first-last}
+use Rattle.im_cell.proofs.Seen.{length-seen}
 use Rattle.im_cell.proofs.alike.fill_leaves.Goals as goal
 
 pub renew_same-requires-clause-power : goal.renew_same-requires-clause-power
@@ -19,36 +18,41 @@ renew_same-requires-clause-inside c =
     let slots = slots_of c.args.records.now in
     omega (arith, c.requires.inside, c.requires.some, c.requires.tree.inside, length-map c.args.records.now slot_of, length-seen c.args.same.now slots, length-map (seen c.args.same.now slots) mark)
 
+pub fill_seen-requires-clause-few : goal.fill_seen-requires-clause-few
+fill_seen-requires-clause-few c =
+    let slots = slots_of c.args.records.now in
+    omega (arith, c.requires.tree.few, length-map c.args.records.now slot_of, length-seen c.args.same.now slots, length-map (seen c.args.same.now slots) mark)
+
+pub sum_up_seen-low-requires-clause-few : goal.sum_up_seen-low-requires-clause-few
+sum_up_seen-low-requires-clause-few c =
+    let slots = slots_of c.args.records.now in
+    omega (arith, c.requires.tree.few, length-map c.args.records.now slot_of, length-seen c.args.same.now slots, length-map (seen c.args.same.now slots) mark)
+
+pub sum_up_seen-high-requires-clause-few : goal.sum_up_seen-high-requires-clause-few
+sum_up_seen-high-requires-clause-few c =
+    let slots = slots_of c.args.records.now in
+    omega (arith, c.requires.tree.few, length-map c.args.records.now slot_of, length-seen c.args.same.now slots, length-map (seen c.args.same.now slots) mark)
+
 pub returns-clause-tree : goal.returns-clause-tree
 returns-clause-tree c =
     let new = c.renew_same.new.nodes in
     let x = slot_of c.args.kept in
-    let base : ℕ = c.args.base in
     let first : ℕ = c.args.base / PART in
     let last : ℕ = (c.args.base + c.args.n - 1) / PART in
     let before = seen c.args.same.now (slots_of c.args.records.now) in
-    let same = c.fill_seen.new.same in
-    let slots = slots_of c.fill_seen.new.records in
-    let cells = map mark (seen same slots) in
+    let cells = map mark (seen c.fill_seen.new.same (slots_of c.fill_seen.new.records)) in
     let filled = fill (map mark before) c.args.base c.args.n (mark x) in
     let is : cells ≡ filled =
-    ap (map mark) (c.fill_seen.ensures.seen ∙ ap (λ s. fill s c.args.base c.args.n x) (c.write_out-2.ensures.seen ∙ c.write_out.ensures.seen)) ∙ marks-fill before c.args.base c.args.n x in
+    ap (map mark) (c.fill_seen.ensures ∙ ap (λ s. fill s c.args.base c.args.n x) (c.write_out_around-2.ensures.seen ∙ c.write_out_around.ensures.seen)) ∙ marks-fill before c.args.base c.args.n x in
     let long : length (map mark before) ≡ length c.args.records.now = length-map before mark ∙ length-seen c.args.same.now (slots_of c.args.records.now) ∙ length-map c.args.records.now slot_of in
-    let own_first : same_at same first ≡ false = c.fill_seen.ensures.others first (λ a b. omega arith) ∙ c.write_out-2.ensures.others first c.write_out.ensures.own in
-    let own_last : same_at same last ≡ false = c.fill_seen.ensures.others last (λ a b. omega arith) ∙ c.write_out-2.ensures.own in
-    let high_sums : Summarises c.if-first-last.high (part_at PART (map mark slots) last) = elim c.if-first-last.branch [
-      | then-first-last w ↦ subst (λ s. Summarises s (part_at PART (map mark slots) last)) (sym w.high-is) w.sum_up_leaf-high.ensures
-      | else-first-last w ↦ subst (λ s. Summarises s (part_at PART (map mark slots) last)) (sym w.high-is)
-          (subst (λ k. Summarises c.sum_up_leaf-low.result (part_at PART (map mark slots) k)) (let e : first ≡ last = omega (arith, w.if-first-last.false) in e) c.sum_up_leaf-low.ensures)
-    ] in
     subst (IsTree PART new) (sym is)
     (IsTree-filled c.args.nodes.now new (map mark before) c.args.base c.args.n (mark x) c.requires.tree c.requires.some c.renew_same.auto.nodes c.renew_same.ensures.inner
     (λ j low high. subst (λ ys. IsLeaf PART new ys j) is (elim (cases_eq j first) [
-      | inl here ↦ IsLeaf-of PART c.args.nodes.now new cells (part_at PART (map mark slots) first) j c.sum_up_leaf-low.result c.renew_same.auto.nodes
-          (ap (λ k. node_at new (leaves_of c.args.nodes.now + k)) here ∙ c.renew_same.ensures.first) (part-own same slots first own_first ∙ ap (part_at PART cells) (sym here)) c.sum_up_leaf-low.ensures
+      | inl here ↦ IsLeaf-of PART c.args.nodes.now new cells (part_at PART cells first) j c.sum_up_seen-low.result c.renew_same.auto.nodes
+          (ap (λ k. node_at new (leaves_of c.args.nodes.now + k)) here ∙ c.renew_same.ensures.first) (ap (part_at PART cells) (sym here)) c.sum_up_seen-low.ensures
       | inr past ↦ elim (cases_eq j last) [
-        | inl there ↦ IsLeaf-of PART c.args.nodes.now new cells (part_at PART (map mark slots) last) j c.if-first-last.high c.renew_same.auto.nodes
-            (ap (λ k. node_at new (leaves_of c.args.nodes.now + k)) there ∙ c.renew_same.ensures.last) (part-own same slots last own_last ∙ ap (part_at PART cells) (sym there)) high_sums
+        | inl there ↦ IsLeaf-of PART c.args.nodes.now new cells (part_at PART cells last) j c.sum_up_seen-high.result c.renew_same.auto.nodes
+            (ap (λ k. node_at new (leaves_of c.args.nodes.now + k)) there ∙ c.renew_same.ensures.last) (ap (part_at PART cells) (sym there)) c.sum_up_seen-high.ensures
         | inr between ↦ IsLeaf-of PART c.args.nodes.now new cells (map mark (replicate PART x)) j c.sum_up_same.result c.renew_same.auto.nodes (c.renew_same.ensures.between j (omega arith) (omega arith))
             (sym (ap (λ ys. part_at PART ys j) is ∙ part-within PART (map mark before) c.args.base c.args.n x j (omega arith) (omega arith) (omega (arith, long, c.requires.inside)))) c.sum_up_same.ensures
       ]
