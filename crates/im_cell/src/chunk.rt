@@ -290,8 +290,8 @@ impl Chunk {
         }
     }
 
-    // Makes all cells the same.
-    fn fill_whole(&mut self, new: Record)
+    /// Makes all cells the same.
+    pub(crate) fn fill_whole(&mut self, new: Record)
         ensures { self.new ≡ replicate (length self.old) (slot_of new) }
     {
         self.kept = Kept::Whole(new);

@@ -164,10 +164,38 @@ pub(crate) fn raise(nodes: &mut [Summary], chunks: &[Chunk])
     renew(nodes, chunks, 0, leaves - 1);
 }
 
-// Makes `n` cells from `base` on the same.
-fn fill_chunks(chunks: &mut [Chunk], base: u32, n: u32, kept: Record)
+// Makes `n` cells of a chunk the same.
+fn fill_in(chunks: &mut [Chunk], at: usize, from: u32, n: u32, kept: Record)
     requires sizes { AreChunksOf chunks.old (length (cells_in chunks.old)) }
     requires some { 0 < n }
+    requires inside { from + n ≤ length (chunk_at chunks.old at) }
+    ensures sizes { AreChunksOf chunks.new (length (cells_in chunks.old)) }
+    ensures cells { cells_in chunks.new ≡ fill (cells_in chunks.old) (at * CHUNK + from) n (slot_of kept) }
+    ensures others { (j : ℕ) → (at ≤ j → j ≤ at → ⊥) → chunk_at chunks.new j ≡ chunk_at chunks.old j }
+{
+    chunks[at].fill(from, n, kept);
+}
+
+// Makes all cells of the chunks from one on, up to another one, the same.
+fn fill_between(chunks: &mut [Chunk], from: usize, to: usize, kept: Record)
+    requires sizes { AreChunksOf chunks.old (length (cells_in chunks.old)) }
+    requires order { from ≤ to }
+    requires few { to < 2 ^ 32 }
+    requires inside { to * CHUNK ≤ length (cells_in chunks.old) }
+    ensures sizes { AreChunksOf chunks.new (length (cells_in chunks.old)) }
+    ensures cells { cells_in chunks.new
+        ≡ fill (cells_in chunks.old) (from * CHUNK) (to * CHUNK - from * CHUNK) (slot_of kept) }
+    ensures others { (j : ℕ) → (from ≤ j → j < to → ⊥) → chunk_at chunks.new j ≡ chunk_at chunks.old j }
+{
+    for at in from..to {
+        chunks[at].fill_whole(kept);
+    }
+}
+
+// Makes `n` cells from `base` on, of more than one chunk, the same.
+fn fill_chunks(chunks: &mut [Chunk], base: u32, n: u32, kept: Record)
+    requires sizes { AreChunksOf chunks.old (length (cells_in chunks.old)) }
+    requires more { base / CHUNK < (base + n - 1) / CHUNK }
     requires inside { base + n ≤ length (cells_in chunks.old) }
     ensures sizes { AreChunksOf chunks.new (length (cells_in chunks.old)) }
     ensures cells { cells_in chunks.new ≡ fill (cells_in chunks.old) base n (slot_of kept) }
@@ -176,10 +204,17 @@ fn fill_chunks(chunks: &mut [Chunk], base: u32, n: u32, kept: Record)
 {
     let first = base as usize / CHUNK;
     let last = (base as usize + n as usize - 1) / CHUNK;
-    for at in first..last + 1 {
-        let share = share_of(at, base, n);
-        chunks[at].fill(share.from, share.count, kept);
-    }
+    let inner = (first + 1) * CHUNK - base as usize;
+    let rest = base as usize + n as usize - last * CHUNK;
+    fill_in(
+        chunks,
+        first,
+        (base as usize % CHUNK) as u32,
+        inner as u32,
+        kept,
+    );
+    fill_between(chunks, first + 1, last, kept);
+    fill_in(chunks, last, 0, rest as u32, kept);
 }
 
 // Makes `n` cells of a chunk the same, and the tree above it anew.
@@ -199,7 +234,7 @@ fn fill_in_chunk(
     ensures tree { IsTree CHUNK nodes.new (marks_in chunks.new) }
     ensures cells { cells_in chunks.new ≡ fill (cells_in chunks.old) (at * CHUNK + from) n (slot_of kept) }
 {
-    chunks[at].fill(from, n, kept);
+    fill_in(chunks, at, from, n, kept);
     renew(nodes, chunks, at, at);
 }
 
@@ -207,7 +242,7 @@ fn fill_in_chunk(
 fn fill_in_chunks(chunks: &mut [Chunk], nodes: &mut [Summary], base: u32, n: u32, kept: Record)
     requires sizes { AreChunksOf chunks.old (length (cells_in chunks.old)) }
     requires tree { IsTree CHUNK nodes.old (marks_in chunks.old) }
-    requires some { 0 < n }
+    requires more { base / CHUNK < (base + n - 1) / CHUNK }
     requires inside { base + n ≤ length (cells_in chunks.old) }
     ensures sizes { AreChunksOf chunks.new (length (cells_in chunks.old)) }
     ensures tree { IsTree CHUNK nodes.new (marks_in chunks.new) }
@@ -217,11 +252,7 @@ fn fill_in_chunks(chunks: &mut [Chunk], nodes: &mut [Summary], base: u32, n: u32
     let first = base as usize / CHUNK;
     let last = (base as usize + n as usize - 1) / CHUNK;
     let low = summary_at(chunks, first);
-    let high = if first < last {
-        summary_at(chunks, last)
-    } else {
-        low
-    };
+    let high = summary_at(chunks, last);
     renew_same(nodes, first, last, low, high, sum_up_same(CHUNK, kept));
 }
 

@@ -5,22 +5,18 @@ use Rattle.im_cell.specs.declared.chunk.TheConstants.{CHUNK}
 use Rattle.im_cell.specs.Records.{slot_of}
 use Rattle.im_cell.specs.Chunks.{cells_in, chunk_at}
 use Rattle.im_cell.specs.Summaries.{mark, node_at, leaves_of, Summarises}
-use Rattle.im_cell.proofs.InChunks.{IsTree-refilled, chunk-of-cells, same-chunk, low-within, high-within, above-first, below-last}
+use Rattle.im_cell.proofs.InChunks.{IsTree-refilled, chunk-of-cells, low-within, high-within, above-first, below-last}
 use Rattle.im_cell.proofs.Leaves.{fill-taken}
-use Rattle.im_cell.proofs.chunks.fill_in_chunks.Goals.{then-first-last, else-first-last}
 use Rattle.im_cell.proofs.chunks.fill_in_chunks.Goals as goal
 
 pub renew_same-requires-clause-inside : goal.renew_same-requires-clause-inside
-renew_same-requires-clause-inside c = omega (arith, c.requires.inside, c.requires.some, c.requires.tree.inside, length-map (cells_in c.args.chunks.now) mark)
+renew_same-requires-clause-inside c = omega (arith, c.requires.inside, c.requires.more, c.requires.tree.inside, length-map (cells_in c.args.chunks.now) mark)
 
 pub renew_same-requires-clause-power : goal.renew_same-requires-clause-power
 renew_same-requires-clause-power c = (c.requires.tree.height, c.requires.tree.power)
 
 pub renew_same-requires-clause-ends : goal.renew_same-requires-clause-ends
-renew_same-requires-clause-ends c = λ e. elim c.if-first-last.branch [
-  | then-first-last w ↦ let less = w.if-first-last.true in absurd (omega arith)
-  | else-first-last w ↦ sym w.high-is
-]
+renew_same-requires-clause-ends c = λ e. absurd (omega (arith, c.requires.more))
 
 fits : {a b d : ℕ} → a ≤ b → b ≤ d → a ≤ d
 fits low high = omega arith
@@ -32,11 +28,6 @@ returns-clause-tree c =
     let chunks = c.fill_chunks.new.chunks in
     let first : ℕ = c.args.base / CHUNK in
     let last : ℕ = (c.args.base + c.args.n - 1) / CHUNK in
-    let high_sums : Summarises c.if-first-last.high (map mark (chunk_at chunks last)) = elim c.if-first-last.branch [
-      | then-first-last w ↦ subst (λ s. Summarises s (map mark (chunk_at chunks last))) (sym w.high-is) w.summary_at-high.ensures
-      | else-first-last w ↦ subst (λ s. Summarises s (map mark (chunk_at chunks last))) (sym w.high-is)
-          (subst (λ k. Summarises c.summary_at-low.result (map mark (chunk_at chunks k))) (same-chunk c.args.base c.args.n c.requires.some w.if-first-last.false) c.summary_at-low.ensures)
-    ] in
     IsTree-refilled c.args.nodes.now new c.args.chunks.now chunks (length cells) first last
     c.requires.sizes c.fill_chunks.ensures.sizes c.requires.tree c.renew_same.auto.nodes c.renew_same.ensures.inner
     (λ j low high. elim (cases_eq j first) [
@@ -44,7 +35,7 @@ returns-clause-tree c =
           (subst (λ k. Summarises c.summary_at-low.result (map mark (chunk_at chunks k))) (sym here) c.summary_at-low.ensures)
       | inr past ↦ elim (cases_eq j last) [
         | inl there ↦ subst (λ s. Summarises s (map mark (chunk_at chunks j))) (sym (ap (λ k. node_at new (leaves_of c.args.nodes.now + k)) there ∙ c.renew_same.ensures.last))
-            (subst (λ k. Summarises c.if-first-last.high (map mark (chunk_at chunks k))) (sym there) high_sums)
+            (subst (λ k. Summarises c.summary_at-high.result (map mark (chunk_at chunks k))) (sym there) c.summary_at-high.ensures)
         | inr between ↦
             let above = above-first first j low past in
             let below = below-last last j high between in
