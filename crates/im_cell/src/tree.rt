@@ -294,29 +294,61 @@ fn join_below(nodes: &mut [Summary], k: usize)
     nodes[k] = join(node(nodes, 2 * k), node(nodes, 2 * k + 1));
 }
 
-// Joins the nodes below each of those from `first` to `last`, of a row, where those below all between are joined to the same.
-fn join_ends(nodes: &mut [Summary], first: usize, last: usize, between: Summary)
-    requires order { first ≤ last }
-    requires row { last < 2 * first }
-    requires inside { 2 * last + 1 < length nodes.old }
-    requires between { (k : ℕ) → first < k → k < last →
-        joined (node_at nodes.old (2 * k)) (node_at nodes.old (2 * k + 1)) ≡ between }
-    ensures joined { (k : ℕ) → first ≤ k → k ≤ last → IsJoined nodes.new k }
-    ensures between { (k : ℕ) → first < k → k < last → node_at nodes.new k ≡ between }
-    ensures others { (k : ℕ) → (first ≤ k → k ≤ last → ⊥) → node_at nodes.new k ≡ node_at nodes.old k }
+// Joins the nodes below each of some nodes of a row.
+fn join_each(nodes: &mut [Summary], from: usize, to: usize)
+    requires row { to ≤ 2 * from }
+    requires inside { 2 * to ≤ length nodes.old }
+    ensures joined { (k : ℕ) → from ≤ k → k < to → IsJoined nodes.new k }
+    ensures others { (k : ℕ) → (from ≤ k → k < to → ⊥) → node_at nodes.new k ≡ node_at nodes.old k }
 {
-    join_below(nodes, first);
-    put(nodes, first + 1, last, between);
-    join_below(nodes, last);
+    for k in from..to {
+        join_below(nodes, k);
+    }
 }
 
-// Makes the nodes above those from `first` to `last` anew, of a row, where those between them are all the same: a join
-// for the two ends of each row above, and one for all between.
-fn renew_above_same(nodes: &mut [Summary], first: usize, last: usize, between: Summary)
+// Joins the nodes below each of those from `first` to `last`, of a row, where those below all from one on, up to another
+// one, are joined to the same.
+fn join_around(
+    nodes: &mut [Summary],
+    first: usize,
+    last: usize,
+    from: usize,
+    to: usize,
+    between: Summary,
+)
+    requires first { first ≤ from }
+    requires order { from ≤ to }
+    requires last { to ≤ last + 1 }
+    requires row { last < 2 * first }
+    requires inside { 2 * last + 1 < length nodes.old }
+    requires between { (k : ℕ) → from ≤ k → k < to →
+        joined (node_at nodes.old (2 * k)) (node_at nodes.old (2 * k + 1)) ≡ between }
+    ensures joined { (k : ℕ) → first ≤ k → k ≤ last → IsJoined nodes.new k }
+    ensures between { (k : ℕ) → from ≤ k → k < to → node_at nodes.new k ≡ between }
+    ensures others { (k : ℕ) → (first ≤ k → k ≤ last → ⊥) → node_at nodes.new k ≡ node_at nodes.old k }
+{
+    join_each(nodes, first, from);
+    put(nodes, from, to, between);
+    join_each(nodes, to, last + 1);
+}
+
+// Makes the nodes above those from `first` to `last` anew, of a row, where those from one on, up to another one, are all
+// the same: of each row above one join for these, and one for each end that isn't.
+fn renew_above_same(
+    nodes: &mut [Summary],
+    first: usize,
+    last: usize,
+    from: usize,
+    to: usize,
+    between: Summary,
+)
     requires even { 2 * (leaves_of nodes.old) ≡ length nodes.old }
     requires inside { last < length nodes.old }
     requires row { IsRow first last }
-    requires between { (k : ℕ) → first < k → k < last → node_at nodes.old k ≡ between }
+    requires first { first ≤ from }
+    requires order { from ≤ to }
+    requires last { to ≤ last + 1 }
+    requires between { (k : ℕ) → from ≤ k → k < to → node_at nodes.old k ≡ between }
     requires inner { (k : ℕ) → 0 < k → k < leaves_of nodes.old → (first / 2 ≤ k → k ≤ last / 2 → ⊥) →
         IsJoined nodes.old k }
     ensures inner { HasJoined nodes.new }
@@ -324,12 +356,16 @@ fn renew_above_same(nodes: &mut [Summary], first: usize, last: usize, between: S
 {
     let mut low = first;
     let mut high = last;
+    let mut from = from;
+    let mut to = to;
     let mut same = between;
     while low < high {
         low /= 2;
         high /= 2;
+        from = (from + 1) / 2;
+        to = from.max(to / 2);
         same = join(same, same);
-        join_ends(nodes, low, high, same);
+        join_around(nodes, low, high, from, to, same);
     }
     renew_path(nodes, high);
 }
@@ -352,6 +388,26 @@ pub(crate) fn fill_cells(
     let first = base as usize / PART;
     let last = (base as usize + n as usize - 1) / PART;
     renew(nodes, records, first, last);
+}
+
+// Where nodes with this summary begin: at a node that has it, or with the next one.
+fn first_same(at: usize, own: Summary, between: Summary) -> usize
+    requires { at + 1 < 2 ^ 64 }
+    ensures from { at ≤ result }
+    ensures upto { result ≤ at + 1 }
+    ensures same { result ≡ at → own ≡ between }
+{
+    if own == between { at } else { at + 1 }
+}
+
+// Where they end: behind a node that has it, or before this one.
+fn behind_same(at: usize, own: Summary, between: Summary) -> usize
+    requires { at + 1 < 2 ^ 64 }
+    ensures from { at ≤ result }
+    ensures upto { result ≤ at + 1 }
+    ensures same { result ≡ at + 1 → own ≡ between }
+{
+    if own == between { at + 1 } else { at }
 }
 
 /// Puts summaries into the leaves from `first` to `last`, one of them into each between, and makes the nodes above anew.
@@ -380,5 +436,7 @@ pub(crate) fn renew_same(
     put(nodes, leaves + first + 1, leaves + last, between);
     nodes[leaves + last] = high;
     nodes[leaves + first] = low;
-    renew_above_same(nodes, leaves + first, leaves + last, between);
+    let from = first_same(leaves + first, low, between);
+    let to = from.max(behind_same(leaves + last, high, between));
+    renew_above_same(nodes, leaves + first, leaves + last, from, to, between);
 }

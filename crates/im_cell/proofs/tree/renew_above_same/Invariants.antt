@@ -1,4 +1,4 @@
-use Rattle.std.proofs.Common.{◌≡◌, ℕ, ◌<◌}
+use Rattle.std.proofs.Common.{◌≡◌, ℕ, ◌+◌, ◌<◌, ◌≤◌}
 use Rattle.im_cell.specs.Summaries.{node_at, IsRow}
 use Rattle.im_cell.proofs.Nodes.{RowsFrom}
 use Rattle.im_cell.proofs.tree.renew_above_same.Given as goal
@@ -7,7 +7,10 @@ abbrev pub invariant-loop-low : goal.invariant-loop-low
 invariant-loop-low l = record {
   rows : RowsFrom l.initial.nodes l.nodes l.low l.high;
   row : IsRow l.low l.high;
-  between : (k : ℕ) → l.low < k → k < l.high → node_at l.nodes k ≡ l.same;
+  first : l.low ≤ l.from;
+  order : l.from ≤ l.to;
+  last : l.to ≤ l.high + 1;
+  between : (k : ℕ) → l.from ≤ k → k < l.to → node_at l.nodes k ≡ l.same;
 }
 
 abbrev pub decreases-loop-low : goal.decreases-loop-low
