@@ -197,18 +197,36 @@ pub(crate) fn find(same: &[bool], records: &[Record], nodes: &[Summary], n: u32)
     }
 }
 
-// Whether somebody waits for one of some cells of a leaf.
-fn is_leaf_waiting(same: &[bool], records: &[Record], from: usize, to: usize) -> bool
-    requires order { from < to }
+// Whether somebody waits for one of some cells of a leaf, or of none.
+fn is_part_waiting(same: &[bool], records: &[Record], from: usize, to: usize) -> bool
+    requires order { from ≤ to }
     requires leaf { to ≤ from / PART * PART + PART }
     requires inside { to ≤ length records.now }
     ensures { result ≡ list_any is_waiting (take (to - from) (drop from (seen same.now (slots_of records.now)))) }
 {
+    if from == to {
+        return false;
+    }
     if is_same(same, from / PART) {
         records[from / PART * PART].is_waiting()
     } else {
         is_any_waiting(&records[from..to])
     }
+}
+
+// Whether somebody waits for a cell of the leaves from one on, up to another one.
+fn is_any_leaf_waiting(same: &[bool], records: &[Record], from: usize, to: usize) -> bool
+    requires few { length records.now < 2 ^ 32 }
+    requires inside { to * PART ≤ length records.now }
+    ensures { result ≡ list_any is_waiting
+        (take (to * PART - from * PART) (drop (from * PART) (seen same.now (slots_of records.now)))) }
+{
+    for leaf in from..to {
+        if is_part_waiting(same, records, leaf * PART, leaf * PART + PART) {
+            return true;
+        }
+    }
+    false
 }
 
 /// Whether somebody waits for one of `n` cells from `base` on.
@@ -218,13 +236,15 @@ pub(crate) fn any_waiting(same: &[bool], records: &[Record], base: usize, n: usi
     ensures { result ≡ list_any is_waiting (take n (drop base (seen same.now (slots_of records.now)))) }
 {
     let end = base + n;
-    let mut at = base;
-    while at < end {
-        let next = (at / PART * PART + PART).min(end);
-        if is_leaf_waiting(same, records, at, next) {
-            return true;
-        }
-        at = next;
+    let from = (base + PART - 1) / PART;
+    let to = end / PART;
+    let first = end.min(from * PART);
+    let last = first.max(to * PART);
+    if is_part_waiting(same, records, base, first) {
+        return true;
     }
-    false
+    if is_any_leaf_waiting(same, records, from, to) {
+        return true;
+    }
+    is_part_waiting(same, records, last, end)
 }

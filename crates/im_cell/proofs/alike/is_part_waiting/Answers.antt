@@ -6,7 +6,7 @@ use Rattle.im_cell.specs.Slots.{slot_at, is_waiting}
 use Rattle.im_cell.specs.Records.{slot_of, slots_of}
 use Rattle.im_cell.specs.Chunks.{same_at, seen}
 use Rattle.im_cell.proofs.Seen.{length-seen, at-seen, by-first, slot-there, any-alike, within-own}
-use Rattle.im_cell.proofs.alike.is_leaf_waiting.Goals as goal
+use Rattle.im_cell.proofs.alike.is_part_waiting.Goals as goal
 
 pub returns-then-is_same : goal.returns-then-is_same
 returns-then-is_same c =
@@ -16,7 +16,7 @@ returns-then-is_same c =
     let first : ℕ = c.args.from / PART * PART in
     let flag = sym c.is_same.ensures ∙ c.if-is_same.true in
     c.is_waiting.ensures ∙ ap is_waiting (slot-there records first _ (omega (arith, c.requires.order, c.requires.inside)))
-    ∙ any-alike is_waiting c.args.from (c.args.to - c.args.from) (seen same slots) (slot_at slots first) (omega (arith, c.requires.order))
+    ∙ any-alike is_waiting c.args.from (c.args.to - c.args.from) (seen same slots) (slot_at slots first) (omega (arith, c.requires.order, c.if-from-to.false))
     (omega (arith, c.requires.order, c.requires.inside, length-seen same slots, length-map records slot_of))
     (λ k low high.
     let near : k / PART ≡ c.args.from / PART = omega (arith, c.requires.leaf, c.requires.order) in
