@@ -298,8 +298,7 @@ impl Chunk {
         self.waits = new.is_waiting();
     }
 
-    // Makes some of the cells the same, by one record for each leaf between the first and the last of them.
-    #[inline(never)]
+    // Makes some of the cells the same, by one record for each leaf that has no other cell.
     fn fill_long(&mut self, base: u32, n: u32, new: Record)
         requires inside { base + n ≤ length self.old }
         requires some { 0 < n }
