@@ -14,16 +14,22 @@ use Rattle.im_cell.specs.declared.slots.Slot.{Slot}
 use Rattle.im_cell.specs.declared.summaries.Summary.{Summary}
 use Rattle.im_types.specs.declared.cells.Cell.{Cell}
 use Rattle.im_cell.specs.Slots.{slot_at, is_waiting, with_cell}
-use Rattle.im_cell.specs.Records.{slot_of, slots_of}
-use Rattle.im_cell.specs.Summaries.{mark, IsTree}
+use Rattle.im_cell.specs.Records.{slot_of, slots_of, marks_of}
+use Rattle.im_cell.specs.Summaries.{mark, Summarises, HasJoined, HasLeaves, IsTree}
 use Rattle.im_cell.specs.Chunks.{same_at, seen, slots_in, IsKept, IsChunk}
-use Rattle.im_cell.proofs.Leaves.{marks-set}
+use Rattle.im_cell.proofs.Leaves.{marks-set, leaves-of-tree, tree-of-leaves}
 use Rattle.im_cell.proofs.Same.{none-same}
 use Rattle.im_cell.proofs.Seen.{length-seen, seen-plain, seen-set}
 
 -- no record stands for all, or each for its own
 pub not_each : (kept : Record) → Whole kept ≡ Each → ⊥
 not_each kept e = cc
+
+pub whole_not_leaves : (kept : Record) → Whole kept ≡ Leaves → ⊥
+whole_not_leaves kept e = cc
+
+pub each_not_leaves : Each ≡ Leaves → ⊥
+each_not_leaves e = cc
 
 pub leaves_not_each : Leaves ≡ Each → ⊥
 leaves_not_each e = cc
@@ -95,19 +101,20 @@ marks-of-set cells at new held some = go (slot_at cells at) refl held new refl s
 pub seen-of-set : (same : List Bool) (records : List Record) (at : ℕ) (new : Record) → same_at same (at / PART) ≡ false → seen same (slots_of (set records at new)) ≡ set (seen same (slots_of records)) at (slot_of new)
 seen-of-set same records at new own = ap (seen same) (map-set slot_of records at new) ∙ seen-set same (slots_of records) at (slot_of new) own
 
-pub IsTree-set : (same : List Bool) (records : List Record) (nodes : List Summary) (at : ℕ) (new : Record) → same_at same (at / PART) ≡ false → IsSome (slot_at (seen same (slots_of records)) at) → IsSome (slot_of new)
-    → IsTree PART nodes (map mark (seen same (slots_of records))) → IsTree PART nodes (map mark (seen same (slots_of (set records at new))))
-IsTree-set same records nodes at new own held some t =
-    subst (IsTree PART nodes) (sym (ap (map mark) (seen-of-set same records at new own) ∙ marks-of-set (seen same (slots_of records)) at (slot_of new) held some)) t
+pub HasLeaves-set : (same : List Bool) (records : List Record) (nodes : List Summary) (at : ℕ) (new : Record) → same_at same (at / PART) ≡ false → IsSome (slot_at (seen same (slots_of records)) at) → IsSome (slot_of new)
+    → HasLeaves PART nodes (map mark (seen same (slots_of records))) → HasLeaves PART nodes (map mark (seen same (slots_of (set records at new))))
+HasLeaves-set same records nodes at new own held some t =
+    subst (HasLeaves PART nodes) (sym (ap (map mark) (seen-of-set same records at new own) ∙ marks-of-set (seen same (slots_of records)) at (slot_of new) held some)) t
 
 -- what is kept once a record is another one
 pub IsKept-set : (now : Kept) (same : List Bool) (records : List Record) (nodes : List Summary) (at : ℕ) (new : Record) → length records ≤ CHUNK → length records ≤ PART * length same
-    → IsTree PART nodes (map mark (seen same (slots_of records))) → same_at same (at / PART) ≡ false → IsSome (slot_at (seen same (slots_of records)) at) → IsSome (slot_of new)
+    → HasLeaves PART nodes (map mark (seen same (slots_of records))) → (now ≡ Each → HasJoined nodes) → same_at same (at / PART) ≡ false → IsSome (slot_at (seen same (slots_of records)) at) → IsSome (slot_of new)
     → (now ≡ Each → (j : ℕ) → same_at same j ≡ false) → IsKept now same (set records at new) nodes
-IsKept-set now same records nodes at new few room tree own held some plain = record {
+IsKept-set now same records nodes at new few room leaves joined own held some plain = record {
   few = omega (arith, few, length-set records at new);
   room = omega (arith, room, length-set records at new);
-  tree = IsTree-set same records nodes at new own held some tree;
+  leaves = HasLeaves-set same records nodes at new own held some leaves;
+  joined = joined;
   plain = plain;
 }
 
@@ -120,13 +127,13 @@ slots_in-set (Whole kept) same records nodes at new e k = absurd (not_each kept 
 
 pub IsKept-set-each : (kept : Kept) (same : List Bool) (records : List Record) (nodes : List Summary) (at : ℕ) (new : Record) → kept ≡ Each → IsKept kept same records nodes
     → IsSome (slot_at (slots_in kept same records) at) → IsSome (slot_of new) → IsKept kept same (set records at new) nodes
-IsKept-set-each Each same records nodes at new e k held some = IsKept-set Each same records nodes at new k.few k.room k.tree (k.plain refl (at / PART)) held some k.plain
+IsKept-set-each Each same records nodes at new e k held some = IsKept-set Each same records nodes at new k.few k.room k.leaves k.joined (k.plain refl (at / PART)) held some k.plain
 IsKept-set-each Leaves same records nodes at new e k held some = absurd (leaves_not_each e)
 IsKept-set-each (Whole kept) same records nodes at new e k held some = absurd (not_each kept e)
 
 -- the tree, where each record stands for its own cell; and over other cells
 pub tree-each : (kept : Kept) (same : List Bool) (records : List Record) (nodes : List Summary) → kept ≡ Each → IsKept kept same records nodes → IsTree PART nodes (map mark (slots_of records))
-tree-each Each same records nodes e k = subst (λ s. IsTree PART nodes (map mark s)) (seen-plain same (slots_of records) (k.plain refl)) k.tree
+tree-each Each same records nodes e k = subst (λ s. IsTree PART nodes (map mark s)) (seen-plain same (slots_of records) (k.plain refl)) (tree-of-leaves PART nodes (map mark (seen same (slots_of records))) k.leaves (k.joined refl))
 tree-each Leaves same records nodes e k = absurd (leaves_not_each e)
 tree-each (Whole kept) same records nodes e k = absurd (not_each kept e)
 
@@ -135,7 +142,8 @@ pub IsKept-filled : (kept : Kept) (same : List Bool) (old records : List Record)
 IsKept-filled Each same old records room nodes e k long tree = record {
   few = omega (arith, k.few);
   room = omega (arith, k.room);
-  tree = subst (λ s. IsTree PART nodes (map mark s)) (sym (seen-plain same (slots_of records) (k.plain refl))) tree;
+  leaves = subst (λ s. HasLeaves PART nodes (map mark s)) (sym (seen-plain same (slots_of records) (k.plain refl))) (leaves-of-tree PART nodes (marks_of records) tree);
+  joined = λ same. tree.inner;
   plain = k.plain;
 }
 IsKept-filled Leaves same old records room nodes e k long tree = absurd (leaves_not_each e)
@@ -147,7 +155,8 @@ pub IsKept-plain : (n : ℕ) (same : List Bool) (records : List Record) (nodes :
 IsKept-plain n same records nodes is few room tree = record {
   few = few;
   room = omega (arith, room, ap length is, length-replicate n false);
-  tree = subst (λ s. IsTree PART nodes (map mark s)) (sym (seen-plain same (slots_of records) none)) tree;
+  leaves = subst (λ s. HasLeaves PART nodes (map mark s)) (sym (seen-plain same (slots_of records) none)) (leaves-of-tree PART nodes (marks_of records) tree);
+  joined = λ e. tree.inner;
   plain = λ e. none;
 }
   where
@@ -163,18 +172,20 @@ neither true b e = absurd (cc)
 neither false b e = (refl, e)
 
 -- a chunk with other slots, among which somebody waits only where somebody did before, or in the new record
-pub IsChunk-changed : (kept : Kept) (same : List Bool) (old : List Record) (room : List Summary) (now : Kept) (flags : List Bool) (records : List Record) (nodes : List Summary) (waits waiting : Bool) (new : Record)
-    → IsChunk kept same old room waits → IsKept now flags records nodes → waiting ≡ is_waiting (slot_of new)
-    → (list_any is_waiting (slots_in kept same old) ≡ false → is_waiting (slot_of new) ≡ false → list_any is_waiting (slots_in now flags records) ≡ false) → IsChunk now flags records nodes (waits || waiting)
-IsChunk-changed kept same old room now flags records nodes waits waiting new c k is none = record {
+pub IsChunk-changed : (kept : Kept) (same : List Bool) (old : List Record) (room : List Summary) (was : Summary) (now : Kept) (flags : List Bool) (records : List Record) (nodes : List Summary) (sum : Summary)
+    (waits waiting : Bool) (new : Record) → IsChunk kept same old room waits was → IsKept now flags records nodes → (now ≡ Leaves → Summarises sum (map mark (seen flags (slots_of records)))) → waiting ≡ is_waiting (slot_of new)
+    → (list_any is_waiting (slots_in kept same old) ≡ false → is_waiting (slot_of new) ≡ false → list_any is_waiting (slots_in now flags records) ≡ false) → IsChunk now flags records nodes (waits || waiting) sum
+IsChunk-changed kept same old room was now flags records nodes sum waits waiting new c k sums is none = record {
   cells = k;
+  sums = sums;
   quiet = λ e. let n = neither waits waiting e in none (c.quiet n.0) (sym is ∙ n.1);
 }
 
 -- a chunk, all of whose cells are made the same; somebody waits only if the record is waiting
-pub IsChunk-whole : (kept : Kept) (same : List Bool) (records : List Record) (nodes : List Summary) (waiting : Bool) (new : Record) → IsKept kept same records nodes
-    → waiting ≡ is_waiting (slot_of new) → IsChunk (Whole new) same records nodes waiting
-IsChunk-whole kept same records nodes waiting new k is = record {
-  cells = record { few = k.few; room = k.room; tree = k.tree; plain = λ e. absurd (not_each new e) };
+pub IsChunk-whole : (kept : Kept) (same : List Bool) (records : List Record) (nodes : List Summary) (waiting : Bool) (sum : Summary) (new : Record) → IsKept kept same records nodes
+    → waiting ≡ is_waiting (slot_of new) → IsChunk (Whole new) same records nodes waiting sum
+IsChunk-whole kept same records nodes waiting sum new k is = record {
+  cells = record { few = k.few; room = k.room; leaves = k.leaves; joined = λ e. absurd (not_each new e); plain = λ e. absurd (not_each new e) };
+  sums = λ e. absurd (whole_not_leaves new e);
   quiet = λ e. none-same is_waiting (length records) (slot_of new) (sym is ∙ e);
 }

@@ -3,12 +3,14 @@ use Rattle.std.proofs.Common.{◌≡◌, ℕ, zero, suc, ◌+◌, ◌-◌, ◌*�
 use Rattle.std.specs.Prelude.{option_map, cond}
 use Rattle.std.proofs.Math.Nat.{add-mul, one-mul, le-div_iff_mul-le, div-lt_iff_lt-mul}
 use Rattle.std.proofs.lemmas.Bool.{cases_lt}
-use Rattle.std.proofs.lemmas.List.{length-take}
+use Rattle.std.proofs.Math.Seq.{take-add}
+use Rattle.std.proofs.lemmas.List.{length-take, length-drop, take_all}
 use Rattle.im_types.specs.Place.{begins_free, place, fill}
 use Rattle.im_cell.specs.declared.tree.TheConstants.{PART}
 use Rattle.im_cell.specs.declared.summaries.Summary.{Summary}
-use Rattle.im_cell.specs.Summaries.{mark, Summarises, node_at, part_at, leaves_of, HasJoined, IsLeaf, IsTree}
+use Rattle.im_cell.specs.Summaries.{mark, Summarises, node_at, part_at, leaves_of, joined, HasJoined, IsLeaf, HasLeaves, IsTree}
 use Rattle.im_laws.proofs.BlockLemmas.{length-fill}
+use Rattle.im_cell.proofs.Sums.{Summarises-joined}
 
 module _ {X : Type 0} where
   -- the marks after a fill
@@ -129,12 +131,20 @@ pub IsLeaf-of : (p : ℕ) (old new : List Summary) (cells part : List (Option Bo
 IsLeaf-of p old new cells part j s same is own sums =
     subst (λ t. Summarises t (part_at p cells j)) (sym (ap (λ n. node_at new (n / 2 + j)) same ∙ is)) (subst (Summarises s) own sums)
 
--- the tree over other cells, where the leaves from the first to the last are made anew, and neither the cells nor the node of another leaf changed
-pub IsTree-renewed : (p : ℕ) (old new : List Summary) (xs ys : List (Option Bool)) (first last : ℕ) → IsTree p old xs → length ys ≡ length xs → length new ≡ length old
-    → HasJoined new → ((j : ℕ) → j < leaves_of old → first ≤ j → j ≤ last → IsLeaf p new ys j)
+-- a tree has leaves, and leaves under joined nodes are a tree
+pub leaves-of-tree : (p : ℕ) (nodes : List Summary) (cells : List (Option Bool)) → IsTree p nodes cells → HasLeaves p nodes cells
+leaves-of-tree p nodes cells t = record { height = t.height; power = t.power; even = t.even; inside = t.inside; few = t.few; small = t.small; wide = t.wide; leaves = t.leaves }
+
+pub tree-of-leaves : (p : ℕ) (nodes : List Summary) (cells : List (Option Bool)) → HasLeaves p nodes cells → HasJoined nodes → IsTree p nodes cells
+tree-of-leaves p nodes cells t joins =
+    record { height = t.height; power = t.power; even = t.even; inside = t.inside; few = t.few; small = t.small; wide = t.wide; leaves = t.leaves; inner = joins }
+
+-- the leaves over other cells, where those from the first to the last are made anew, and neither the cells nor the node of another leaf changed
+pub HasLeaves-renewed : (p : ℕ) (old new : List Summary) (xs ys : List (Option Bool)) (first last : ℕ) → HasLeaves p old xs → length ys ≡ length xs → length new ≡ length old
+    → ((j : ℕ) → j < leaves_of old → first ≤ j → j ≤ last → IsLeaf p new ys j)
     → ((j : ℕ) → j < leaves_of old → (first ≤ j → j ≤ last → ⊥) → part_at p ys j ≡ part_at p xs j)
-    → ((j : ℕ) → j < leaves_of old → (first ≤ j → j ≤ last → ⊥) → node_at new (leaves_of old + j) ≡ node_at old (leaves_of old + j)) → IsTree p new ys
-IsTree-renewed p old new xs ys first last t long same joins over parts others = record {
+    → ((j : ℕ) → j < leaves_of old → (first ≤ j → j ≤ last → ⊥) → node_at new (leaves_of old + j) ≡ node_at old (leaves_of old + j)) → HasLeaves p new ys
+HasLeaves-renewed p old new xs ys first last t long same over parts others = record {
   height = t.height;
   power = half ∙ t.power;
   even = omega (arith, same, half, t.even);
@@ -149,7 +159,6 @@ IsTree-renewed p old new xs ys first last t long same joins over parts others = 
       | inr upto ↦ over j (omega arith) from upto
     ]
   ];
-  inner = joins;
 }
   where
     half : leaves_of new ≡ leaves_of old
@@ -160,6 +169,14 @@ IsTree-renewed p old new xs ys first last t long same joins over parts others = 
         subst (λ cells. Summarises (node_at new (leaves_of new + j)) cells) (sym (parts j less out))
         (subst (λ s. Summarises s (part_at p xs j)) (sym (ap (λ k. node_at new (k + j)) half ∙ others j less out)) (t.leaves j less))
 
+-- the tree over other cells, where the leaves from the first to the last are made anew, and neither the cells nor the node of another leaf changed
+pub IsTree-renewed : (p : ℕ) (old new : List Summary) (xs ys : List (Option Bool)) (first last : ℕ) → IsTree p old xs → length ys ≡ length xs → length new ≡ length old
+    → HasJoined new → ((j : ℕ) → j < leaves_of old → first ≤ j → j ≤ last → IsLeaf p new ys j)
+    → ((j : ℕ) → j < leaves_of old → (first ≤ j → j ≤ last → ⊥) → part_at p ys j ≡ part_at p xs j)
+    → ((j : ℕ) → j < leaves_of old → (first ≤ j → j ≤ last → ⊥) → node_at new (leaves_of old + j) ≡ node_at old (leaves_of old + j)) → IsTree p new ys
+IsTree-renewed p old new xs ys first last t long same joins over parts others =
+    tree-of-leaves p new ys (HasLeaves-renewed p old new xs ys first last (leaves-of-tree p old xs t) long same over parts others) joins
+
 -- the tree after a fill, where the leaves over it are made anew
 pub IsTree-filled : (old new : List Summary) (xs : List (Option Bool)) (base n : ℕ) (x : Option Bool) → IsTree PART old xs → 0 < n → length new ≡ length old
     → HasJoined new → ((j : ℕ) → base / PART ≤ j → j ≤ (base + n - 1) / PART → IsLeaf PART new (fill xs base n x) j)
@@ -167,3 +184,49 @@ pub IsTree-filled : (old new : List Summary) (xs : List (Option Bool)) (base n :
 IsTree-filled old new xs base n x t some same joins over others =
     IsTree-renewed PART old new xs (fill xs base n x) (base / PART) ((base + n - 1) / PART) t (length-fill xs base n x) same joins (λ j less from upto. over j from upto)
     (λ j less out. part-beside PART xs base n x j (omega arith) some out) (λ j less out. others j out)
+
+-- the leaves after a fill
+pub HasLeaves-filled : (old new : List Summary) (xs : List (Option Bool)) (base n : ℕ) (x : Option Bool) → HasLeaves PART old xs → 0 < n → length new ≡ length old
+    → ((j : ℕ) → base / PART ≤ j → j ≤ (base + n - 1) / PART → IsLeaf PART new (fill xs base n x) j)
+    → ((j : ℕ) → (base / PART ≤ j → j ≤ (base + n - 1) / PART → ⊥) → node_at new (leaves_of old + j) ≡ node_at old (leaves_of old + j)) → HasLeaves PART new (fill xs base n x)
+HasLeaves-filled old new xs base n x t some same over others =
+    HasLeaves-renewed PART old new xs (fill xs base n x) (base / PART) ((base + n - 1) / PART) t (length-fill xs base n x) same (λ j less from upto. over j from upto)
+    (λ j less out. part-beside PART xs base n x j (omega arith) some out) (λ j less out. others j out)
+
+-- the leaves of the same nodes, where those above them changed
+pub HasLeaves-above : (p : ℕ) (old new : List Summary) (cells : List (Option Bool)) → HasLeaves p old cells → length new ≡ length old
+    → ((k : ℕ) → leaves_of old ≤ k → node_at new k ≡ node_at old k) → HasLeaves p new cells
+HasLeaves-above p old new cells t same others =
+    HasLeaves-renewed p old new cells cells 1 0 t refl same (λ j less from upto. absurd (omega arith)) (λ j less out. refl) (λ j less out. others (leaves_of old + j) (omega arith))
+
+-- a leaf more of the cells that are summed up
+pub sum-next : (nodes : List Summary) (cells : List (Option Bool)) (j : ℕ) (s : Summary) → HasLeaves PART nodes cells → j < leaves_of nodes → Summarises s (take (j * PART) cells)
+    → Summarises (joined s (node_at nodes (leaves_of nodes + j))) (take ((j + 1) * PART) cells)
+unfolding part_at
+sum-next nodes cells j s t less sums =
+    subst (Summarises (joined s (node_at nodes (leaves_of nodes + j)))) (sym (take-add (j * PART) PART cells) ∙ ap (λ n. take n cells) (let e : j * PART + PART ≡ (j + 1) * PART = omega arith in e))
+    (Summarises-joined s (node_at nodes (leaves_of nodes + j)) (take (j * PART) cells) (take PART (drop (j * PART) cells)) sums (t.leaves j less)
+    (omega (arith, t.few, length-take (j * PART) cells, length-take PART (drop (j * PART) cells), length-drop (j * PART) cells)))
+
+-- so many cells more of which the summary is known
+pub sum-with : (cells ys : List (Option Bool)) (from to : ℕ) (s t : Summary) → from ≤ to → length cells < 2 ^ 32 → take ((to - from) * PART) (drop (from * PART) cells) ≡ ys → Summarises s (take (from * PART) cells)
+    → Summarises t ys → Summarises (joined s t) (take (to * PART) cells)
+sum-with cells ys from to s t order few is sums more =
+    subst (Summarises (joined s t)) (ap (λ zs. take (from * PART) cells ++ zs) (sym is) ∙ sym (take-add (from * PART) ((to - from) * PART) cells)
+    ∙ ap (λ n. take n cells) (let e : from * PART + (to - from) * PART ≡ to * PART = omega arith in e))
+    (Summarises-joined s t (take (from * PART) cells) ys sums more
+    (omega (arith, few, sym (ap length is), length-take (from * PART) cells, length-take ((to - from) * PART) (drop (from * PART) cells), length-drop (from * PART) cells)))
+
+-- the leaves have all cells
+pub all-summed : (nodes : List Summary) (cells : List (Option Bool)) (leaves : ℕ) (s : Summary) → HasLeaves PART nodes cells → leaves ≡ leaves_of nodes → Summarises s (take (leaves * PART) cells) → Summarises s cells
+all-summed nodes cells leaves s t all sums = subst (Summarises s) (take_all (leaves * PART) cells (omega (arith, t.inside))) sums
+
+-- cells of a fill, some leaves of them
+pub same-within : {X : Type 0} (xs : List (Option Bool)) (base n : ℕ) (o : Option X) (from to : ℕ) → base ≤ from * PART → from ≤ to → (from < to → to * PART ≤ base + n) → base + n ≤ length xs
+    → take ((to - from) * PART) (drop (from * PART) (fill xs base n (mark o))) ≡ map mark (replicate ((to - from) * PART) o)
+same-within {X = X} xs base n o from to low order high inside = elim (cases_lt from to) [
+  | inl some ↦ let upto = high some in fill-taken xs base n (mark o) (from * PART) ((to - from) * PART) low (omega arith) (omega arith) ∙ marks-same ((to - from) * PART) o
+  | inr none ↦
+      let zero : (to - from) * PART ≡ 0 = omega arith in
+      ap (λ k. take k (drop (from * PART) (fill xs base n (mark o)))) zero ∙ sym (ap (λ k. map mark (replicate {A = Option X} k o)) zero)
+]

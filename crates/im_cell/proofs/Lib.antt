@@ -11,3 +11,4 @@ pub mod InChunks
 pub mod Same
 pub mod Kept
 pub mod Tables
+pub mod Along

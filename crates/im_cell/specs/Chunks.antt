@@ -10,7 +10,7 @@ use Rattle.im_cell.specs.declared.slots.Slot.{Slot}
 use Rattle.im_cell.specs.declared.summaries.Summary.{Summary}
 use Rattle.im_cell.specs.Slots.{slot_at, is_waiting, HasBlocks}
 use Rattle.im_cell.specs.Records.{slot_of, slots_of}
-use Rattle.im_cell.specs.Summaries.{mark, IsTree}
+use Rattle.im_cell.specs.Summaries.{mark, Summarises, HasJoined, HasLeaves, IsTree}
 
 module _ {X : Type 0} where
   -- the cells of these chunks
@@ -53,16 +53,20 @@ slots_in Each same records = seen same (slots_of records)
 slots_in Leaves same records = seen same (slots_of records)
 slots_in (Whole kept) same records = replicate (length records) (slot_of kept)
 
--- what a chunk keeps of its cells; where a record is kept for the whole, the others and the tree are as they were before
+-- what a chunk keeps of its cells; where a record is kept for the whole, the others and the leaves are as they were before,
+-- and the nodes above the leaves are behind unless each record stands for its own cell
 pub record IsKept (kept : Kept) (same : List Bool) (records : List Record) (nodes : List Summary) : Type 0 where
   pub few : length records ≤ CHUNK
   pub room : length records ≤ PART * length same
-  pub tree : IsTree PART nodes (map mark (seen same (slots_of records)))
+  pub leaves : HasLeaves PART nodes (map mark (seen same (slots_of records)))
+  pub joined : kept ≡ Each → HasJoined nodes
   pub plain : kept ≡ Each → (j : ℕ) → same_at same j ≡ false
 
 -- what every chunk keeps; where nobody may wait, nobody does
-pub record IsChunk (kept : Kept) (same : List Bool) (records : List Record) (nodes : List Summary) (waits : Bool) : Type 0 where
+pub record IsChunk (kept : Kept) (same : List Bool) (records : List Record) (nodes : List Summary) (waits : Bool) (sum : Summary) : Type 0 where
   pub cells : IsKept kept same records nodes
+  -- the summary of its cells while leaves stand for some of them
+  pub sums : kept ≡ Leaves → Summarises sum (map mark (seen same (slots_of records)))
   pub quiet : waits ≡ false → list_any is_waiting (slots_in kept same records) ≡ false
 
 -- what every table keeps

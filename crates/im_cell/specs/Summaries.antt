@@ -124,6 +124,17 @@ pub record IsGrown (nodes : List Summary) (leaves : ℕ) : Type 0 where
   pub few : leaves_of nodes ≤ 2 * leaves + 1
   pub inner : HasJoined nodes
 
+-- the leaves of a tree are summaries of their cells, whatever the nodes above them are
+pub record HasLeaves (p : ℕ) (nodes : List Summary) (cells : List (Option Bool)) : Type 0 where
+  pub height : ℕ
+  pub power : leaves_of nodes ≡ leaves_at height
+  pub even : length nodes ≡ 2 * leaves_of nodes
+  pub inside : length cells ≤ p * leaves_of nodes
+  pub few : length cells < 2 ^ 32
+  pub small : leaves_of nodes < 2 ^ 32
+  pub wide : p * leaves_of nodes < 2 ^ 37
+  pub leaves : (j : ℕ) → j < leaves_of nodes → IsLeaf p nodes cells j
+
 -- a tree of summaries over the cells, p of them to a leaf: node 1 is its root, and the nodes below node k are 2 k and 2 k + 1
 pub record IsTree (p : ℕ) (nodes : List Summary) (cells : List (Option Bool)) : Type 0 where
   pub height : ℕ

@@ -6,11 +6,13 @@ ghost use Rattle.im_types.specs.Place.{place, fill};
 ghost use Rattle.im_cell.specs.Slots.{is_waiting, slot_at};
 ghost use Rattle.im_cell.specs.Records.{slot_of, slots_of};
 ghost use Rattle.im_cell.specs.Chunks.{same_at, seen};
-ghost use Rattle.im_cell.specs.Summaries.{mark, longest, part_at, IsTree, Summarises};
+ghost use Rattle.im_cell.specs.Summaries.{mark, longest, part_at, HasLeaves, IsTree, Summarises};
 
 use crate::records::Record;
-use crate::summaries::{Summary, sum_up_same};
-use crate::tree::{PART, Way, descend, fill, find_in_part, node, part, renew_same, sum_up_leaf};
+use crate::summaries::{Summary, back_of, join, no_cells, sum_up_same};
+use crate::tree::{
+    PART, Way, descend, fill, find_in_part, node, part, put_leaves, sum_around, sum_up_leaf,
+};
 
 /// Whether the first record of a leaf stands for all its cells.
 pub(crate) fn is_same(same: &[bool], leaf: usize) -> bool
@@ -127,7 +129,7 @@ fn sum_up_seen(same: &[bool], records: &[Record], leaf: usize) -> Summary
     }
 }
 
-/// Makes `n` cells from `base` on the same, and the tree above them anew.
+/// Makes `n` cells from `base` on the same, and their leaves anew; the summary of all cells.
 pub(crate) fn fill_leaves(
     same: &mut [bool],
     records: &mut [Record],
@@ -135,12 +137,13 @@ pub(crate) fn fill_leaves(
     base: u32,
     n: u32,
     kept: Record,
-)
-    requires tree { IsTree PART nodes.old (map mark (seen same.old (slots_of records.old))) }
+) -> Summary
+    requires leaves { HasLeaves PART nodes.old (map mark (seen same.old (slots_of records.old))) }
     requires some { 0 < n }
     requires inside { base + n ≤ length records.old }
     requires room { length records.old ≤ PART * length same.old }
-    ensures tree { IsTree PART nodes.new (map mark (seen same.new (slots_of records.new))) }
+    ensures leaves { HasLeaves PART nodes.new (map mark (seen same.new (slots_of records.new))) }
+    ensures sum { Summarises result (map mark (seen same.new (slots_of records.new))) }
     ensures seen { seen same.new (slots_of records.new)
         ≡ fill (seen same.old (slots_of records.old)) base n (slot_of kept) }
 {
@@ -152,7 +155,8 @@ pub(crate) fn fill_leaves(
     fill_seen(same, records, base as usize, n as usize, kept);
     let low = sum_up_seen(same, records, first);
     let high = sum_up_seen(same, records, last);
-    renew_same(nodes, first, last, low, high, sum_up_same(PART, kept));
+    put_leaves(nodes, first, last, low, high, sum_up_same(PART, kept));
+    sum_around(nodes, first + 1, last.max(first + 1), kept)
 }
 
 // Whether somebody waits for a cell of some records.
@@ -195,6 +199,57 @@ pub(crate) fn find(same: &[bool], records: &[Record], nodes: &[Summary], n: u32)
         Way::Across(base) => Some(base),
         Way::Within(leaf) => Some((leaf * PART) as u32 + find_in_leaf(same, records, leaf, n)),
     }
+}
+
+// The base of the least place of a block that ends in a leaf, where none ends before it.
+fn place_at(
+    same: &[bool],
+    records: &[Record],
+    leaf: usize,
+    before: Summary,
+    own: Summary,
+    n: u32,
+) -> u32
+    requires few { length records.now < 2 ^ 32 }
+    requires there { leaf * PART < length records.now }
+    requires before { Summarises before (take (leaf * PART) (map mark (seen same.now (slots_of records.now)))) }
+    requires own { Summarises own (part_at PART (map mark (seen same.now (slots_of records.now))) leaf) }
+    requires none { before.longest < n }
+    requires room { n ≤ longest (take ((leaf + 1) * PART) (map mark (seen same.now (slots_of records.now)))) }
+    requires some { 0 < n }
+    ensures { place n (seen same.now (slots_of records.now)) ≡ Some result }
+{
+    let start = (leaf * PART) as u32;
+    let back = back_of(before);
+    if back + own.front >= n {
+        start - back
+    } else {
+        start + find_in_leaf(same, records, leaf, n)
+    }
+}
+
+/// The least place of a block of `n` cells, where the nodes above the leaves are behind.
+pub(crate) fn find_along(
+    same: &[bool],
+    records: &[Record],
+    nodes: &[Summary],
+    n: u32,
+) -> Option<u32>
+    requires leaves { HasLeaves PART nodes.now (map mark (seen same.now (slots_of records.now))) }
+    requires some { 0 < n }
+    ensures { result ≡ place n (seen same.now (slots_of records.now)) }
+{
+    let leaves = nodes.len() / 2;
+    let mut before = no_cells();
+    for leaf in 0..leaves {
+        let own = node(nodes, leaves + leaf);
+        let upto = join(before, own);
+        if upto.longest >= n {
+            return Some(place_at(same, records, leaf, before, own, n));
+        }
+        before = upto;
+    }
+    None
 }
 
 // Whether somebody waits for one of some cells of a leaf, or of none.

@@ -8,12 +8,12 @@ ghost use Rattle.im_cell.specs.Records.{slot_of, slots_of};
 ghost use Rattle.im_cell.specs.Chunks.{same_at, seen, slots_in, IsKept};
 ghost use Rattle.im_cell.specs.Summaries.{mark, Summarises, IsTree};
 
-use crate::alike::{any_waiting, fill_leaves, find, record_at, write_out_all};
+use crate::alike::{any_waiting, fill_leaves, find, find_along, record_at, write_out_all};
 use crate::records::{FREE, Record};
 use crate::row::Piece;
 use crate::slots::Slot;
-use crate::summaries::{Summary, sum_up_same};
-use crate::tree::{PART, fill_cells, raise, room_for, root};
+use crate::summaries::{Summary, no_cells, sum_up_same};
+use crate::tree::{PART, fill_cells, join_all, raise, room_for, root};
 use im_types::Cell;
 use std::alloc::{AllocError, Global};
 use std::marker::Model;
@@ -28,7 +28,7 @@ pub(crate) enum Kept {
     Each,
     /// The first one of some leaves for the whole leaf.
     Leaves,
-    /// This one for all: the others, and the tree, are as they were before.
+    /// This one for all: the others, and the leaves, are as they were before.
     Whole(Record),
 }
 
@@ -39,9 +39,11 @@ pub(crate) struct Chunk {
     records: Vec<Record>,
     // For each leaf, whether its first record stands for all of it.
     same: Vec<bool>,
-    // A tree of summaries over the cells.
+    // A tree of summaries over the cells; the nodes above its leaves are behind but where each record is for its own cell.
     nodes: Vec<Summary>,
     kept: Kept,
+    // The summary of all cells while leaves stand for some of them.
+    sum: Summary,
     // Whether somebody may wait for a cell of it.
     waits: bool,
 }
@@ -55,10 +57,10 @@ impl Model for Chunk {
 
     ghost view = { λ c. slots_in c.kept c.same.items c.records.items };
 
-    ghost invariant = { λ c. IsChunk c.kept c.same.items c.records.items c.nodes.items c.waits };
+    ghost invariant = { λ c. IsChunk c.kept c.same.items c.records.items c.nodes.items c.waits c.sum };
 }
 
-// Brings leaves and tree up to what is kept for the whole, if anything is.
+// Brings the leaves up to what is kept for the whole, if anything is.
 fn write_out_whole(kept: Kept, same: &mut [bool], records: &mut [Record], nodes: &mut [Summary])
     requires { IsKept kept same.old records.old nodes.old }
     ensures kept { IsKept Kept.Leaves same.new records.new nodes.new }
@@ -66,7 +68,7 @@ fn write_out_whole(kept: Kept, same: &mut [bool], records: &mut [Record], nodes:
 {
     if let Kept::Whole(whole) = kept {
         if records.len() > 0 {
-            fill_leaves(same, records, nodes, 0, records.len() as u32, whole);
+            let _sum = fill_leaves(same, records, nodes, 0, records.len() as u32, whole);
         }
     }
 }
@@ -89,10 +91,11 @@ fn set_record(
 {
     write_out_whole(kept, same, records, nodes);
     write_out_all(same, records);
+    join_all(nodes);
     records[at] = new;
 }
 
-// Makes some of the cells the same.
+// Makes some of the cells the same; the summary of all.
 fn fill_records(
     kept: Kept,
     same: &mut [bool],
@@ -101,16 +104,17 @@ fn fill_records(
     base: u32,
     n: u32,
     new: Record,
-)
+) -> Summary
     requires kept { IsKept kept same.old records.old nodes.old }
     requires inside { base + n ≤ length records.old }
     requires some { 0 < n }
     ensures kept { IsKept Kept.Leaves same.new records.new nodes.new }
+    ensures sum { Summarises result (map mark (seen same.new (slots_of records.new))) }
     ensures seen { seen same.new (slots_of records.new)
         ≡ fill (slots_in kept same.old records.old) base n (slot_of new) }
 {
     write_out_whole(kept, same, records, nodes);
-    fill_leaves(same, records, nodes, base, n, new);
+    fill_leaves(same, records, nodes, base, n, new)
 }
 
 // Whether cells lie in one leaf, or in two.
@@ -158,6 +162,7 @@ impl Chunk {
             same,
             nodes,
             kept: Kept::Each,
+            sum: no_cells(),
             waits: false,
         })
     }
@@ -178,6 +183,7 @@ impl Chunk {
             same,
             nodes,
             kept: Kept::Each,
+            sum: no_cells(),
             waits: true,
         }
     }
@@ -232,7 +238,8 @@ impl Chunk {
     {
         match self.kept {
             Kept::Whole(whole) => sum_up_same(self.records.len(), whole),
-            _ => root(self.nodes.as_slice()),
+            Kept::Leaves => self.sum,
+            Kept::Each => root(self.nodes.as_slice()),
         }
     }
 
@@ -243,7 +250,13 @@ impl Chunk {
     {
         match self.kept {
             Kept::Whole(whole) => find_same(self.records.len(), whole, n),
-            _ => find(
+            Kept::Leaves => find_along(
+                self.same.as_slice(),
+                self.records.as_slice(),
+                self.nodes.as_slice(),
+                n,
+            ),
+            Kept::Each => find(
                 self.same.as_slice(),
                 self.records.as_slice(),
                 self.nodes.as_slice(),
@@ -304,7 +317,7 @@ impl Chunk {
         requires some { 0 < n }
         ensures { self.new ≡ fill self.old base n (slot_of new) }
     {
-        fill_records(
+        self.sum = fill_records(
             self.kept,
             self.same.as_mut_slice(),
             self.records.as_mut_slice(),

@@ -10,7 +10,7 @@ use Rattle.im_cell.proofs.chunk.write_out_whole.Goals as goal
 pub returns-then-records-gt0-clause-seen : goal.returns-then-records-gt0-clause-seen
 returns-then-records-gt0-clause-seen c =
     let records = c.args.records.now in
-    c.fill_leaves.ensures.seen
+    c.fill_leaves-sum.ensures.seen
     ∙ fill-whole (seen c.args.same.now (slots_of records)) (length records) (slot_of c.in-Whole.whole) (length-seen c.args.same.now (slots_of records) ∙ length-map records slot_of)
     ∙ ap (λ k. slots_in k c.args.same.now records) (sym c.in-Whole.is)
 

@@ -8,7 +8,7 @@ use Rattle.im_cell.specs.declared.tree.TheConstants.{PART}
 use Rattle.im_cell.specs.Slots.{is_waiting}
 use Rattle.im_cell.specs.Records.{slot_of, slots_of, marks_of}
 use Rattle.im_cell.specs.Summaries.{IsTree}
-use Rattle.im_cell.proofs.Kept.{IsKept-plain, seen-of-plain, slots-same}
+use Rattle.im_cell.proofs.Kept.{IsKept-plain, seen-of-plain, slots-same, each_not_leaves}
 use Rattle.im_cell.proofs.Same.{none-same}
 use Rattle.im_cell.proofs.chunk.Chunk.free.Goals as goal
 
@@ -21,6 +21,7 @@ invariant_of-result c =
     rw (with_items_is c.in_ok-nodes.nodes c.raise.new.nodes (omega (arith, c.raise.auto.nodes, c.as_mut_slice.ensures.len))) (record {
       cells = IsKept-plain (CHUNK / PART) same records c.raise.new.nodes flags (omega (arith, c.requires, c.in_ok-records.ensures.len)) (omega (arith, c.requires, c.in_ok-records.ensures.len))
           (subst (λ rs. IsTree PART c.raise.new.nodes (marks_of rs)) c.as_slice.ensures.value c.raise.ensures);
+      sums = λ e. absurd (each_not_leaves e);
       quiet = λ e. ap (list_any is_waiting) (seen-of-plain (CHUNK / PART) same (slots_of records) flags ∙ ap slots_of cells ∙ slots-same c.args.cells (Free 0 NONE)) ∙ none-same is_waiting c.args.cells (slot_of (Free 0 NONE)) refl;
     })
 

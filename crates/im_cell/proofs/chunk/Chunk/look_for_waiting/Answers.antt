@@ -13,6 +13,7 @@ is_waited_for-found-requires-clause-inside c =
 pub invariant_of-self : goal.invariant_of-self
 invariant_of-self c = record {
   cells = c.self.invariant.cells;
+  sums = c.self.invariant.sums;
   quiet = λ e. elim c.if-found.branch [
     | then-found w ↦ let f = sym e ∙ w.self-is ∙ w.if-found.true in absurd (cc)
     | else-found w ↦

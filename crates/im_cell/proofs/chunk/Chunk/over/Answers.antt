@@ -4,13 +4,14 @@ use Rattle.im_cell.specs.declared.chunk.TheConstants.{CHUNK}
 use Rattle.im_cell.specs.declared.tree.TheConstants.{PART}
 use Rattle.im_cell.specs.Records.{slots_of, marks_of}
 use Rattle.im_cell.specs.Summaries.{IsTree}
-use Rattle.im_cell.proofs.Kept.{IsKept-plain, seen-of-plain}
+use Rattle.im_cell.proofs.Kept.{IsKept-plain, seen-of-plain, each_not_leaves}
 use Rattle.im_cell.proofs.chunk.Chunk.over.Goals as goal
 
 pub invariant_of-result : goal.invariant_of-result
 invariant_of-result c = rw (with_items_is c.piece.inside.nodes c.raise.new.nodes (omega (arith, c.raise.auto.nodes, c.as_mut_slice.ensures.len))) (record {
   cells = IsKept-plain (CHUNK / PART) c.piece.inside.same.items c.piece.inside.records.items c.raise.new.nodes c.piece.invariant.0 (omega (arith, c.requires, ap length c.piece.view_is)) (omega (arith, c.requires, ap length c.piece.view_is))
       (subst (λ rs. IsTree PART c.raise.new.nodes (marks_of rs)) c.as_slice.ensures.value c.raise.ensures);
+  sums = λ e. absurd (each_not_leaves e);
   quiet = λ e. absurd (cc);
 })
 
