@@ -23,8 +23,8 @@ leaf-there cells leaf n none room = elim (cases_lt (leaf * PART) (length cells))
 
 -- the cells up to a leaf, those of the leaf, and what is known of their summaries
 module _ (cells : List (Option Bool)) (leaf n : ℕ) (before own : Summary) (few : length cells < 2 ^ 32) (there : leaf * PART < length cells)
-  (sums : Summarises before (take (leaf * PART) cells)) (part : Summarises own (part_at PART cells leaf)) (some : 0 < n) (none : before.longest < n)
-  (room : n ≤ longest (take ((leaf + 1) * PART) cells)) where
+    (sums : Summarises before (take (leaf * PART) cells)) (part : Summarises own (part_at PART cells leaf)) (some : 0 < n) (none : before.longest < n)
+    (room : n ≤ longest (take ((leaf + 1) * PART) cells)) where
   abbrev pub xs : List (Option Bool)
   xs = take (leaf * PART) cells
 

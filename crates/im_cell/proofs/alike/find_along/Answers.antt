@@ -29,7 +29,7 @@ pub place_at-requires-clause-there : goal.place_at-requires-clause-there
 place_at-requires-clause-there c =
     let cells = map mark (seen c.args.same.now (slots_of c.args.records.now)) in
     let upto = subst (λ s. Summarises s (take ((c.loop-leaf.leaf + 1) * PART) cells)) (sym (c.join-upto.ensures ∙ ap (joined c.loop-leaf.before) c.node-own.ensures))
-      (sum-next c.args.nodes.now cells c.loop-leaf.leaf c.loop-leaf.before c.requires.leaves (omega arith) c.loop-leaf.invariant.sums) in
+    (sum-next c.args.nodes.now cells c.loop-leaf.leaf c.loop-leaf.before c.requires.leaves (omega arith) c.loop-leaf.invariant.sums) in
     omega (arith, leaf-there cells c.loop-leaf.leaf c.args.n (omega (arith, c.loop-leaf.invariant.none, c.loop-leaf.invariant.sums.most)) (omega (arith, c.if-upto-n.true, upto.most)), count-seen c.args.same.now c.args.records.now)
 
 pub place_at-requires-clause-before : goal.place_at-requires-clause-before
@@ -42,7 +42,7 @@ pub place_at-requires-clause-room : goal.place_at-requires-clause-room
 place_at-requires-clause-room c =
     let cells = map mark (seen c.args.same.now (slots_of c.args.records.now)) in
     let upto = subst (λ s. Summarises s (take ((c.loop-leaf.leaf + 1) * PART) cells)) (sym (c.join-upto.ensures ∙ ap (joined c.loop-leaf.before) c.node-own.ensures))
-      (sum-next c.args.nodes.now cells c.loop-leaf.leaf c.loop-leaf.before c.requires.leaves (omega arith) c.loop-leaf.invariant.sums) in
+    (sum-next c.args.nodes.now cells c.loop-leaf.leaf c.loop-leaf.before c.requires.leaves (omega arith) c.loop-leaf.invariant.sums) in
     omega (arith, c.if-upto-n.true, upto.most)
 
 pub loop-leaf-preserved : goal.loop-leaf-preserved

@@ -56,7 +56,7 @@ overflow_add-result c =
     let long = count-seen c.args.same.now c.args.records.now in
     let r = c.requires in
     let is = place-inside (map mark all) c.args.leaf c.args.n c.args.before c.args.own (omega (arith, long, r.few)) (omega (arith, long, r.there)) r.before r.own r.some r.none r.room (omega (arith, c.back_of-back.ensures, c.if-back-own.false))
-        ∙ ap (option_map (λ k. c.args.leaf * PART + k)) c.find_in_leaf.ensures in
+    ∙ ap (option_map (λ k. c.args.leaf * PART + k)) c.find_in_leaf.ensures in
     let fits = place-fits c.args.n (map mark all) (c.args.leaf * PART + c.find_in_leaf.result) is in
     omega (arith, r.few)
 
