@@ -1,5 +1,5 @@
 -- The least place, found from one leaf to the next.
-use Rattle.std.proofs.Common.{◌≡◌, ℕ, ◌+◌, ◌-◌, ◌*◌, ◌<◌, ◌≤◌, ◌^◌, List, ◌++◌, length, take, drop, Bool, Option, Some, inl, inr, sym, ap, ◌∙◌, subst, arith}
+use Rattle.std.proofs.Common.{◌≡◌, ℕ, ◌+◌, ◌-◌, ◌*◌, ◌<◌, ◌≤◌, ◌^◌, List, ◌++◌, length, take, drop, Bool, Option, Some, inl, inr, sym, ap, ◌∙◌, arith}
 use Rattle.std.specs.Prelude.{option_map}
 use Rattle.std.proofs.Math.Seq.{take-add}
 use Rattle.std.proofs.lemmas.Bool.{cases_lt}
@@ -7,8 +7,8 @@ use Rattle.std.proofs.lemmas.List.{length-take, length-drop, take_all, take-appe
 use Rattle.im_types.specs.Place.{place}
 use Rattle.im_cell.specs.declared.tree.TheConstants.{PART}
 use Rattle.im_cell.specs.declared.summaries.Summary.{Summary}
-use Rattle.im_cell.specs.Summaries.{front, back, longest, back_of, part_at, Summarises}
-use Rattle.im_cell.proofs.Splits.{first, across, second, longest-append, back-few, back-longest, front-few, longest-few}
+use Rattle.im_cell.specs.Summaries.{back, longest, back_of, part_at, Summarises}
+use Rattle.im_cell.proofs.Splits.{first, across, second, longest-append, back-few, front-few}
 use Rattle.im_cell.proofs.Sums.{back_of-is}
 
 -- a leaf in which the first place of a block ends has cells

@@ -259,15 +259,6 @@ module _ (base n at from count : ℕ) (begins : at * CHUNK < base + n) (ends : b
       ∙ ap (λ ys. list_any p (take done xs) || list_any p ys)
       (ap (take count) (drop-drop done base (cells_in chunks) ∙ ap (λ i. drop i (cells_in chunks)) done-here) ∙ some-of-cells chunks total sizes at from count part-fits)
 
-  -- the cells after this part is filled too
-  pub fill-next : {X : Type 0} (old new chunks : List (List (Option X))) (total : ℕ) (x : Option X) (chunk : List (Option X)) → AreChunksOf new total
-      → cells_in new ≡ fill (cells_in old) base (min n (at * CHUNK - base)) x → chunk ≡ fill (chunk_at new at) from count x → from + count ≤ length (chunk_at new at)
-      → chunks ≡ set new at chunk → cells_in chunks ≡ fill (cells_in old) base (min n ((at + 1) * CHUNK - base)) x
-  fill-next old new chunks total x chunk sizes before is fits same =
-      ap cells_in (same ∙ ap (set new at) is) ∙ sym (fill-cells new total sizes at from count x fits)
-      ∙ ap (λ cells. fill cells (at * CHUNK + from) count x) before
-      ∙ fill-on (cells_in old) base (min n (at * CHUNK - base)) count x (at * CHUNK + from) (min n ((at + 1) * CHUNK - base)) (sym done-here) done-next
-
 -- what passes a test among some is among more
 pub any-more : {X : Type 0} (p : X → Bool) (m n : ℕ) (xs : List X) → m ≤ n → list_any p (take m xs) ≡ true → list_any p (take n xs) ≡ true
 any-more p m n xs le e =
@@ -433,9 +424,6 @@ free-next chunks n own m chunk free is sum =
     cells-push chunks chunk ∙ ap (λ cells. cells ++ chunk) free ∙ ap (λ c. replicate n None ++ c) is ∙ replicate-append-replicate n own None ∙ ap (λ k. replicate k None) (sym sum)
 
 -- the chunks of some cells: the first and the last one, and one between them
-pub same-chunk : (base n : ℕ) → 0 < n → (base + n - 1) / CHUNK ≤ base / CHUNK → base / CHUNK ≡ (base + n - 1) / CHUNK
-same-chunk base n some less = omega arith
-
 pub low-within : (base j : ℕ) → base / CHUNK < j → base ≤ j * CHUNK
 low-within base j above = omega arith
 

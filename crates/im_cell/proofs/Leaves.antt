@@ -177,14 +177,6 @@ pub IsTree-renewed : (p : ℕ) (old new : List Summary) (xs ys : List (Option Bo
 IsTree-renewed p old new xs ys first last t long same joins over parts others =
     tree-of-leaves p new ys (HasLeaves-renewed p old new xs ys first last (leaves-of-tree p old xs t) long same over parts others) joins
 
--- the tree after a fill, where the leaves over it are made anew
-pub IsTree-filled : (old new : List Summary) (xs : List (Option Bool)) (base n : ℕ) (x : Option Bool) → IsTree PART old xs → 0 < n → length new ≡ length old
-    → HasJoined new → ((j : ℕ) → base / PART ≤ j → j ≤ (base + n - 1) / PART → IsLeaf PART new (fill xs base n x) j)
-    → ((j : ℕ) → (base / PART ≤ j → j ≤ (base + n - 1) / PART → ⊥) → node_at new (leaves_of old + j) ≡ node_at old (leaves_of old + j)) → IsTree PART new (fill xs base n x)
-IsTree-filled old new xs base n x t some same joins over others =
-    IsTree-renewed PART old new xs (fill xs base n x) (base / PART) ((base + n - 1) / PART) t (length-fill xs base n x) same joins (λ j less from upto. over j from upto)
-    (λ j less out. part-beside PART xs base n x j (omega arith) some out) (λ j less out. others j out)
-
 -- the leaves after a fill
 pub HasLeaves-filled : (old new : List Summary) (xs : List (Option Bool)) (base n : ℕ) (x : Option Bool) → HasLeaves PART old xs → 0 < n → length new ≡ length old
     → ((j : ℕ) → base / PART ≤ j → j ≤ (base + n - 1) / PART → IsLeaf PART new (fill xs base n x) j)

@@ -287,12 +287,6 @@ part-alike same slots j e =
         ∙ sym (get_or-replicate (min PART (length slots - j * PART)) i (slot_at slots (j * PART)) None less))
         ∙ sym (get_or-map mark all i None None (omega (arith, long, length-map all mark)))
 
--- two cells of a leaf for which the first one stands
-pub seen-alike : (same : List Bool) (slots : List (Option Slot)) (i k : ℕ) → same_at same (i / PART) ≡ true → k / PART ≡ i / PART → i < length slots → k < length slots
-    → slot_at (seen same slots) k ≡ slot_at (seen same slots) i
-seen-alike same slots i k e near inside there =
-    at-seen same slots k there ∙ ap (slot_at slots) (by-first same k (ap (same_at same) near ∙ e) ∙ ap (λ j. j * PART) near ∙ sym (by-first same i e)) ∙ sym (at-seen same slots i inside)
-
 module _ {X : Type 0} (p : Option X → Bool) where
   -- none of the first cells passes a test
   any-none : (n : ℕ) (xs : List (Option X)) → ((k : ℕ) → k < n → k < length xs → p (get_or xs k None) ≡ false) → list_any p (take n xs) ≡ false

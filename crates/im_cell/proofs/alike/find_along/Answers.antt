@@ -1,12 +1,11 @@
 use Rattle.std.proofs.Common.{◌≡◌, ◌+◌, ◌*◌, List, length, map, take, Bool, refl, ap, sym, ◌∙◌, subst, arith}
 use Rattle.std.proofs.lemmas.List.{length-map, take_all}
-use Rattle.im_types.specs.Place.{place}
 use Rattle.im_cell.specs.declared.tree.TheConstants.{PART}
 use Rattle.im_cell.specs.declared.records.Record.{Record}
 use Rattle.im_cell.specs.declared.summaries.Summary.{Summary}
 use Rattle.im_cell.specs.Records.{slot_of, slots_of}
 use Rattle.im_cell.specs.Chunks.{seen}
-use Rattle.im_cell.specs.Summaries.{mark, longest, joined, part_at, node_at, leaves_of, Summarises}
+use Rattle.im_cell.specs.Summaries.{mark, longest, joined, Summarises}
 use Rattle.im_cell.proofs.Leaves.{place-marks, sum-next}
 use Rattle.im_cell.proofs.Seen.{length-seen}
 use Rattle.im_cell.proofs.Splits.{place-none}

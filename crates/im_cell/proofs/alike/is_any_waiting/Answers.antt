@@ -1,4 +1,4 @@
-use Rattle.std.proofs.Common.{None, take, ap, sym, ◌∙◌, arith}
+use Rattle.std.proofs.Common.{None, ap, sym, ◌∙◌, arith}
 use Rattle.std.specs.Prelude.{◌||◌}
 use Rattle.std.specs.List.{list_any}
 use Rattle.std.proofs.lemmas.List.{length-map, get_or-map, take_all}

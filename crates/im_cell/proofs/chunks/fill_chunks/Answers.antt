@@ -1,6 +1,5 @@
 use Rattle.std.proofs.Common.{◌≡◌, ◌∙◌, ℕ, ◌+◌, ◌-◌, ◌*◌, ◌/◌, ◌%◌, length, ap, sym, subst, arith}
 use Rattle.im_types.specs.Place.{fill}
-use Rattle.im_laws.proofs.BlockLemmas.{length-fill}
 use Rattle.im_cell.specs.declared.chunk.TheConstants.{CHUNK}
 use Rattle.im_cell.specs.Records.{slot_of}
 use Rattle.im_cell.specs.Chunks.{cells_in, AreChunksOf}

@@ -1,7 +1,7 @@
-use Rattle.std.proofs.Common.{◌≡◌, ◌-◌, ◌*◌, map, replicate, take, refl, sym, subst, arith}
+use Rattle.std.proofs.Common.{◌-◌, ◌*◌, map, replicate, take, refl, sym, subst}
 use Rattle.im_cell.specs.declared.tree.TheConstants.{PART}
 use Rattle.im_cell.specs.Records.{slot_of}
-use Rattle.im_cell.specs.Summaries.{mark, no_cells, Summarises}
+use Rattle.im_cell.specs.Summaries.{mark, Summarises}
 use Rattle.im_cell.proofs.Leaves.{sum-with, all-summed}
 use Rattle.im_cell.proofs.tree.sum_around.Goals as goal
 
