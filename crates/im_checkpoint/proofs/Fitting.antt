@@ -37,6 +37,22 @@ pub none_or_some : (n : ℕ) → (n ≡ 0) ⊎ (0 < n)
 none_or_some zero = inl refl
 none_or_some (suc n) = inr (omega arith)
 
+-- with so much room more they are as well
+pub room_fits : (c : CheckpointState) (m : Contents) (j : JournalState) (n : ℕ) → Fits c m j → Fits c m (with_room j n)
+room_fits c m j n it = record {
+  cells = it.cells;
+  elements = it.elements;
+  ring = it.ring;
+  first = it.first;
+  step = by_step c.step it.step;
+}
+  where
+    by_step : (s : Step) → StepFits c.header j s → StepFits c.header (with_room j n) s
+    by_step NoCheckpoint fits = tt
+    by_step (PagesLeft count left) fits = record { from = fits.from; to = fits.to }
+    by_step (PagesDone count) fits = record { from = fits.from; to = fits.to }
+    by_step (Synced count) fits = record { from = fits.from; to = fits.to }
+
 module _ (before : PagedCheckpoint) (j : JournalState) (m : Contents) (answer : TurnDone) (after : PagedCheckpoint) (k : JournalState) (turned : Turned before.state j answer after.state k) (moved : Moved before answer after) (fits : Fits before.state m j) where
   abbrev old : CheckpointState
   old = before.state
@@ -65,18 +81,9 @@ module _ (before : PagedCheckpoint) (j : JournalState) (m : Contents) (answer : 
       fits = it;
     }
 
-    swept_fits : (n : ℕ) → Fits old m (with_room j n)
-    swept_fits n = record {
-      cells = fits.cells;
-      elements = fits.elements;
-      ring = fits.ring;
-      first = fits.first;
-      step = subst (λ (s : Step). StepFits old.header (with_room j n) s) (sym is) tt;
-    }
-
     comes_swept : 0 < to_sweep j → ComesTo before j m answer after k
     comes_swept some = let row = turned.swept is some in
-        comes (ap (λ (x : JournalState). x.count) row.2) (subst (λ (x : CheckpointState). Fits x m k) (sym row.1) (subst (λ (x : JournalState). Fits old m x) (sym row.2) (swept_fits _)))
+        comes (ap (λ (x : JournalState). x.count) row.2) (subst (λ (x : CheckpointState). Fits x m k) (sym row.1) (subst (λ (x : JournalState). Fits old m x) (sym row.2) (room_fits old m j _ fits)))
 
     comes_began : to_sweep j ≡ 0 → is_due old.header j ≡ true → ComesTo before j m answer after k
     comes_began none due =

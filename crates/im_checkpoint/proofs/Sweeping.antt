@@ -1,6 +1,7 @@
 -- Gates that a sweep may have closed.
-use Rattle.std.proofs.Common.{◌≡◌, inl, ℕ, ◌+◌, ◌*◌, ◌≤◌, List, [], length, slice_range, Option, None, Some, sym, ◌∙◌, ap, subst, arith}
+use Rattle.std.proofs.Common.{◌≡◌, inl, refl, Result, Ok, Err, OnOk, MatchResult, ℕ, ◌+◌, ◌*◌, ◌≤◌, List, [], length, slice_range, Option, None, Some, sym, ◌∙◌, ap, subst, arith}
 use Rattle.im_types.specs.declared.commands.Command.{Command}
+use Rattle.im_types.specs.declared.refusals.Refusal.{Refusal}
 use Rattle.im_types.specs.Contents.{Contents}
 use Rattle.im_types.specs.Journal.{Ring, Tail, tail}
 use Rattle.im_types.specs.Layout.{layout_in_use, area_at, area_bytes, area_of, journal_at, ring_of}
@@ -8,16 +9,19 @@ use Rattle.im_types.specs.Header.{Header, header_in, header_place, is_open_heade
 use Rattle.im_types.specs.Pages.{Shows}
 use Rattle.im_disk.specs.Moment.{Moment}
 use Rattle.im_disk.specs.Since.{SameBut}
-use Rattle.im_disk.proofs.SinceLemmas.{left_now, left_settled}
-use Rattle.im_journal.specs.Holding.{JournalState, AllHold, with_room, KeepsBoundaries, SameRun, MaySweep}
+use Rattle.im_disk.proofs.SinceLemmas.{left_now, left_settled, leaves_start}
+use Rattle.im_journal.specs.Holding.{JournalState, AllHold, with_room, KeepsBoundaries, SameRun, MaySweep, IsSweptBy, Sweeps}
 use Rattle.im_meaning.specs.Images.{other, IsBelow, InForce, IsImage}
-use Rattle.im_checkpoint.specs.Step.{Step, NoCheckpoint, CheckpointState}
-use Rattle.im_checkpoint.specs.Keeping.{Paged, MeansWith, Keeps, IsCalm, IsKept}
+use Rattle.im_checkpoint.specs.declared.checkpoint.Step.{Step as Mark}
+use Rattle.im_checkpoint.specs.declared.checkpoint.Step.TheVariants.{NoCheckpoint as None_yet, PagesLeft as Some_left, PagesDone as All_written, Synced as On_disk}
+use Rattle.im_checkpoint.specs.Step.{Step, NoCheckpoint, CheckpointState, step_of}
+use Rattle.im_checkpoint.specs.Turns.{swept_at_once}
+use Rattle.im_checkpoint.specs.Keeping.{Paged, MeansWith, Keeps, IsCalm, IsKept, KeepsMeaning}
 use Rattle.im_checkpoint.proofs.Bytes.{range_outside}
 use Rattle.im_checkpoint.proofs.Headers.{area_before, place_to}
 use Rattle.im_checkpoint.proofs.Files.{Still, size, means_of, still_in_area}
 use Rattle.im_checkpoint.proofs.Copies.{step_moved}
-use Rattle.im_checkpoint.proofs.Moments.{kept_calm}
+use Rattle.im_checkpoint.proofs.Moments.{kept_calm, means_left}
 
 abbrev commands_of : Option Tail → List Command
 commands_of None = []
@@ -126,3 +130,30 @@ module _ (c : CheckpointState) (x : Paged) (m : Contents) (j : JournalState) (m0
       (step_moved c.header x m0.bytes m1.bytes (area_before_stays c.header m j m0.bytes kept.read m1.bytes run.same c.header.area kept.read.image.in_force.number)
       (area_before_stays c.header m j m0.bytes kept.read m1.bytes run.same (other c.header) (omega arith)) kept.read.shown kept.read.commands c.step (other_place_stays c.header m j m0.bytes kept.read m1.bytes run.same)
       (swept_boundaries c.header m j m0.bytes kept.read m1.bytes run) kept.step)
+
+  -- whichever way so many were swept at once
+  pub swept_kept : {H : Type 0} (h : H) (r : Result ℕ Refusal) (most : ℕ) (m1 : Moment) (k : JournalState) → MatchResult r (λ n. IsSweptBy most j n k) (λ e. k ≡ j) → OnOk r (H → Sweeps j k m0 m1) → OnOk r (IsKept c x m k m1)
+  swept_kept h (Ok n) most m1 k by swept = sweep_done m1 n k by.room (swept h).run (swept h).calm (swept h).holds
+  swept_kept h (Err e) most m1 k by swept = tt
+
+-- where none is swept
+pub none_more : (j : JournalState) → j ≡ with_room j 0
+none_more j = (λ i. record j { room = same i })
+  where
+    same : j.room ≡ j.room + 0
+    same = omega arith
+
+pub none_at_once : (mark : Mark) (count : ℕ) (left : List ℕ) (j : JournalState) (most : ℕ) → (mark ≡ None_yet → ⊥) → 0 ≡ swept_at_once (step_of mark count left) j most
+none_at_once None_yet count left j most other = absurd (other refl)
+none_at_once Some_left count left j most other = refl
+none_at_once All_written count left j most other = refl
+none_at_once On_disk count left j most other = refl
+
+pub kept_still : {D : Type 0} (now : D → Moment) (past : D → List Moment) (d : D) (c : CheckpointState) (x : Paged) (m : Contents) (j : JournalState) → IsKept c x m j (now d) → KeepsMeaning {T = ℕ} {E = Refusal} now past d d m j (Ok 0) c x j
+kept_still now past d c x m j kept = record {
+  leaves = record {
+    within = leaves_start (now d) (past d) (MeansWith m j);
+    after = means_left c x m j (now d) kept;
+  };
+  kept = kept;
+}

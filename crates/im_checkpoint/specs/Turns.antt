@@ -8,7 +8,7 @@ use Rattle.im_journal.specs.Holding.{JournalState, to_sweep, with_room}
 use Rattle.im_checkpoint.specs.declared.checkpoint.TurnDone.{TurnDone}
 use Rattle.im_checkpoint.specs.declared.checkpoint.TurnDone.TheVariants.{Idle, Began, Page, Synced as SyncedNow, InForce, Swept}
 use Rattle.im_pages.specs.PageSets.{union, pages_from}
-use Rattle.im_checkpoint.specs.Step.{NoCheckpoint, PagesLeft, PagesDone, Synced, CheckpointState, PagedCheckpoint, with_left, turns_left, left_in}
+use Rattle.im_checkpoint.specs.Step.{Step, NoCheckpoint, PagesLeft, PagesDone, Synced, CheckpointState, PagedCheckpoint, with_left, turns_left, left_in}
 
 -- there are commands since the header's count, and there may be a later generation
 abbrev pub is_due : Header → JournalState → Bool
@@ -33,6 +33,13 @@ pub record Begins (h : Header) (count : ℕ) (new : CheckpointState) : Type 0 wh
   pub left : List ℕ
   pub state : new ≡ record { header = h; step = with_left count left }
   pub turns : turns_left new.step ≤ area_pages layout_in_use h.sizes + 2
+
+-- how many slots are swept with one sync, `most` at most: none while a checkpoint is under way
+abbrev pub swept_at_once : Step → JournalState → ℕ → ℕ
+swept_at_once NoCheckpoint j most = min most (to_sweep j)
+swept_at_once (PagesLeft count left) j most = 0
+swept_at_once (PagesDone count) j most = 0
+swept_at_once (Synced count) j most = 0
 
 -- What a turn does, by the state that it finds.
 pub record Turned (old : CheckpointState) (j : JournalState) (answer : TurnDone) (new : CheckpointState) (k : JournalState) : Type 0 where

@@ -36,7 +36,7 @@ ghost use Rattle.im_checkpoint.specs.Step.{NoCheckpoint, PagesLeft, CheckpointSt
 ghost use Rattle.im_checkpoint.specs.Copied.{copy_of};
 ghost use Rattle.im_checkpoint.specs.Step.{with_left, step_of};
 ghost use Rattle.im_checkpoint.specs.Step.{IsPagesLeft, IsPagesDone, IsSynced};
-ghost use Rattle.im_checkpoint.specs.Turns.{Turned, Moved, Begins, IsIdle, is_due, most_calls};
+ghost use Rattle.im_checkpoint.specs.Turns.{Turned, Moved, Begins, IsIdle, is_due, most_calls, swept_at_once};
 ghost use Rattle.im_image.specs.Reading.{HasSizes};
 ghost use Rattle.im_checkpoint.specs.Keeping.{Paged, paged, Fits, IsKept, Prepares};
 ghost use Rattle.im_checkpoint.specs.Keeping.{IsAtRest, HasPagesLeft, IsReady, ComesTo, KeepsMeaning};
@@ -249,6 +249,26 @@ fn sweep<D: Disk>(disk: &mut D, journal: &mut Journal) -> Result<TurnDone, Refus
         Ok(_) => Ok(TurnDone::Swept),
         Err(refusal) => Err(refusal),
     }
+}
+
+// The same of so many at most, if there are any: how many they were.
+fn sweep_more<D: Disk>(disk: &mut D, journal: &mut Journal, most: u32) -> Result<u32, Refusal>
+    requires holds { D.honest disk.old → AllHold journal.old (D.now disk.old) }
+    ensures swept { IfOk result (λ n. (n ≡ min most (to_sweep journal.old))
+        × (journal.new ≡ with_room journal.old n)) }
+    ensures same { OnErr result (journal.new ≡ journal.old) }
+    ensures keeps { D.honest disk.new → (c : CheckpointState) (x : Paged) (m : Contents) → c.step ≡ NoCheckpoint
+        → IsKept c x m journal.old (D.now disk.old)
+        → KeepsMeaning D.now D.past disk.old disk.new m journal.old result c x journal.new }
+    ensures calls { D.honest disk.new → CallsAtMost D.past disk.old disk.new (most + 1) }
+    ensures honest { D.honest disk.new → D.honest disk.old }
+    ensures faults { Faults (λ e. e ≡ Device) result (D.failures disk.old) (D.failures disk.new) }
+{
+    if journal.to_sweep() == 0 {
+        return Ok(0);
+    }
+    // As in a turn: nobody reads these slots, whatever a stop leaves of their gates.
+    journal.sweep(disk, most)
 }
 
 impl Checkpoint {
@@ -507,6 +527,34 @@ impl Checkpoint {
             Step::PagesLeft => self.write_page(disk, memory),
             Step::PagesDone => self.sync_pages(disk),
             Step::Synced => self.put_in_force(disk, journal),
+        }
+    }
+
+    /// Closes the gates of the oldest slots whose commands the area in force holds, so many at most, with one sync for
+    /// all of them: how many they were, and none while a checkpoint is under way. It takes no memory.
+    ///
+    /// `Device` where a call of the disk failed: the journal is as it was, and the image has to be opened again.
+    pub fn sweep<D: Disk>(
+        &self,
+        disk: &mut D,
+        journal: &mut Journal,
+        most: u32,
+    ) -> Result<u32, Refusal>
+        requires holds { D.honest disk.old → AllHold journal.old (D.now disk.old) }
+        ensures swept { IfOk result (λ n. (n ≡ swept_at_once self.now.state.step journal.old most)
+            × (journal.new ≡ with_room journal.old n)) }
+        ensures same { OnErr result (journal.new ≡ journal.old) }
+        // Each file that a crash may leave, from the start on, and now, means the memory after all its commands.
+        ensures keeps { D.honest disk.new → (x : Paged) (m : Contents)
+            → IsKept self.now.state x m journal.old (D.now disk.old)
+            → KeepsMeaning D.now D.past disk.old disk.new m journal.old result self.now.state x journal.new }
+        ensures calls { D.honest disk.new → CallsAtMost D.past disk.old disk.new (most + 1) }
+        ensures honest { D.honest disk.new → D.honest disk.old }
+        ensures faults { Faults (λ e. e ≡ Device) result (D.failures disk.old) (D.failures disk.new) }
+    {
+        match self.step {
+            Step::NoCheckpoint => sweep_more(disk, journal, most),
+            _ => Ok(0),
         }
     }
 }

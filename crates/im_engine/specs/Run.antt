@@ -15,7 +15,7 @@ use Rattle.im_types.specs.Meaning.{Means, Reached}
 use Rattle.im_types.specs.Groups.{puts_of}
 use Rattle.im_disk.specs.Moment.{Rises, Faults}
 use Rattle.im_checkpoint.specs.declared.checkpoint.TurnDone.{TurnDone}
-use Rattle.im_checkpoint.specs.Turns.{Turned}
+use Rattle.im_checkpoint.specs.Turns.{Turned, swept_at_once}
 use Rattle.im_engine.specs.State.{EngineState, MeansState, MeansEither, with_command, journal_in, checkpoint_in}
 use Rattle.im_engine.specs.Groups.{GroupAnswered, MeansGroup}
 use Rattle.im_engine.specs.declared.run.Event.{Event}
@@ -48,6 +48,13 @@ pub record TurnAnswered {D : Type 0} (old : EngineState D) (answer : Result Turn
   pub dead : old.failed ≡ true → (answer ≡ Err Failed) × (new ≡ old)
   pub alive : old.failed ≡ false →
       ((done : TurnDone) × (answer ≡ Ok done) × TurnTaken old done new)
+      ⊎ ((answer ≡ Err Device) × (new ≡ record old { disk = new.disk; failed = true }))
+
+-- an engine's answer to a sweep of so many slots at most, and what it comes to, on any disk
+pub record SweepAnswered {D : Type 0} (old : EngineState D) (most : ℕ) (answer : Result ℕ Refusal) (new : EngineState D) : Type 0 where
+  pub dead : old.failed ≡ true → (answer ≡ Err Failed) × (new ≡ old)
+  pub alive : old.failed ≡ false →
+      (let n = swept_at_once old.step (journal_in old) most in (answer ≡ Ok n) × (new ≡ record old { disk = new.disk; room = old.room + n }))
       ⊎ ((answer ≡ Err Device) × (new ≡ record old { disk = new.disk; failed = true }))
 
 -- an engine's answer to one event; that to a group tells the room that it found

@@ -11,7 +11,7 @@ ghost use Rattle.im_checkpoint.specs.Turns.{most_calls};
 ghost use Rattle.im_types.specs.Groups.{AreApart};
 ghost use Rattle.im_engine.specs.Groups.{GroupAnswered, GroupCalls, GroupFaults, MeansGroup};
 ghost use Rattle.im_engine.specs.Groups.{group_put, calls_for_group};
-ghost use Rattle.im_engine.specs.Run.{Answered, TurnAnswered, calls_for};
+ghost use Rattle.im_engine.specs.Run.{Answered, TurnAnswered, SweepAnswered, calls_for};
 ghost use Rattle.im_engine.specs.State.{MeansState, MeansEither, with_command};
 
 use crate::emptying::Empties;
@@ -239,6 +239,41 @@ impl<D: Disk> Engine<D> {
             Ok(done) => Ok(done),
             Err(refusal) => {
                 self.failed = true; // No command is in doubt.
+                Err(refusal)
+            }
+        }
+    }
+
+    /// Closes the gates of the oldest slots that are to be swept, so many at most, by a call of the disk for each of
+    /// them and one sync for all: how many they were, and none while a checkpoint is under way. They are room from then
+    /// on, as after turns that answer `Swept`. The memory and the count stay. It takes no memory.
+    ///
+    /// `Failed` exactly where an earlier call failed on the disk. `Device` where a call of the disk failed: then the
+    /// engine has failed, no command is in doubt, and the image has to be opened again.
+    pub fn sweep(&mut self, most: u32) -> Result<u32, Refusal>
+        ensures answered { SweepAnswered self.old most result self.new }
+        ensures few { D.honest self.new.disk → CallsAtMost D.past self.old.disk self.new.disk (most + 1) }
+        ensures faults { Faults (λ e. Unit {0}) result (D.failures self.old.disk) (D.failures self.new.disk) }
+        // Each file that a crash may leave, from the start on, and now.
+        ensures leaves { D.honest self.new.disk → self.old.failed ≡ false
+            → LeavesWithin D.now D.past self.old.disk self.new.disk (MeansState self.old) }
+        ensures now { D.honest self.new.disk → self.old.failed ≡ false
+            → LeavesNow (D.now self.new.disk) (MeansState self.old) }
+        ensures means { D.honest self.new.disk → self.new.failed ≡ false
+            → LeavesNow (D.now self.new.disk) (MeansState self.new) }
+        ensures honest { D.honest self.new.disk → D.honest self.old.disk }
+    {
+        if self.failed {
+            return Err(Refusal::Failed);
+        }
+        // A stop in it leaves the memory as it is: the area in force holds the commands of these slots.
+        match self
+            .checkpoint
+            .sweep(&mut self.disk, &mut self.journal, most)
+        {
+            Ok(swept) => Ok(swept),
+            Err(refusal) => {
+                self.failed = true; // As in a turn, no command is in doubt.
                 Err(refusal)
             }
         }

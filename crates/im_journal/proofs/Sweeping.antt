@@ -191,8 +191,8 @@ some_to_sweep j some = ⊎_elim
     (λ (other : j.count ≢ LAST). (other, ap (λ b. if b then 0 else j.ring.slots - (j.count - j.first) - j.room) (other_number j.count LAST other)))
     (cases_eq j.count LAST)
 
-pub no_more : (n t u : ℕ) → n ≡ min 3 t → t ≡ u → n ≤ u
-no_more n t u is same = omega (arith, is, same)
+pub no_more : (n most t u : ℕ) → n ≡ min most t → t ≡ u → n ≤ u
+no_more n most t u is same = omega (arith, is, same)
 
 pub turn_of : (s j : JournalState) (n : ℕ) (m0 : Moment) → s ≡ j → IsJournal s → 0 < to_sweep j → AllHold j m0 → n ≤ to_sweep j → IsTurn s j n m0
 turn_of s j n m0 is known some all few =

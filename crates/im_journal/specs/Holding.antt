@@ -142,10 +142,14 @@ pub record MaySweep (j : JournalState) (m : Moment) (file : List ℕ) : Type 0 w
   pub left : Left m from
   pub run : SameRun j from file
 
--- So many slots became room: as many as there were to be swept, three at most.
-pub record IsSwept (j : JournalState) (n : ℕ) (next : JournalState) : Type 0 where
-  pub turn : n ≡ min 3 (to_sweep j)
+-- So many slots became room: as many as there were to be swept, `most` at most.
+pub record IsSweptBy (most : ℕ) (j : JournalState) (n : ℕ) (next : JournalState) : Type 0 where
+  pub turn : n ≡ min most (to_sweep j)
   pub room : next ≡ with_room j n
+
+-- The same, three at most.
+abbrev pub IsSwept : JournalState → ℕ → JournalState → Type 0
+IsSwept j n next = IsSweptBy 3 j n next
 
 -- The room is on the disk for good: the journal with it is the tail of each file left, and the run is as it was.
 pub record Sweeps (j next : JournalState) (old new : Moment) : Type 0 where

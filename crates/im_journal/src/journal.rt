@@ -7,7 +7,7 @@ ghost use Rattle.im_disk.specs.Moment.{Faults};
 ghost use Rattle.im_disk.specs.Since.{LeavesOnly, OnlyReads, Calls, CallsBy};
 ghost use Rattle.im_journal.specs.Holding.{ring_in, ring_under, IsJournal, Holds, AllHold, AreClosed, IsTail};
 ghost use Rattle.im_journal.specs.Holding.{room_after, longer, MayAppend, Adds, IsFullBy};
-ghost use Rattle.im_journal.specs.Holding.{to_sweep, MaySweep, IsSwept, Sweeps};
+ghost use Rattle.im_journal.specs.Holding.{to_sweep, MaySweep, IsSwept, IsSweptBy, Sweeps};
 
 use crate::bytes::read_bytes;
 use crate::gate::close_gates;
@@ -63,11 +63,11 @@ fn room_after(count: u64, group: usize, room: u32) -> u32
     }
 }
 
-// How many of so many slots are swept in one turn: it makes four calls of the disk at most.
-fn in_a_turn(slots: u32) -> u32
-    ensures { result ≡ min 3 slots }
+// How many of so many slots are swept with one sync.
+fn at_once(slots: u32, most: u32) -> u32
+    ensures { result ≡ min most slots }
 {
-    min(3, slots)
+    min(most, slots)
 }
 
 impl Journal {
@@ -261,6 +261,36 @@ impl Journal {
         Ok(())
     }
 
+    /// Closes the gates of the oldest slots that are to be swept, so many at most: a write of one byte for each of them,
+    /// and a sync. Once it is done, the slots are room. It answers how many there were. It takes no memory.
+    ///
+    /// `Device` where a call of the disk failed; then the journal is as it was, and so is each command of the run and
+    /// the known room behind it on the disk.
+    pub fn sweep<D: Disk>(&mut self, disk: &mut D, most: u32) -> Result<u32, Refusal>
+        requires some { 0 < to_sweep self.old }
+        requires holds { D.honest disk.old → AllHold self.old (D.now disk.old) }
+        // Each file that a crash may leave, from the start on, has the run and the known room.
+        ensures leaves { D.honest disk.new
+            → LeavesOnly D.now D.past disk.old disk.new (MaySweep self.old (D.now disk.old)) }
+        // Once it is done, the room is on the disk.
+        ensures swept { OnOk result (D.honest disk.new
+            → Sweeps self.old self.new (D.now disk.old) (D.now disk.new)) }
+        ensures room { MatchResult result (λ n. IsSweptBy most self.old n self.new) (λ _. self.new ≡ self.old) }
+        ensures calls { D.honest disk.new
+            → CallsBy D.past disk.old disk.new (min most (to_sweep self.old) + 1) result }
+        ensures faults { Faults (λ e. e ≡ Refusal.Device) result (D.failures disk.old) (D.failures disk.new) }
+        ensures honest { D.honest disk.new → D.honest disk.old }
+    {
+        let next = self.count + self.room as u64;
+        let swept = at_once(self.to_sweep(), most);
+        // Each slot is of a command before the run: nobody reads it, whatever a stop leaves of its gate.
+        if let Err(_) = close_gates(disk, self.base, self.slots, next, swept) {
+            return Err(Refusal::Device);
+        }
+        self.room += swept;
+        Ok(swept)
+    }
+
     /// Closes the gates of the oldest slots that are to be swept, three at most: a write of one byte for each of them,
     /// and a sync. Once it is done, the slots are room. It answers how many there were. It takes no memory.
     ///
@@ -280,13 +310,6 @@ impl Journal {
         ensures faults { Faults (λ e. e ≡ Refusal.Device) result (D.failures disk.old) (D.failures disk.new) }
         ensures honest { D.honest disk.new → D.honest disk.old }
     {
-        let next = self.count + self.room as u64;
-        let turn = in_a_turn(self.to_sweep());
-        // Each slot is of a command before the run: nobody reads it, whatever a stop leaves of its gate.
-        if let Err(_) = close_gates(disk, self.base, self.slots, next, turn) {
-            return Err(Refusal::Device);
-        }
-        self.room += turn;
-        Ok(turn)
+        self.sweep(disk, 3)
     }
 }
