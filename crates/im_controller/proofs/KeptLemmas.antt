@@ -31,7 +31,7 @@ use Rattle.im_checkpoint.specs.declared.checkpoint.TurnDone.{TurnDone}
 use Rattle.im_checkpoint.specs.declared.checkpoint.TurnDone.TheVariants.{Idle, Began, Page, Synced, InForce, Swept}
 use Rattle.im_checkpoint.proofs.Fitting.{none_or_some}
 use Rattle.im_engine.specs.State.{EngineState, MeansState, MeansEither, with_command}
-use Rattle.im_engine.specs.Run.{Answered, TurnAnswered}
+use Rattle.im_engine.specs.Run.{Answered, TurnAnswered, SweepAnswered}
 use Rattle.im_engine.specs.Groups.{reached_in, group_put, after_group, answers_in, all_refused, GroupAnswered, GroupFaults, MeansGroup}
 use Rattle.im_engine.proofs.Keeping.{accept_both, accept_one}
 use Rattle.im_engine.proofs.Running.{Failures, failures_more, failures_turned}
@@ -42,6 +42,55 @@ use Rattle.im_controller.specs.Kept.{Begun, begun_in, accepted_in, MeansSome, Me
 use Rattle.im_controller.proofs.LendLemmas.{ok-leaves}
 use Rattle.im_controller.proofs.GroupLemmas.{answers_served}
 use Rattle.im_controller.proofs.PutLemmas.{lines_all, one-end, refused-lines}
+
+-- ---- what leaves the memory: a turn and a sweep
+
+-- an engine that had failed stays as it was, and any other one has the same memory and count, and has failed where a call of the disk did
+pub record IsQuiet {D : Type 0} (failures : D → ℕ) (e f : EngineState D) : Type 0 where
+  pub dead : e.failed ≡ true → f ≡ e
+  pub stays : (f.memory ≡ e.memory) × (f.count ≡ e.count)
+  pub counts : e.failed ≡ false → Failures failures e f
+
+-- no engine that has failed works again
+pub quiet_alive : {D : Type 0} (failures : D → ℕ) (e f : EngineState D) → IsQuiet failures e f → f.failed ≡ false → e.failed ≡ false
+quiet_alive {D} failures e f quiet living = ⊎_elim (λ dead. sym (ap (λ (x : EngineState D). x.failed) (quiet.dead dead)) ∙ living) (λ alive. alive) (true_or_false e.failed)
+
+same_both : {D : Type 0} (e f : EngineState D) → f ≡ e → (f.memory ≡ e.memory) × (f.count ≡ e.count)
+same_both {D} e f is = (ap (λ (x : EngineState D). x.memory) is, ap (λ (x : EngineState D). x.count) is)
+
+module _ {D : Type 0} (failures : D → ℕ) (e f : EngineState D) where
+  none_failed : e.failed ≡ false → Failures failures e e
+  none_failed alive = record { rose = λ dead. absurd (true_false (sym dead ∙ alive)); stayed = λ _. refl }
+
+  pub turn_quiet : (a : Result TurnDone Refusal) → TurnAnswered e a f → Faults (λ r. Unit {0}) a (failures e.disk) (failures f.disk) → IsQuiet failures e f
+  turn_quiet a answered cause = record {
+    dead = λ dead. (answered.dead dead).1;
+    stays = ⊎_elim
+        (λ dead. same_both e f (answered.dead dead).1)
+        (λ alive. ⊎_elim (λ done. (done.2.memory, done.2.count)) (λ doubt. (ap (λ (x : EngineState D). x.memory) doubt.1, ap (λ (x : EngineState D). x.count) doubt.1)) (answered.alive alive))
+        (true_or_false e.failed);
+    counts = λ alive. failures_turned failures e e f a answered cause (none_failed alive);
+  }
+
+  pub sweep_quiet : (most : ℕ) (a : Result ℕ Refusal) → SweepAnswered e most a f → Faults (λ r. Unit {0}) a (failures e.disk) (failures f.disk) → IsQuiet failures e f
+  sweep_quiet most a answered cause = record {
+    dead = λ dead. (answered.dead dead).1;
+    stays = ⊎_elim
+        (λ dead. same_both e f (answered.dead dead).1)
+        (λ alive. ⊎_elim (λ done. (ap (λ (x : EngineState D). x.memory) done.1, ap (λ (x : EngineState D). x.count) done.1))
+        (λ doubt. (ap (λ (x : EngineState D). x.memory) doubt.1, ap (λ (x : EngineState D). x.count) doubt.1)) (answered.alive alive))
+        (true_or_false e.failed);
+    counts = λ alive. ⊎_elim
+        (λ done. let living : f.failed ≡ false = ap (λ (x : EngineState D). x.failed) done.1 ∙ alive in
+        record { rose = λ dead. absurd (true_false (sym dead ∙ living)); stayed = λ _. subst Caused done.0 cause })
+        (λ doubt. let dead : f.failed ≡ true = ap (λ (x : EngineState D). x.failed) doubt.1 in
+        let fault : Caused (Err Device) = subst Caused doubt.0 cause in
+        record { rose = λ _. (fault.1 refl).0; stayed = λ living. absurd (true_false (sym dead ∙ living)) })
+        (answered.alive alive);
+  }
+    where
+      Caused : Result ℕ Refusal → Type 0
+      Caused r = Faults (λ r. Unit {0}) r (failures e.disk) (failures f.disk)
 
 -- ---- the accepted commands of a trace
 
@@ -252,22 +301,15 @@ module _ {D : Type 0} (now : D → Moment) (past : D → List Moment) (failures 
             (λ un. stays (answered.unaccepted alive un).1 (unaccepted e.memory c a un))
             (true_or_false (is_accepted e.memory c))
 
-      -- a turn was lent
-      pub kept_turned : (a : Result TurnDone Refusal) → TurnAnswered e a f → Faults (λ r. Unit {0}) a (failures e.disk) (failures f.disk)
+      -- what leaves the memory was done
+      kept_alive : (f.memory ≡ e.memory) × (f.count ≡ e.count) → Failures failures e f
           → Leaves (now e.disk) (now f.disk) (past e.disk) (past f.disk) (MeansState e) → LeavesNow (now f.disk) (MeansState e) → (f.failed ≡ false → LeavesNow (now f.disk) (MeansState f)) → Has told f
-      kept_turned a answered cause leaves last means =
-          let counts = failures_turned failures e e f a answered cause none_yet in
+      kept_alive stays counts leaves last means =
           subst (λ (l : List Command). Has l f) (none_by f.failed)
           (kept_more told [] e f it alive ends refl
           (leaves_weaker (now e.disk) (now f.disk) (past e.disk) (past f.disk) (MeansState e) (MeansBoth e []) leaves (λ file image. inl (meant e file image)))
-          (λ file left. inl (meant e file (last file left))) far means counts.rose counts.stayed)
+          (λ file left. inl (meant e file (last file left))) (λ _. (stays.0, omega (arith, stays.1))) means counts.rose counts.stayed)
         where
-          far : f.failed ≡ false → (f.memory ≡ e.memory) × (f.count ≡ e.count + 0)
-          far living = ⊎_elim
-              (λ done. (done.2.memory, omega (arith, done.2.count)))
-              (λ doubt. absurd (true_false (sym (ap (λ (x : EngineState D). x.failed) doubt.1) ∙ living)))
-              (answered.alive alive)
-
           none_by : (dead : Bool) → told ++ (if dead then [] else []) ≡ told
           none_by true = append-nil told
           none_by false = append-nil told
@@ -350,26 +392,13 @@ module _ {D : Type 0} (now : D → Moment) (past : D → List Moment) (failures 
       by_line true = refl
       by_line false = refl
 
-  -- a turn, whether the engine had failed or not
-  pub kept_turn : (e f : EngineState D) (told : List Command) → Has told e → e.memory ≡ after m told → (a : Result TurnDone Refusal) → TurnAnswered e a f → Faults (λ r. Unit {0}) a (failures e.disk) (failures f.disk)
+  -- what leaves the memory, whether the engine had failed or not
+  pub kept_quiet : (e f : EngineState D) (told : List Command) → Has told e → e.memory ≡ after m told → IsQuiet failures e f
       → (e.failed ≡ false → Leaves (now e.disk) (now f.disk) (past e.disk) (past f.disk) (MeansState e)) → (e.failed ≡ false → LeavesNow (now f.disk) (MeansState e)) → (f.failed ≡ false → LeavesNow (now f.disk) (MeansState f)) → Has told f
-  kept_turn e f told it ends a answered cause leaves last means = ⊎_elim
-      (λ dead. kept_same told told e f (answered.dead dead).1 refl it)
-      (λ alive. kept_turned e f alive told it ends a answered cause (leaves alive) (last alive) means)
+  kept_quiet e f told it ends quiet leaves last means = ⊎_elim
+      (λ dead. kept_same told told e f (quiet.dead dead) refl it)
+      (λ alive. kept_alive e f alive told it ends quiet.stays (quiet.counts alive) (leaves alive) (last alive) means)
       (true_or_false e.failed)
-
--- a turn leaves the memory, and no engine that has failed works again
-pub turned_memory : {D : Type 0} (e f : EngineState D) (a : Result TurnDone Refusal) → TurnAnswered e a f → f.memory ≡ e.memory
-turned_memory {D} e f a answered = ⊎_elim
-    (λ dead. ap (λ (x : EngineState D). x.memory) (answered.dead dead).1)
-    (λ alive. ⊎_elim (λ done. done.2.memory) (λ doubt. ap (λ (x : EngineState D). x.memory) doubt.1) (answered.alive alive))
-    (true_or_false e.failed)
-
-pub turned_alive : {D : Type 0} (e f : EngineState D) (a : Result TurnDone Refusal) → TurnAnswered e a f → f.failed ≡ false → e.failed ≡ false
-turned_alive {D} e f a answered living = ⊎_elim
-    (λ dead. sym (ap (λ (x : EngineState D). x.failed) (answered.dead dead).1) ∙ living)
-    (λ alive. alive)
-    (true_or_false e.failed)
 
 -- why a turn is refused
 module _ {D : Type 0} (e f : EngineState D) (done : Result TurnDone Refusal) (answered : TurnAnswered e done f) where

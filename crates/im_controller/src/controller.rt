@@ -93,7 +93,7 @@ impl<D: Disk, K: Name> Controller<D, K> {
 
     /// The loop of the thread that keeps checkpoints: one turn for each holding of the lock, asleep while there is
     /// nothing to do, until the controller ends. It goes last in the queue, so that its turns are made while no port
-    /// asks; where the journal has less room than there are elements, whoever is about to lend the engine makes turns
+    /// asks; where the journal has less room than there are elements, whoever is about to lend the engine makes room
     /// in its place, and where it had its turn already it keeps that. `Device` where a call of the disk failed in its
     /// turn, and `Failed` where an earlier one did.
     pub fn keep_checkpoints<R: Wait>(&self, rt: &R) -> Result<(), Refusal>

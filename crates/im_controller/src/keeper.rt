@@ -1,15 +1,18 @@
-//! The thread that keeps checkpoints, and who makes turns in its place.
+//! The thread that keeps checkpoints, and who makes room in its place.
 ghost use Rattle.std.specs.Prelude.{◌≡◌, IfErr};
 ghost use Rattle.im_controller.specs.Lends.{IsTurnFault};
 
 use crate::name::Name;
-use crate::shared::{Shared, lend_turn};
+use crate::shared::{Shared, lend_sweep, lend_turn};
 use im_checkpoint::TurnDone;
 use im_disk::Disk;
 use im_types::Refusal;
 
 // More turns than a checkpoint of the largest image takes, with all slots that it closes.
 const TURNS: u32 = 65_536;
+
+// So many slots are closed with one sync where room is made: as many as there may be elements.
+const SWEEP: u32 = 64;
 
 // What the thread that keeps checkpoints does.
 #[derive(Clone, Copy)]
@@ -34,17 +37,30 @@ fn is_pressed<D: Disk, K: Name>(shared: &Shared<D, K>) -> bool {
     shared.engine.room() < shared.log.elements() as u32
 }
 
-// Makes turns in the keeper's place, by whoever is about to lend the engine, until all elements have room: so no thread
-// has to wait for another one between a group and the next. Without a keeper, or where it has found nothing to do, none
-// is made.
+// Makes room in the keeper's place, by whoever is about to lend the engine, until all elements have some: so no thread
+// has to wait for another one between a group and the next. Slots that are to be swept are closed together, and any other
+// turn is made as the keeper would. Without a keeper, or where it has found nothing to do, nothing is done.
 pub(crate) fn make_room<D: Disk, K: Name>(shared: &mut Shared<D, K>) {
     if !matches!(shared.keeper, Keeper::Works) {
         return;
     }
     for _ in 0..TURNS {
-        if !is_pressed(shared) || !is_turn_made(shared) {
+        if !is_pressed(shared) || !is_room_nearer(shared) {
             return;
         }
+    }
+}
+
+// Closes slots that are to be swept, or makes one turn where there are none: whether it did anything.
+fn is_room_nearer<D: Disk, K: Name>(shared: &mut Shared<D, K>) -> bool {
+    is_swept(shared) || is_turn_made(shared)
+}
+
+// Closes slots that are to be swept, and whether there were any.
+fn is_swept<D: Disk, K: Name>(shared: &mut Shared<D, K>) -> bool {
+    match lend_sweep(shared, SWEEP) {
+        Ok(swept) => swept > 0,
+        Err(_) => false, // The next call of the engine tells of it.
     }
 }
 

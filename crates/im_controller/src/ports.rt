@@ -41,7 +41,7 @@ impl<K: Name> Port<K> {
     /// Asks for an operation under a number of this element, and waits until it is answered, by this port or by another
     /// that serves it in a group. Refused as by [`lend_group`](crate::lend_group): `Failed`, `TraceFull`, `OffPlan`, a
     /// refusal of numbers, `JournalFull`, `Device`. Under a plan the receipt tells what the plan says, in whatever order
-    /// its requests are served. Where it serves while the journal is short of room, it makes turns in the keeper's place.
+    /// its requests are served. Where it serves while the journal is short of room, it makes room in the keeper's place.
     pub fn submit<D: Disk, R: Wait>(
         &mut self,
         rt: &R,

@@ -216,6 +216,16 @@ pub fn lend_turn<D: Disk, K: Name>(shared: &mut Shared<D, K>) -> Result<TurnDone
     told_turn(shared.engine.room(), done)
 }
 
+// Lends the engine to a sweep of so many slots at most, which leaves the memory, the trace and the servers: how many there
+// were. It takes no memory.
+pub(crate) fn lend_sweep<D: Disk, K: Name>(
+    shared: &mut Shared<D, K>,
+    most: u32,
+) -> Result<u32, Refusal> {
+    // A stop in it leaves the memory as it is.
+    shared.engine.sweep(most)
+}
+
 /// Whether an element's server may wait for the entry of a number. It is `Go` exactly where that is answered, and else
 /// the server waits from now on, until its next call that answers otherwise.
 ///

@@ -8,7 +8,7 @@ use Rattle.im_types.specs.declared.refusals.Refusal.TheVariants.{JournalFull}
 use Rattle.im_controller.specs.Lends.{IsTurnFault, told_turn}
 use Rattle.im_controller.specs.Kept.{accepted_in}
 use Rattle.im_controller.specs.State.{SharedState}
-use Rattle.im_controller.proofs.KeptLemmas.{accepted-after, kept_turn, turned_memory, turned_alive, turn-only, turn-full}
+use Rattle.im_controller.proofs.KeptLemmas.{accepted-after, turn_quiet, quiet_alive, kept_quiet, turn-only, turn-full}
 use Rattle.im_controller.proofs.shared.lend_turn.Goals as goal
 
 pub returns-clause-now : goal.returns-clause-now
@@ -17,15 +17,16 @@ returns-clause-now g c =
 
 pub invariant_of-shared : goal.invariant_of-shared
 invariant_of-shared g c =
-    let e = c.shared.inside.engine in let f = c.turn-done.new.self in let m = g.K.Name.memory in let trace = c.shared.inside.log.trace in (
-      c.shared.invariant.0 ∙ sym (turned_memory e f c.turn-done.result c.turn-done.ensures.answered),
+    let e = c.shared.inside.engine in let f = c.turn-done.new.self in let m = g.K.Name.memory in let trace = c.shared.inside.log.trace in
+    let quiet = turn_quiet g.D.Disk.failures e f c.turn-done.result c.turn-done.ensures.answered c.turn-done.ensures.faults in (
+      c.shared.invariant.0 ∙ sym quiet.stays.0,
       c.shared.invariant.1,
       c.shared.invariant.2,
-      (λ living. c.shared.invariant.3 (turned_alive e f c.turn-done.result c.turn-done.ensures.answered living)),
+      (λ living. c.shared.invariant.3 (quiet_alive g.D.Disk.failures e f quiet living)),
       (λ honest. c.shared.invariant.4 (c.turn-done.ensures.honest honest)),
       (λ honest began.
-          kept_turn g.D.Disk.now g.D.Disk.past g.D.Disk.failures g.K.Name.begun m e f (accepted_in m trace) (c.shared.invariant.5 (c.turn-done.ensures.honest honest) began)
-          (sym (accepted-after m trace ∙ c.shared.invariant.0)) c.turn-done.result c.turn-done.ensures.answered c.turn-done.ensures.faults
+          kept_quiet g.D.Disk.now g.D.Disk.past g.D.Disk.failures g.K.Name.begun m e f (accepted_in m trace) (c.shared.invariant.5 (c.turn-done.ensures.honest honest) began)
+          (sym (accepted-after m trace ∙ c.shared.invariant.0)) quiet
           (c.turn-done.ensures.leaves honest) (c.turn-done.ensures.now honest) (c.turn-done.ensures.means honest)),
       c.shared.invariant.6,
       c.shared.invariant.7,
