@@ -172,3 +172,20 @@ waiting 12000 = 1.7
 1.8 store 12000 7 = stored
 collect 1.7 = value 7
 1.9 fetch 16385 = waiting
+
+# A full journal is emptied by two sweeps
+format 4096 16 16 = formatted
+16 times 1.1 fetch 0 = 16 nocell
+-- Nothing is swept before an area has the commands, nor while a checkpoint is under way.
+sweep 64 = 0; room 0
+turns 54 = began, page 0 to 51, synced; room 54x0
+sweep 64 = 0; room 0
+turn = in force
+sweep 5 = 5; room 5
+sweep 64 = 11; room 16
+sweep 64 = 0; room 16
+turn = idle
+count = 16
+close = closed
+-- The format, sixteen commands, the turns up to the one that puts the area in force, and 6 and 12 for the sweeps.
+calls = 144

@@ -1,4 +1,4 @@
-//! An engine beside the plain memory, which has what was answered: random commands, groups and turns, a stop at any
+//! An engine beside the plain memory, which has what was answered: random commands, groups, turns and sweeps, a stop at any
 //! call of the disk, and what an opening finds then.
 
 use crate::alike::are_alike;
@@ -49,6 +49,15 @@ fn turns(engine: &mut Engine<FuseDisk>) -> Result<bool> {
         Ok(_) => Ok(true),
         Err(Refusal::Device) => Ok(false),
         Err(refusal) => Err(anyhow!("a turn is refused: {refusal}")),
+    }
+}
+
+// Closes some slots together. Whether the disk still works.
+fn sweeps(engine: &mut Engine<FuseDisk>, most: u32) -> Result<bool> {
+    match engine.sweep(most) {
+        Ok(_) => Ok(true),
+        Err(Refusal::Device) => Ok(false),
+        Err(refusal) => Err(anyhow!("a sweep is refused: {refusal}")),
     }
 }
 
@@ -140,14 +149,15 @@ fn serves_group(
     Ok(true)
 }
 
-// A turn, a group or a command, as chance has it, and mostly a turn where there is no room. Whether the disk still
-// works.
+// A turn, a sweep, a group or a command, as chance has it, and mostly a turn where there is no room. Whether the disk
+// still works.
 fn goes(engine: &mut Engine<FuseDisk>, known: &mut Answered, walk: &mut Walk) -> Result<bool> {
     if engine.room() == 0 && walk.below(8) > 0 {
         return turns(engine);
     }
     match walk.below(6) {
-        0 | 1 => turns(engine),
+        0 => turns(engine),
+        1 => sweeps(engine, walk.below(20) as u32),
         2 | 3 => {
             let members = walk.group(&known.plain, CELLS);
             serves_group(engine, known, &members)
@@ -159,7 +169,7 @@ fn goes(engine: &mut Engine<FuseDisk>, known: &mut Answered, walk: &mut Walk) ->
     }
 }
 
-/// So many commands, groups and turns, as chance has it. Whether the disk still works; after its stop nothing is done.
+/// So many commands, groups, turns and sweeps, as chance has it. Whether the disk still works; after its stop nothing is done.
 pub fn goes_on(
     engine: &mut Engine<FuseDisk>,
     known: &mut Answered,

@@ -12,6 +12,7 @@
 //! 16 times 1.1 fetch 0 = 16 nocell    sixteen requests, 1.1 to 1.16
 //! together 0.1 alloc i 2 with 1.1 fetch 0 = base 0, waiting    requests of different elements as one group
 //! turns 3 = began, page 0 to 1; room 3x0
+//! sweep 64 = 16; room 16          closes so many slots at most with one sync
 //! plan 1.1 fetch 0 = 1 events     what the next run does: commands, groups, turns, or all commands as told
 //! run = 1 answers
 //! answers 0 to 0 = nocell

@@ -1,4 +1,4 @@
-//! Turns, and runs of commands, groups and turns.
+//! Turns, sweeps, and runs of commands, groups and turns.
 
 use crate::calls::later;
 use crate::engines::Engines;
@@ -6,7 +6,7 @@ use crate::groups::members;
 use crate::texts::{add_answers, add_numbers, add_turn};
 use anyhow::{Result, anyhow};
 use im_engine::{Answer, Event, Group};
-use im_story::{command, number, place};
+use im_story::{add_refusal, command, number, place};
 use im_types::Command;
 use std::alloc::Global;
 
@@ -36,6 +36,18 @@ fn turns(engines: &mut Engines, alloc: Global, times: u64, said: &mut String) ->
     add_answers(said, engines.answers.as_slice())?;
     said.push_str("; room")?;
     Ok(add_numbers(said, rooms.as_slice())?)
+}
+
+// Closes so many slots at most with one sync. Tells how many they were, and the room after.
+fn sweep(engines: &mut Engines, most: u32, said: &mut String) -> Result<()> {
+    let Some(engine) = &mut engines.engine else {
+        return Err(anyhow!("no engine"));
+    };
+    match engine.sweep(most) {
+        Ok(swept) => write!(said, "{swept}")?,
+        Err(refusal) => add_refusal(said, refusal)?,
+    }
+    Ok(write!(said, "; room {}", engine.room())?)
 }
 
 // The next run serves a command under so many numbers, one after another.
@@ -105,7 +117,7 @@ fn plan(engines: &mut Engines, words: &[&str], said: &mut String) -> Result<()> 
     Ok(write!(said, "{} events", engines.events.len())?)
 }
 
-/// Whether the words are `turn`, `turns`, `plan`, `run` or `answers`.
+/// Whether the words are `turn`, `turns`, `sweep`, `plan`, `run` or `answers`.
 pub fn tell(
     engines: &mut Engines,
     alloc: Global,
@@ -115,6 +127,7 @@ pub fn tell(
     match words {
         ["turn"] => turn(engines, said)?,
         ["turns", times] => turns(engines, alloc, number(times)?, said)?,
+        ["sweep", most] => sweep(engines, number(most)?.min(u32::MAX as u64) as u32, said)?,
         ["plan", rest @ ..] => plan(engines, rest, said)?,
         ["run"] => run(engines, alloc, said)?,
         ["answers", from, "to", to] => tell_answers(engines, place(from)?, place(to)?, said)?,
