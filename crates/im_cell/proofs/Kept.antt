@@ -1,24 +1,25 @@
 -- What a chunk keeps, as its cells change.
-use Rattle.std.proofs.Common.{◌≡◌, ℕ, zero, suc, ◌+◌, ◌/◌, ◌*◌, ◌<◌, ◌≤◌, List, [], ◌∷◌, length, map, set, take, drop, replicate, Bool, true, false, Option, None, Some, inl, inr, refl, sym, ap, subst, ◌∙◌, arith, length-set}
-use Rattle.std.specs.Prelude.{IsSome, ◌||◌, not, eqb}
-use Rattle.std.specs.List.{list_any}
-use Rattle.std.proofs.lemmas.Bool.{cases_lt}
-use Rattle.std.proofs.lemmas.Bool.Decides.{nat_tests}
-use Rattle.std.proofs.lemmas.List.{map-set, length-map, length-replicate, get_or-replicate, get_or_past, take_all}
+use Rattle.std.proofs.Common.{◌≡◌, ℕ, zero, suc, ◌⊎◌, ◌+◌, ◌/◌, ◌*◌, ◌<◌, ◌≤◌, List, [], ◌∷◌, length, map, set, replicate, Bool, true, false, Option, None, Some, inl, inr, refl, sym, ap, subst, ◌∙◌, arith, length-set}
+use Rattle.std.specs.Prelude.{IsSome}
+use Rattle.std.proofs.lemmas.Bool.{cases_lt, cases_eq}
+use Rattle.std.proofs.lemmas.Grind.{get_or-set_at}
+use Rattle.std.proofs.lemmas.List.{set_past, get_or-set_other, map-set, length-map, length-replicate, get_or-replicate, get_or_past}
 use Rattle.im_cell.specs.declared.chunk.TheConstants.{CHUNK}
 use Rattle.im_cell.specs.declared.chunk.Kept.{Kept}
 use Rattle.im_cell.specs.declared.chunk.Kept.TheVariants.{Each, Leaves, Whole}
 use Rattle.im_cell.specs.declared.tree.TheConstants.{PART}
 use Rattle.im_cell.specs.declared.records.Record.{Record}
 use Rattle.im_cell.specs.declared.slots.Slot.{Slot}
+use Rattle.im_cell.specs.declared.span.Span.{Span}
 use Rattle.im_cell.specs.declared.summaries.Summary.{Summary}
+use Rattle.im_types.specs.Place.{fill}
+use Rattle.im_laws.proofs.PlaceLemmas.{get_or-fill}
 use Rattle.im_types.specs.declared.cells.Cell.{Cell}
 use Rattle.im_cell.specs.Slots.{slot_at, is_waiting, with_cell}
 use Rattle.im_cell.specs.Records.{slot_of, slots_of, marks_of}
 use Rattle.im_cell.specs.Summaries.{mark, Summarises, HasJoined, HasLeaves, IsTree}
-use Rattle.im_cell.specs.Chunks.{same_at, seen, slots_in, IsKept, IsChunk}
+use Rattle.im_cell.specs.Chunks.{same_at, seen, slots_in, Spans, IsKept, IsChunk}
 use Rattle.im_cell.proofs.Leaves.{marks-set, leaves-of-tree, tree-of-leaves}
-use Rattle.im_cell.proofs.Same.{none-same}
 use Rattle.im_cell.proofs.Seen.{length-seen, seen-plain, seen-set}
 
 -- no record stands for all, or each for its own
@@ -62,15 +63,6 @@ flags-none n j = elim (cases_lt j n) [
   | inr past ↦ get_or_past (replicate n false) j false (omega (arith, length-replicate n false))
 ]
 
--- so many cells from one on, where these are all
-pub all-taken : {X : Type 0} (xs : List X) (base n : ℕ) → n ≡ length xs → base + n ≤ length xs → take n (drop base xs) ≡ xs
-all-taken xs base n all inside =
-    ap (λ b. take n (drop b xs)) (let e : base ≡ 0 = omega arith in e) ∙ take_all n xs (omega arith)
-
--- two numbers that aren't found apart
-pub not-apart : (n m : ℕ) → not (eqb n m) ≡ false → n ≡ m
-not-apart n m e = grind (arith, nat_tests)
-
 -- the slots of records that are all the same
 pub slots-same : (n : ℕ) (kept : Record) → slots_of (replicate n kept) ≡ replicate n (slot_of kept)
 slots-same zero kept = refl
@@ -81,6 +73,12 @@ pub length-slots_in : (kept : Kept) (same : List Bool) (records : List Record) �
 length-slots_in Each same records = length-seen same (slots_of records) ∙ length-map records slot_of
 length-slots_in Leaves same records = length-seen same (slots_of records) ∙ length-map records slot_of
 length-slots_in (Whole kept) same records = length-replicate (length records) (slot_of kept)
+
+-- where none is kept for the whole, the slots are what is seen
+pub slots_seen : (kept : Kept) (same : List Bool) (records : List Record) → ((whole : Record) → kept ≡ Whole whole → ⊥) → slots_in kept same records ≡ seen same (slots_of records)
+slots_seen Each same records never = refl
+slots_seen Leaves same records never = refl
+slots_seen (Whole whole) same records never = absurd (never whole refl)
 
 -- where each record stands for its own cell, the slots are theirs
 pub slots_in-each : (kept : Kept) (same : List Bool) (records : List Record) (nodes : List Summary) → kept ≡ Each → IsKept kept same records nodes → slots_in kept same records ≡ slots_of records
@@ -166,26 +164,70 @@ IsKept-plain n same records nodes is few room tree = record {
 pub seen-of-plain : (n : ℕ) (same : List Bool) (slots : List (Option Slot)) → same ≡ replicate n false → seen same slots ≡ slots
 seen-of-plain n same slots is = seen-plain same slots (λ j. ap (λ flags. same_at flags j) is ∙ flags-none n j)
 
--- neither of two was so
-pub neither : (a b : Bool) → a || b ≡ false → (a ≡ false) × (b ≡ false)
-neither true b e = absurd (cc)
-neither false b e = (refl, e)
+-- who waits after one cell was set, or some were made the same: whoever did before, or the new ones
+pub set-waits : (cells : List (Option Slot)) (at : ℕ) (x : Option Slot) (k : ℕ) → is_waiting (slot_at (set cells at x) k) ≡ true → (is_waiting (slot_at cells k) ≡ true) ⊎ ((k ≡ at) × (is_waiting x ≡ true))
+set-waits cells at x k e = elim (cases_eq k at) [
+  | inr ne ↦ inl (ap is_waiting (sym (get_or-set_other cells at k x None ne)) ∙ e)
+  | inl here ↦ elim (cases_lt at (length cells)) [
+    | inl inside ↦ inr (here, ap is_waiting (sym (get_or-set_at cells at k x None here inside)) ∙ e)
+    | inr past ↦ inl (ap (λ s. is_waiting (slot_at s k)) (sym (set_past cells at x past)) ∙ e)
+  ]
+]
 
--- a chunk with other slots, among which somebody waits only where somebody did before, or in the new record
+pub fill-waits : (cells : List (Option Slot)) (base n : ℕ) (x : Option Slot) (k : ℕ) → is_waiting (slot_at (fill cells base n x) k) ≡ true
+    → (is_waiting (slot_at cells k) ≡ true) ⊎ ((base ≤ k) × ((k < base + n) × (is_waiting x ≡ true)))
+fill-waits cells base n x k e = elim (get_or-fill cells base n x k) [
+  | inl same ↦ inl (ap is_waiting (sym same) ∙ e)
+  | inr h ↦ inr (h.0, (h.1, ap is_waiting (sym h.2) ∙ e))
+]
+
+-- a chunk with other slots: whoever waits did so before, or waits for a cell of the new part
 pub IsChunk-changed : (kept : Kept) (same : List Bool) (old : List Record) (room : List Summary) (was : Summary) (now : Kept) (flags : List Bool) (records : List Record) (nodes : List Summary) (sum : Summary)
-    (waits waiting : Bool) (new : Record) → IsChunk kept same old room waits was → IsKept now flags records nodes → (now ≡ Leaves → Summarises sum (map mark (seen flags (slots_of records)))) → waiting ≡ is_waiting (slot_of new)
-    → (list_any is_waiting (slots_in kept same old) ≡ false → is_waiting (slot_of new) ≡ false → list_any is_waiting (slots_in now flags records) ≡ false) → IsChunk now flags records nodes (waits || waiting) sum
-IsChunk-changed kept same old room was now flags records nodes sum waits waiting new c k sums is none = record {
+    (waits next : Span) → IsChunk kept same old room waits was → IsKept now flags records nodes → (now ≡ Leaves → Summarises sum (map mark (seen flags (slots_of records)))) → ((k : ℕ) → Spans waits k → Spans next k)
+    → ((k : ℕ) → is_waiting (slot_at (slots_in now flags records) k) ≡ true → (is_waiting (slot_at (slots_in kept same old) k) ≡ true) ⊎ Spans next k) → IsChunk now flags records nodes next sum
+IsChunk-changed kept same old room was now flags records nodes sum waits next c k sums wider who = record {
   cells = k;
   sums = sums;
-  quiet = λ e. let n = neither waits waiting e in none (c.quiet n.0) (sym is ∙ n.1);
+  waiting = λ i e. elim (who i e) [
+    | inl before ↦ wider i (c.waiting i before)
+    | inr new ↦ new
+  ];
 }
 
+-- the same of one cell, and of cells that are made the same
+pub IsChunk-set : (kept : Kept) (same : List Bool) (old : List Record) (room : List Summary) (was : Summary) (now : Kept) (flags : List Bool) (records : List Record) (nodes : List Summary) (sum : Summary)
+    (waits next : Span) (at : ℕ) (new : Record) (waiting : Bool) → IsChunk kept same old room waits was → IsKept now flags records nodes → (now ≡ Leaves → Summarises sum (map mark (seen flags (slots_of records)))) → ((k : ℕ) → Spans waits k → Spans next k)
+    → waiting ≡ is_waiting (slot_of new) → (waiting ≡ true → (k : ℕ) → at ≤ k → k < at + 1 → Spans next k) → slots_in now flags records ≡ set (slots_in kept same old) at (slot_of new) → IsChunk now flags records nodes next sum
+IsChunk-set kept same old room was now flags records nodes sum waits next at new waiting c k sums wider test covers slots =
+    IsChunk-changed kept same old room was now flags records nodes sum waits next c k sums wider (λ i e. elim (set-waits (slots_in kept same old) at (slot_of new) i (ap (λ s. is_waiting (slot_at s i)) (sym slots) ∙ e)) [
+      | inl before ↦ inl before
+      | inr h ↦ inr (covers (test ∙ h.1) i (let here = h.0 in omega arith) (let here = h.0 in omega arith))
+    ])
+
+pub IsChunk-filled : (kept : Kept) (same : List Bool) (old : List Record) (room : List Summary) (was : Summary) (now : Kept) (flags : List Bool) (records : List Record) (nodes : List Summary) (sum : Summary)
+    (waits next : Span) (base n : ℕ) (new : Record) (waiting : Bool) → IsChunk kept same old room waits was → IsKept now flags records nodes → (now ≡ Leaves → Summarises sum (map mark (seen flags (slots_of records)))) → ((k : ℕ) → Spans waits k → Spans next k)
+    → waiting ≡ is_waiting (slot_of new) → (waiting ≡ true → (k : ℕ) → base ≤ k → k < base + n → Spans next k) → slots_in now flags records ≡ fill (slots_in kept same old) base n (slot_of new) → IsChunk now flags records nodes next sum
+IsChunk-filled kept same old room was now flags records nodes sum waits next base n new waiting c k sums wider test covers slots =
+    IsChunk-changed kept same old room was now flags records nodes sum waits next c k sums wider (λ i e. elim (fill-waits (slots_in kept same old) base n (slot_of new) i (ap (λ s. is_waiting (slot_at s i)) (sym slots) ∙ e)) [
+      | inl before ↦ inl before
+      | inr h ↦ inr (covers (test ∙ h.1.1) i h.0 h.1.0)
+    ])
+
+-- nobody waits for a cell past the last one
+pub waiting-inside : (cells : List (Option Slot)) (k : ℕ) → is_waiting (slot_at cells k) ≡ true → k < length cells
+waiting-inside cells k e = elim (cases_lt k (length cells)) [
+  | inl inside ↦ inside
+  | inr past ↦ let f : false ≡ true = sym (ap is_waiting (get_or_past cells k None past)) ∙ e in absurd (cc)
+]
+
 -- a chunk, all of whose cells are made the same; somebody waits only if the record is waiting
-pub IsChunk-whole : (kept : Kept) (same : List Bool) (records : List Record) (nodes : List Summary) (waiting : Bool) (sum : Summary) (new : Record) → IsKept kept same records nodes
-    → waiting ≡ is_waiting (slot_of new) → IsChunk (Whole new) same records nodes waiting sum
-IsChunk-whole kept same records nodes waiting sum new k is = record {
+pub IsChunk-whole : (kept : Kept) (same : List Bool) (records : List Record) (nodes : List Summary) (next : Span) (waiting : Bool) (sum : Summary) (new : Record) → IsKept kept same records nodes
+    → waiting ≡ is_waiting (slot_of new) → (waiting ≡ true → (k : ℕ) → 0 ≤ k → k < length records → Spans next k) → IsChunk (Whole new) same records nodes next sum
+IsChunk-whole kept same records nodes next waiting sum new k is covers = record {
   cells = record { few = k.few; room = k.room; leaves = k.leaves; joined = λ e. absurd (not_each new e); plain = λ e. absurd (not_each new e) };
   sums = λ e. absurd (whole_not_leaves new e);
-  quiet = λ e. none-same is_waiting (length records) (slot_of new) (sym is ∙ e);
+  waiting = λ i e.
+      let inside = waiting-inside (replicate (length records) (slot_of new)) i e in
+      let less : i < length records = omega (arith, length-replicate (length records) (slot_of new)) in
+      covers (is ∙ ap is_waiting (sym (get_or-replicate (length records) i (slot_of new) None less)) ∙ e) i (omega arith) less;
 }

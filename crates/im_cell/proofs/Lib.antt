@@ -12,3 +12,4 @@ pub mod Same
 pub mod Kept
 pub mod Tables
 pub mod Along
+pub mod Waits

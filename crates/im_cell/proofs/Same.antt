@@ -1,5 +1,5 @@
 -- Cells that are all the same.
-use Rattle.std.proofs.Common.{◌≡◌, ℕ, zero, suc, ◌+◌, ◌-◌, ◌<◌, ◌≤◌, List, [], ◌∷◌, length, map, take, drop, set, replicate, Bool, true, false, Option, None, Some, ◌≢◌, inl, inr, refl, sym, ap, ◌∙◌, arith}
+use Rattle.std.proofs.Common.{◌≡◌, ℕ, zero, suc, ◌+◌, ◌-◌, ◌<◌, ◌≤◌, List, [], ◌∷◌, length, map, take, drop, replicate, Bool, true, false, Option, None, Some, ◌≢◌, inl, inr, refl, sym, ap, ◌∙◌, arith}
 use Rattle.std.specs.Prelude.{◌||◌}
 use Rattle.std.specs.List.{list_any}
 use Rattle.std.proofs.lemmas.Bool.Decides.{nat_tests}
@@ -123,11 +123,6 @@ module _ {X : Type 0} (p : X → Bool) where
   none-put : (x : X) (xs : List X) → p x ≡ false → list_any p xs ≡ false → list_any p (x ∷ xs) ≡ false
   none-put x xs e f = ap (λ b. b || list_any p xs) e ∙ f
 
-  pub none-set : (xs : List X) (i : ℕ) (x : X) → list_any p xs ≡ false → p x ≡ false → list_any p (set xs i x) ≡ false
-  none-set [] i x e f = refl
-  none-set (y ∷ xs) zero x e f = none-put x xs f (none-head y xs e).1
-  none-set (y ∷ xs) (suc i) x e f = let h = none-head y xs e in none-put y (set xs i x) h.0 (none-set xs i x h.1 f)
-
   -- nor does one of the first so many, or of those behind them
   pub none-take : (n : ℕ) (xs : List X) → list_any p xs ≡ false → list_any p (take n xs) ≡ false
   none-take zero xs e = refl
@@ -156,11 +151,3 @@ module _ {X : Type 0} (p : X → Bool) where
   pub any-same : (b n m : ℕ) (x : X) → b + n ≤ m → 0 < n → p x ≡ list_any p (take n (drop b (replicate m x)))
   any-same b n m x fits some =
       any-taken n (m - b) x (p x) refl (omega arith) some ∙ ap (λ xs. list_any p (take n xs)) (sym (drop-same b m (m - b) x (omega arith)))
-
-module _ {X : Type 0} (p : Option X → Bool) where
-  -- nor does a cell of a fill
-  pub none-fill : (xs : List (Option X)) (base n : ℕ) (x : Option X) → list_any p xs ≡ false → p x ≡ false → list_any p (fill xs base n x) ≡ false
-  none-fill [] base n x e f = refl
-  none-fill (y ∷ xs) zero zero x e f = e
-  none-fill (y ∷ xs) zero (suc n) x e f = none-put p x (fill xs zero n x) f (none-fill xs zero n x (none-head p y xs e).1 f)
-  none-fill (y ∷ xs) (suc base) n x e f = let h = none-head p y xs e in none-put p y (fill xs base n x) h.0 (none-fill xs base n x h.1 f)

@@ -1,12 +1,12 @@
 -- A table's cells in chunks, one behind the other. (Own.)
-use Rattle.std.specs.Prelude.{◌≡◌, ℕ, zero, suc, ◌-◌, ◌*◌, ◌/◌, ◌≤◌, min, List, [], ◌∷◌, ◌++◌, length, map, slice_index_or, replicate, Bool, false, Option, if◌then◌else◌}
-use Rattle.std.specs.List.{list_any}
+use Rattle.std.specs.Prelude.{◌≡◌, ℕ, zero, suc, ◌-◌, ◌*◌, ◌/◌, ◌<◌, ◌≤◌, min, List, [], ◌∷◌, ◌++◌, length, map, slice_index_or, replicate, Bool, true, false, Option, if◌then◌else◌}
 use Rattle.im_cell.specs.declared.chunk.TheConstants.{CHUNK}
 use Rattle.im_cell.specs.declared.chunk.Kept.{Kept}
 use Rattle.im_cell.specs.declared.chunk.Kept.TheVariants.{Each, Leaves, Whole}
 use Rattle.im_cell.specs.declared.tree.TheConstants.{PART}
 use Rattle.im_cell.specs.declared.records.Record.{Record}
 use Rattle.im_cell.specs.declared.slots.Slot.{Slot}
+use Rattle.im_cell.specs.declared.span.Span.{Span}
 use Rattle.im_cell.specs.declared.summaries.Summary.{Summary}
 use Rattle.im_cell.specs.Slots.{slot_at, is_waiting, HasBlocks}
 use Rattle.im_cell.specs.Records.{slot_of, slots_of}
@@ -62,12 +62,16 @@ pub record IsKept (kept : Kept) (same : List Bool) (records : List Record) (node
   pub joined : kept ≡ Each → HasJoined nodes
   pub plain : kept ≡ Each → (j : ℕ) → same_at same j ≡ false
 
--- what every chunk keeps; where nobody may wait, nobody does
-pub record IsChunk (kept : Kept) (same : List Bool) (records : List Record) (nodes : List Summary) (waits : Bool) (sum : Summary) : Type 0 where
+-- a cell lies in this part
+abbrev pub Spans : Span → ℕ → Type 0
+Spans span k = (span.from ≤ k) × (k < span.to)
+
+-- what every chunk keeps; whoever waits, waits for a cell of the part
+pub record IsChunk (kept : Kept) (same : List Bool) (records : List Record) (nodes : List Summary) (waits : Span) (sum : Summary) : Type 0 where
   pub cells : IsKept kept same records nodes
   -- the summary of its cells while leaves stand for some of them
   pub sums : kept ≡ Leaves → Summarises sum (map mark (seen same (slots_of records)))
-  pub quiet : waits ≡ false → list_any is_waiting (slots_in kept same records) ≡ false
+  pub waiting : (k : ℕ) → is_waiting (slot_at (slots_in kept same records) k) ≡ true → Spans waits k
 
 -- what every table keeps
 pub record IsTable (chunks : List (List (Option Slot))) (nodes : List Summary) (cells : ℕ) : Type 0 where

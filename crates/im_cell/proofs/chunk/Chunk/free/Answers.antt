@@ -1,4 +1,4 @@
-use Rattle.std.proofs.Common.{◌≡◌, ◌/◌, replicate, false, refl, ap, ◌∙◌, subst, arith, rules}
+use Rattle.std.proofs.Common.{◌≡◌, ◌+◌, ◌/◌, take, drop, replicate, false, refl, ap, ◌∙◌, subst, arith, rules}
 use Rattle.std.specs.List.{list_any}
 use Rattle.std.proofs.lemmas.List.{with_items_is}
 use Rattle.im_types.specs.declared.TheConstants.{NONE}
@@ -9,7 +9,9 @@ use Rattle.im_cell.specs.Slots.{is_waiting}
 use Rattle.im_cell.specs.Records.{slot_of, slots_of, marks_of}
 use Rattle.im_cell.specs.Summaries.{IsTree}
 use Rattle.im_cell.proofs.Kept.{IsKept-plain, seen-of-plain, slots-same, each_not_leaves}
-use Rattle.im_cell.proofs.Same.{none-same}
+use Rattle.im_cell.proofs.Same.{none-same, none-take, none-drop}
+use Rattle.im_cell.specs.Chunks.{seen}
+use Rattle.im_cell.proofs.Waits.{none-at}
 use Rattle.im_cell.proofs.chunk.Chunk.free.Goals as goal
 
 pub invariant_of-result : goal.invariant_of-result
@@ -22,7 +24,11 @@ invariant_of-result c =
       cells = IsKept-plain (CHUNK / PART) same records c.raise.new.nodes flags (omega (arith, c.requires, c.in_ok-records.ensures.len)) (omega (arith, c.requires, c.in_ok-records.ensures.len))
           (subst (λ rs. IsTree PART c.raise.new.nodes (marks_of rs)) c.as_slice.ensures.value c.raise.ensures);
       sums = λ e. absurd (each_not_leaves e);
-      quiet = λ e. ap (list_any is_waiting) (seen-of-plain (CHUNK / PART) same (slots_of records) flags ∙ ap slots_of cells ∙ slots-same c.args.cells (Free 0 NONE)) ∙ none-same is_waiting c.args.cells (slot_of (Free 0 NONE)) refl;
+      waiting = λ k e.
+          let slots : seen same (slots_of records) ≡ replicate c.args.cells (slot_of (Free 0 NONE)) = seen-of-plain (CHUNK / PART) same (slots_of records) flags ∙ ap slots_of cells ∙ slots-same c.args.cells (Free 0 NONE) in
+          absurd (none-at (seen same (slots_of records)) 0 (k + 1) k
+          (ap (λ xs. list_any is_waiting (take (k + 1) (drop 0 xs))) slots ∙ none-take is_waiting (k + 1) (drop 0 (replicate c.args.cells (slot_of (Free 0 NONE))))
+          (none-drop is_waiting 0 (replicate c.args.cells (slot_of (Free 0 NONE))) (none-same is_waiting c.args.cells (slot_of (Free 0 NONE)) refl))) (omega arith) (omega arith) e);
     })
 
 pub returns : goal.returns

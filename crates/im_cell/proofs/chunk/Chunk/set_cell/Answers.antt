@@ -1,11 +1,9 @@
 use Rattle.std.proofs.Common.{◌≡◌, ◌<◌, length, set, ap, sym, subst, ◌∙◌, arith}
 use Rattle.std.specs.Prelude.{IsSome}
-use Rattle.std.specs.List.{list_any}
-use Rattle.im_cell.specs.Slots.{slot_at, is_waiting, with_cell}
+use Rattle.im_cell.specs.Slots.{slot_at, with_cell}
 use Rattle.im_cell.specs.Records.{slot_of}
 use Rattle.im_cell.specs.Chunks.{slots_in}
-use Rattle.im_cell.proofs.Kept.{length-slots_in, held-inside, held-with, slots_in-each, slots_in-set, IsKept-set-each, IsChunk-changed, each_not_leaves}
-use Rattle.im_cell.proofs.Same.{none-set}
+use Rattle.im_cell.proofs.Kept.{length-slots_in, held-inside, held-with, slots_in-each, slots_in-set, IsKept-set-each, IsChunk-set, each_not_leaves}
 use Rattle.im_cell.proofs.Seen.{slot-there}
 use Rattle.im_cell.proofs.chunk.Chunk.set_cell.Goals as goal
 
@@ -28,10 +26,9 @@ invariant_of-self c =
     c.with-new.ensures ∙ ap (with_cell c.args.cell) (ap slot_of c.index.ensures ∙ slot-there was.records.items c.args.at c.index.result.now inside
     ∙ ap (λ s. slot_at s c.args.at) (sym (slots_in-each was.kept was.same.items was.records.items was.nodes.items c.in-Each.is c.self.invariant.cells))) in
     let some : IsSome (slot_of new) = subst IsSome (sym is) (held-with (slot_at all c.args.at) c.args.cell held) in
-    IsChunk-changed was.kept was.same.items was.records.items was.nodes.items was.sum was.kept was.same.items (set was.records.items c.args.at new) was.nodes.items was.sum was.waits c.is_waiting.result new c.self.invariant
-    (IsKept-set-each was.kept was.same.items was.records.items was.nodes.items c.args.at new c.in-Each.is c.self.invariant.cells held some) (λ e. absurd (each_not_leaves (sym c.in-Each.is ∙ e))) c.is_waiting.ensures
-    (λ none quiet. ap (list_any is_waiting) (slots_in-set was.kept was.same.items was.records.items was.nodes.items c.args.at new c.in-Each.is c.self.invariant.cells)
-    ∙ none-set is_waiting all c.args.at (slot_of new) none quiet)
+    IsChunk-set was.kept was.same.items was.records.items was.nodes.items was.sum was.kept was.same.items (set was.records.items c.args.at new) was.nodes.items was.sum was.waits c.with-self-inside.result c.args.at new c.is_waiting.result
+    c.self.invariant (IsKept-set-each was.kept was.same.items was.records.items was.nodes.items c.args.at new c.in-Each.is c.self.invariant.cells held some) (λ e. absurd (each_not_leaves (sym c.in-Each.is ∙ e)))
+    c.with-self-inside.ensures.kept c.is_waiting.ensures c.with-self-inside.ensures.new (slots_in-set was.kept was.same.items was.records.items was.nodes.items c.args.at new c.in-Each.is c.self.invariant.cells)
 
 pub returns-in-Each : goal.returns-in-Each
 returns-in-Each c =
