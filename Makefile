@@ -1,4 +1,4 @@
-.PHONY: check test imem examples demo clients library install c-examples try try-tests
+.PHONY: check test imem examples demo clients library install c-examples trials try try-tests
 
 # What the gate can't see, in seconds: documents against the sources, links, layout, what stands twice.
 check:
@@ -34,6 +34,10 @@ install:
 # Programs in C, Rust and Python that use it, what they print compared with what lies beside them.
 c-examples: library
 	scripts/c-examples
+
+# What needs a program built, one after another: none of it is in the gate. A trial whose tool isn't there is skipped.
+trials: imem
+	scripts/trials
 
 # Every story, with no proof.
 try-tests:
