@@ -2,12 +2,21 @@
 import re
 from dataclasses import dataclass, field
 from pathlib import Path
+from typing import NamedTuple
 
 TOP = Path(__file__).resolve().parent.parent
 FUNCTION = re.compile(r"( *)(pub(?:\([a-z]+\))? )?(?:unsafe )?(?:extern \"C\" )?fn (\w+)")
 OWNER = re.compile(r"(?:pub )?(impl|trait)\b(?:<[^{]*?>)? *(?:[^{]* for )?(\w+)")
 CLAUSE = re.compile(r"\s*(requires|ensures)\*? *(\w*) *\{")
+TYPE = re.compile(r"^(?:pub(?:\([a-z]+\))? )?(?:struct|enum|trait) (\w+)", re.M)
+DEFINITION = re.compile(r"^(?:abbrev pub|unfoldable pub|pub record|pub data|pub) (?!mod |use )([^\s:({]+)", re.M)
 LEMMA = re.compile(r"(|  )(?:(?:pub|abbrev|unfoldable) )*([^\s:(){},|]+) : ")
+
+
+class Clause(NamedTuple):
+    kind: str  # requires or ensures
+    label: str  # "" where it has none
+    fact: str  # what stands between its braces, in one line
 
 
 @dataclass
@@ -18,9 +27,18 @@ class Function:
     owner: str
     name: str
     is_public: bool
-    clauses: list = field(default_factory=list)  # of each: requires or ensures, and its label, "" where it has none
+    clauses: list = field(default_factory=list)
     body: str = ""
     text: str = ""
+
+    @property
+    def lines(self):
+        return self.text.count("\n") + 1
+
+    @property
+    def parameters(self):
+        """How many values it takes, `self` among them."""
+        return sum(bool(it.strip()) for it in split(within(self.text, self.text.index(self.name) + len(self.name))))
 
     def path(self):
         return "::".join(it for it in (self.crate, self.owner, self.name) if it)
@@ -56,16 +74,69 @@ def functions(crate, top=TOP):
 
 
 def function(crate, path, lines, at, found, owner, is_trait):
-    space, start = found[1], at
-    while not (lines[at] in (f"{space}{{", f"{space}{{}}") or lines[at].endswith((";", " {}")) or opens(lines[at], space)):
+    space, start, depth = found[1], at, lines[at].count("{") - lines[at].count("}")
+    while not (lines[at] in (f"{space}{{", f"{space}{{}}") or lines[at].endswith(" {}") or ends(lines[at], depth) or opens(lines[at], space)):
         at += 1
+        depth += lines[at].count("{") - lines[at].count("}")
     head, begin = lines[start : at + 1], at
     if lines[at].endswith("{"):
         while lines[at] != f"{space}}}":
             at += 1
-    clauses = [(it[1], it[2]) for it in map(CLAUSE.match, head) if it]
+    clauses = list(clauses_of(head))
     body, text = "\n".join(lines[begin + 1 : at]), "\n".join(lines[start : at + 1])
     return Function(crate, path.name, start + 1, owner, found[3], bool(found[2]) or is_trait, clauses, body, text)
+
+
+def clauses_of(head):
+    """The clauses of a signature, each from its head to the line before the next one, or the body."""
+    starts = [at for at, line in enumerate(head) if CLAUSE.match(line)]
+    for start, end in zip(starts, [*starts[1:], len(head)]):
+        found = CLAUSE.match(head[start])
+        lines = [head[start][found.end() :], *(it for it in head[start + 1 : end] if it.strip() not in ("{", "{}"))]
+        fact = " ".join(it.partition("//")[0].strip() for it in lines)
+        yield Clause(found[1], found[2], fact.strip().removesuffix(";").removesuffix("}").strip())
+
+
+def within(text, at):
+    """What stands in the first parentheses from there on that no angle brackets hold."""
+    depth, begin, plain = 0, None, text.replace("->", "  ")
+    for end in range(at, len(plain)):
+        sign = plain[end]
+        if sign == "(" and not depth:
+            begin = end + 1
+        depth += (sign in "(<[") - (sign in ")>]")
+        if begin and not depth:
+            return plain[begin:end]
+    return ""
+
+
+def split(text):
+    """The parts of a list between its commas, those in brackets aside."""
+    depth, parts = 0, [""]
+    for sign in text:
+        depth += (sign in "(<[{") - (sign in ")>]}")
+        if sign == "," and not depth:
+            parts.append("")
+        else:
+            parts[-1] += sign
+    return parts
+
+
+def types(crate, top=TOP):
+    """The types and traits of a crate's sources: name and file."""
+    for path in sorted((top / "crates" / crate / "src").rglob("*.rt")):
+        yield from ((name, path.name) for name in TYPE.findall(path.read_text()))
+
+
+def definitions(crate, top=TOP):
+    """The definitions of a crate's specs/: name and file."""
+    for path in sorted((top / "crates" / crate / "specs").rglob("*.antt")):
+        yield from ((name, path.name) for name in DEFINITION.findall(path.read_text()))
+
+
+def ends(line, depth):
+    """Whether a signature without a body ends here, and no record of a clause does."""
+    return line.endswith(";") and not depth
 
 
 def opens(line, space):
