@@ -1,0 +1,176 @@
+#!/usr/bin/env python3
+"""Tests how edits.py reads edits and the prover's words, on what the prover said of some edits (kept/).
+
+usage: scripts/test_edits.py      from anywhere in a checkout
+"""
+import tempfile
+import unittest
+from pathlib import Path
+
+import edits
+
+KEPT = Path(__file__).resolve().parent / "kept"
+# The functions that the kept words are about, as far as it matters, each at the line that they name.
+SOURCES = {
+    "crates.txt": "im_disk:\nim_arena:\n",
+    "crates/im_arena/src/lib.rt": "\n" * 71
+    + """impl Arena {
+    pub fn list_count(&self) -> u32
+        ensures { result ≡ length self.now.held.lists }
+    {
+        self.nodes.len() as u32
+    }
+
+    pub fn node_count(&self) -> u32
+        ensures { result ≡ self.now.held.nodes }
+    {
+        self.free
+    }
+
+
+
+
+
+
+
+
+
+
+
+    pub fn is_full(&self) -> bool
+        ensures { IsTrue result ↔ (free self.now.held ≡ 0) }
+    {
+        self.free_count() == 1
+    }
+}
+""",
+    "crates/im_disk/src/gate.rt": "\n" * 14
+    + """pub fn open_gate<D: Disk>(disk: &mut D, at: usize) -> Result<(), DeviceFault>
+    requires inside { at + 1 ≤ length (D.now disk.old).bytes }
+    ensures opened { OnOk result (IsOpen disk.new) }
+    ensures calls { CallsBy D.past disk.old disk.new 3 result }
+{
+    disk.sync()
+}
+""",
+}
+
+
+class WithSources(unittest.TestCase):
+    def setUp(self):
+        folder = tempfile.TemporaryDirectory()
+        self.addCleanup(folder.cleanup)
+        self.top = Path(folder.name)
+        for file, text in SOURCES.items():
+            (self.top / file).parent.mkdir(parents=True, exist_ok=True)
+            (self.top / file).write_text(text)
+
+    def words(self, crate, name):
+        return edits.read_words((KEPT / name).read_text(), crate, self.top)
+
+
+class Goals(unittest.TestCase):
+    """Whether a goal is of what an edit is meant to break."""
+
+    def look(self, what, goals, others):
+        for goal in goals:
+            self.assertTrue(edits.is_of(goal, what), f"{goal} is of {what}")
+        for goal in others:
+            self.assertFalse(edits.is_of(goal, what), f"{goal} is not of {what}")
+
+    def test_a_clause_by_its_whole_label(self):
+        goals = ["returns-clause-opened", "returns-in_err-sync-clause-opened", "returns-then-contains-3-clause-opened-2"]
+        others = ["returns", "returns-clause-opened_later", "write_at-requires-clause-opened", "loop-opened-init", "returns-opened"]
+        self.look("opened", goals, others)
+
+    def test_an_only_clause(self):
+        self.look("returns", ["returns", "returns-in-Ok"], ["loop-at-init", "note-requires", "returns-in-note-requires"])
+
+    def test_what_a_call_requires(self):
+        self.look("requires put_in_force ready", ["put_in_force-requires-clause-ready"], ["put_in_force-requires", "returns-clause-ready"])
+        self.look("requires note", ["note-requires", "in_ok-note-requires"], ["note-requires-clause-at", "footnote-requires"])
+
+    def test_loops_invariants_and_bounds(self):
+        self.look("loop i", ["loop-i-init", "loop-i-preserved"], ["loop-item-init", "invariant_of-self"])
+        self.look("loop", ["loop-init", "loop-i-preserved"], ["returns"])
+        self.look("invariant", ["invariant_of-result", "invariant_of-self-in-Err"], ["invariant-loop-i"])
+        self.look("overflow", ["overflow_add-at"], ["returns-clause-overflow"])
+
+
+class Words(WithSources):
+    """What the prover says of an edit."""
+
+    def test_a_name_that_is_gone_is_no_goal(self):
+        said = self.words("im_disk", "open_gate.txt")
+        self.assertEqual(said.goals, {"gate::open_gate": ["returns-clause-opened", "returns-clause-leaves"]})
+        self.assertEqual(said.gone, {"gate::open_gate": ["returns-in_err-write_at-clause-leaves"]})
+        self.assertEqual(said.open_at("gate::open_gate", "opened"), ["returns-clause-opened"])
+        self.assertEqual(said.open_at("gate::open_gate", "calls"), [])
+        self.assertTrue(said.missed("gate::open_gate", "calls").startswith("BAD: refused, but not at calls of gate::open_gate; open: "))
+
+    def test_each_of_several_functions_has_its_own_goals(self):
+        said = self.words("im_arena", "several_at_once.txt")
+        goals = {
+            "Arena::free_count": ["returns-clause-free", "returns-clause-sum"],
+            "Arena::is_full": ["returns"],
+            "Arena::node_count": ["returns"],
+            "Arena::list_count": ["returns"],
+            "Arena::len": ["returns-then-node"],
+            "Arena::waiters": ["from-requires", "returns"],
+            "pairs::hand_over": ["returns-clause-lists"],
+        }
+        self.assertEqual(said.goals, goals)
+        self.assertEqual(said.gone, {})
+        self.assertEqual(said.open_at("Arena::waiters", "requires from"), ["from-requires"])
+        self.assertIn("refused, but not in Arena::pop_front", said.missed("Arena::pop_front", "first"))
+
+    def test_a_note_tells_of_the_function_at_its_line_alone(self):
+        note = "note: src/lib.rt:73:5: it is not proved that what the function ensures holds when it returns (`returns`); more\n"
+        said = edits.read_words(note + "fn im_arena::Arena::list_count: not proved\nfn im_arena::Arena::is_full: not proved\n", "im_arena", self.top)
+        self.assertEqual(said.goals, {"Arena::list_count": ["returns"]})
+
+    def test_only_names_that_are_gone_are_no_refusal(self):
+        lines = (KEPT / "open_gate.txt").read_text().splitlines()
+        left = [it for it in lines if "`returns-clause-" not in it]
+        said = edits.read_words("\n".join(left), "im_disk", self.top)
+        self.assertEqual(said.goals, {})
+        self.assertIn("names what it no longer has", said.missed("gate::open_gate", "opened"))
+
+    def test_proved_is_no_verdict_of_refusal(self):
+        self.assertFalse(edits.is_verdict("only=1 proved=1\n"))
+        self.assertTrue(edits.is_verdict("fn im_disk::gate::open_gate: not proved\n"))
+        self.assertTrue(edits.is_verdict("logic=not-proved functions=3\n"))
+
+    def test_code_that_cannot_be_read_shows_nothing(self):
+        said = edits.read_words("src/gate.rt:9:5: error: expected a semicolon\n", "im_disk", self.top)
+        self.assertEqual(said.unread_in({"src/gate.rt"}), "expected a semicolon")
+        self.assertIsNone(self.words("im_disk", "open_gate.txt").unread_in({"src/gate.rt"}))
+
+
+class Edits(WithSources):
+    """What an edit says of itself."""
+
+    def test_the_lines_of_an_edit(self):
+        with tempfile.TemporaryDirectory() as folder:
+            path = Path(folder) / "take-gives_two.edit"
+            path.write_text("# breaks: shelf::take requires give some\nfile: src/shelf.rt\nold: a\nnew: b\nold: c\nnew:\n")
+            self.assertEqual(edits.breaks(path), [("shelf::take", "requires give some")])
+            self.assertEqual(list(edits.pairs(path)), [("src/shelf.rt", "a", "b"), ("src/shelf.rt", "c", "")])
+
+    def test_what_there_is_to_break(self):
+        known = edits.Known(self.top)
+        for what in ("opened", "calls", "loop at", "requires write_at", "requires open_gate inside"):
+            self.assertIsNone(known.why_not("im_disk", "gate::open_gate", what))
+        wrong = {
+            "shut": "gate::open_gate has no clause `shut`",
+            "inside": "gate::open_gate has no clause `inside`",
+            "returns": "gate::open_gate has 2 clauses: say which",
+            "requires open_gate shut": "open_gate requires no `shut`",
+        }
+        for what, why in wrong.items():
+            self.assertEqual(known.why_not("im_disk", "gate::open_gate", what), why)
+        self.assertEqual(known.why_not("im_disk", "gate::no_gate", "opened"), "there is no function gate::no_gate")
+
+
+if __name__ == "__main__":
+    unittest.main()
