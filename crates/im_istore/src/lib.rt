@@ -5,7 +5,7 @@
 //! say what a call does to them by the definitions of `im_types`.
 #![tactic(auto)]
 
-ghost use Rattle.std.specs.Prelude.{◌≡◌, ◌≢◌, ◌<◌, ◌++◌, [], List, Option, length, drop, slice_get, IfNone, ◌+◌, ◌≤◌};
+ghost use Rattle.std.specs.Prelude.{◌≡◌, ◌≢◌, ◌<◌, ◌++◌, ◌∷◌, [], List, Option, length, drop, slice_get, slice_set, IsSome, IfNone, ◌+◌, ◌≤◌};
 ghost use Rattle.std.specs.Prelude.{ℕ, Err, IfSome, vec_len, vec_capacity};
 ghost use Rattle.im_types.specs.declared.operations.Kind.TheVariants.{I};
 ghost use Rattle.im_types.specs.declared.operations.Op.TheVariants.{Fetch, Store};
@@ -14,8 +14,8 @@ ghost use Rattle.im_types.specs.declared.operations.Reply.TheVariants.{Stored};
 ghost use Rattle.im_types.specs.declared.operations.Entry.TheVariants.{Answered, Waiting};
 ghost use Rattle.im_types.specs.Act.{act};
 ghost use Rattle.im_cell.specs.declared.slots.Slot.{Slot};
-ghost use Rattle.im_cell.specs.Slots.{slot_at};
-ghost use Rattle.im_arena.specs.Lists.{list_at, with_list, free, IsPopped};
+ghost use Rattle.im_cell.specs.Slots.{slot_at, with_cell};
+ghost use Rattle.im_arena.specs.Lists.{list_at, with_list, free, IsPushed, IsPopped};
 ghost use Rattle.im_istore.specs.Joined.{cells_of};
 ghost use Rattle.im_istore.specs.Agreement.{Agree, AgreeBut};
 ghost use Rattle.im_istore.specs.Access.{access_in, askers_of, replies_to};
@@ -27,6 +27,7 @@ use im_types::{Cell, Entry, Kind, Reply, Waiter};
 
 /// The cell at an address in a block of this kind. `NoCell` where the address lies in no block, which includes each
 /// address past the last cell; else `WrongKind` where the block is of the other kind.
+#[inline(always)]
 pub fn look(table: &CellTable, a: u32, kind: Kind) -> Result<Cell, Reply>
     ensures { result ≡ access_in kind (slot_at table.now a) }
 {
@@ -39,9 +40,24 @@ pub fn look(table: &CellTable, a: u32, kind: Kind) -> Result<Cell, Reply>
     Ok(slot.cell)
 }
 
+/// Puts `who` behind those who wait for the cell at an address, which is in a block and has no value. It takes a node.
+#[inline(never)]
+pub fn wait(table: &mut CellTable, arena: &mut Arena, a: u32, who: Waiter)
+    requires some { IsSome (slot_at table.old a) }
+    requires inside { a < length arena.old.held.lists }
+    requires room { 0 < free arena.old.held }
+    ensures cells { table.new ≡ slice_set table.old a (with_cell Cell.Waiting (slot_at table.old a)) }
+    ensures waiters { arena.new.held ≡ with_list arena.old.held a (list_at arena.old.held a ++ who ∷ []) }
+    ensures links { IsPushed a arena.old arena.new }
+{
+    table.set(a, Cell::Waiting);
+    let _ = arena.push_back(a, who);
+}
+
 /// Reads the cell at an address for `who`: a full one gives its value, and where there is none yet, `who` waits behind
 /// those who wait. It takes a node where `who` waits.
 #[tactic(auto, using(crate::proofs::Cells::there))]
+#[inline(always)]
 pub fn fetch(table: &mut CellTable, arena: &mut Arena, a: u32, who: Waiter) -> Entry
     requires agree { Agree table.old arena.old }
     requires room { 0 < free arena.old.held }
@@ -63,8 +79,7 @@ pub fn fetch(table: &mut CellTable, arena: &mut Arena, a: u32, who: Waiter) -> E
         Cell::Full(value) => Entry::Answered(Reply::Value(value)),
         Cell::Clashed(_) => Entry::Answered(Reply::Clash),
         _ => {
-            table.set(a, Cell::Waiting);
-            let _ = arena.push_back(a, who);
+            wait(table, arena, a, who);
             Entry::Waiting
         }
     }
@@ -74,6 +89,7 @@ pub fn fetch(table: &mut CellTable, arena: &mut Arena, a: u32, who: Waiter) -> E
 /// [`next_reader`] hands them out, and each of them gets the value. A cell that has a value keeps it, and is clashed.
 /// The two are for who answers each reader at once; what they come to, [`store_and_drain`] says.
 #[tactic(auto, using(crate::proofs::Cells::there))]
+#[inline(always)]
 pub fn store(table: &mut CellTable, arena: &Arena, a: u32, value: u64) -> Reply
     requires { Agree table.old arena.now }
 
@@ -114,6 +130,7 @@ pub fn store(table: &mut CellTable, arena: &Arena, a: u32, value: u64) -> Reply
 
 /// Takes the first reader off the list of a cell that a store made full, and gives its node back; `None` where no
 /// reader is left, and then cells and lists agree again.
+#[inline(always)]
 pub fn next_reader(arena: &mut Arena, a: u32) -> Option<Waiter>
     requires { a < length arena.old.held.lists }
     ensures first { result ≡ slice_get (list_at arena.old.held a) 0 }

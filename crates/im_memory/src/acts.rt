@@ -89,6 +89,7 @@ fn put(table: &mut CellTable, arena: &mut Arena, a: u32, value: u64) -> Acted
 }
 
 // A new block.
+#[inline(never)]
 fn allocate(table: &mut CellTable, arena: &Arena, kind: Kind, n: u32) -> Acted
     requires { Agree table.old arena.now }
     ensures acted { HasActed table.new arena.now result (allocate (cells_of table.old arena.now) kind n) }
@@ -118,6 +119,7 @@ fn reason(table: &CellTable, arena: &Arena, a: u32) -> Reply
 }
 
 // The end of a block.
+#[inline(never)]
 fn release(table: &mut CellTable, arena: &Arena, a: u32) -> Acted
     requires { Agree table.old arena.now }
     ensures acted { let cells = cells_of table.old arena.now in HasActed table.new arena.now result
@@ -134,6 +136,7 @@ fn release(table: &mut CellTable, arena: &Arena, a: u32) -> Acted
 }
 
 // A block whose cells are all empty from now on.
+#[inline(never)]
 fn reset(table: &mut CellTable, arena: &Arena, a: u32) -> Acted
     requires { Agree table.old arena.now }
     ensures acted { let cells = cells_of table.old arena.now in HasActed table.new arena.now result
@@ -150,6 +153,7 @@ fn reset(table: &mut CellTable, arena: &Arena, a: u32) -> Acted
 }
 
 /// An operation of an asker on the cells. Where it may have to wait, there is a free node for it.
+#[inline(always)]
 pub fn act(table: &mut CellTable, arena: &mut Arena, who: Waiter, op: Op) -> Acted
     requires agree { Agree table.old arena.old }
     requires room { 0 < free arena.old.held }

@@ -95,9 +95,7 @@ fn touch_cells(base: u32, n: u32, pages: &mut PageSet)
     if n == 0 {
         return;
     }
-    for page in page_of_cell(base)..page_of_cell(base + n - 1) + 1 {
-        pages.add(page);
-    }
+    pages.add_range(page_of_cell(base), page_of_cell(base + n - 1) + 1);
 }
 
 // The nodes that a new waiter changes: the one that it takes, and the last one before it, which will link to it.

@@ -5,14 +5,14 @@
 //! Contracts say what a call does to the cells by the definitions of `im_types`.
 #![tactic(auto)]
 
-ghost use Rattle.std.specs.Prelude.{◌≡◌, ◌≢◌, ◌<◌, ◌∷◌, [], ℕ, length, slice_get, Err, MatchOption};
+ghost use Rattle.std.specs.Prelude.{◌≡◌, ◌≢◌, ◌<◌, ◌∷◌, [], ℕ, length, drop, slice_get, slice_set, Err, IsSome, MatchOption};
 ghost use Rattle.im_types.specs.declared.operations.Kind.TheVariants.{M};
 ghost use Rattle.im_types.specs.declared.operations.Reply.{Reply};
 ghost use Rattle.im_types.specs.declared.operations.Op.TheVariants.{Take, Put};
 ghost use Rattle.im_types.specs.declared.operations.Entry.TheVariants.{Answered};
 ghost use Rattle.im_types.specs.Act.{act};
-ghost use Rattle.im_cell.specs.Slots.{slot_at};
-ghost use Rattle.im_arena.specs.Lists.{list_at, free, IsPopped};
+ghost use Rattle.im_cell.specs.Slots.{slot_at, with_cell};
+ghost use Rattle.im_arena.specs.Lists.{list_at, with_list, free, IsPopped};
 ghost use Rattle.im_istore.specs.Joined.{cells_of};
 ghost use Rattle.im_istore.specs.Agreement.{Agree};
 ghost use Rattle.im_istore.specs.Access.{access_in, replies_to};
@@ -21,7 +21,7 @@ ghost use Rattle.im_mstore.specs.Access.{open_cell};
 
 use im_arena::Arena;
 use im_cell::CellTable;
-use im_istore::look;
+use im_istore::{look, wait};
 use im_types::{Cell, Entry, Kind, Reply, Waiter};
 
 // The cell without a value that those on this list wait for.
@@ -36,9 +36,26 @@ fn open_cell(arena: &Arena, list: u32) -> Cell
     }
 }
 
+// Takes the first off the list of those who wait for a cell in a block. The cell waits on where others are left.
+#[inline(never)]
+fn first_taker(table: &mut CellTable, arena: &mut Arena, a: u32) -> Option<Waiter>
+    requires some { IsSome (slot_at table.old a) }
+    requires inside { a < length arena.old.held.lists }
+    ensures first { result ≡ slice_get (list_at arena.old.held a) 0 }
+    ensures rest { arena.new.held ≡ with_list arena.old.held a (drop 1 (list_at arena.old.held a)) }
+    ensures cells { table.new
+        ≡ slice_set table.old a (with_cell (open_cell (list_at arena.new.held a)) (slot_at table.old a)) }
+    ensures links { MatchOption result (arena.new ≡ arena.old) (λ _. IsPopped a arena.old arena.new) }
+{
+    let taker = arena.pop_front(a);
+    table.set(a, open_cell(arena, a));
+    taker
+}
+
 /// Takes the value of the cell at an address for `who`, and leaves the cell empty; where there is no value yet, `who`
 /// waits behind those who wait. It takes a node where `who` waits.
 #[tactic(auto, using(im_istore::proofs::Cells::there))]
+#[inline(always)]
 pub fn take(table: &mut CellTable, arena: &mut Arena, a: u32, who: Waiter) -> Entry
     requires agree { Agree table.old arena.old }
     requires room { 0 < free arena.old.held }
@@ -60,8 +77,7 @@ pub fn take(table: &mut CellTable, arena: &mut Arena, a: u32, who: Waiter) -> En
         }
         Cell::Clashed(_) => Entry::Answered(Reply::Clash),
         _ => {
-            table.set(a, Cell::Waiting);
-            let _ = arena.push_back(a, who);
+            wait(table, arena, a, who);
             Entry::Waiting
         }
     }
@@ -70,6 +86,7 @@ pub fn take(table: &mut CellTable, arena: &mut Arena, a: u32, who: Waiter) -> En
 /// Gives a value to the first of those who wait for the cell at an address, who comes with the answer and whose node is
 /// given back; where nobody waits, the cell keeps the value. A cell that has a value keeps that, and is clashed.
 #[tactic(auto, using(im_istore::proofs::Cells::there))]
+#[inline(always)]
 pub fn put(table: &mut CellTable, arena: &mut Arena, a: u32, value: u64) -> (Reply, Option<Waiter>)
     requires { Agree table.old arena.old }
 
@@ -102,8 +119,7 @@ pub fn put(table: &mut CellTable, arena: &mut Arena, a: u32, value: u64) -> (Rep
             (Reply::Stored, None)
         }
         Cell::Waiting => {
-            let taker = arena.pop_front(a);
-            table.set(a, open_cell(arena, a));
+            let taker = first_taker(table, arena, a);
             (Reply::Stored, taker)
         }
     }

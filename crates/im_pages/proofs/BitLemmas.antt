@@ -33,15 +33,15 @@ same_bits words n bits long each =
 
 -- ---- one word
 
-at_word : (words : List ℕ) (i v bit : ℕ) → i < length words → bit / 64 ≡ i → is_set (set words i v) bit ≡ (bit_at v (bit % 64) == 1)
+pub at_word : (words : List ℕ) (i v bit : ℕ) → i < length words → bit / 64 ≡ i → is_set (set words i v) bit ≡ (bit_at v (bit % 64) == 1)
 unfolding is_set
 at_word words i v bit lt same = ap (λ x. bit_at x (bit % 64) == 1) (ap (λ k. get_or (set words i v) k 0) same ∙ get_or-set_same words i v 0 lt)
 
-at_other : (words : List ℕ) (i v bit : ℕ) → bit / 64 ≢ i → is_set (set words i v) bit ≡ is_set words bit
+pub at_other : (words : List ℕ) (i v bit : ℕ) → bit / 64 ≢ i → is_set (set words i v) bit ≡ is_set words bit
 unfolding is_set
 at_other words i v bit apart = ap (λ x. bit_at x (bit % 64) == 1) (get_or-set_other words i (bit / 64) v 0 apart)
 
-old_word : (words : List ℕ) (i bit : ℕ) → bit / 64 ≡ i → is_set words bit ≡ (bit_at (get_or words i 0) (bit % 64) == 1)
+pub old_word : (words : List ℕ) (i bit : ℕ) → bit / 64 ≡ i → is_set words bit ≡ (bit_at (get_or words i 0) (bit % 64) == 1)
 unfolding is_set
 old_word words i bit same = ap (λ k. bit_at (get_or words k 0) (bit % 64) == 1) same
 

@@ -1,2 +1,3 @@
 pub mod BitLemmas
+pub mod RangeLemmas
 pub mod SetLemmas

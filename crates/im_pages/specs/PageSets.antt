@@ -1,5 +1,5 @@
 -- Sets of pages, one truth value a page, by the page's number. (Own.)
-use Rattle.std.specs.Prelude.{◌≡◌, ℕ, suc, ◌+◌, ◌<◌, ◌≤◌, List, [], ◌∷◌, Bool, true, false, ◌||◌, drop, length, slice_index_or, slice_set}
+use Rattle.std.specs.Prelude.{◌≡◌, ℕ, zero, suc, ◌+◌, ◌<◌, ◌≤◌, List, [], ◌∷◌, Bool, true, false, ◌||◌, drop, length, slice_index_or, slice_set}
 
 -- whether a page is in a set; a page past its end counts as one that is
 abbrev pub has : List Bool → ℕ → Bool
@@ -8,6 +8,11 @@ has set page = slice_index_or set page true
 -- a set with a page more
 abbrev pub with_page : List Bool → ℕ → List Bool
 with_page set page = slice_set set page true
+
+-- a set with so many pages more, from this one on
+abbrev pub with_pages : List Bool → ℕ → ℕ → List Bool
+with_pages set page zero = set
+with_pages set page (suc n) = with_pages (with_page set page) (suc page) n
 
 -- the pages of either of two sets
 abbrev pub union : List Bool → List Bool → List Bool

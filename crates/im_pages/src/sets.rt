@@ -1,10 +1,10 @@
 //! Sets of pages.
-ghost use Rattle.std.specs.Prelude.{◌≡◌, ◌+◌, ◌≤◌, length, replicate, true, false, MatchOption, IfOk, IfErr};
+ghost use Rattle.std.specs.Prelude.{◌≡◌, ℕ, ◌+◌, ◌-◌, ◌<◌, ◌≤◌, length, replicate, true, false, MatchOption, IfOk, IfErr};
 ghost use Rattle.im_types.specs.Layout as layout;
 ghost use Rattle.im_types.specs.Layout.{layout_in_use, sizes_of};
-ghost use Rattle.im_pages.specs.PageSets.{has, with_page, union, size_of, IsWithin, IsNext, HasNoneFrom};
+ghost use Rattle.im_pages.specs.PageSets.{has, with_page, with_pages, union, size_of, IsWithin, IsNext, HasNoneFrom};
 
-use crate::words::{fill_words, first_set, is_set, set_bit, set_bits};
+use crate::words::{fill_words, first_set, is_set, set_bit, set_bits, set_range};
 use im_types::layout::area_pages;
 use im_types::{Limits, Refusal};
 use std::alloc::Global;
@@ -61,6 +61,20 @@ impl PageSet {
     {
         if page < self.pages {
             set_bit(self.words.as_mut_slice(), page);
+        }
+    }
+
+    /// Puts each page from one on, up to another one, into the set. A page past the last one changes nothing.
+    pub fn add_range(&mut self, from: usize, to: usize)
+        ensures state { self.new ≡ with_pages self.old from (to - from) }
+        ensures length { length self.new ≡ length self.old }
+        ensures found { (page : ℕ) → from ≤ page → page < to → has self.new page ≡ true }
+        ensures kept { IsWithin self.old self.new }
+        ensures few { size_of self.new ≤ size_of self.old + (to - from) }
+    {
+        let last = to.min(self.pages);
+        if from < last {
+            set_range(self.words.as_mut_slice(), from, last);
         }
     }
 

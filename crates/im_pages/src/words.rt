@@ -1,5 +1,5 @@
 //! Bits in words of 64, bit n being bit n % 64 of word n / 64.
-ghost use Rattle.std.specs.Prelude.{◌≡◌, ℕ, ◌*◌, ◌/◌, ◌<◌, ◌≤◌, ◌^◌, ◌==◌, ◌||◌, length, replicate, MatchOption};
+ghost use Rattle.std.specs.Prelude.{◌≡◌, ℕ, ◌*◌, ◌-◌, ◌/◌, ◌<◌, ◌≤◌, ◌^◌, ◌==◌, ◌||◌, length, replicate, slice_index_or, true, MatchOption};
 ghost use Rattle.im_pages.specs.Words.{is_set, AreClear, IsFirstSet};
 
 /// Whether a bit is set.
@@ -16,6 +16,38 @@ pub(crate) fn set_bit(words: &mut [u64], at: usize)
     ensures { (bit : ℕ) → is_set words.new bit ≡ (bit == at || is_set words.old bit) }
 {
     words[at / 64] |= 1 << (at % 64);
+}
+
+// Makes each word from one on, up to another one, this one.
+fn fill_between(words: &mut [u64], from: usize, to: usize, word: u64)
+    requires { to ≤ length words.old }
+    ensures found { (k : ℕ) → from ≤ k → k < to → slice_index_or words.new k 0 ≡ word }
+    ensures others { (k : ℕ) → (from ≤ k → k < to → ⊥) →
+        slice_index_or words.new k 0 ≡ slice_index_or words.old k 0 }
+{
+    for at in from..to {
+        words[at] = word;
+    }
+}
+
+/// Sets each bit from one on, up to another one: word by word, but for the first and the last of them.
+pub(crate) fn set_range(words: &mut [u64], from: usize, to: usize)
+    requires order { from < to }
+    requires inside { (to - 1) / 64 < length words.old }
+    ensures found { (bit : ℕ) → from ≤ bit → bit < to → is_set words.new bit ≡ true }
+    ensures others { (bit : ℕ) → (from ≤ bit → bit < to → ⊥) → is_set words.new bit ≡ is_set words.old bit }
+{
+    let first = from / 64;
+    let last = (to - 1) / 64;
+    let low = u64::MAX << (from % 64);
+    let high = u64::MAX >> (63 - (to - 1) % 64);
+    if first == last {
+        words[first] |= low & high;
+        return;
+    }
+    words[first] |= low;
+    fill_between(words, first + 1, last, u64::MAX);
+    words[last] |= high;
 }
 
 /// Sets each bit that is set in other words.
