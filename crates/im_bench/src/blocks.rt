@@ -5,7 +5,7 @@ use im_cell::CellTable;
 use im_types::{Kind, MAX_CELLS, Refusal};
 use std::alloc::Global;
 
-const HOLES: u32 = 32_767;
+const HOLES: u32 = MAX_CELLS / 2 - 1;
 
 fn place_each(table: &mut CellTable, cells: u32, count: u32) -> u64
     requires { 0 < cells }
