@@ -170,6 +170,8 @@ class Known:
             required = sum(self.labels([it for it in self.all if it.name == names[0]], "requires"), [])
             return f"{names[0]} requires no `{names[1]}`" if names[1:] and required and names[1] not in required else None
         ensured = self.labels(found, "ensures")
+        if not any(ensured) and all(it.owner and it.owner != function.split("::")[-2] for it in found):
+            return None  # A trait of a library, whose clauses aren't here.
         if kind == "returns":
             return None if any(len(it) < 2 for it in ensured) else f"{function} has {max(map(len, ensured))} clauses: say which"
         return None if kind in NO_CLAUSES or kind in sum(ensured, []) else f"{function} has no clause `{kind}`"
