@@ -65,11 +65,12 @@ enum lt_refusal {
     LT_NO_ELEMENT = 5,
     LT_NOT_ANSWERED = 6,  /* a confirmation of an entry that waits */
     LT_JOURNAL_FULL = 7,  /* the journal has no room: turns make some */
-    LT_DEVICE = 8,        /* the steps couldn't be listed, or the caller lost one: the image has to be opened again */
+    LT_DEVICE = 8,        /* the steps couldn't be listed, or the caller lost one: the image has to be opened again, and
+                           * where that was a sync, not before its file system is mounted anew or the machine restarted */
     LT_FAILED = 9,        /* an earlier call failed: of no call here, since LT_DEVICE is answered again */
     LT_NO_MEMORY = 10,    /* of lt_memory_new, lt_format, lt_open and lt_inspect */
     LT_WRONG_LENGTH = 12, /* of lt_open and lt_inspect, as the next four: the image's first fault */
-    LT_NO_HEADER = 13,
+    LT_NO_HEADER = 13,    /* never finished, or damaged: no reason to call lt_format on a file that was there */
     LT_BAD_HEADER = 14,
     LT_BAD_PAGE = 15,
     LT_BAD_RECORD = 16,
@@ -120,7 +121,12 @@ void lt_memory_free(struct lt_memory memory);
  * lt_serve_group and lt_turn leaves a list of steps (lt_steps, lt_step_at, lt_step_bytes). The caller carries them out
  * on its file, all of them, in their order, before it tells anybody the answer and before the next such call: that
  * begins a new list, where this one ended. Where it can't carry out a step it calls lt_failed, and opens the file anew.
- * A crash at any moment on the way leaves a file that means the memory before the call or after it. */
+ * A crash at any moment on the way leaves a file that means the memory before the call or after it.
+ *
+ * After a sync that failed the system may show bytes that the disk hasn't got, and the next sync succeeds: the file
+ * isn't opened again before its file system has been mounted anew, or the machine restarted. The file is opened above
+ * descriptor 2, as the program may have been started with one of the first three closed, and would print into the image.
+ * It is the caller's alone by a lock (flock), which children that were forked and duplicates of the descriptor keep. */
 
 /* A handle. Zero bytes hold nothing. */
 struct lt_image {
@@ -163,7 +169,8 @@ enum lt_turn_tag {
 uint64_t lt_image_length(uint32_t cells, uint16_t elements, uint32_t slots);
 
 /* Makes the image of an empty memory: 0, and `next` holds it; else the refusal, and `next` is as it was. The caller's
- * file has the length of lt_image_length, and may hold any bytes. */
+ * file has the length of lt_image_length, and may hold any bytes, which are lost: it is one that the caller has just
+ * made, exclusively (O_EXCL). */
 uint8_t lt_format(uint32_t cells, uint16_t elements, uint32_t slots, struct lt_image *next);
 
 /* Opens the image of these bytes, which are all of the file: 0, and `next` holds it; else the refusal, and `next` is

@@ -9,6 +9,7 @@
 #include <stdlib.h>
 #include <string.h>
 #include <sys/file.h>
+#include <sys/stat.h>
 #include <unistd.h>
 
 static void stop(const char *what, uint8_t refusal) {
@@ -41,7 +42,11 @@ static int carry_out(struct image *image, size_t index) {
     uint8_t *bytes;
     int done = -1;
     lt_step_at(image->held, index, &image->held, &step);
-    if (step.kind == LT_SYNC) return fsync(image->file);
+    if (step.kind == LT_SYNC) {
+        done = fsync(image->file);
+        if (done < 0) fprintf(stderr, "a sync failed: mount the file system anew, or restart, before the image is opened again\n");
+        return done;
+    }
     bytes = calloc((size_t)step.length, 1);
     if (bytes && lt_step_bytes(image->held, index, &image->held, bytes, (size_t)step.length) == 0)
         done = write_all(image->file, bytes, (size_t)step.length, (off_t)step.place);
@@ -58,10 +63,39 @@ static void carry_out_all(struct image *image, size_t count) {
         }
 }
 
+/* Above the three standard descriptors, where one of them was closed: what is printed would else be written into it. */
+static int above(int file) {
+    int kept = file;
+    if (file >= 0 && file < 3) {
+        kept = fcntl(file, F_DUPFD_CLOEXEC, 3);
+        close(file);
+    }
+    return kept;
+}
+
 /* Opens the file, which is this program's alone from then on, as long as the others ask for the lock, as imem does. */
 static int open_alone(const char *path, int flags) {
-    int file = open(path, flags, 0666);
+    int file = above(open(path, O_RDWR | O_CLOEXEC | flags, 0600));
     if (file < 0 || flock(file, LOCK_EX | LOCK_NB) < 0) fail(path);
+    return file;
+}
+
+/* Whether the path is still a name of the open file. */
+static int is_named(int file, const char *path) {
+    struct stat open, named;
+    return fstat(file, &open) == 0 && stat(path, &named) == 0 && open.st_ino == named.st_ino && open.st_dev == named.st_dev;
+}
+
+/* Makes the file in which an image is formed. One that is there was left by a run that was stopped, where its lock is free. */
+static int make_alone(const char *path) {
+    int file;
+    if (access(path, F_OK) == 0) {
+        file = open_alone(path, 0);
+        if (!is_named(file, path) || unlink(path) < 0) fail(path);
+        close(file);
+    }
+    file = open_alone(path, O_CREAT | O_EXCL);
+    if (!is_named(file, path)) fail(path);
     return file;
 }
 
@@ -75,19 +109,31 @@ static void sync_folder(const char *path) {
 }
 
 void image_format(struct image *image, const char *path, uint32_t cells, uint16_t elements, uint32_t slots) {
+    size_t room = strlen(path) + sizeof ".new";
+    char *forming = malloc(room);
     uint8_t refusal = lt_format(cells, elements, slots, &image->held);
     if (refusal) stop("format", refusal);
-    image->file = open_alone(path, O_RDWR | O_CREAT);
-    if (ftruncate(image->file, (off_t)lt_image_length(cells, elements, slots)) < 0) fail(path);
-    sync_folder(path);
+    if (!forming) fail(path);
+    snprintf(forming, room, "%s.new", path);
+    image->file = make_alone(forming);
+    if (ftruncate(image->file, (off_t)lt_image_length(cells, elements, slots)) < 0) fail(forming);
     carry_out_all(image, lt_steps(image->held, &image->held));
+    /* It is whole: it gets its name, where nothing has that. */
+    if (link(forming, path) < 0) {
+        perror(path);
+        unlink(forming);
+        exit(1);
+    }
+    if (unlink(forming) < 0) fail(forming);
+    sync_folder(path);
+    free(forming);
 }
 
 void image_open(struct image *image, const char *path) {
     off_t length;
     uint8_t *bytes, refusal;
     ssize_t done;
-    image->file = open_alone(path, O_RDWR);
+    image->file = open_alone(path, 0);
     length = lseek(image->file, 0, SEEK_END);
     bytes = calloc((size_t)length + 1, 1);
     if (length < 0 || !bytes) fail(path);
@@ -96,6 +142,7 @@ void image_open(struct image *image, const char *path) {
         if (done <= 0) fail(path);
     }
     refusal = lt_open(bytes, (size_t)length, &image->held);
+    if (refusal == LT_NO_HEADER) fprintf(stderr, "%s: damaged, or never an image; it is left as it is\n", path);
     if (refusal) stop("open", refusal);
     free(bytes);
     carry_out_all(image, lt_steps(image->held, &image->held));

@@ -9,7 +9,9 @@ struct image {
     int file;
 };
 
-/* Makes the file anew, and its image; or opens the image of a file that is there. They end the program at a fault. */
+/* Makes an image where nothing has that name: it is formed as PATH.new, and named PATH once it is whole, so a run that is
+ * stopped leaves no half an image under that name. Or opens the image of a file that is there, and never forms one in it.
+ * Both end the program at a fault. */
 void image_format(struct image *image, const char *path, uint32_t cells, uint16_t elements, uint32_t slots);
 void image_open(struct image *image, const char *path);
 

@@ -54,10 +54,35 @@ def inspect(data):
     return text.raw[: length.value].decode()
 
 
-def open_alone(path, flags):
+def open_alone(path, flags=0):
     """The file, which is this program's alone as long as all others ask for the lock, as `imem` does."""
-    file = os.fdopen(os.open(path, os.O_RDWR | flags, 0o666), "r+b")
-    fcntl.flock(file, fcntl.LOCK_EX | fcntl.LOCK_NB)
+    given = os.open(path, os.O_RDWR | flags, 0o600)
+    try:  # Above the standard descriptors, where one was closed: what is printed would else be written into the file.
+        file = os.fdopen(fcntl.fcntl(given, fcntl.F_DUPFD_CLOEXEC, 3), "r+b")
+    finally:
+        os.close(given)
+    try:
+        fcntl.flock(file, fcntl.LOCK_EX | fcntl.LOCK_NB)
+    except OSError:
+        file.close()
+        raise
+    return file
+
+
+def check_name(file, path):
+    """Raises where the path is no longer a name of the open file."""
+    if not os.path.samestat(os.fstat(file.fileno()), os.stat(path)):
+        raise FileExistsError(f"{path}: another program makes it")
+
+
+def make_alone(path):
+    """The file in which an image is formed. One that is there was left by a run that was stopped, where its lock is free."""
+    if os.path.lexists(path):
+        with open_alone(path) as left:
+            check_name(left, path)
+            os.unlink(path)
+    file = open_alone(path, os.O_CREAT | os.O_EXCL)
+    check_name(file, path)
     return file
 
 
@@ -68,6 +93,18 @@ def sync_folder(path):
         os.fsync(folder)
     finally:
         os.close(folder)
+
+
+class SyncFailed(OSError):
+    """What was written may be lost, whatever the next sync says: the image isn't opened again before its file system is
+    mounted anew, or the machine restarted."""
+
+
+def sync(file):
+    try:
+        os.fsync(file)
+    except OSError as error:
+        raise SyncFailed(*error.args) from error
 
 
 class Held(contextlib.AbstractContextManager):
@@ -130,21 +167,35 @@ class Image(Held):
     frees, collects, _file = "lt_close", "lt_collect", None
 
     def __init__(self, path, limits=None):
-        """Opens the image at the path; with limits, cells, elements and slots, it is made anew."""
+        """Opens the image at the path; with limits, cells, elements and slots, it is made where nothing is at the path."""
         super().__init__()
         with contextlib.ExitStack() as undo:
             undo.callback(self.close)
             if limits:
-                passed(LIBRARY.lt_format(*limits, self._handle))
-                self._file = open_alone(path, os.O_CREAT)
-                self._file.truncate(LIBRARY.lt_image_length(*limits))
-                sync_folder(path)
+                self._format(path, limits)
             else:
-                self._file = open_alone(path, 0)
-                data = self._file.read()
-                passed(LIBRARY.lt_open(data, len(data), self._handle))
-            self._carry_out(self._pass("lt_steps"))
+                self._open(path)
             undo.pop_all()
+
+    def _format(self, path, limits):
+        """Forms the image as `PATH.new`, and names it once it is whole: a run that is stopped leaves no half of one."""
+        passed(LIBRARY.lt_format(*limits, self._handle))
+        forming = f"{path}.new"
+        self._file = make_alone(forming)
+        self._file.truncate(LIBRARY.lt_image_length(*limits))
+        self._carry_out(self._pass("lt_steps"))
+        try:
+            os.link(forming, path)  # Where nothing has that name.
+        finally:
+            os.unlink(forming)
+        sync_folder(path)
+
+    def _open(self, path):
+        """Opens the image of a file, and never forms one in it: one that is refused `NoHeader` may be damaged."""
+        self._file = open_alone(path)
+        data = self._file.read()
+        passed(LIBRARY.lt_open(data, len(data), self._handle))
+        self._carry_out(self._pass("lt_steps"))
 
     def close(self):
         super().close()
@@ -164,7 +215,7 @@ class Image(Held):
         step = Step()
         self._pass("lt_step_at", index, to=[step])
         if step.kind != WRITE:
-            return os.fsync(self._file)
+            return sync(self._file)
         data = c.create_string_buffer(step.length)
         self._pass("lt_step_bytes", index, to=[data, step.length])
         self._file.seek(step.place)

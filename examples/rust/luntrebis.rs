@@ -1,8 +1,8 @@
 //! Luntrebis for Rust: an `extern` block, and safe wrappers over it. A program has it as a module.
 
-use std::fs::{File, OpenOptions};
-use std::io::{Error, Read, Result};
-use std::os::unix::fs::FileExt;
+use std::fs::{File, OpenOptions, hard_link, metadata, remove_file};
+use std::io::{Error, ErrorKind, Read, Result};
+use std::os::unix::fs::{FileExt, MetadataExt, OpenOptionsExt};
 use std::path::Path;
 
 #[repr(C)]
@@ -53,6 +53,7 @@ unsafe extern "C" {
 }
 
 const JOURNAL_FULL: u8 = 7;
+const NO_HEADER: u8 = 13;
 const WRITE: u8 = 1;
 
 /// What is asked.
@@ -98,13 +99,38 @@ fn made(call: impl FnOnce(&mut Handle) -> u8) -> Told<Handle> {
 }
 
 fn refused(number: u8) -> Error {
-    Error::other(format!("refused {number}"))
+    match number {
+        NO_HEADER => Error::other("refused 13: damaged, or never an image; it is left as it is"),
+        _ => Error::other(format!("refused {number}")),
+    }
 }
 
-/// The file, which is this program's alone as long as all others ask for the lock, as `imem` does.
+/// The file, which is this program's alone as long as all others ask for the lock, as `imem` does. It is above the three
+/// standard descriptors: Rust opens those that are closed before `main`.
 fn open_alone(way: &mut OpenOptions, path: &str) -> Result<File> {
-    let file = way.read(true).write(true).open(path)?;
+    let file = way.read(true).write(true).mode(0o600).open(path)?;
     file.try_lock()?;
+    Ok(file)
+}
+
+/// Whether the path is still a name of the open file.
+fn check_name(file: &File, path: &str) -> Result<()> {
+    let (open, named) = (file.metadata()?, metadata(path)?);
+    if (open.dev(), open.ino()) == (named.dev(), named.ino()) { Ok(()) } else { Err(ErrorKind::AlreadyExists.into()) }
+}
+
+/// The file in which an image is formed. One that is there was left by a run that was stopped, where its lock is free.
+fn make_alone(path: &str) -> Result<File> {
+    match open_alone(&mut OpenOptions::new(), path) {
+        Ok(left) => {
+            check_name(&left, path)?;
+            remove_file(path)?;
+        }
+        Err(error) if error.kind() == ErrorKind::NotFound => {}
+        Err(error) => return Err(error),
+    }
+    let file = open_alone(OpenOptions::new().create_new(true), path)?;
+    check_name(&file, path)?;
     Ok(file)
 }
 
@@ -157,16 +183,22 @@ pub struct Image {
 }
 
 impl Image {
-    /// Makes the file anew, and the image of an empty memory of so many cells, elements and journal slots.
+    /// Makes the image of an empty memory of so many cells, elements and journal slots, where nothing is at the path. It is
+    /// formed as `PATH.new`, and named once it is whole: a run that is stopped leaves no half of one.
     pub fn format(path: &str, cells: u32, elements: u16, slots: u32) -> Result<Image> {
         let handle = made(|next| unsafe { lt_format(cells, elements, slots, next) }).map_err(refused)?;
-        let file = open_alone(OpenOptions::new().create(true).truncate(false), path)?;
+        let forming = format!("{path}.new");
+        let file = make_alone(&forming)?;
         file.set_len(unsafe { lt_image_length(cells, elements, slots) })?;
+        let image = Image { handle, file }.begin()?;
+        let named = hard_link(&forming, path); // Where nothing has that name.
+        remove_file(&forming)?;
+        named?;
         sync_folder(path)?;
-        Image { handle, file }.begin()
+        Ok(image)
     }
 
-    /// Opens the image of the file.
+    /// Opens the image of the file, and never forms one in it.
     pub fn open(path: &str) -> Result<Image> {
         let mut file = open_alone(&mut OpenOptions::new(), path)?;
         let mut bytes = Vec::new();
@@ -223,7 +255,10 @@ impl Image {
         let mut step = Step::default();
         self.handle.pass(|handle, next| unsafe { lt_step_at(handle, index, next, &mut step) });
         if step.kind != WRITE {
-            return self.file.sync_all();
+            return self.file.sync_all().map_err(|error| {
+                let rule = "mount the file system anew, or restart, before the image is opened again";
+                Error::new(error.kind(), format!("a sync failed: {error}: {rule}"))
+            });
         }
         let mut bytes = vec![0; step.length as usize];
         let (buffer, length) = (bytes.as_mut_ptr(), bytes.len());

@@ -1,8 +1,9 @@
--- A sync that failed has an outcome that the contract of disks allows.
-use Rattle.std.proofs.Common.{◌≡◌, inl, ⊎_elim, ℕ, suc, zero, ◌+◌, nat_lt, nat_le, Bool, true, false, ◌&&◌, ◌||◌, ◌==◌, if◌then◌else◌, List, [], ◌∷◌, length, get_or, refl, ◌∙◌, ap, subst, arith}
+-- A sync or a write that failed has an outcome that the contract of disks allows.
+use Rattle.std.proofs.Common.{◌≡◌, ◌⊎◌, ◌<◌, ◌≤◌, inl, inr, ⊎_elim, ℕ, suc, zero, ◌+◌, nat_lt, nat_le, Bool, true, false, ◌&&◌, ◌||◌, ◌==◌, if◌then◌else◌, List, [], ◌∷◌, length, get_or, refl, ◌∙◌, ap, subst, arith}
 use Rattle.std.proofs.lemmas.Bool.{both_ways, eqb-true, le-ltb, lt-leb, and_parts, and_left, and_right, or_cases}
-use Rattle.im_disk.specs.Moment.{Moment, Outside, Shaken}
-use Rattle.im_disk.specs.Account.{is_inside, are_same_outside, shaken_by}
+use Rattle.im_disk.specs.Moment.{Moment, Outside, Shaken, Torn, overlaid}
+use Rattle.im_disk.specs.Account.{is_inside, are_same_outside, shaken_by, torn_by}
+use Rattle.im_disk.proofs.OverlayLemmas.{length-overlaid, overlaid_outside}
 
 not_inside : (rs : List (ℕ × ℕ)) (i : ℕ) → Outside rs i → is_inside rs i ≡ false
 not_inside [] i out = refl
@@ -42,3 +43,17 @@ shaken_if outcome m false is = record { size = refl; same = λ i out. refl; rang
 
 pub shaken_by_outcome : (outcome : List ℕ) (m : Moment) → Shaken m (shaken_by outcome m)
 shaken_by_outcome outcome m = shaken_if outcome m (are_same_outside m.ranges 0 outcome m.bytes) refl
+
+torn_if : (at n : ℕ) (outcome : List ℕ) (m : Moment) (b : Bool) → (length outcome == n) ≡ b → at + n ≤ length m.bytes → Torn at n m (record { bytes = if b then overlaid m.bytes at outcome else m.bytes; ranges = (at, n) ∷ m.ranges })
+torn_if at n outcome m true is fits =
+    let long : length outcome ≡ n = eqb-true (length outcome) n is in
+    let room : at + length outcome ≤ length m.bytes = omega (arith, long, fits) in
+    record {
+      size = length-overlaid m.bytes at outcome room;
+      same = λ i out. overlaid_outside m.bytes at outcome room i (⊎_elim (λ (low : i < at). inl low) (λ (high : at + n ≤ i). inr (omega (arith, long, high))) out);
+      ranges = refl;
+    }
+torn_if at n outcome m false is fits = record { size = refl; same = λ i out. refl; ranges = refl }
+
+pub torn_by_outcome : (at n : ℕ) (outcome : List ℕ) (m : Moment) → at + n ≤ length m.bytes → Torn at n m (torn_by at n outcome m)
+torn_by_outcome at n outcome m fits = torn_if at n outcome m (length outcome == n) refl fits

@@ -5,4 +5,5 @@ pub mod Record
 pub mod Fuse
 pub mod Gate
 pub mod Account
+pub mod Failing
 pub mod File

@@ -1,12 +1,12 @@
 //! A disk over a file of the operating system.
-ghost use Rattle.std.specs.Prelude.{◌≡◌, ◌∷◌, [], replicate, IsTrue, IfOk};
-ghost use Rattle.im_disk.specs.Moment.{Counts};
+ghost use Rattle.std.specs.Prelude.{◌≡◌, ◌∷◌, [], not, nat_lt, is_some, replicate, IsTrue, IfOk};
 ghost use Rattle.im_disk.specs.Account.{event_of, is_usable};
+ghost use Rattle.im_disk.specs.Failing.{is_of_sync};
 
 use crate::account::Ledger;
-use crate::opening::{made, readable, settled};
-use crate::record::fault;
-use crate::{DeviceFault, Disk, OpenFault, Start};
+use crate::failing::Failing;
+use crate::opening::{made, made_new, readable, removed, settled};
+use crate::{DeviceFault, Disk, Failure, OpenFault, Start};
 use std::fs::File;
 use std::marker::PhantomData;
 use std::os::unix::fs::FileExt;
@@ -39,18 +39,21 @@ pub struct FileDisk<S: Start> {
     len: u64,
     /// No sync has failed, and each length was that one. Else each call fails, and asks nothing of the file.
     usable: bool,
-    failures: u64,
+    failing: Failing,
     ledger: Ledger,
     start: PhantomData<S>,
     ghost held: { IsTrue usable → IsTrue (is_usable ledger.events) },
+    ghost told: { is_of_sync failing.first ≡ not (is_usable ledger.events) },
 }
 
 impl<S: Start> FileDisk<S> {
+    ghost use Rattle.im_disk.specs.File.{has_failed_sync};
+
     /// Makes a file of so many zero bytes at the path, also over one that is there, and puts it and its name on the
     /// disk. It is locked before a byte is changed, for as long as the disk lives.
     ///
-    /// `InUse` where another opening has its lock, and `Device` where what is there is no regular file: then nothing is
-    /// changed. `Device` where another call of the system fails, and what is at the path may then be any file. That the
+    /// `InUse` where another opening has its lock, and `NotFile` where what is there is no regular file: then nothing is
+    /// changed. `System` where a call of the system fails, and what is at the path may then be any file. That the
     /// bytes are zero and none is in doubt is what an honest file would have, as everywhere.
     pub fn create<R: Files<File = File>>(
         rt: &R,
@@ -65,14 +68,33 @@ impl<S: Start> FileDisk<S> {
         ensures honest { IfOk result (λ disk. ⟦<FileDisk<S> as Disk>⟧.honest disk) }
     {
         let file = made(rt, path, len)?;
-        let mut disk = over(file, len as u64, start);
-        note(&mut disk.ledger, &[MADE, len as u64, 1], &[]);
-        Ok(disk)
+        Ok(noted(over(file, len as u64, start), len))
+    }
+
+    /// Makes a file as [`create`](FileDisk::create) does where nothing is at the path, no link either.
+    ///
+    /// `Exists` where something is: then nothing is changed. `System` where a call of the system fails: then the path is
+    /// free again, unless taking the name away failed too. `InUse` where another program has locked the file right after
+    /// it was made: then it is there, empty.
+    pub fn create_new<R: Files<File = File>>(
+        rt: &R,
+        path: &str,
+        len: usize,
+        start: S,
+    ) -> Result<FileDisk<S>, OpenFault>
+        ensures failures { IfOk result (λ disk. ⟦<FileDisk<S> as Disk>⟧.failures disk ≡ 0) }
+        ensures now { IfOk result (λ disk. ⟦<FileDisk<S> as Disk>⟧.now disk
+            ≡ record { bytes = replicate len 0; ranges = [] }) }
+        ensures past { IfOk result (λ disk. ⟦<FileDisk<S> as Disk>⟧.past disk ≡ []) }
+        ensures honest { IfOk result (λ disk. ⟦<FileDisk<S> as Disk>⟧.honest disk) }
+    {
+        let file = made_new(rt, path, len)?;
+        Ok(noted(over(file, len as u64, start), len))
     }
 
     /// Opens the file at the path to read and write it, and puts it on the disk. It is locked for as long as the disk
-    /// lives. `InUse` where another opening has its lock, `Device` where it is no regular file or a call of the system
-    /// fails. Its bytes aren't changed.
+    /// lives. `InUse` where another opening has its lock, `NotFile` where it is no regular file, `Sync` where putting it
+    /// on the disk fails, `System` where another call of the system does. Its bytes aren't changed, and none is read.
     pub fn open<R: Files<File = File>>(
         rt: &R,
         path: &str,
@@ -88,8 +110,8 @@ impl<S: Start> FileDisk<S> {
     }
 
     /// Opens the file at the path to read it alone: each write to it fails. Others may read it at the same time.
-    /// `InUse` where one that writes it has its lock, `Device` where it is no regular file or a call of the system
-    /// fails.
+    /// `InUse` where one that writes it has its lock, `NotFile` where it is no regular file, `System` where a call of the
+    /// system fails. No byte is read.
     pub fn open_to_read<R: Files<File = File>>(
         rt: &R,
         path: &str,
@@ -103,6 +125,21 @@ impl<S: Start> FileDisk<S> {
         let (file, len) = readable(rt, path)?;
         Ok(over(file, len, start))
     }
+
+    /// What failed first since the opening: there is one exactly where the count of failures isn't 0. A sync that failed
+    /// is told instead of what failed before it, as what was written may be lost with no further error.
+    pub fn failure(&self) -> Option<Failure>
+        ensures some { is_some result ≡ nat_lt 0 (⟦<FileDisk<S> as Disk>⟧.failures self.now) }
+        ensures sync { is_of_sync result ≡ has_failed_sync S.Start self.now }
+    {
+        self.failing.first()
+    }
+
+    /// Takes the name at the path away, where it is this file's, and puts that on the disk. `Exists` where another file
+    /// has that name: then nothing is changed. `System` where a call of the system fails.
+    pub fn remove<R: Files<File = File>>(self, rt: &R, path: &str) -> Result<(), OpenFault> {
+        removed(rt, path, &self.file)
+    }
 }
 
 // The disk over a file that was opened. One value of a start is used up for each.
@@ -114,10 +151,22 @@ fn over<S: Start>(file: File, len: u64, _start: S) -> FileDisk<S>
         file,
         len,
         usable: true,
-        failures: 0,
+        failing: Failing::new(),
         ledger: Ledger::new(),
         start: PhantomData,
     }
+}
+
+// The disk over a file that was made with this length.
+fn noted<S: Start>(disk: FileDisk<S>, len: usize) -> FileDisk<S>
+    requires failures { ⟦<FileDisk<S> as Disk>⟧.failures disk ≡ 0 }
+    requires events { disk.ledger.events ≡ [] }
+    ensures failures { ⟦<FileDisk<S> as Disk>⟧.failures result ≡ 0 }
+    ensures events { result.ledger.events ≡ event_of (0 ∷ len ∷ 1 ∷ []) [] ∷ [] }
+{
+    let mut disk = disk;
+    note(&mut disk.ledger, &[MADE, len as u64, 1], &[]);
+    disk
 }
 
 // Notes a call of the system. There is none after a sync that failed.
@@ -142,13 +191,13 @@ impl<S: Start> Disk for FileDisk<S> {
 
     ghost past = { λ f. (account_of S.Start f).past };
 
-    ghost failures = { λ f. f.failures };
+    ghost failures = { λ f. f.failing.failures };
 
     ghost honest = { λ f. IsHonest (account_of S.Start f) };
 
     fn len(&mut self) -> Result<usize, DeviceFault> {
         if !self.usable {
-            return Err(fault(&mut self.failures));
+            return Err(self.failing.fail(Failure::Length));
         }
         match self.file.metadata() {
             Ok(data) => {
@@ -156,62 +205,62 @@ impl<S: Start> Disk for FileDisk<S> {
                 note(&mut self.ledger, &[MEASURED, len, 1], &[]);
                 if len != self.len {
                     self.usable = false;
-                    return Err(fault(&mut self.failures));
+                    return Err(self.failing.fail(Failure::Length));
                 }
                 Ok(len as usize)
             }
             Err(_) => {
                 note(&mut self.ledger, &[MEASURED, 0, 0], &[]);
-                Err(fault(&mut self.failures))
+                Err(self.failing.fail(Failure::Length))
             }
         }
     }
 
     fn read(&mut self, at: usize, buf: &mut [u8]) -> Result<(), DeviceFault> {
         if !self.usable || !is_inside(at, buf.len(), self.len) {
-            return Err(fault(&mut self.failures));
+            return Err(self.failing.fail(Failure::Length));
         }
         match self.file.read_exact_at(buf, at as u64) {
             Ok(()) => {
                 note(&mut self.ledger, &[READ, at as u64, 1], buf);
                 Ok(())
             }
-            Err(_) => {
+            Err(error) => {
                 note(&mut self.ledger, &[READ, at as u64, 0], &[]);
-                Err(fault(&mut self.failures))
+                Err(self.failing.fail(Failure::Read(error.kind())))
             }
         }
     }
 
     fn write_at(&mut self, at: usize, bytes: &[u8]) -> Result<(), DeviceFault> {
         if !self.usable || !is_inside(at, bytes.len(), self.len) {
-            return Err(fault(&mut self.failures));
+            return Err(self.failing.fail(Failure::Length));
         }
         match self.file.write_all_at(bytes, at as u64) {
             Ok(()) => {
                 note(&mut self.ledger, &[WRITTEN, at as u64, 1], bytes);
                 Ok(())
             }
-            Err(_) => {
+            Err(error) => {
                 note(&mut self.ledger, &[WRITTEN, at as u64, 0], bytes);
-                Err(fault(&mut self.failures))
+                Err(self.failing.fail(Failure::Write(error.kind())))
             }
         }
     }
 
     fn sync(&mut self) -> Result<(), DeviceFault> {
         if !self.usable {
-            return Err(fault(&mut self.failures));
+            return Err(self.failing.fail(Failure::Length));
         }
         match self.file.sync_data() {
             Ok(()) => {
                 note(&mut self.ledger, &[SYNCED, 0, 1], &[]);
                 Ok(())
             }
-            Err(_) => {
+            Err(error) => {
                 note(&mut self.ledger, &[SYNCED, 0, 0], &[]);
                 self.usable = false; // What was written may be lost, whatever the next sync answers.
-                Err(fault(&mut self.failures))
+                Err(self.failing.lose(error.kind()))
             }
         }
     }

@@ -5,6 +5,8 @@
 
 mod account;
 mod disk;
+mod failing;
+mod failure;
 mod file;
 mod fuse;
 mod gate;
@@ -14,6 +16,7 @@ mod record;
 mod start;
 
 pub use disk::{DeviceFault, Disk};
+pub use failure::Failure;
 pub use file::FileDisk;
 pub use fuse::{FuseDisk, Mode};
 pub use gate::{open_gate, write_behind_gate};

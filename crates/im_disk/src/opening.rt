@@ -1,24 +1,36 @@
 //! How a file of the operating system is made or opened: which files, under which lock, and what is then on the disk.
-ghost use Rattle.std.specs.Prelude.{◌≡◌};
+ghost use Rattle.std.specs.Prelude.{◌≡◌, true};
+ghost use Rattle.std.specs.Fs.{asks_create_new};
 
 use im_types::Refusal;
 use std::fs::{self, File, OpenOptions, TryLockError};
-use std::io;
+use std::io::{self, ErrorKind};
+use std::os::unix::fs::{MetadataExt, OpenOptionsExt};
 use std::path::Path;
 use std::rt::Files;
+
+// Who may use a file that is made: its owner, to read and write it.
+const MODE: u32 = 0o600;
 
 /// Why a file wasn't made or opened.
 #[derive(Clone, Copy, Debug, PartialEq, Eq)]
 pub enum OpenFault {
     /// Another opening of the file has its lock. Nothing was changed.
     InUse,
-    /// It is no regular file, or a call of the system failed.
-    Device,
+    /// A new file was asked for, and something has that name. Nothing was changed.
+    Exists,
+    /// It is no regular file: a folder, a device, a FIFO. Nothing was changed.
+    NotFile,
+    /// It is there, and the sync with which an opening begins failed so: what was written to it before may be lost,
+    /// whatever the next sync answers.
+    Sync(ErrorKind),
+    /// Another call of the system failed so.
+    System(ErrorKind),
 }
 
 impl From<io::Error> for OpenFault {
-    fn from(_: io::Error) -> Self {
-        OpenFault::Device
+    fn from(error: io::Error) -> Self {
+        OpenFault::System(error.kind())
     }
 }
 
@@ -26,7 +38,7 @@ impl From<TryLockError> for OpenFault {
     fn from(error: TryLockError) -> Self {
         match error {
             TryLockError::WouldBlock => OpenFault::InUse,
-            TryLockError::Error(_) => OpenFault::Device,
+            TryLockError::Error(error) => OpenFault::from(error),
         }
     }
 }
@@ -42,36 +54,60 @@ impl From<OpenFault> for Refusal {
 }
 
 // Looked at before the file is opened, as a FIFO would be waited for.
-fn check_path<R: Files<File = File>>(rt: &R, path: &str) -> io::Result<()> {
+fn check_path<R: Files<File = File>>(rt: &R, path: &str) -> Result<(), OpenFault> {
     if fs::metadata(rt, path)?.is_file() {
         Ok(())
     } else {
-        Err(io::ErrorKind::Unsupported.into())
+        Err(OpenFault::NotFile)
     }
 }
 
 // The length of an opened file, which has to be a regular one.
-fn check_file(file: &File) -> io::Result<u64> {
+fn check_file(file: &File) -> Result<u64, OpenFault> {
     let data = file.metadata()?;
     if data.is_file() {
         Ok(data.len())
     } else {
-        Err(io::ErrorKind::Unsupported.into())
+        Err(OpenFault::NotFile)
     }
 }
 
 // Makes the file, or takes the one that is there. It is locked before a byte is changed.
 fn taken<R: Files<File = File>>(rt: &R, path: &str) -> Result<File, OpenFault> {
     match check_path(rt, path) {
-        Err(error) if error.kind() != io::ErrorKind::NotFound => return Err(OpenFault::Device),
-        _ => {}
+        Ok(()) | Err(OpenFault::System(ErrorKind::NotFound)) => {}
+        Err(fault) => return Err(fault),
     }
     let file = OpenOptions::new()
         .read(true)
         .write(true)
         .create(true)
+        .mode(MODE)
         .open(rt, path)?;
     check_file(&file)?;
+    file.try_lock()?;
+    Ok(file)
+}
+
+// How a file is opened that has to be new.
+fn exclusively() -> OpenOptions
+    ensures { asks_create_new result ≡ true }
+{
+    let mut options = OpenOptions::new();
+    options.mode(MODE);
+    options.read(true);
+    options.write(true);
+    options.create_new(true);
+    options
+}
+
+// Makes the file, locked, where nothing has that name.
+fn taken_new<R: Files<File = File>>(rt: &R, path: &str) -> Result<File, OpenFault> {
+    let file = match exclusively().open(rt, path) {
+        Ok(file) => file,
+        Err(error) if error.kind() == ErrorKind::AlreadyExists => return Err(OpenFault::Exists),
+        Err(error) => return Err(OpenFault::from(error)),
+    };
     file.try_lock()?;
     Ok(file)
 }
@@ -85,6 +121,20 @@ fn folder_of<R: Files<File = File>>(rt: &R, path: &str) -> io::Result<File> {
     File::open(rt, if folder.is_empty() { "." } else { folder })
 }
 
+// Gives an open file so many zero bytes, and puts it and its name on the disk.
+fn fill<R: Files<File = File>>(
+    rt: &R,
+    path: &str,
+    file: &File,
+    len: usize,
+) -> Result<(), OpenFault> {
+    file.set_len(0)?;
+    file.set_len(len as u64)?;
+    file.sync_all()?;
+    folder_of(rt, path)?.sync_all()?;
+    Ok(())
+}
+
 /// Makes a file of so many zero bytes, also over one that is there, locked. It and its name are on the disk.
 pub(crate) fn made<R: Files<File = File>>(
     rt: &R,
@@ -92,11 +142,39 @@ pub(crate) fn made<R: Files<File = File>>(
     len: usize,
 ) -> Result<File, OpenFault> {
     let file = taken(rt, path)?;
-    file.set_len(0)?;
-    file.set_len(len as u64)?;
-    file.sync_all()?;
-    folder_of(rt, path)?.sync_all()?;
+    fill(rt, path, &file, len)?;
     Ok(file)
+}
+
+/// The same where nothing has that name. Where it isn't made whole, its name is taken away again.
+pub(crate) fn made_new<R: Files<File = File>>(
+    rt: &R,
+    path: &str,
+    len: usize,
+) -> Result<File, OpenFault> {
+    let file = taken_new(rt, path)?;
+    match fill(rt, path, &file, len) {
+        Ok(()) => Ok(file),
+        Err(fault) => {
+            let _ = removed(rt, path, &file);
+            Err(fault)
+        }
+    }
+}
+
+/// Takes the name of an open file away, where it is still that file's, and puts that on the disk.
+pub(crate) fn removed<R: Files<File = File>>(
+    rt: &R,
+    path: &str,
+    file: &File,
+) -> Result<(), OpenFault> {
+    let (named, open) = (fs::metadata(rt, path)?, file.metadata()?);
+    if named.ino() != open.ino() || named.dev() != open.dev() {
+        return Err(OpenFault::Exists);
+    }
+    fs::remove_file(rt, path)?;
+    folder_of(rt, path)?.sync_all()?;
+    Ok(())
 }
 
 /// Opens a file to read and write it, locked and synced; and its length.
@@ -105,7 +183,9 @@ pub(crate) fn settled<R: Files<File = File>>(rt: &R, path: &str) -> Result<(File
     let file = OpenOptions::new().read(true).write(true).open(rt, path)?;
     check_file(&file)?;
     file.try_lock()?;
-    file.sync_all()?;
+    if let Err(error) = file.sync_all() {
+        return Err(OpenFault::Sync(error.kind()));
+    }
     let len = check_file(&file)?;
     Ok((file, len))
 }

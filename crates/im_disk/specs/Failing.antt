@@ -1,0 +1,12 @@
+-- What is told of a file whose calls have failed.
+use Rattle.std.specs.Prelude.{Bool, true, false, Option, Some, None}
+use Rattle.im_disk.specs.declared.failure.Failure.{Failure}
+use Rattle.im_disk.specs.declared.failure.Failure.TheVariants.{Length, Read, Write, Sync}
+
+-- this is told of a sync that failed
+abbrev pub is_of_sync : Option Failure → Bool
+is_of_sync None = false
+is_of_sync (Some (Sync kind)) = true
+is_of_sync (Some (Length)) = false
+is_of_sync (Some (Read kind)) = false
+is_of_sync (Some (Write kind)) = false
