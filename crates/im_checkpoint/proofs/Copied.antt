@@ -1,5 +1,5 @@
 -- A page is copied behind the others, or over its copy.
-use Rattle.std.proofs.Common.{replicate, ◌≡◌, ◌≢◌, ⊎_elim, ℕ, zero, suc, ◌+◌, ◌<◌, ◌≤◌, List, [], ◌∷◌, ◌++◌, map, length, set, get_or, refl, sym, ap, ◌∙◌, subst, arith, length-set}
+use Rattle.std.proofs.Common.{replicate, ◌≡◌, ◌≢◌, ⊎_elim, ℕ, zero, suc, ◌+◌, ◌<◌, ◌≤◌, List, [], ◌∷◌, ◌++◌, map, length, set, refl, sym, ap, ◌∙◌, subst, arith, length-set}
 use Rattle.im_checkpoint.specs.declared.page_copies.Place.{Place}
 use Rattle.im_checkpoint.specs.declared.page_copies.Place.TheVariants.{Nowhere, At}
 use Rattle.std.proofs.lemmas.Bool.{cases_eq}

@@ -5,6 +5,7 @@ use Rattle.im_laws.proofs.Tests.{true_or_false}
 use Rattle.im_types.specs.Contents.{Contents}
 use Rattle.im_types.specs.Header.{Header}
 use Rattle.im_journal.specs.Holding.{JournalState, to_sweep, with_room}
+use Rattle.im_pages.specs.PageSets.{pages_from}
 use Rattle.im_checkpoint.specs.declared.checkpoint.TurnDone.{TurnDone}
 use Rattle.im_checkpoint.specs.Step.{Step, NoCheckpoint, PagesLeft, PagesDone, Synced, CheckpointState, PagedCheckpoint, IsUnderWay, with_left, turns_left}
 use Rattle.im_checkpoint.specs.Turns.{Turned, Moved, is_due, next_header}
@@ -89,8 +90,9 @@ module _ (before : PagedCheckpoint) (j : JournalState) (m : Contents) (answer : 
     comes_began none due =
         let row = turned.began is none due in
         let began = row.1 in
+        let left : List ℕ = pages_from 0 began.changed in
         comes (ap (λ (x : JournalState). x.count) row.2)
-        (with_step (with_left j.count began.left) (by_left old.header j j.count began.left (record { from = due_before old.header.count j.count _ due; to = omega arith })) began.state row.2)
+        (with_step (with_left j.count left) (by_left old.header j j.count left (record { from = due_before old.header.count j.count _ due; to = omega arith })) began.state row.2)
 
     comes_idle : to_sweep j ≡ 0 → is_due old.header j ≡ false → ComesTo before j m answer after k
     comes_idle none not = let row = turned.idle is none not in

@@ -14,8 +14,7 @@ use Rattle.im_journal.specs.Holding.{JournalState, AllHold, with_room, KeepsBoun
 use Rattle.im_meaning.specs.Images.{other, IsBelow, InForce, IsImage}
 use Rattle.im_checkpoint.specs.declared.checkpoint.Step.{Step as Mark}
 use Rattle.im_checkpoint.specs.declared.checkpoint.Step.TheVariants.{NoCheckpoint as None_yet, PagesLeft as Some_left, PagesDone as All_written, Synced as On_disk}
-use Rattle.im_checkpoint.specs.Step.{Step, NoCheckpoint, CheckpointState, step_of}
-use Rattle.im_checkpoint.specs.Turns.{swept_at_once}
+use Rattle.im_checkpoint.specs.Step.{Step, NoCheckpoint, PagesLeft, PagesDone, Synced, CheckpointState, step_of}
 use Rattle.im_checkpoint.specs.Keeping.{Paged, MeansWith, Keeps, IsCalm, IsKept, KeepsMeaning}
 use Rattle.im_checkpoint.proofs.Bytes.{range_outside}
 use Rattle.im_checkpoint.proofs.Headers.{area_before, place_to}
@@ -143,11 +142,13 @@ none_more j = (λ i. record j { room = same i })
     same : j.room ≡ j.room + 0
     same = omega arith
 
-pub none_at_once : (mark : Mark) (count : ℕ) (left : List ℕ) (j : JournalState) (most : ℕ) → (mark ≡ None_yet → ⊥) → 0 ≡ swept_at_once (step_of mark count left) j most
-none_at_once None_yet count left j most other = absurd (other refl)
-none_at_once Some_left count left j most other = refl
-none_at_once All_written count left j most other = refl
-none_at_once On_disk count left j most other = refl
+-- where a checkpoint is under way, a number that is none then
+pub none_under_way : (n : Step → ℕ) → ((count : ℕ) (left : List ℕ) → 0 ≡ n (PagesLeft count left)) → ((count : ℕ) → 0 ≡ n (PagesDone count)) → ((count : ℕ) → 0 ≡ n (Synced count))
+    → (mark : Mark) (count : ℕ) (left : List ℕ) → (mark ≡ None_yet → ⊥) → 0 ≡ n (step_of mark count left)
+none_under_way n some all synced None_yet count left other = absurd (other refl)
+none_under_way n some all synced Some_left count left other = some count left
+none_under_way n some all synced All_written count left other = all count
+none_under_way n some all synced On_disk count left other = synced count
 
 pub kept_still : {D : Type 0} (now : D → Moment) (past : D → List Moment) (d : D) (c : CheckpointState) (x : Paged) (m : Contents) (j : JournalState) → IsKept c x m j (now d) → KeepsMeaning {T = ℕ} {E = Refusal} now past d d m j (Ok 0) c x j
 kept_still now past d c x m j kept = record {

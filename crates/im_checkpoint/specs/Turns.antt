@@ -1,5 +1,5 @@
 -- What a turn of a checkpoint does, by the state that it finds. (Own.)
-use Rattle.std.specs.Prelude.{◌≡◌, ◌≢◌, ℕ, ◌+◌, ◌-◌, ◌<◌, ◌≤◌, Bool, true, false, ◌&&◌, nat_lt, min, List, ◌∷◌, length, replicate, not, Result, Ok, Err}
+use Rattle.std.specs.Prelude.{◌≡◌, ◌≢◌, ℕ, ◌+◌, ◌-◌, ◌<◌, ◌≤◌, Bool, true, false, ◌&&◌, ◌==◌, nat_lt, min, if◌then◌else◌, List, ◌∷◌, length, replicate, not, Result, Ok, Err}
 use Rattle.im_types.specs.declared.TheConstants.{LAST}
 use Rattle.im_types.specs.declared.refusals.Refusal.{Refusal}
 use Rattle.im_types.specs.Layout.{layout_in_use, area_pages}
@@ -28,10 +28,11 @@ pub record IsIdle (h : Header) (other_alone : Bool) (c : PagedCheckpoint) : Type
   pub recent : c.recent ≡ replicate (area_pages layout_in_use h.sizes) (not other_alone)
   pub older : c.older ≡ replicate (area_pages layout_in_use h.sizes) other_alone
 
--- a checkpoint as it begins: it is of the count as it is now, some pages are left, and it comes to its end in at most a turn for each page of an area and two more
+-- a checkpoint as it begins: it is of the count as it is now, a set of the area's pages is left, to be written in rising order, each once; and it comes to its end in at most a turn for each page of an area and two more
 pub record Begins (h : Header) (count : ℕ) (new : CheckpointState) : Type 0 where
-  pub left : List ℕ
-  pub state : new ≡ record { header = h; step = with_left count left }
+  pub changed : List Bool
+  pub size : length changed ≡ area_pages layout_in_use h.sizes
+  pub state : new ≡ record { header = h; step = with_left count (pages_from 0 changed) }
   pub turns : turns_left new.step ≤ area_pages layout_in_use h.sizes + 2
 
 -- how many slots are swept with one sync, `most` at most: none while a checkpoint is under way
@@ -40,6 +41,17 @@ swept_at_once NoCheckpoint j most = min most (to_sweep j)
 swept_at_once (PagesLeft count left) j most = 0
 swept_at_once (PagesDone count) j most = 0
 swept_at_once (Synced count) j most = 0
+
+-- how many device calls a sweep of these slots makes, `most` at most: one for each that is swept and a sync, and none where there is none
+abbrev pub calls_for_slots : ℕ → ℕ → ℕ
+calls_for_slots slots most = if slots == 0 then 0 else min most slots + 1
+
+-- the same of the slots that are to be swept: none while a checkpoint is under way
+abbrev pub calls_to_sweep : Step → JournalState → ℕ → ℕ
+calls_to_sweep NoCheckpoint j most = calls_for_slots (to_sweep j) most
+calls_to_sweep (PagesLeft count left) j most = 0
+calls_to_sweep (PagesDone count) j most = 0
+calls_to_sweep (Synced count) j most = 0
 
 -- What a turn does, by the state that it finds.
 pub record Turned (old : CheckpointState) (j : JournalState) (answer : TurnDone) (new : CheckpointState) (k : JournalState) : Type 0 where

@@ -25,7 +25,7 @@ ghost use Rattle.im_types.specs.Layout as layout;
 ghost use Rattle.im_types.specs.Layout.{layout_in_use, sizes_of};
 ghost use Rattle.im_disk.specs.Moment.{Moment, Faults};
 ghost use Rattle.im_disk.specs.Gate.{IsClosed};
-ghost use Rattle.im_disk.specs.Since.{CallsAtMost};
+ghost use Rattle.im_disk.specs.Since.{CallsAtMost, CallsBy};
 ghost use Rattle.im_journal.specs.Holding.{JournalState, AllHold, to_sweep, with_room};
 ghost use Rattle.im_memory.specs.State.{MemoryState};
 ghost use Rattle.im_meaning.specs.Images.{other};
@@ -36,7 +36,8 @@ ghost use Rattle.im_checkpoint.specs.Step.{NoCheckpoint, PagesLeft, CheckpointSt
 ghost use Rattle.im_checkpoint.specs.Copied.{copy_of};
 ghost use Rattle.im_checkpoint.specs.Step.{with_left, step_of};
 ghost use Rattle.im_checkpoint.specs.Step.{IsPagesLeft, IsPagesDone, IsSynced};
-ghost use Rattle.im_checkpoint.specs.Turns.{Turned, Moved, Begins, IsIdle, is_due, most_calls, swept_at_once};
+ghost use Rattle.im_checkpoint.specs.Turns.{Turned, Moved, Begins, IsIdle, is_due, most_calls};
+ghost use Rattle.im_checkpoint.specs.Turns.{swept_at_once, calls_for_slots, calls_to_sweep};
 ghost use Rattle.im_image.specs.Reading.{HasSizes};
 ghost use Rattle.im_checkpoint.specs.Keeping.{Paged, paged, Fits, IsKept, Prepares};
 ghost use Rattle.im_checkpoint.specs.Keeping.{IsAtRest, HasPagesLeft, IsReady, ComesTo, KeepsMeaning};
@@ -260,7 +261,8 @@ fn sweep_more<D: Disk>(disk: &mut D, journal: &mut Journal, most: u32) -> Result
     ensures keeps { D.honest disk.new → (c : CheckpointState) (x : Paged) (m : Contents) → c.step ≡ NoCheckpoint
         → IsKept c x m journal.old (D.now disk.old)
         → KeepsMeaning D.now D.past disk.old disk.new m journal.old result c x journal.new }
-    ensures calls { D.honest disk.new → CallsAtMost D.past disk.old disk.new (most + 1) }
+    ensures calls { D.honest disk.new
+        → CallsBy D.past disk.old disk.new (calls_for_slots (to_sweep journal.old) most) result }
     ensures honest { D.honest disk.new → D.honest disk.old }
     ensures faults { Faults (λ e. e ≡ Device) result (D.failures disk.old) (D.failures disk.new) }
 {
@@ -530,8 +532,9 @@ impl Checkpoint {
         }
     }
 
-    /// Closes the gates of the oldest slots whose commands the area in force holds, so many at most, with one sync for
-    /// all of them: how many they were, and none while a checkpoint is under way. It takes no memory.
+    /// Closes the gates of the oldest slots whose commands the area in force holds, so many at most, by a device call for
+    /// each and a sync for all of them: how many they were. Where there are none, and while a checkpoint is under way, it
+    /// makes no call. It takes no memory.
     ///
     /// `Device` where a call of the disk failed: the journal is as it was, and the image has to be opened again.
     pub fn sweep<D: Disk>(
@@ -548,7 +551,9 @@ impl Checkpoint {
         ensures keeps { D.honest disk.new → (x : Paged) (m : Contents)
             → IsKept self.now.state x m journal.old (D.now disk.old)
             → KeepsMeaning D.now D.past disk.old disk.new m journal.old result self.now.state x journal.new }
-        ensures calls { D.honest disk.new → CallsAtMost D.past disk.old disk.new (most + 1) }
+        // As many calls of the disk as slots are swept, and one; none where there is none of them.
+        ensures calls { D.honest disk.new
+            → CallsBy D.past disk.old disk.new (calls_to_sweep self.now.state.step journal.old most) result }
         ensures honest { D.honest disk.new → D.honest disk.old }
         ensures faults { Faults (λ e. e ≡ Device) result (D.failures disk.old) (D.failures disk.new) }
     {

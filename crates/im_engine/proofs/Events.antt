@@ -1,4 +1,4 @@
--- How far a run of commands, groups and turns has come.
+-- How far a run of commands, groups, turns and sweeps has come.
 use Rattle.std.proofs.Common.{◌≡◌, ◌⊎◌, inl, inr, ⊎_elim, ℕ, ◌+◌, ◌<◌, ◌≤◌, Bool, true, false, ◌&&◌, List, [], ◌∷◌, ◌++◌, length, take, get_or, Result, Ok, Err, append_assoc, refl, sym, ◌∙◌, ap, subst, arith, length-append, if◌then◌else◌}
 use Rattle.std.proofs.lemmas.List.{append-nil, take_all, take-append-le, take_more, length-take-le}
 use Rattle.im_types.specs.declared.commands.Request.{Request}
@@ -22,12 +22,12 @@ use Rattle.im_disk.proofs.SinceLemmas.{leaves_then, leaves_weaker}
 use Rattle.im_checkpoint.specs.declared.checkpoint.TurnDone.{TurnDone}
 use Rattle.arrayvec.specs.ArrayVec.{ArrayVec}
 use Rattle.im_engine.specs.declared.run.Event.{Event}
-use Rattle.im_engine.specs.declared.run.Event.TheVariants.{Command as Serve, Group as Together, Turn}
+use Rattle.im_engine.specs.declared.run.Event.TheVariants.{Command as Serve, Group as Together, Turn, Sweep}
 use Rattle.im_engine.specs.declared.run.Answer.{Answer}
-use Rattle.im_engine.specs.declared.run.Answer.TheVariants.{Served as Told, Grouped, Turned as TookTurn}
+use Rattle.im_engine.specs.declared.run.Answer.TheVariants.{Served as Told, Grouped, Turned as TookTurn, Swept as DidSweep}
 use Rattle.im_engine.specs.State.{EngineState, MeansState, with_command}
 use Rattle.im_engine.specs.Groups.{reached_in, after_group, group_put, answers_in, all_refused, GroupAnswered}
-use Rattle.im_engine.specs.Run.{Answered, TurnAnswered, EventAnswered, AnsweredInTurn, has_device, acknowledged_members, acknowledged_by, acknowledged, is_doubt, reached_at, in_doubt_by, in_doubt, put_on_disk, HasRun, MeansBy, MeansAll, MeansBeginningOf, MeansWithOrWithout}
+use Rattle.im_engine.specs.Run.{Answered, TurnAnswered, SweepAnswered, EventAnswered, AnsweredInTurn, has_device, acknowledged_members, acknowledged_by, acknowledged, is_doubt, reached_at, in_doubt_by, in_doubt, put_on_disk, HasRun, MeansBy, MeansAll, MeansBeginningOf, MeansWithOrWithout}
 use Rattle.im_engine.proofs.Accepting.{Answers, accepted_answers}
 use Rattle.im_engine.proofs.Acknowledging.{acknowledged-puts, answers-no_device, refused-none, some-device, failed-no_device}
 
@@ -151,6 +151,13 @@ module _ {D : Type 0} (mid new : EngineState D) (m : Contents) (n : ℕ) where
   dead_step Turn (Told a) it dead = absurd it
   dead_step Turn (Grouped room served) it dead = absurd it
   dead_step Turn (TookTurn a) it dead = record { same = (it.dead dead).1; sure_none = refl; doubt_none = refl }
+  dead_step (Serve c) (DidSweep a) it dead = absurd it
+  dead_step (Together members) (DidSweep a) it dead = absurd it
+  dead_step Turn (DidSweep a) it dead = absurd it
+  dead_step (Sweep most) (Told a) it dead = absurd it
+  dead_step (Sweep most) (Grouped room served) it dead = absurd it
+  dead_step (Sweep most) (TookTurn a) it dead = absurd it
+  dead_step (Sweep most) (DidSweep a) it dead = record { same = (it.dead dead).1; sure_none = refl; doubt_none = refl }
 
 -- while it works
 module _ {D : Type 0} (mid new : EngineState D) (f : mid.failed ≡ false) where
@@ -288,6 +295,23 @@ module _ {D : Type 0} (mid new : EngineState D) (f : mid.failed ≡ false) where
       none : (n : ℕ) → n ≡ n + 0
       none n = omega arith
 
+  -- ---- a sweep
+  sweep_step : (most : ℕ) (a : Result ℕ Refusal) → SweepAnswered mid most a new → Steps mid new (Sweep most) [] []
+  sweep_step most a it = ⊎_elim
+      (λ done. inr (inl (record {
+        alive = f;
+        works = ap (λ (s : EngineState D). s.failed) done.1 ∙ f;
+        doubt_none = refl;
+        memory = ap (λ (s : EngineState D). s.memory) done.1;
+        count = ap (λ (s : EngineState D). s.count) done.1 ∙ nothing mid.count;
+        means = λ file image. inl image;
+      })))
+      (λ fault. inr (inr (record { alive = f; dead = ap (λ (s : EngineState D). s.failed) fault.1; sure_none = refl; means = λ file image. inl image })))
+      (it.alive f)
+    where
+      nothing : (n : ℕ) → n ≡ n + 0
+      nothing n = omega arith
+
   alive_step : (e : Event) (a : Answer) → EventAnswered mid e a new → Steps mid new e (acknowledged_by mid.memory e a) (in_doubt_by mid.memory mid.count e a)
   alive_step (Serve c) (Told a) it = command_step c a it
   alive_step (Serve c) (Grouped room served) it = absurd it
@@ -298,6 +322,13 @@ module _ {D : Type 0} (mid new : EngineState D) (f : mid.failed ≡ false) where
   alive_step Turn (Told a) it = absurd it
   alive_step Turn (Grouped room served) it = absurd it
   alive_step Turn (TookTurn a) it = turn_step a it
+  alive_step (Serve c) (DidSweep a) it = absurd it
+  alive_step (Together members) (DidSweep a) it = absurd it
+  alive_step Turn (DidSweep a) it = absurd it
+  alive_step (Sweep most) (Told a) it = absurd it
+  alive_step (Sweep most) (Grouped room served) it = absurd it
+  alive_step (Sweep most) (TookTurn a) it = absurd it
+  alive_step (Sweep most) (DidSweep a) it = sweep_step most a it
 
 -- ---- one event more of a run
 

@@ -23,9 +23,9 @@ use Rattle.im_disk.proofs.SinceLemmas.{leaves_then, leaves_weaker}
 use Rattle.im_journal.specs.Holding.{room_after}
 use Rattle.im_checkpoint.specs.declared.checkpoint.TurnDone.{TurnDone}
 use Rattle.im_engine.specs.declared.run.Event.{Event}
-use Rattle.im_engine.specs.declared.run.Event.TheVariants.{Command as Serve, Group as Together, Turn}
+use Rattle.im_engine.specs.declared.run.Event.TheVariants.{Command as Serve, Group as Together, Turn, Sweep}
 use Rattle.im_engine.specs.declared.run.Answer.{Answer}
-use Rattle.im_engine.specs.declared.run.Answer.TheVariants.{Served as Told, Grouped, Turned as TookTurn}
+use Rattle.im_engine.specs.declared.run.Answer.TheVariants.{Served as Told, Grouped, Turned as TookTurn, Swept as DidSweep}
 use Rattle.im_engine.specs.State.{EngineState, MeansState, MeansEither, with_command}
 use Rattle.im_engine.specs.Groups.{reached_in, group_put, answers_in, GroupAnswered, GroupFaults}
 use Rattle.im_engine.specs.Run.{Answered, TurnTaken, TurnAnswered, EventAnswered, has_device, is_put, put_by_command, HasRun, MeansAfter, MeansBeginning, MeansAllOrInDoubt, IsDevice, HasDevice, HasCause}
@@ -252,6 +252,13 @@ dead_event mid new (Together members) (TookTurn a) it dead = absurd it
 dead_event mid new Turn (Told a) it dead = absurd it
 dead_event mid new Turn (Grouped room served) it dead = absurd it
 dead_event mid new Turn (TookTurn a) it dead = (λ d. let f : a ≡ Err Failed = (it.dead dead).0 in let g : a ≡ Err Device = d in absurd (cc), (it.dead dead).1)
+dead_event mid new (Serve c) (DidSweep a) it dead = absurd it
+dead_event mid new (Together members) (DidSweep a) it dead = absurd it
+dead_event mid new Turn (DidSweep a) it dead = absurd it
+dead_event mid new (Sweep most) (Told a) it dead = absurd it
+dead_event mid new (Sweep most) (Grouped room served) it dead = absurd it
+dead_event mid new (Sweep most) (TookTurn a) it dead = absurd it
+dead_event mid new (Sweep most) (DidSweep a) it dead = (λ d. let f : a ≡ Err Failed = (it.dead dead).0 in let g : a ≡ Err Device = d in absurd (cc), (it.dead dead).1)
 
 group_fails : {D : Type 0} (mid new : EngineState D) (members : List Request) (served : List ServedMember) → GroupAnswered mid members served new → mid.failed ≡ false → has_device served ≡ true → new.failed ≡ true
 group_fails mid new members served it f d = by_put (group_put mid members) refl
@@ -317,6 +324,16 @@ device_fails D mid new Turn (TookTurn a) it f d = ⊎_elim
     (λ done. let x : a ≡ Ok done.0 = done.1 in let y : a ≡ Err Device = d in absurd (cc))
     (λ fault. ap (λ (s : EngineState D). s.failed) fault.1)
     (it.alive f)
+device_fails D mid new (Serve c) (DidSweep a) it f d = absurd it
+device_fails D mid new (Together members) (DidSweep a) it f d = absurd it
+device_fails D mid new Turn (DidSweep a) it f d = absurd it
+device_fails D mid new (Sweep most) (Told a) it f d = absurd it
+device_fails D mid new (Sweep most) (Grouped room served) it f d = absurd it
+device_fails D mid new (Sweep most) (TookTurn a) it f d = absurd it
+device_fails D mid new (Sweep most) (DidSweep a) it f d = ⊎_elim
+    (λ done. let y : a ≡ Err Device = d in let x = done.0 in absurd (cc))
+    (λ fault. ap (λ (s : EngineState D). s.failed) fault.1)
+    (it.alive f)
 
 ok_is_no_device : {T : Type 0} (x : T) → IsErrOf {T = T} {E = Refusal} (Ok x) Device → ⊥
 ok_is_no_device x e = absurd (cc)
@@ -336,6 +353,7 @@ caused (Grouped room served) old new cause = (cause.0, λ none. cause.1 (not_tru
     not_true true not = absurd (not refl)
     not_true false not = refl
 caused (TookTurn a) old new cause = caused_by a old new cause
+caused (DidSweep a) old new cause = caused_by a old new cause
 
 -- where no answer leaves a command in doubt, all are there
 pub all_or_in_doubt : {D : Type 0} (s : EngineState D) (commands : List Command) (doubt : Bool) (file : List ℕ) → AllOrLess s commands file → (doubt ≡ false → All s commands file)

@@ -1,4 +1,4 @@
--- Commands, groups and turns one after another, and what the files mean that a crash may leave. (Own.)
+-- Commands, groups, turns and sweeps one after another, and what the files mean that a crash may leave. (Own.)
 use Rattle.std.specs.Prelude.{◌≡◌, ◌⊎◌, ℕ, ◌+◌, ◌<◌, ◌≤◌, Bool, true, false, ◌&&◌, ◌||◌, List, [], ◌∷◌, ◌++◌, length, take, Result, Ok, Err, IsErrOf, if◌then◌else◌}
 use Rattle.im_types.specs.declared.commands.Request.{Request}
 use Rattle.im_types.specs.declared.commands.Command.{Command}
@@ -19,9 +19,9 @@ use Rattle.im_checkpoint.specs.Turns.{Turned, swept_at_once}
 use Rattle.im_engine.specs.State.{EngineState, MeansState, MeansEither, with_command, journal_in, checkpoint_in}
 use Rattle.im_engine.specs.Groups.{GroupAnswered, MeansGroup}
 use Rattle.im_engine.specs.declared.run.Event.{Event}
-use Rattle.im_engine.specs.declared.run.Event.TheVariants.{Command as Serve, Group as Together, Turn}
+use Rattle.im_engine.specs.declared.run.Event.TheVariants.{Command as Serve, Group as Together, Turn, Sweep}
 use Rattle.im_engine.specs.declared.run.Answer.{Answer}
-use Rattle.im_engine.specs.declared.run.Answer.TheVariants.{Served as Told, Grouped, Turned as TookTurn}
+use Rattle.im_engine.specs.declared.run.Answer.TheVariants.{Served as Told, Grouped, Turned as TookTurn, Swept as DidSweep}
 
 -- an engine's answer to one command, and what it comes to, on any disk
 pub record Answered {D : Type 0} (old : EngineState D) (command : Command) (answer : Result Outcome Refusal) (new : EngineState D) : Type 0 where
@@ -62,18 +62,26 @@ abbrev pub EventAnswered : {D : Type 0} → EngineState D → Event → Answer �
 EventAnswered old (Serve command) (Told answer) new = Answered old command answer new
 EventAnswered old (Together members) (Grouped room served) new = (room ≡ old.room) × GroupAnswered old members served.items new
 EventAnswered old Turn (TookTurn answer) new = TurnAnswered old answer new
+EventAnswered old (Sweep most) (DidSweep answer) new = SweepAnswered old most answer new
 EventAnswered old (Serve command) (Grouped room served) new = ⊥
 EventAnswered old (Serve command) (TookTurn answer) new = ⊥
 EventAnswered old (Together members) (Told answer) new = ⊥
 EventAnswered old (Together members) (TookTurn answer) new = ⊥
 EventAnswered old Turn (Told answer) new = ⊥
 EventAnswered old Turn (Grouped room served) new = ⊥
+EventAnswered old (Serve command) (DidSweep answer) new = ⊥
+EventAnswered old (Together members) (DidSweep answer) new = ⊥
+EventAnswered old Turn (DidSweep answer) new = ⊥
+EventAnswered old (Sweep most) (Told answer) new = ⊥
+EventAnswered old (Sweep most) (Grouped room served) new = ⊥
+EventAnswered old (Sweep most) (TookTurn answer) new = ⊥
 
 -- what a file means that is left within an event
 abbrev pub MeansBy : {D : Type 0} → EngineState D → Event → List ℕ → Type 0
 MeansBy old (Serve command) file = MeansEither old command file
 MeansBy old (Together members) file = MeansGroup old members file
 MeansBy old Turn file = MeansState old file
+MeansBy old (Sweep most) file = MeansState old file
 
 -- the answers to events, one after another
 abbrev pub AnsweredInTurn : {D : Type 0} → EngineState D → List Event → List Answer → EngineState D → Type 0
@@ -128,10 +136,13 @@ acknowledged_by m (Serve command) (Told (Ok outcome)) = if is_accepted m command
 acknowledged_by m (Serve command) (Told (Err refusal)) = []
 acknowledged_by m (Serve command) (Grouped room served) = []
 acknowledged_by m (Serve command) (TookTurn answer) = []
+acknowledged_by m (Serve command) (DidSweep answer) = []
 acknowledged_by m (Together members) (Told answer) = []
 acknowledged_by m (Together members) (Grouped room served) = acknowledged_members m members served.items
 acknowledged_by m (Together members) (TookTurn answer) = []
+acknowledged_by m (Together members) (DidSweep answer) = []
 acknowledged_by m Turn answer = []
+acknowledged_by m (Sweep most) answer = []
 
 -- the accepted commands that were acknowledged, in their order
 abbrev pub acknowledged : Contents → List Event → List Answer → List Command
@@ -148,6 +159,7 @@ is_doubt (Told (Ok outcome)) = false
 is_doubt (Told (Err refusal)) = is_device refusal
 is_doubt (Grouped room served) = has_device served.items
 is_doubt (TookTurn answer) = false
+is_doubt (DidSweep answer) = false
 
 -- a memory, a count of commands and a room
 abbrev pub reached_at : Contents → ℕ → ℕ → Reached
@@ -160,7 +172,9 @@ in_doubt_by m count (Serve command) answer = if is_accepted m command && is_doub
 in_doubt_by m count (Together members) (Told answer) = []
 in_doubt_by m count (Together members) (Grouped room served) = if has_device served.items then puts_of (reached_at m count room) members else []
 in_doubt_by m count (Together members) (TookTurn answer) = []
+in_doubt_by m count (Together members) (DidSweep answer) = []
 in_doubt_by m count Turn answer = []
+in_doubt_by m count (Sweep most) answer = []
 
 -- the commands in doubt, of which nobody knows whether they are on the disk: all of them, or none
 abbrev pub in_doubt : Contents → ℕ → List Event → List Answer → List Command
@@ -214,6 +228,7 @@ abbrev pub IsDevice : Answer → Type 0
 IsDevice (Told answer) = IsErrOf answer Device
 IsDevice (Grouped room served) = has_device served.items ≡ true
 IsDevice (TookTurn answer) = IsErrOf answer Device
+IsDevice (DidSweep answer) = IsErrOf answer Device
 
 -- one of the answers does
 abbrev pub HasDevice : List Answer → Type 0
@@ -225,6 +240,7 @@ abbrev pub HasCause : Answer → ℕ → ℕ → Type 0
 HasCause (Told answer) old new = Faults (λ e. Unit {0}) answer old new
 HasCause (Grouped room served) old new = (has_device served.items ≡ true → Rises old new × (old ≤ new)) × (has_device served.items ≡ false → new ≡ old)
 HasCause (TookTurn answer) old new = Faults (λ e. Unit {0}) answer old new
+HasCause (DidSweep answer) old new = Faults (λ e. Unit {0}) answer old new
 
 -- one of the answers is `Device` exactly where the count of failures rose
 abbrev pub HaveCauses : List Answer → ℕ → ℕ → Type 0

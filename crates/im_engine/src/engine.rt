@@ -7,12 +7,12 @@ ghost use Rattle.im_disk.specs.Moment.{Faults};
 ghost use Rattle.im_disk.specs.Since.{LeavesWithin, LeavesNow, LeavesOnly, CallsAtMost, CallsBy};
 ghost use Rattle.im_checkpoint.specs.Keeping.{Fits, IsKept, paged};
 ghost use Rattle.im_checkpoint.specs.Step.{IsUnderWay, turns_left};
-ghost use Rattle.im_checkpoint.specs.Turns.{most_calls};
+ghost use Rattle.im_checkpoint.specs.Turns.{most_calls, calls_to_sweep};
 ghost use Rattle.im_types.specs.Groups.{AreApart};
 ghost use Rattle.im_engine.specs.Groups.{GroupAnswered, GroupCalls, GroupFaults, MeansGroup};
 ghost use Rattle.im_engine.specs.Groups.{group_put, calls_for_group};
 ghost use Rattle.im_engine.specs.Run.{Answered, TurnAnswered, SweepAnswered, calls_for};
-ghost use Rattle.im_engine.specs.State.{MeansState, MeansEither, with_command};
+ghost use Rattle.im_engine.specs.State.{MeansState, MeansEither, with_command, journal_in};
 
 use crate::emptying::Empties;
 use crate::groups::{act_all, commands_of, places_in, put_on, refuse_all};
@@ -245,14 +245,17 @@ impl<D: Disk> Engine<D> {
     }
 
     /// Closes the gates of the oldest slots that are to be swept, so many at most, by a call of the disk for each of
-    /// them and one sync for all: how many they were, and none while a checkpoint is under way. They are room from then
-    /// on, as after turns that answer `Swept`. The memory and the count stay. It takes no memory.
+    /// them and one sync for all: how many they were. Where there are none, and while a checkpoint is under way, it
+    /// makes no call. They are room from then on, as after turns that answer `Swept`. The memory and the count stay. It
+    /// takes no memory.
     ///
     /// `Failed` exactly where an earlier call failed on the disk. `Device` where a call of the disk failed: then the
     /// engine has failed, no command is in doubt, and the image has to be opened again.
     pub fn sweep(&mut self, most: u32) -> Result<u32, Refusal>
         ensures answered { SweepAnswered self.old most result self.new }
-        ensures few { D.honest self.new.disk → CallsAtMost D.past self.old.disk self.new.disk (most + 1) }
+        // As many calls of the disk as slots are swept, and one; none where there is none of them.
+        ensures calls { D.honest self.new.disk → CallsBy D.past self.old.disk self.new.disk
+            (calls_to_sweep self.old.step (journal_in self.old) most) result }
         ensures faults { Faults (λ e. Unit {0}) result (D.failures self.old.disk) (D.failures self.new.disk) }
         // Each file that a crash may leave, from the start on, and now.
         ensures leaves { D.honest self.new.disk → self.old.failed ≡ false

@@ -1,4 +1,4 @@
-//! How commands, groups and turns follow one another.
+//! How commands, groups, turns and sweeps follow one another.
 ghost use Rattle.std.specs.Prelude.{◌≡◌, ◌+◌, ◌≤◌, length, true, false, IfOk, IfErr, OnErr};
 ghost use Rattle.im_types.specs.declared.refusals.Refusal.TheVariants.{NoMemory};
 ghost use Rattle.im_disk.specs.Since.{LeavesWithin, LeavesNow};
@@ -24,6 +24,8 @@ pub enum Event {
     Group(Group),
     /// A turn of a checkpoint is made.
     Turn,
+    /// The gates of so many old slots at most are closed, with one sync.
+    Sweep(u32),
 }
 
 /// What an event is answered.
@@ -36,6 +38,8 @@ pub enum Answer {
     Grouped(u32, ArrayVec<Served, 16>),
     /// The answer to a turn.
     Turned(Result<TurnDone, Refusal>),
+    /// The answer to a sweep.
+    Swept(Result<u32, Refusal>),
 }
 
 impl<D: Disk> Engine<D> {
@@ -58,7 +62,7 @@ impl<D: Disk> Engine<D> {
         Answer::Grouped(room, served)
     }
 
-    // Serves a command or a group, or makes a turn.
+    // Serves a command or a group, makes a turn, or sweeps.
     fn take(&mut self, event: &Event) -> Answer
         ensures answered { EventAnswered self.old event.now result self.new }
         ensures faults { HasCause result (D.failures self.old.disk) (D.failures self.new.disk) }
@@ -74,10 +78,11 @@ impl<D: Disk> Engine<D> {
             Event::Command(command) => Answer::Served(self.serve(command)),
             Event::Group(group) => self.take_group(group),
             Event::Turn => Answer::Turned(self.turn()),
+            Event::Sweep(most) => Answer::Swept(self.sweep(*most)),
         }
     }
 
-    /// Serves commands and groups and makes turns in their order, and gives the answer to each.
+    /// Serves commands and groups, makes turns and sweeps in their order, and gives the answer to each.
     ///
     /// Whenever it is stopped, a crash leaves the memory after the commands of a beginning of the events, and at its
     /// return after all that were acknowledged: where a command or a group was answered `Device`, its commands may be

@@ -5,6 +5,7 @@ use lib.ListN.{get_elem?}
 use Rattle.im_pipes.specs.declared.rule.Log.{Log}
 
 module _ {T : Type 0} where
+  -- whether a pass may send and may receive, and what was sent and received
   abbrev pub log : Bool → Bool → List (Option T) → List (Option T) → Log T
   log sends receives sent received = record { sends = sends; receives = receives; sent = sent; received = received }
 

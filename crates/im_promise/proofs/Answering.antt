@@ -3,7 +3,6 @@ use Rattle.std.proofs.Common.{◌≡◌, ◌⊎◌, inl, inr, ⊎_elim, ℕ, zer
 use Rattle.std.specs.Prelude.{IsTrue, IsOk}
 use Rattle.im_types.specs.declared.commands.Request.{Request}
 use Rattle.im_types.specs.declared.commands.Command.{Command}
-use Rattle.im_types.specs.declared.commands.Command.TheVariants.{Request as Asks}
 use Rattle.im_types.specs.declared.commands.Outcome.{Outcome}
 use Rattle.im_types.specs.declared.groups.Served.{Served as ServedMember}
 use Rattle.im_types.specs.declared.refusals.Refusal.{Refusal}
@@ -12,16 +11,16 @@ use Rattle.im_types.specs.Contents.{Contents}
 use Rattle.im_types.specs.Step.{step, is_accepted}
 use Rattle.im_types.specs.Run.{after}
 use Rattle.im_types.specs.Meaning.{Reached}
-use Rattle.im_types.specs.Groups.{as_served, is_put, answers_of, reached_by_one, reached_by_all, puts_of}
+use Rattle.im_types.specs.Groups.{as_served, answers_of, reached_by_all, puts_of}
 use Rattle.im_checkpoint.specs.declared.checkpoint.TurnDone.{TurnDone}
 use Rattle.arrayvec.specs.ArrayVec.{ArrayVec}
 use Rattle.im_engine.specs.declared.run.Event.{Event}
-use Rattle.im_engine.specs.declared.run.Event.TheVariants.{Command as Serve, Group as Together, Turn}
+use Rattle.im_engine.specs.declared.run.Event.TheVariants.{Command as Serve, Group as Together, Turn, Sweep}
 use Rattle.im_engine.specs.declared.run.Answer.{Answer}
-use Rattle.im_engine.specs.declared.run.Answer.TheVariants.{Served as Told, Grouped, Turned as TookTurn}
+use Rattle.im_engine.specs.declared.run.Answer.TheVariants.{Served as Told, Grouped, Turned as TookTurn, Swept as DidSweep}
 use Rattle.im_engine.specs.State.{EngineState, with_command}
 use Rattle.im_engine.specs.Groups.{reached_in, after_group, group_put, all_refused, answers_in, GroupAnswered}
-use Rattle.im_engine.specs.Run.{Answered, TurnAnswered, AnsweredInTurn, is_device, has_device, acknowledged_members, acknowledged_by, is_doubt, reached_at, in_doubt_by, in_doubt}
+use Rattle.im_engine.specs.Run.{Answered, TurnAnswered, SweepAnswered, AnsweredInTurn, is_device, has_device, acknowledged_members, acknowledged_by, is_doubt, reached_at, in_doubt_by, in_doubt}
 use Rattle.im_engine.proofs.Members.{puts_few}
 use Rattle.im_promise.specs.Acknowledged.{calls_in_doubt, most_of, most_of_one, is_fault, IsFailed, IsAnswer, AreAnswers}
 
@@ -107,6 +106,14 @@ module _ (known : Known) where
   over old new (Turn ∷ events) (Grouped room served ∷ answers) dead (mid, one, rest) m n = absurd one
   over {D} old new (Turn ∷ events) (TookTurn a ∷ answers) dead (mid, one, rest) m n =
       over_more Turn (TookTurn a) events answers m n refl refl (one.dead dead).0 (over mid new events answers (ap (λ (s : EngineState D). s.failed) (one.dead dead).1 ∙ dead) rest)
+  over old new (Serve c ∷ events) (DidSweep a ∷ answers) dead (mid, one, rest) m n = absurd one
+  over old new (Together members ∷ events) (DidSweep a ∷ answers) dead (mid, one, rest) m n = absurd one
+  over old new (Turn ∷ events) (DidSweep a ∷ answers) dead (mid, one, rest) m n = absurd one
+  over old new (Sweep most ∷ events) (Told a ∷ answers) dead (mid, one, rest) m n = absurd one
+  over old new (Sweep most ∷ events) (Grouped room served ∷ answers) dead (mid, one, rest) m n = absurd one
+  over old new (Sweep most ∷ events) (TookTurn a ∷ answers) dead (mid, one, rest) m n = absurd one
+  over {D} old new (Sweep most ∷ events) (DidSweep a ∷ answers) dead (mid, one, rest) m n =
+      over_more (Sweep most) (DidSweep a) events answers m n refl refl (one.dead dead).0 (over mid new events answers (ap (λ (s : EngineState D). s.failed) (one.dead dead).1 ∙ dead) rest)
 
 -- ---- as long as it works
 
@@ -309,6 +316,25 @@ module _ (known : Known) {D : Type 0} (old mid : EngineState D) (f : old.failed 
       }))
       (it.alive f)
 
+  sweep_goes : (most : ℕ) (a : Result ℕ Refusal) → SweepAnswered old most a mid → GoesOn old mid (Sweep most) (DidSweep a) ⊎ Fails old mid (Sweep most) (DidSweep a)
+  sweep_goes most a it = ⊎_elim
+      (λ done. inl (record {
+        works = ap (λ (s : EngineState D). s.failed) done.1 ∙ f;
+        memory = ap (λ (s : EngineState D). s.memory) done.1;
+        count = ap (λ (s : EngineState D). s.count) done.1 ∙ nothing_more old.count;
+        sure = refl;
+        none = refl;
+        answer = tt;
+        calm = ap (λ (x : Result ℕ Refusal). is_fault (DidSweep x)) done.0;
+      }))
+      (λ fault. inr (record {
+        dead = ap (λ (s : EngineState D). s.failed) fault.1;
+        few = omega arith;
+        answer = tt;
+        fault = ap (λ (x : Result ℕ Refusal). is_fault (DidSweep x)) fault.0;
+      }))
+      (it.alive f)
+
 module _ (known : Known) where
   pub told : {D : Type 0} (old new : EngineState D) (events : List Event) (answers : List Answer) → old.failed ≡ false → AnsweredInTurn old events answers new → AreTold old.memory old.count events answers
   told old new [] [] f it = record { one = omega arith; few = omega arith; answered = tt }
@@ -332,3 +358,13 @@ module _ (known : Known) where
       (λ goes. goes_on old mid Turn (TookTurn a) events answers goes (told mid new events answers goes.works rest))
       (λ fails. ends old mid Turn (TookTurn a) events answers fails (over known mid new events answers fails.dead rest))
       (turn_goes known old mid f a one)
+  told old new (Serve c ∷ events) (DidSweep a ∷ answers) f (mid, one, rest) = absurd one
+  told old new (Together members ∷ events) (DidSweep a ∷ answers) f (mid, one, rest) = absurd one
+  told old new (Turn ∷ events) (DidSweep a ∷ answers) f (mid, one, rest) = absurd one
+  told old new (Sweep most ∷ events) (Told a ∷ answers) f (mid, one, rest) = absurd one
+  told old new (Sweep most ∷ events) (Grouped room served ∷ answers) f (mid, one, rest) = absurd one
+  told old new (Sweep most ∷ events) (TookTurn a ∷ answers) f (mid, one, rest) = absurd one
+  told old new (Sweep most ∷ events) (DidSweep a ∷ answers) f (mid, one, rest) = ⊎_elim
+      (λ goes. goes_on old mid (Sweep most) (DidSweep a) events answers goes (told mid new events answers goes.works rest))
+      (λ fails. ends old mid (Sweep most) (DidSweep a) events answers fails (over known mid new events answers fails.dead rest))
+      (sweep_goes known old mid f most a one)

@@ -1,17 +1,22 @@
 -- A group, and what an opening after a crash finds of it.
-use Rattle.std.proofs.Common.{◌≡◌, ◌⊎◌, inl, inr, ⊎_elim, ℕ, ◌+◌, List, [], ◌∷◌, length, Result, Ok, Err, IfOk, IfErr, false, refl, sym, ap, ◌∙◌, subst, arith}
+use Rattle.std.proofs.Common.{◌≡◌, ◌⊎◌, inl, inr, ⊎_elim, ℕ, ◌+◌, List, [], ◌∷◌, length, Result, Ok, Err, IfOk, IfErr, ◌<◌, true, false, refl, sym, ap, ◌∙◌, subst, arith}
 use Rattle.im_types.specs.declared.commands.Request.{Request}
 use Rattle.im_types.specs.declared.commands.Command.{Command}
 use Rattle.im_types.specs.declared.groups.Served.{Served}
 use Rattle.im_types.specs.declared.refusals.Refusal.{Refusal}
 use Rattle.im_types.specs.declared.refusals.Refusal.TheVariants.{NoMemory, Device}
+use Rattle.im_types.specs.Contents.{Contents}
 use Rattle.im_types.specs.Run.{after}
 use Rattle.im_types.specs.Meaning.{Reached}
 use Rattle.im_types.specs.Groups.{reached_by_all, puts_of}
 use Rattle.im_disk.specs.Recording.{Recording}
 use Rattle.im_engine.specs.State.{EngineState, MeansState, IsFirstFault}
-use Rattle.im_engine.specs.Groups.{reached_in, after_group, group_put, MeansGroup, GroupAnswered}
-use Rattle.im_promise.specs.Groups.{HasMore, RecoversGroup}
+use Rattle.im_engine.specs.Groups.{reached_in, after_group, group_put, all_refused, MeansGroup, GroupAnswered}
+use Rattle.im_engine.specs.Run.{has_device}
+use Rattle.im_engine.specs.declared.run.Event.{Event}
+use Rattle.im_engine.specs.declared.run.Answer.{Answer}
+use Rattle.im_promise.specs.Recovery.{Recovers}
+use Rattle.im_promise.specs.Groups.{HasMore, RecoversGroup, GroupSaidAgain, GroupAskedOverACrash}
 use Rattle.im_promise.proofs.Recovering.{MeansOne, NoFault, still_means}
 
 -- what a group comes to, by the commands that it puts into the journal
@@ -65,3 +70,45 @@ pub group_refused : {D X : Type 0} (s : EngineState D) (members : List Request) 
 group_refused s members left (Ok x) none said it = tt
 group_refused s members left (Err e) none said it =
     ⊎_elim (λ want. inl want) (λ more. ⊎_elim (λ device. inr device) (λ fault. absurd (no_fault s members e fault.0 none (said fault.0 fault.1) fault.2)) more) it
+
+-- ---- a group that no member of which was answered `Device`
+
+-- the engine after it
+pub record GroupActed {D : Type 0} (old : EngineState D) (members : List Request) (new : EngineState D) : Type 0 where
+  pub works : new.failed ≡ false
+  pub memory : new.memory ≡ (after_group old members).memory
+  pub count : new.count ≡ (after_group old members).count
+
+pub group_acted : {D : Type 0} (old new : EngineState D) (members : List Request) (answers : List Served) → GroupsAreRuns → ((s : Reached) (rs : List Request) → 0 < length (puts_of s rs) → has_device (all_refused Device rs) ≡ true)
+    → old.failed ≡ false → GroupAnswered old members answers new → has_device answers ≡ false → GroupActed old members new
+group_acted {D} old new members answers runs fault f answered quiet = by_put (group_put old members) refl
+  where
+    by_put : (put : List Command) → group_put old members ≡ put → GroupActed old members new
+    by_put [] none =
+        let it = answered.none f none in
+        record {
+          works = ap (λ (s : EngineState D). s.failed) it.1 ∙ f;
+          memory = ap (λ (s : EngineState D). s.memory) it.1 ∙ sym (runs.memory (reached_in old) members ∙ ap (λ (l : List Command). after old.memory l) none);
+          count = ap (λ (s : EngineState D). s.count) it.1 ∙ omega (arith, runs.count (reached_in old) members, ap length none);
+        }
+    by_put (command ∷ commands) some =
+        let many : 0 < length (group_put old members) = omega (arith, ap length some) in
+        ⊎_elim
+        (λ done. record {
+          works = ap (λ (s : EngineState D). s.failed) done.1 ∙ f;
+          memory = ap (λ (s : EngineState D). s.memory) done.1;
+          count = ap (λ (s : EngineState D). s.count) done.1;
+        })
+        (λ failed. let both : true ≡ false = sym (ap has_device failed.0 ∙ fault (reached_in old) members many) ∙ quiet in absurd (cc))
+        (answered.put f many)
+
+-- and what came of it over a crash
+pub group_asked : {D E : Type 0} (old mid : EngineState D) (opened new : EngineState E) (members : List Request) (events : List Event) (answers : List Answer) (said : List Served) → GroupActed old members mid → opened.failed ≡ false
+    → Recovers mid.memory mid.count events answers opened.memory opened.count → GroupSaidAgain (reached_in old) opened members said new → GroupAskedOverACrash old members events answers said new
+group_asked old mid opened new members events answers said acted works found again = record {
+  opened = opened;
+  works = works;
+  once = subst (λ (k : ℕ). Recovers (after_group old members).memory k events answers opened.memory opened.count) acted.count
+      (subst (λ (x : Contents). Recovers x mid.count events answers opened.memory opened.count) acted.memory found);
+  again = again;
+}

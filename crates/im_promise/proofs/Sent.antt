@@ -1,5 +1,5 @@
 -- A request that is sent again, by the laws of steps.
-use Rattle.std.proofs.Common.{◌≡◌, ◌⊎◌, inl, inr, ⊎_elim, ℕ, zero, suc, ◌+◌, ◌<◌, List, ◌∷◌, ◌++◌, Ok, Err, true, false, Bool, refl, sym, ap, ◌∙◌, arith}
+use Rattle.std.proofs.Common.{◌≡◌, ◌⊎◌, inl, inr, ⊎_elim, ℕ, zero, suc, ◌+◌, ◌<◌, List, [], ◌∷◌, ◌++◌, Ok, Err, true, false, Bool, refl, sym, ap, ◌∙◌, subst, arith, if◌then◌else◌}
 use Rattle.std.specs.Prelude.{Result, IsTrue}
 use Rattle.std.specs.Bool.{IsFalse}
 use Rattle.im_types.specs.declared.operations.Entry.{Entry}
@@ -14,26 +14,31 @@ use Rattle.im_types.specs.Run.{after}
 use Rattle.im_types.specs.declared.refusals.Refusal.{Refusal}
 use Rattle.im_types.specs.declared.refusals.Refusal.TheVariants.{Forgotten, JournalFull, Device}
 use Rattle.im_types.specs.Contents.{Contents}
+use Rattle.im_types.specs.Agreement.{WaitingAgrees}
 use Rattle.im_types.specs.Step.{Stepped, step, asker, is_accepted}
 use Rattle.im_laws.specs.Windows.{IsForgotten, TakesNextNumber, AreNoLess}
 use Rattle.im_laws.specs.Entries.{IsRefused, IsToldAgainOrForgotten}
-use Rattle.im_engine.specs.State.{EngineState}
+use Rattle.im_engine.specs.State.{EngineState, MeansEither, IsFirstFault, with_command}
 use Rattle.im_engine.specs.Run.{Answered}
-use Rattle.im_promise.specs.Again.{IsSaidAgain, IsUnused, HasNotActed}
+use Rattle.im_engine.specs.declared.run.Event.{Event}
+use Rattle.im_engine.specs.declared.run.Answer.{Answer}
+use Rattle.im_promise.specs.Again.{IsSaidAgain, IsUnused, HasNotActed, count_after, AskedOverACrash}
+use Rattle.im_promise.specs.Recovery.{Recovers}
+use Rattle.im_promise.proofs.Recovering.{NoFault}
 
 pub said : {D : Type 0} (old new : EngineState D) (r : Request) (entry : Entry) (answer : Result Outcome Refusal) → old.failed ≡ false → Answered old (Asks r) answer new
     → IsToldAgainOrForgotten old.memory r entry → (IsForgotten old.memory.windows (asker r) → IsRefused old.memory r Forgotten)
     → ((step old.memory (Asks r)).contents ≡ old.memory → is_accepted old.memory (Asks r) ≡ false)
-    → IsSaidAgain old.memory r entry answer × (new ≡ old)
+    → IsSaidAgain old.memory r entry answer × (new ≡ old) × (answer ≡ (step old.memory (Asks r)).answer)
 said old new r entry answer f it again refused unaccepted = ⊎_elim
     (λ gone.
     let same = ap (λ (s : Stepped). s.contents) (refused gone) in
     let done = it.unaccepted f (unaccepted same) in
-    (inl (gone, done.0 ∙ ap (λ (s : Stepped). s.answer) (refused gone)), done.1))
+    (inl (gone, done.0 ∙ ap (λ (s : Stepped). s.answer) (refused gone)), done.1, done.0))
     (λ told.
     let same = ap (λ (s : Stepped). s.contents) told.told in
     let done = it.unaccepted f (unaccepted same) in
-    (inr (told.entry, told.since, done.0 ∙ ap (λ (s : Stepped). s.answer) told.told), done.1))
+    (inr (told.entry, told.since, done.0 ∙ ap (λ (s : Stepped). s.answer) told.told), done.1, done.0))
     again
 
 pub is_false_by : (b : Bool) → b ≡ false → IsFalse b
@@ -59,6 +64,7 @@ pub record HasActed {D : Type 0} (old : EngineState D) (r : Request) (entry : En
   pub works : new.failed ≡ false
   pub answered : (step old.memory (Asks r)).answer ≡ Ok (Tells entry)
   pub memory : new.memory ≡ (step old.memory (Asks r)).contents
+  pub count : new.count ≡ count_after old.memory r old.count
 
 pub acted : {D : Type 0} (old new : EngineState D) (r : Request) (entry : Entry) (answer : Result Outcome Refusal) → old.failed ≡ false → Answered old (Asks r) answer new → answer ≡ Ok (Tells entry)
     → (is_accepted old.memory (Asks r) ≡ false → (step old.memory (Asks r)).contents ≡ old.memory) → HasActed old r entry new
@@ -70,6 +76,7 @@ acted old new r entry answer f it is unaccepted = ⊎_elim
       works = ap (λ (s : EngineState _). s.failed) done.1 ∙ f;
       answered = sym done.0 ∙ is;
       memory = ap (λ (s : EngineState _). s.memory) done.1;
+      count = ap (λ (s : EngineState _). s.count) done.1 ∙ sym (ap (λ (b : Bool). if b then old.count + 1 else old.count) yes);
     })
     (λ fault. let a : Ok (Tells entry) ≡ Err Device = sym is ∙ fault.0 in absurd (cc))
     (it.put f yes some))
@@ -78,8 +85,54 @@ acted old new r entry answer f it is unaccepted = ⊎_elim
       works = ap (λ (s : EngineState _). s.failed) done.1 ∙ f;
       answered = sym done.0 ∙ is;
       memory = ap (λ (s : EngineState _). s.memory) done.1 ∙ sym (unaccepted not);
+      count = ap (λ (s : EngineState _). s.count) done.1 ∙ sym (ap (λ (b : Bool). if b then old.count + 1 else old.count) not);
     })
     (bool_cases (is_accepted old.memory (Asks r)))
+
+-- ---- over a crash
+
+-- a memory that agrees does so after any commands
+pub agrees_after : ((m : Contents) (command : Command) → WaitingAgrees m → WaitingAgrees (step m command).contents) → (m : Contents) (commands : List Command) → WaitingAgrees m → WaitingAgrees (after m commands)
+agrees_after next m [] it = it
+agrees_after next m (command ∷ commands) it = agrees_after next (step m command).contents commands (next m command it)
+
+-- a request that was told, what a recovery gave, and the same request sent again
+pub asked : {D E : Type 0} (old mid : EngineState D) (now new : EngineState E) (r : Request) (entry : Entry) (answer : Result Outcome Refusal) (events : List Event) (answers : List Answer) → HasActed old r entry mid
+    → Recovers mid.memory mid.count events answers now.memory now.count → IsSaidAgain now.memory r entry answer × (new ≡ now) × (answer ≡ (step now.memory (Asks r)).answer) → AskedOverACrash old r events answers entry answer new
+asked {D} {E} old mid now new r entry answer events answers first found again =
+    let back = sym again.1 in
+    record {
+      again = subst (λ (s : EngineState E). IsSaidAgain s.memory r entry answer) back again.0;
+      told = subst (λ (s : EngineState E). answer ≡ (step s.memory (Asks r)).answer) back again.2;
+      once = subst (λ (s : EngineState E). Recovers (step old.memory (Asks r)).contents (count_after old.memory r old.count) events answers s.memory s.count) back
+          (subst (λ (k : ℕ). Recovers (step old.memory (Asks r)).contents k events answers now.memory now.count) first.count
+          (subst (λ (x : Contents). Recovers x mid.count events answers now.memory now.count) first.memory found));
+    }
+
+-- a request that is there or not, and is told an entry when it is sent again
+pub sent_once : {D E : Type 0} (old : EngineState D) (e new : EngineState E) (r : Request) (entry : Entry) (answer : Result Outcome Refusal) → e.failed ≡ false → Answered e (Asks r) answer new → answer ≡ Ok (Tells entry)
+    → ((m : Contents) → is_accepted m (Asks r) ≡ false → (step m (Asks r)).contents ≡ m)
+    → (is_accepted old.memory (Asks r) ≡ true → is_accepted (step old.memory (Asks r)).contents (Asks r) ≡ false)
+    → (e.memory ≡ old.memory) ⊎ (e.memory ≡ (step old.memory (Asks r)).contents)
+    → new.memory ≡ (step old.memory (Asks r)).contents
+sent_once {D} {E} old e new r entry answer works it told still once (inl before) =
+    let did = acted e new r entry answer works it told (still e.memory) in
+    did.memory ∙ ap (λ (x : Contents). (step x (Asks r)).contents) before
+sent_once {D} {E} old e new r entry answer works it told still once (inr there) = ⊎_elim
+    (λ yes.
+    let no : is_accepted e.memory (Asks r) ≡ false = ap (λ (x : Contents). is_accepted x (Asks r)) there ∙ once yes in
+    ap (λ (s : EngineState E). s.memory) (it.unaccepted works no).1 ∙ there)
+    (λ no.
+    let did = acted e new r entry answer works it told (still e.memory) in
+    did.memory ∙ ap (λ (x : Contents). (step x (Asks r)).contents) (there ∙ still old.memory no))
+    (bool_cases (is_accepted old.memory (Asks r)))
+
+-- an image that has a command or not isn't refused for a fault
+pub no_fault_of_one : {D : Type 0} (s : EngineState D) (r : Request) (e : Refusal) (file : List ℕ) → NoFault → MeansEither s (Asks r) file → IsFirstFault e file → ⊥
+no_fault_of_one s r e file none (inl before) fault = none file e s.memory s.count s.room fault before
+no_fault_of_one s r e file none (inr later) fault =
+    let t = with_command s (Asks r) in
+    none file e t.memory t.count t.room fault later
 
 -- a number that isn't used was never accepted
 module _ (takes : (m : Contents) (r : Request) → IsTrue (is_accepted m (Asks r)) → TakesNextNumber m r)

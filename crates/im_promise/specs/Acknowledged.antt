@@ -6,9 +6,9 @@ use Rattle.im_types.specs.Step.{step, is_accepted}
 use Rattle.im_types.specs.Run.{after}
 use Rattle.im_types.specs.Groups.{as_served, answers_of, puts_of}
 use Rattle.im_engine.specs.declared.run.Event.{Event}
-use Rattle.im_engine.specs.declared.run.Event.TheVariants.{Command as Serve, Group as Together, Turn}
+use Rattle.im_engine.specs.declared.run.Event.TheVariants.{Command as Serve, Group as Together, Turn, Sweep}
 use Rattle.im_engine.specs.declared.run.Answer.{Answer}
-use Rattle.im_engine.specs.declared.run.Answer.TheVariants.{Served as Told, Grouped, Turned as TookTurn}
+use Rattle.im_engine.specs.declared.run.Answer.TheVariants.{Served as Told, Grouped, Turned as TookTurn, Swept as DidSweep}
 use Rattle.im_engine.specs.Groups.{all_refused}
 use Rattle.im_engine.specs.Run.{is_device, has_device, is_doubt, acknowledged_by, reached_at}
 
@@ -22,6 +22,7 @@ abbrev pub most_of : Event → ℕ
 most_of (Serve command) = 1
 most_of (Together members) = length members
 most_of Turn = 0
+most_of (Sweep most) = 0
 
 -- the most that one event of a list has
 abbrev pub most_of_one : List Event → ℕ
@@ -35,6 +36,8 @@ is_fault (Told (Err refusal)) = is_device refusal
 is_fault (Grouped room served) = has_device served.items
 is_fault (TookTurn (Ok done)) = false
 is_fault (TookTurn (Err refusal)) = is_device refusal
+is_fault (DidSweep (Ok swept)) = false
+is_fault (DidSweep (Err refusal)) = is_device refusal
 
 -- the answer says that a call of the disk failed before
 abbrev pub IsFailed : Event → Answer → Type 0
@@ -47,6 +50,13 @@ IsFailed (Together members) (TookTurn answer) = ⊥
 IsFailed Turn (Told answer) = ⊥
 IsFailed Turn (Grouped room served) = ⊥
 IsFailed Turn (TookTurn answer) = answer ≡ Err Failed
+IsFailed (Serve command) (DidSweep answer) = ⊥
+IsFailed (Together members) (DidSweep answer) = ⊥
+IsFailed Turn (DidSweep answer) = ⊥
+IsFailed (Sweep most) (Told answer) = ⊥
+IsFailed (Sweep most) (Grouped room served) = ⊥
+IsFailed (Sweep most) (TookTurn answer) = ⊥
+IsFailed (Sweep most) (DidSweep answer) = answer ≡ Err Failed
 
 -- A command is answered what it comes to on this memory, or that the journal is full or the disk failed where it would change the
 -- memory. The members of a group are answered what they come to one after another, those that find no room that the journal is
@@ -64,6 +74,13 @@ IsAnswer m count (Together members) (TookTurn answer) = ⊥
 IsAnswer m count Turn (Told answer) = ⊥
 IsAnswer m count Turn (Grouped room served) = ⊥
 IsAnswer m count Turn (TookTurn answer) = Unit {0}
+IsAnswer m count (Serve command) (DidSweep answer) = ⊥
+IsAnswer m count (Together members) (DidSweep answer) = ⊥
+IsAnswer m count Turn (DidSweep answer) = ⊥
+IsAnswer m count (Sweep most) (Told answer) = ⊥
+IsAnswer m count (Sweep most) (Grouped room served) = ⊥
+IsAnswer m count (Sweep most) (TookTurn answer) = ⊥
+IsAnswer m count (Sweep most) (DidSweep answer) = Unit {0}
 
 -- Each event is answered in its turn, on the memory and the count after the commands that were acknowledged before it; and all is
 -- answered `Failed` once a call of the disk has failed.

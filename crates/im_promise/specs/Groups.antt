@@ -10,8 +10,11 @@ use Rattle.im_types.specs.Run.{after}
 use Rattle.im_types.specs.Meaning.{Reached}
 use Rattle.im_types.specs.Groups.{is_put, answer_of, reached_by_one}
 use Rattle.im_engine.specs.State.{EngineState}
-use Rattle.im_engine.specs.Groups.{reached_in, group_put, all_refused, answers_in}
+use Rattle.im_engine.specs.Groups.{reached_in, after_group, group_put, all_refused, answers_in}
+use Rattle.im_engine.specs.declared.run.Event.{Event}
+use Rattle.im_engine.specs.declared.run.Answer.{Answer}
 use Rattle.im_promise.specs.Again.{IsSaidAgain}
+use Rattle.im_promise.specs.Recovery.{Recovers}
 
 -- the engine has the memory and the count of an earlier one after these commands
 pub record HasMore {D E : Type 0} (old : EngineState D) (commands : List Command) (now : EngineState E) : Type 0 where
@@ -47,3 +50,13 @@ pub record GroupSaidAgain {D : Type 0} (before : Reached) (old : EngineState D) 
   pub again : AreSaidAgain before (reached_in old) members
   -- where all were told one, nothing changes, and no call of the disk is made
   pub still : AreTold before members → (answers ≡ answers_in old members) × (new ≡ old)
+
+-- A group was served, and no member was answered `Device`; events were served and answered; the disk stopped, or not; a crash left what it
+-- left; the image was opened; and the group was sent again.
+pub record GroupAskedOverACrash {D E : Type 0} (old : EngineState D) (members : List Request) (events : List Event) (answers : List Answer) (said : List Served) (new : EngineState E) : Type 0 where
+  -- the engine that the opening gave: it works, and has the memory and the count after the group, once, and after what a recovery gives of the events
+  pub opened : EngineState E
+  pub works : opened.failed ≡ false
+  pub once : Recovers (after_group old members).memory (after_group old members).count events answers opened.memory opened.count
+  -- each member that was told an entry is told it again, or as it was answered since, and doesn't act again
+  pub again : GroupSaidAgain (reached_in old) opened members said new

@@ -17,7 +17,7 @@ pub record Recovers (m : Contents) (before : ℕ) (events : List Event) (answers
   pub answered : AreAnswers false m before events answers
   -- at most one call's commands are in doubt,
   pub one_in_doubt : calls_in_doubt answers ≤ 1
-  -- so, among commands and turns, at most one command, and with groups no more than one of them has members
+  -- so, among commands, turns and sweeps, at most one command, and with groups no more than one of them has members
   pub few_in_doubt : length (in_doubt m before events answers) ≤ most_of_one events
   -- they are there, all of them, or none is
   pub also : List Command

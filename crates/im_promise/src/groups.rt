@@ -1,17 +1,18 @@
 //! What a crash leaves of a group, and a group that is sent again.
-ghost use Rattle.std.specs.Prelude.{◌≡◌, ◌⊎◌, ℕ, List, false, [], IfOk, IfErr};
+ghost use Rattle.std.specs.Prelude.{◌≡◌, ◌⊎◌, List, false, [], IfOk, IfErr};
 ghost use Rattle.im_types.specs.declared.commands.Command.{Command};
 ghost use Rattle.im_types.specs.declared.refusals.Refusal.TheVariants.{NoMemory, Device};
-ghost use Rattle.im_types.specs.Contents.{empty_contents};
+ghost use Rattle.im_types.specs.Agreement.{WaitingAgrees};
 ghost use Rattle.im_types.specs.Run.{after};
 ghost use Rattle.im_types.specs.Meaning.{Reached};
 ghost use Rattle.im_types.specs.Groups.{AreApart, puts_of};
-ghost use Rattle.im_promise.specs.Groups.{RecoversGroup, GroupSaidAgain};
+ghost use Rattle.im_engine.specs.Run.{has_device};
+ghost use Rattle.im_promise.specs.Groups.{RecoversGroup, GroupSaidAgain, GroupAskedOverACrash};
 
-use crate::recovery::open_crashed;
+use crate::recovery::{Recovered, open_crashed, recover};
 use arrayvec::ArrayVec;
 use im_disk::{Crash, Disk, FuseDisk, MemDisk};
-use im_engine::{Engine, files_mean_one_thing};
+use im_engine::{Engine, Event, files_mean_one_thing, groups_acknowledge_what_they_put};
 use im_laws::{
     accepted_where_changed, forgotten_for_ever, groups_are_runs, repeat_is_told_again, runs_join,
     waiting_agrees,
@@ -59,8 +60,7 @@ pub fn ask_group_again<D: Disk>(
     // Each element asks once at most.
     requires apart { AreApart members.now.items }
     requires empty { served.old.items ≡ [] }
-    ensures { engine.old.failed ≡ false → (cells elements : ℕ) (earlier later : List Command) (before : Reached)
-        → before.contents ≡ after (empty_contents cells elements) earlier
+    ensures { engine.old.failed ≡ false → (before : Reached) (later : List Command) → WaitingAgrees before.contents
         → engine.old.memory ≡ after (after before.contents (puts_of before members.now.items)) later
         → GroupSaidAgain before engine.old members.now.items served.new.items engine.new }
 {
@@ -71,4 +71,54 @@ pub fn ask_group_again<D: Disk>(
     runs_join();
     // A stop in it leaves all of the new members on the disk, or none; the others make no call of it.
     engine.serve_group(members, served)
+}
+
+/// Serves a group of requests; runs any events, whose disk may fail at any call; crashes the disk, opens what is left, and
+/// sends the group again. The answers go into `served` and `again`, in the members' order. Nothing is asked of the memory
+/// that the engine had.
+///
+/// Where no member was answered `Device`, the group is there once, and each member that was told an entry is told it again,
+/// or the answer that it has got since, or `Forgotten` where an event confirmed it. It is refused with `NoMemory` or
+/// `Device` then, where `alloc` or the record of the disk in memory refused room; never for a fault of the image.
+pub fn ask_group_over_a_crash(
+    alloc: Global,
+    mut engine: Engine<FuseDisk>,
+    members: &ArrayVec<Request, 16>,
+    served: &mut ArrayVec<Served, 16>,
+    events: &[Event],
+    crash: Crash,
+    again: &mut ArrayVec<Served, 16>,
+) -> Result<Recovered, Refusal>
+    // Each element asks once at most.
+    requires apart { AreApart members.now.items }
+    requires empty { served.old.items ≡ [] }
+    requires none { again.old.items ≡ [] }
+    ensures again { IfOk result (λ r. engine.failed ≡ false → has_device served.new.items ≡ false
+        → GroupAskedOverACrash engine members.now.items events.now r.answers.items again.new.items r.engine) }
+    ensures refused { IfErr result (λ e. engine.failed ≡ false → has_device served.new.items ≡ false
+        → (e ≡ NoMemory) ⊎ (e ≡ Device)) }
+{
+    repeat_is_told_again();
+    forgotten_for_ever();
+    accepted_where_changed();
+    waiting_agrees();
+    runs_join();
+    groups_are_runs();
+    groups_acknowledge_what_they_put();
+    // So that it is known below that waiters and entries agree.
+    let _cells = engine.memory().cells();
+    // A stop in it leaves all of the group on the disk, or nothing of it.
+    engine.serve_group(members, served);
+    match recover(alloc, engine, events, crash) {
+        Ok(recovered) => {
+            let Recovered {
+                answers,
+                mut engine,
+            } = recovered;
+            // The same of those members that are new.
+            engine.serve_group(members, again);
+            Ok(Recovered { answers, engine })
+        }
+        Err(refusal) => Err(refusal),
+    }
 }

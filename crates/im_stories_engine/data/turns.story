@@ -189,3 +189,25 @@ count = 16
 close = closed
 -- The format, sixteen commands, the turns up to the one that puts the area in force, and 6 and 12 for the sweeps.
 calls = 144
+
+# A run sweeps as the engine does, and nothing while a checkpoint is under way
+-- An area has a page of cells, one of nodes and two of sessions.
+format 3 2 16 = formatted
+plan 16 times 1.1 fetch 0 = 16 events
+plan sweep 64 = 17 events
+plan 6 turns = 23 events
+plan sweep 64 = 24 events
+plan turn = 25 events
+plan sweep 5 = 26 events
+plan sweep 64 = 27 events
+plan turn = 28 events
+plan 0.1 fetch 0 = 29 events
+run = 29 answers
+answers 0 to 16 = 16 nocell, swept 0
+answers 17 to 24 = began, page 0 to 3, synced, swept 0, in force
+answers 25 to 28 = swept 5, swept 11, idle, nocell
+count = 17
+room = 15
+close = closed
+-- The format, sixteen commands, the turns up to the one that puts the area in force, 6 and 12 for the sweeps, and one command.
+calls = 100

@@ -13,7 +13,7 @@
 //! together 0.1 alloc i 2 with 1.1 fetch 0 = base 0, waiting    requests of different elements as one group
 //! turns 3 = began, page 0 to 1; room 3x0
 //! sweep 64 = 16; room 16          closes so many slots at most with one sync
-//! plan 1.1 fetch 0 = 1 events     what the next run does: commands, groups, turns, or all commands as told
+//! plan 1.1 fetch 0 = 1 events     what the next run does: commands, groups, turns, sweeps, or all commands as told
 //! run = 1 answers
 //! answers 0 to 0 = nocell
 //! close = closed                  leaves the file, and how many calls were made of it
@@ -41,6 +41,7 @@ mod groups;
 mod runs;
 mod scripts;
 mod states;
+mod stopped_runs;
 mod stops;
 mod texts;
 mod walks;
@@ -63,6 +64,7 @@ impl Scene for Engines {
             || runs::tell(self, alloc, words, said)?
             || groups::tell(self, words, said)?
             || damage::tell(self, alloc, words, said)?
+            || stopped_runs::tell(self, alloc, words, said)?
             || stops::tell(self, alloc, words, said)?
             || wanders::tell(alloc, words, said)?
             || calls::tell(self, words, said)?

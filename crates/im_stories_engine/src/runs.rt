@@ -1,4 +1,4 @@
-//! Turns, sweeps, and runs of commands, groups and turns.
+//! Turns, sweeps, and runs of commands, groups, turns and sweeps.
 
 use crate::calls::later;
 use crate::engines::Engines;
@@ -65,6 +65,11 @@ fn plan_turns(engines: &mut Engines, times: u64) -> Result<()> {
     Ok(())
 }
 
+// So many slots at most, where a story names so many.
+fn slots(word: &str) -> Result<u32> {
+    Ok(number(word)?.min(u32::MAX as u64) as u32)
+}
+
 // The next run serves requests of different elements as one group.
 fn plan_group(engines: &mut Engines, words: &[&str]) -> Result<()> {
     match Group::new(members(words)?) {
@@ -109,6 +114,7 @@ fn plan(engines: &mut Engines, words: &[&str], said: &mut String) -> Result<()> 
     match words {
         ["as", "told"] => plan_as_told(engines)?,
         ["turn"] => plan_turns(engines, 1)?,
+        ["sweep", most] => engines.events.push(Event::Sweep(slots(most)?))?,
         ["together", rest @ ..] => plan_group(engines, rest)?,
         [times, "turns"] => plan_turns(engines, number(times)?)?,
         [times, "times", rest @ ..] => plan_commands(engines, number(times)?, command(rest)?)?,
@@ -127,7 +133,7 @@ pub fn tell(
     match words {
         ["turn"] => turn(engines, said)?,
         ["turns", times] => turns(engines, alloc, number(times)?, said)?,
-        ["sweep", most] => sweep(engines, number(most)?.min(u32::MAX as u64) as u32, said)?,
+        ["sweep", most] => sweep(engines, slots(most)?, said)?,
         ["plan", rest @ ..] => plan(engines, rest, said)?,
         ["run"] => run(engines, alloc, said)?,
         ["answers", from, "to", to] => tell_answers(engines, place(from)?, place(to)?, said)?,

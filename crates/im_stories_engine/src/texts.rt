@@ -50,6 +50,8 @@ fn add_answer(said: &mut String, answer: &Answer) -> Result<()> {
             Ok(said.push_str("]")?)
         }
         Answer::Turned(turn) => Ok(add_turn(said, *turn)?),
+        Answer::Swept(Ok(slots)) => Ok(write!(said, "swept {slots}")?),
+        Answer::Swept(Err(refusal)) => Ok(add_refusal(said, *refusal)?),
     }
 }
 

@@ -1,15 +1,14 @@
 use Rattle.std.proofs.Common.{sym, subst}
 use Rattle.im_types.specs.declared.commands.Command.TheVariants.{Request as Asks}
-use Rattle.im_types.specs.Contents.{Contents, empty_contents}
-use Rattle.im_types.specs.Run.{after}
+use Rattle.im_types.specs.Contents.{Contents}
 use Rattle.im_laws.specs.Entries.{IsToldAgainOrForgotten}
 use Rattle.im_promise.proofs.Sent.{said, by_is_false}
 use Rattle.im_promise.proofs.again.ask_again.Goals as goal
 
 pub returns : goal.returns
-returns g c = λ f cells elements earlier later entry answered is.
-    said c.args.engine.now c.serve.new.self c.args.request entry c.serve.result f c.serve.ensures.answered
-    (subst (λ (x : Contents). IsToldAgainOrForgotten x c.args.request entry) (sym is)
-    (c.repeat_is_told_again.ensures (after (empty_contents cells elements) earlier) c.args.request entry later (c.waiting_agrees.ensures.run cells elements earlier) answered))
+returns g c = λ f before later entry agrees answered is.
+    let again = said c.args.engine.now c.serve.new.self c.args.request entry c.serve.result f c.serve.ensures.answered
+    (subst (λ (x : Contents). IsToldAgainOrForgotten x c.args.request entry) (sym is) (c.repeat_is_told_again.ensures before c.args.request entry later agrees answered))
     (λ gone. c.forgotten_for_ever.ensures.refused c.args.engine.now.memory c.args.request gone)
-    (λ same. by_is_false _ ((c.accepted_where_changed.ensures.unaccepted c.args.engine.now.memory (Asks c.args.request)).1 same))
+    (λ same. by_is_false _ ((c.accepted_where_changed.ensures.unaccepted c.args.engine.now.memory (Asks c.args.request)).1 same)) in
+    (again.0, again.1)

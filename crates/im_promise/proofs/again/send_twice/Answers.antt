@@ -1,6 +1,6 @@
 use Rattle.std.proofs.Common.{[], sym, ap, ◌∙◌, subst}
 use Rattle.im_types.specs.declared.commands.Command.TheVariants.{Request as Asks}
-use Rattle.im_types.specs.Contents.{Contents, empty_contents}
+use Rattle.im_types.specs.Contents.{Contents}
 use Rattle.im_types.specs.Agreement.{WaitingAgrees}
 use Rattle.im_laws.specs.Entries.{IsToldAgainOrForgotten}
 use Rattle.im_engine.specs.State.{EngineState}
@@ -9,17 +9,17 @@ use Rattle.im_promise.proofs.Sent.{said, by_is_false, is_false_by, acted, unused
 use Rattle.im_promise.proofs.again.send_twice.Goals as goal
 
 pub returns-clause-unheld : goal.returns-clause-unheld
-returns-clause-unheld g c = λ cells elements commands is free.
-    unused c.request_takes_the_next_number.ensures c.bounds_never_fall.ensures c.runs_join.ensures.memory (empty_contents cells elements) c.args.engine.now.memory commands c.args.request is free
+returns-clause-unheld g c = λ before commands is free.
+    unused c.request_takes_the_next_number.ensures c.bounds_never_fall.ensures c.runs_join.ensures.memory before c.args.engine.now.memory commands c.args.request is free
 
 pub returns-clause-once : goal.returns-clause-once
-returns-clause-once g c = λ f cells elements commands entry is answer.
+returns-clause-once g c = λ f entry answer.
     let old = c.args.engine.now in
     let mid = c.serve-first.new.self in
     let r = c.args.request in
     let first = acted old mid r entry c.serve-first.result f c.serve-first.ensures.answered answer
     (λ un. (c.accepted_where_changed.ensures.unaccepted old.memory (Asks r)).0 (is_false_by _ un)) in
-    let agrees : WaitingAgrees old.memory = subst WaitingAgrees (sym is) (c.waiting_agrees.ensures.run cells elements commands) in
+    let agrees : WaitingAgrees old.memory = subst WaitingAgrees c.memory.ensures c.cells-cells.ensures.memory.agrees in
     let again = said mid c.serve-second.new.self r entry c.serve-second.result first.works c.serve-second.ensures.answered
     (subst (λ (x : Contents). IsToldAgainOrForgotten x r entry) (sym first.memory) (c.repeat_is_told_again.ensures old.memory r entry [] agrees first.answered))
     (λ gone. c.forgotten_for_ever.ensures.refused mid.memory r gone)

@@ -1,16 +1,16 @@
-use Rattle.im_types.specs.Contents.{empty_contents}
+use Rattle.std.proofs.Common.{[], refl}
 use Rattle.im_engine.specs.Groups.{reached_in}
-use Rattle.im_promise.proofs.Sent.{is_false_by, by_is_false}
+use Rattle.im_promise.proofs.Sent.{is_false_by, by_is_false, agrees_after}
 use Rattle.im_promise.proofs.Asking.{said_again, group_again}
 use Rattle.im_promise.proofs.groups.ask_group_again.Goals as goal
 
 pub returns : goal.returns
-returns g c = λ f cells elements earlier later before from is.
+returns g c = λ f before later agrees is.
     let old = c.args.engine.now in
     let members = c.args.members.now.items in
     group_again before old c.serve_group.new.self members c.serve_group.new.served.items f c.serve_group.ensures.answered
     (said_again c.repeat_is_told_again.ensures c.forgotten_for_ever.ensures.refused
     (λ m command e. (c.accepted_where_changed.ensures.unaccepted m command).0 (is_false_by _ e))
     (λ m command same. by_is_false _ ((c.accepted_where_changed.ensures.unaccepted m command).1 same))
-    c.runs_join.ensures.memory (empty_contents cells elements) (c.waiting_agrees.ensures.run cells elements)
-    before (reached_in old) members earlier later from is)
+    c.runs_join.ensures.memory before.contents (λ commands. agrees_after c.waiting_agrees.ensures.step before.contents commands agrees)
+    before (reached_in old) members [] later refl is)

@@ -55,12 +55,12 @@ returns-clause-began c =
     let step : step_of c.next_left-step.result.0 c.count-self-inside.result (pages_from c.next_left-step.result.1 c.union_with-2.new.self) ≡ with_left c.args.journal.now.count (pages_from 0 (union e.older e.recent)) =
     c.next_left-step.ensures.step c.count-self-inside.result ∙ (λ i. with_left (count i) (pages_from 0 (all i))) in
     let header : seen e.header ≡ c.args.self.now.state.header = ap (λ (s : PagedCheckpoint). s.state.header) c.self.view_is in
-    let left : List ℕ = pages_from 0 (union e.older e.recent) in
     let few : length (pages_from 0 (union e.older e.recent)) ≤ area_pages layout_in_use (seen e.header).sizes =
     omega (arith, few-from (union e.older e.recent) 0, length-union e.older e.recent, c.self.invariant.older_size) in
     let turns : turns_left (with_left c.args.journal.now.count (pages_from 0 (union e.older e.recent))) ≤ area_pages layout_in_use (seen e.header).sizes + 2 = omega (arith, turns_with c.args.journal.now.count (pages_from 0 (union e.older e.recent)), few) in
     record {
-      left = left;
+      changed = union e.older e.recent;
+      size = length-union e.older e.recent ∙ c.self.invariant.older_size ∙ ap (λ (h : Header). area_pages layout_in_use h.sizes) header;
       state = (λ i. record { header = header i; step = step i });
       turns = subst (λ (h : Header). turns_left (step_of c.next_left-step.result.0 c.count-self-inside.result (pages_from c.next_left-step.result.1 c.union_with-2.new.self)) ≤ area_pages layout_in_use h.sizes + 2) header
           (subst (λ (s : Step). turns_left s ≤ area_pages layout_in_use (seen e.header).sizes + 2) (sym step) turns);

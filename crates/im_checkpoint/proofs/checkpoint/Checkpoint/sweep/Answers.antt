@@ -1,9 +1,10 @@
-use Rattle.std.proofs.Common.{rules, ◌≡◌, ◌∙◌, sym, ap, refl}
+use Rattle.std.proofs.Common.{◌≡◌, ◌∙◌, sym, ap, refl, subst, arith}
+use Rattle.im_disk.specs.Since.{CallsBy}
 use Rattle.im_checkpoint.specs.declared.checkpoint.Step.{Step as Mark}
 use Rattle.im_pages.specs.PageSets.{pages_from}
-use Rattle.im_checkpoint.specs.Step.{PagedCheckpoint, NoCheckpoint, step_of}
-use Rattle.im_checkpoint.specs.Turns.{swept_at_once}
-use Rattle.im_checkpoint.proofs.Sweeping.{none_more, none_at_once, kept_still}
+use Rattle.im_checkpoint.specs.Step.{Step, PagedCheckpoint, NoCheckpoint, step_of}
+use Rattle.im_checkpoint.specs.Turns.{swept_at_once, calls_to_sweep}
+use Rattle.im_checkpoint.proofs.Sweeping.{none_more, none_under_way, kept_still}
 use Rattle.im_checkpoint.proofs.checkpoint.Checkpoint.sweep.Goals as goal
 
 pub returns-in-NoCheckpoint-clause-keeps : goal.returns-in-NoCheckpoint-clause-keeps
@@ -12,18 +13,26 @@ returns-in-NoCheckpoint-clause-keeps g c = λ h x m kept.
     let is : c.args.self.now.state.step ≡ NoCheckpoint = ap (λ (s : PagedCheckpoint). s.state.step) (sym c.self.view_is) ∙ ap (λ (p : Mark). step_of p e.count (pages_from e.next e.left)) c.in-NoCheckpoint.is in
     c.sweep_more.ensures.keeps h c.args.self.now.state x m is kept
 
+pub returns-in-NoCheckpoint-clause-calls : goal.returns-in-NoCheckpoint-clause-calls
+returns-in-NoCheckpoint-clause-calls g c = λ h.
+    let e = c.self.inside in
+    let is : c.args.self.now.state.step ≡ NoCheckpoint = ap (λ (s : PagedCheckpoint). s.state.step) (sym c.self.view_is) ∙ ap (λ (p : Mark). step_of p e.count (pages_from e.next e.left)) c.in-NoCheckpoint.is in
+    subst (λ (s : Step). CallsBy g.D.Disk.past c.args.disk.now c.sweep_more.new.disk (calls_to_sweep s c.args.journal.now c.args.most) c.sweep_more.result) (sym is) (c.sweep_more.ensures.calls h)
+
 pub returns-in_default : goal.returns-in_default
 returns-in_default g c =
     let e = c.self.inside in
+    let none = none_under_way (λ s. calls_to_sweep s c.args.journal.now c.args.most) (λ count left. refl) (λ count. refl) (λ count. refl) e.step e.count (pages_from e.next e.left) c.in_default.not-NoCheckpoint
+    ∙ ap (λ (s : PagedCheckpoint). calls_to_sweep s.state.step c.args.journal.now c.args.most) c.self.view_is in
     record {
       swept = (
-        none_at_once e.step e.count (pages_from e.next e.left) c.args.journal.now c.args.most c.in_default.not-NoCheckpoint
+        none_under_way (λ s. swept_at_once s c.args.journal.now c.args.most) (λ count left. refl) (λ count. refl) (λ count. refl) e.step e.count (pages_from e.next e.left) c.in_default.not-NoCheckpoint
             ∙ ap (λ (s : PagedCheckpoint). swept_at_once s.state.step c.args.journal.now c.args.most) c.self.view_is,
         none_more c.args.journal.now,
       );
       same = tt;
       keeps = λ h x m kept. kept_still g.D.Disk.now g.D.Disk.past c.args.disk.now c.args.self.now.state x m c.args.journal.now kept;
-      calls = search rules;
+      calls = λ h. omega (arith, none);
       honest = λ h. h;
       faults = refl;
     }

@@ -1,0 +1,37 @@
+use Rattle.std.proofs.Common.{◌≡◌, List, ◌++◌, sym, ap, ◌∙◌, subst}
+use Rattle.im_types.specs.declared.commands.Command.{Command}
+use Rattle.im_types.specs.declared.commands.Command.TheVariants.{Request as Asks}
+use Rattle.im_types.specs.Contents.{Contents}
+use Rattle.im_types.specs.Agreement.{WaitingAgrees}
+use Rattle.im_types.specs.Run.{after}
+use Rattle.im_laws.specs.Requests.{after_request}
+use Rattle.im_laws.specs.Entries.{IsToldAgainOrForgotten}
+use Rattle.im_engine.specs.Run.{acknowledged}
+use Rattle.im_promise.proofs.Sent.{said, by_is_false, is_false_by, acted, asked}
+use Rattle.im_promise.proofs.again.ask_over_a_crash.Goals as goal
+
+pub returns-in-Ok-clause-again : goal.returns-in-Ok-clause-again
+returns-in-Ok-clause-again c = λ f entry told.
+    let old = c.args.engine in
+    let mid = c.serve-first.new.self in
+    let r = c.args.request in
+    let now = c.in-Ok.recovered.engine in
+    let first = acted old mid r entry c.serve-first.result f c.serve-first.ensures.answered told
+    (λ un. (c.accepted_where_changed.ensures.unaccepted old.memory (Asks r)).0 (is_false_by _ un)) in
+    let agrees : WaitingAgrees old.memory = subst WaitingAgrees c.memory.ensures c.cells-cells.ensures.memory.agrees in
+    let found = c.in-Ok.ensures.recovers first.works in
+    let l : List Command = acknowledged mid.memory c.args.events.now c.in-Ok.recovered.answers.items ++ found.also in
+    let is : now.memory ≡ after (after_request old.memory r) l = found.memory ∙ ap (λ (x : Contents). after x l) first.memory in
+    let again = said now c.serve-again.new.self r entry c.serve-again.result c.in-Ok.ensures.works c.serve-again.ensures.answered
+    (subst (λ (x : Contents). IsToldAgainOrForgotten x r entry) (sym is) (c.repeat_is_told_again.ensures old.memory r entry l agrees first.answered))
+    (λ gone. c.forgotten_for_ever.ensures.refused now.memory r gone)
+    (λ same. by_is_false _ ((c.accepted_where_changed.ensures.unaccepted now.memory (Asks r)).1 same)) in
+    asked old mid now c.serve-again.new.self r entry c.serve-again.result c.args.events.now c.in-Ok.recovered.answers.items first found again
+
+pub returns-in-Err-clause-refused : goal.returns-in-Err-clause-refused
+returns-in-Err-clause-refused c = λ f entry told.
+    let old = c.args.engine in
+    let r = c.args.request in
+    let first = acted old c.serve-first.new.self r entry c.serve-first.result f c.serve-first.ensures.answered told
+    (λ un. (c.accepted_where_changed.ensures.unaccepted old.memory (Asks r)).0 (is_false_by _ un)) in
+    c.in-Err.ensures.refused first.works
