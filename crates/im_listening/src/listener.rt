@@ -1,7 +1,9 @@
 //! A reader that listens by a thread.
+ghost use Rattle.std.specs.Prelude.{◌≡◌, ◌<◌, Ok, length};
 ghost use Rattle.std.specs.Io.{ReadsAtMost};
 
 use crate::Ear;
+use crate::patient::read_waiting;
 use crossbeam_channel::{Receiver, Sender, bounded};
 use std::alloc::Global;
 use std::io::{self, Error, ErrorKind, Read};
@@ -11,7 +13,7 @@ use std::thread::{self, Threads, yield_now};
 // So often the thread is let go first, before its reader is taken to wait.
 const PATIENCE: usize = 4_096;
 
-// What a reader gave that no read has taken yet.
+// What a reader gave that no read has taken yet. Its end is kept: it is read once.
 #[derive(Clone, Copy)]
 enum Heard {
     Nothing,
@@ -28,13 +30,13 @@ struct Loan<I> {
 }
 
 // Waits for a byte. One alone: a reader that has given nothing has still all that it had.
-fn hear<I: Read>(loan: Loan<I>) -> Loan<I> {
+fn hear<R: Wait, I: Read>(rt: &R, loan: Loan<I>) -> Loan<I> {
     let Loan {
         mut input,
         heard: _,
     } = loan;
     let mut byte = [0u8; 1];
-    let heard = match input.read(&mut byte) {
+    let heard = match read_waiting(rt, &mut input, &mut byte) {
         Ok(0) => Heard::End,
         Ok(_) => Heard::Byte(byte[0]),
         Err(error) => Heard::Error(error.kind()),
@@ -48,7 +50,7 @@ fn hear_all<R: Wait + Drop, I: Read + Drop>(rt: R, lent: Receiver<Loan<I>>, give
         let Ok(loan) = lent.recv(&rt) else {
             return;
         };
-        if give.send(&rt, hear(loan)).is_err() {
+        if give.send(&rt, hear(&rt, loan)).is_err() {
             return;
         }
     }
@@ -61,9 +63,21 @@ struct Helper<I: Drop> {
     back: Receiver<Loan<I>>,
 }
 
+// What a read of so many bytes, where there was room for so many, leaves to be heard: the end, where it gave none.
+fn heard_by(count: usize, room: usize) -> Heard
+    ensures end { count ≡ 0 → 0 < room → result ≡ Heard.End }
+{
+    if count == 0 && room > 0 {
+        Heard::End
+    } else {
+        Heard::Nothing
+    }
+}
+
 // Gives this byte, and what is there behind it. Behind a line feed nothing is waited for.
-fn put_first<I: Read>(byte: u8, input: &mut I, buf: &mut [u8]) -> io::Result<usize>
+fn put_first<I: Read>(byte: u8, loan: &mut Loan<I>, buf: &mut [u8]) -> io::Result<usize>
     ensures bound { ReadsAtMost result buf.new }
+    ensures some { result ≡ Ok 0 → length buf.old ≡ 0 }
 {
     let Some((first, rest)) = buf.split_first_mut() else {
         return Ok(0);
@@ -72,15 +86,56 @@ fn put_first<I: Read>(byte: u8, input: &mut I, buf: &mut [u8]) -> io::Result<usi
     if byte == b'\n' {
         return Ok(1);
     }
-    match input.read(rest) {
-        Ok(more) => Ok(1 + more),
+    match loan.input.read(rest) {
+        Ok(more) => {
+            loan.heard = heard_by(more, rest.len());
+            Ok(1 + more)
+        }
         Err(_) => Ok(1), // The next read meets it again.
     }
 }
 
+// Reads on.
+fn read_on<R: Wait, I: Read>(rt: &R, loan: &mut Loan<I>, buf: &mut [u8]) -> io::Result<usize>
+    ensures bound { ReadsAtMost result buf.new }
+    ensures ended { result ≡ Ok 0 → 0 < length buf.old → loan.new.heard ≡ Heard.End }
+{
+    match read_waiting(rt, &mut loan.input, buf) {
+        Ok(count) => {
+            loan.heard = heard_by(count, buf.len());
+            Ok(count)
+        }
+        Err(error) => Err(error),
+    }
+}
+
+// Gives what was heard, or reads on. The end is given again without a read.
+fn read_heard<R: Wait, I: Read>(rt: &R, loan: &mut Loan<I>, buf: &mut [u8]) -> io::Result<usize>
+    ensures bound { ReadsAtMost result buf.new }
+    ensures end { loan.old.heard ≡ Heard.End → (result ≡ Ok 0) × (loan.new ≡ loan.old) }
+    ensures ended { result ≡ Ok 0 → 0 < length buf.old → loan.new.heard ≡ Heard.End }
+{
+    if buf.is_empty() {
+        return Ok(0);
+    }
+    match loan.heard {
+        Heard::Nothing => read_on(rt, loan, buf),
+        Heard::Byte(byte) => {
+            loan.heard = Heard::Nothing;
+            put_first(byte, loan, buf)
+        }
+        Heard::End => Ok(0),
+        Heard::Error(kind) => {
+            loan.heard = Heard::Nothing;
+            Err(Error::from(kind))
+        }
+    }
+}
+
 /// A reader that can tell whether a read would wait: where that is asked, a thread of its own waits for the next byte,
-/// and has the reader until then. A read waits for the thread, and reads on where it came to. The thread keeps no
-/// program from ending.
+/// and has the reader until then. A read waits for the thread, and reads on where it came to. It waits too where the
+/// reader has nothing yet and doesn't wait itself. The end of the input is read once: each later read gives it again. The
+/// thread keeps no program from ending.
 #[derive(Drop)]
 pub struct Listener<R, I: Drop> {
     rt: R,
@@ -197,13 +252,6 @@ impl<R: Wait, I: Read + Drop> Read for Listener<R, I> {
         let Some(loan) = &mut self.here else {
             return Ok(0); // The thread has ended, and the reader with it.
         };
-        let heard = loan.heard;
-        loan.heard = Heard::Nothing;
-        match heard {
-            Heard::Nothing => loan.input.read(buf),
-            Heard::Byte(byte) => put_first(byte, &mut loan.input, buf),
-            Heard::End => Ok(0),
-            Heard::Error(kind) => Err(Error::from(kind)),
-        }
+        read_heard(&self.rt, loan, buf)
     }
 }

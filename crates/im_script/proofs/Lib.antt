@@ -1,3 +1,4 @@
 pub mod NumberLemmas
 pub mod PlaceLemmas
 pub mod ScriptLemmas
+pub mod TextLemmas

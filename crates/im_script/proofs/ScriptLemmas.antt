@@ -1,17 +1,17 @@
 -- A script read line by line. (Own.)
-use Rattle.std.proofs.Common.{Bool, ◌≡◌, ◌∙◌, eq-eqb, ◌++◌, ◌==◌, false, All, ℕ, ◌+◌, ◌<◌, ◌≤◌, List, [], ◌∷◌, arith, refl, sym, ap, subst, length, take, drop, get_or, inl, inr}
+use Rattle.std.proofs.Common.{Bool, ◌≡◌, ◌∙◌, eq-eqb, ◌++◌, ◌==◌, true, false, All, ℕ, ◌+◌, ◌<◌, ◌≤◌, List, [], ◌∷◌, arith, refl, sym, ap, subst, length, take, drop, get_or, inl, inr}
 use Rattle.std.specs.Prelude.{◌⊎◌, Option, Some, None, Result, Ok, Err, IfErr, IfSome, IsSome}
 use Rattle.std.specs.Option.{option_map, option_and_then}
 use Rattle.std.proofs.lemmas.List.{take_more, take_all, take-append-drop, length-take-le, drop_more}
 use Rattle.std.proofs.lemmas.List.Splits.{slice_split_at}
 use Rattle.std.proofs.lemmas.Bool.{ne_eqb}
 use Rattle.std.proofs.lemmas.List.Elements.{All-append, All-cons, All-nil}
-use Rattle.im_script.specs.Script.{Draft, heard, lines_after, lines_of, lines_say, new_draft, script_of}
+use Rattle.im_script.specs.Script.{Draft, heard, is_few, lines_after, lines_of, lines_say, new_draft, script_of}
 use Rattle.im_script.specs.declared.script.Heard.{Heard}
 use Rattle.im_script.specs.declared.faults.ScriptFault.{ScriptFault}
-use Rattle.im_script.specs.declared.faults.ScriptFault.TheVariants.{NoMemory, BadLine}
+use Rattle.im_script.specs.declared.faults.ScriptFault.TheVariants.{NoMemory, TooLarge, BadLine}
 use Rattle.im_script.specs.declared.script.Script.{Script}
-use Rattle.im_script.specs.Faults.{IsFirstFault, line_of}
+use Rattle.im_script.specs.Faults.{IsFirstFault, is_of_size, line_of}
 
 -- with glances, or without
 module _ (g : Bool) where
@@ -83,19 +83,26 @@ module _ (g : Bool) where
   }
 
   -- and then the text is no script
-  pub no_script : (text : List ℕ) (n : ℕ) → IsFirstFault g text n → script_of g text ≡ None
-  no_script text n f = they_say_none new_draft (lines_of text)
+  pub no_lines : (text : List ℕ) (n : ℕ) → IsFirstFault g text n → lines_say g new_draft (lines_of text) ≡ None
+  no_lines text n f = they_say_none new_draft (lines_of text)
       (ap (lines_after g new_draft) f.lines ∙ lines_append new_draft f.before (f.line ∷ f.rest) ∙ ap (option_and_then (λ (e : Draft). lines_after g e (f.line ∷ f.rest))) f.read
       ∙ ap (option_and_then (λ (r : Draft × Heard). lines_after g r.0 f.rest)) f.bad)
 
+  pub no_script : (text : List ℕ) (n : ℕ) → is_few text ≡ true → IsFirstFault g text n → script_of g text ≡ None
+  no_script text n few f = rw few (no_lines text n f)
+
+  all_said : (text : List ℕ) (d : Draft) (i : ℕ) → length (lines_of text) ≤ i → lines_after g new_draft (take i (lines_of text)) ≡ Some d → IsSome (lines_say g new_draft (lines_of text))
+  all_said text d i past so_far = they_say new_draft d (lines_of text) (ap (lines_after g new_draft) (sym (take_all i (lines_of text) past)) ∙ so_far)
+
   -- no line is left
-  pub script_is : (text : List ℕ) (d : Draft) (i : ℕ) → length (lines_of text) ≤ i → lines_after g new_draft (take i (lines_of text)) ≡ Some d → IsSome (script_of g text)
-  script_is text d i past so_far = they_say new_draft d (lines_of text) (ap (lines_after g new_draft) (sym (take_all i (lines_of text) past)) ∙ so_far)
+  pub script_is : (text : List ℕ) (d : Draft) (i : ℕ) → is_few text ≡ true → length (lines_of text) ≤ i → lines_after g new_draft (take i (lines_of text)) ≡ Some d → IsSome (script_of g text)
+  script_is text d i few past so_far = rw few (all_said text d i past so_far)
 
   -- what a line's fault says of the text
   first_told : (text : List ℕ) (d : Draft) (i n : ℕ) (line : List ℕ) (f : ScriptFault) → i < length (lines_of text) → line ≡ get_or (lines_of text) i line → lines_after g new_draft (take i (lines_of text)) ≡ Some d
       → n ≡ i + 1 → IfSome (line_of f) (λ at. (at ≡ n) × (heard g d line ≡ None)) → IfSome (line_of f) (IsFirstFault g text)
   first_told text d i n line NoMemory inside is so_far number h = h
+  first_told text d i n line TooLarge inside is so_far number h = h
   first_told text d i n line (BadLine at fault) inside is so_far number h = first_fault text d i at line inside is so_far h.1 (h.0 ∙ number)
 
   -- the same, of the answer that passes it on
@@ -107,14 +114,23 @@ module _ (g : Bool) where
       let Q : Result Script ScriptFault → Type 0 = λ t. IfErr t (λ fault. IfSome (line_of fault) (IsFirstFault g text)) in
       subst Q (sym now) (first_told text d i n line f inside is so_far number (subst P was h))
 
-  told_bad : (text : List ℕ) (f : ScriptFault) → IfSome (line_of f) (IsFirstFault g text) → (f ≡ NoMemory) ⊎ (script_of g text ≡ None)
-  told_bad text NoMemory h = inl refl
-  told_bad text (BadLine at fault) h = inr (no_script text at h)
+  -- nor is it told of the text's size
+  pub passes_size : (f : ScriptFault) (r : Result Heard ScriptFault) (s : Result Script ScriptFault) → r ≡ Err f → s ≡ Err f → IfErr r (λ fault. is_of_size fault ≡ false) → IfErr s (λ fault. is_of_size fault ≡ false)
+  passes_size f r s was now h =
+      let P : Result Heard ScriptFault → Type 0 = λ t. IfErr t (λ fault. is_of_size fault ≡ false) in
+      let Q : Result Script ScriptFault → Type 0 = λ t. IfErr t (λ fault. is_of_size fault ≡ false) in
+      subst Q (sym now) (subst P was h)
+
+  told_bad : (text : List ℕ) (f : ScriptFault) → is_few text ≡ true → is_of_size f ≡ false → IfSome (line_of f) (IsFirstFault g text) → (f ≡ NoMemory) ⊎ (script_of g text ≡ None)
+  told_bad text NoMemory few size h = inl refl
+  told_bad text TooLarge few size h = absurd (cc)
+  told_bad text (BadLine at fault) few size h = inr (no_script text at few h)
 
   -- whose text is no script
-  pub passes_bad : (text : List ℕ) (s : Result Script ScriptFault) → IfErr s (λ fault. IfSome (line_of fault) (IsFirstFault g text)) → IfErr s (λ fault. (fault ≡ NoMemory) ⊎ (script_of g text ≡ None))
-  passes_bad text (Ok script) h = h
-  passes_bad text (Err fault) h = told_bad text fault h
+  pub passes_bad : (text : List ℕ) (s : Result Script ScriptFault) → is_few text ≡ true → IfErr s (λ fault. is_of_size fault ≡ false) → IfErr s (λ fault. IfSome (line_of fault) (IsFirstFault g text))
+      → IfErr s (λ fault. (fault ≡ NoMemory) ⊎ (script_of g text ≡ None))
+  passes_bad text (Ok script) few size h = h
+  passes_bad text (Err fault) few size h = told_bad text fault few size h
 
 -- a line ends at the first line feed
 pub line_ends : (text : List ℕ) (i : ℕ) → i < length text → get_or text i 0 ≡ 10 → All (λ byte. (byte == 10) ≡ false) (take i text) → lines_of text ≡ take i text ∷ lines_of (drop (i + 1) text)

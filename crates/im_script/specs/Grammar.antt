@@ -1,7 +1,7 @@
 -- The words of a script, as functions from the bytes to what they say. (Own.)
 use Rattle.std.specs.Prelude.{ℕ, ◌+◌, ◌-◌, ◌*◌, ◌^◌, ◌==◌, ◌&&◌, ◌||◌, Bool, not, nat_le, nat_lt, List, [], ◌∷◌, length, map, drop, Option, Some, None, if◌then◌else◌, codes, slice_index_or}
 use Rattle.std.specs.Borrow.{Bor}
-use Rattle.std.specs.Char.{is_ascii_digit, is_ascii_lowercase}
+use Rattle.std.specs.Char.{is_ascii, is_ascii_digit, is_ascii_lowercase}
 use Rattle.std.specs.List.{filter, list_all, slice_split, before_first, position, position_or_len}
 use Rattle.std.specs.Option.{option_map, option_and_then, option_or}
 use Rattle.std.specs.Str.{bytes_eq, all_ascii_digits}
@@ -11,7 +11,15 @@ use Rattle.im_types.specs.declared.operations.Kind.TheVariants.{I, M}
 use Rattle.im_script.specs.declared.places.Place.{Place}
 use Rattle.im_script.specs.declared.places.Place.TheVariants.{Address, Named}
 
--- ---- words
+-- ---- lines and words
+
+-- a line has 4,096 bytes at most, without its line feed
+abbrev pub is_short : List ℕ → Bool
+is_short line = nat_le (length line) 4096
+
+-- a line that may be read: it isn't too long, and is ASCII
+abbrev pub is_line : List ℕ → Bool
+is_line line = is_short line && list_all is_ascii line
 
 -- the bytes of borrowed texts
 abbrev pub texts : List (Bor (List ℕ)) → List (List ℕ)

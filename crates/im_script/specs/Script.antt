@@ -1,7 +1,6 @@
 -- The grammar of scripts: what a text says, line by line. (Own.)
-use Rattle.std.specs.Prelude.{⊤, ◌≡◌, ℕ, ◌==◌, Bool, List, [], ◌∷◌, ◌++◌, Option, Some, None, Result, Ok, Err, if◌then◌else◌, slice_index_or}
-use Rattle.std.specs.Char.{is_ascii}
-use Rattle.std.specs.List.{list_all, slice_split}
+use Rattle.std.specs.Prelude.{⊤, ◌≡◌, ℕ, ◌==◌, Bool, nat_le, List, [], ◌∷◌, ◌++◌, length, Option, Some, None, Result, Ok, Err, if◌then◌else◌, slice_index_or}
+use Rattle.std.specs.List.{slice_split}
 use Rattle.std.specs.Option.{option_map, option_and_then, option_map_or, option_or}
 use Rattle.im_types.specs.declared.refusals.Refusal.{Refusal}
 use Rattle.im_types.specs.declared.refusals.Refusal.TheVariants.{BadScript, NoMemory}
@@ -12,7 +11,7 @@ use Rattle.im_script.specs.declared.script.Heard.TheVariants.{Says, Glances}
 use Rattle.im_script.specs.declared.script.Reader.{Reader}
 use Rattle.im_script.specs.declared.script.Stage.{Stage}
 use Rattle.im_script.specs.declared.script.Stage.TheVariants.{Start, Setup, Part}
-use Rattle.im_script.specs.Grammar.{texts, words_of, number_up_to}
+use Rattle.im_script.specs.Grammar.{is_line, texts, words_of, number_up_to}
 use Rattle.im_script.specs.Lines.{action_of, glanced, named_block, part_number, starts_setup}
 
 -- where the next line stands, and the names that the setup gave before it
@@ -61,9 +60,9 @@ abbrev pub words_after : Draft → List (List ℕ) → Option (Draft × Said)
 words_after d [] = Some (d, Nothing)
 words_after d (word ∷ words) = if slice_index_or word 0 0 == 35 then Some (d, Nothing) else line_after d (word ∷ words)
 
--- a line, which has to be ASCII
+-- a line, which has to be ASCII and not too long
 abbrev pub counted : Draft → List ℕ → Option (Draft × Said)
-counted d line = if list_all is_ascii line then words_after d (words_of line) else None
+counted d line = if is_line line then words_after d (words_of line) else None
 
 -- ---- one line of a script that may have glances
 
@@ -72,9 +71,9 @@ abbrev pub glance_at : Draft → Stage → List (List ℕ) → Option Heard
 glance_at d (Part k) words = option_map (Glances k) (glanced d.names words)
 glance_at d _ words = None
 
--- a line that glances, which has to be ASCII
+-- a line that glances, which has to be ASCII and not too long
 abbrev pub glance_of : Draft → List ℕ → Option Heard
-glance_of d line = if list_all is_ascii line then glance_at d d.stage (words_of line) else None
+glance_of d line = if is_line line then glance_at d d.stage (words_of line) else None
 
 -- a line by its words, where it may be a glance
 abbrev pub heard_in : Draft → List (List ℕ) → Option (Draft × Heard)
@@ -100,9 +99,13 @@ lines_after glances d (line ∷ lines) = option_and_then (λ r. lines_after glan
 abbrev pub lines_of : List ℕ → List (List ℕ)
 lines_of text = slice_split (λ byte. byte == 10) text
 
+-- a script has 256 MiB at most
+abbrev pub is_few : List ℕ → Bool
+is_few text = nat_le (length text) 268435456
+
 -- the script that a text is, by what each line says, if it is one; with glances, or without
 abbrev pub script_of : Bool → List ℕ → Option (List Heard)
-script_of glances text = lines_say glances new_draft (lines_of text)
+script_of glances text = if is_few text then lines_say glances new_draft (lines_of text) else None
 
 -- ---- what a reading function answers
 

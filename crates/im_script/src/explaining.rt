@@ -1,4 +1,6 @@
 //! Where a line that is refused goes wrong.
+ghost use Rattle.std.specs.Prelude.{◌≡◌, false, IfSome};
+ghost use Rattle.im_script.specs.Faults.{is_of_length};
 
 use crate::faults::{Expected, LineFault, Quoted};
 use crate::grammar::{
@@ -6,6 +8,9 @@ use crate::grammar::{
 };
 use crate::script::{LAST_ELEMENT, Stage};
 use indexmap::IndexSet;
+
+/// A byte-order mark, as UTF-8 spells it.
+const MARK: &[u8] = b"\xef\xbb\xbf";
 
 /// What a line begins with, by where it stands and whether a glance may stand there.
 fn beginning(stage: Stage, glances: bool) -> Expected {
@@ -23,7 +28,7 @@ fn beginning(stage: Stage, glances: bool) -> Expected {
 }
 
 /// What a request has behind its word. `None` where no request begins with the word.
-fn behind_request(word: &[u8]) -> Option<&'static [Expected]> {
+pub fn behind_request(word: &[u8]) -> Option<&'static [Expected]> {
     if word == b"alloc".as_slice() {
         Some(&[Expected::Kind, Expected::Length])
     } else if word == b"store".as_slice() || word == b"put".as_slice() {
@@ -99,29 +104,97 @@ fn word_fault(names: &IndexSet<&[u8]>, word: &[u8], expected: Expected) -> Optio
     if fits { None } else { Some(expected) }
 }
 
+/// A word that isn't what is expected of it.
+fn wrong(word: &[u8], expected: Expected) -> LineFault
+    ensures { is_of_length result ≡ false }
+{
+    if word.first() == Some(&b'#') {
+        LineFault::Remark(Quoted::of(word), expected)
+    } else {
+        LineFault::Word(Quoted::of(word), expected)
+    }
+}
+
 /// Where the words behind a line's first one go wrong.
-fn rest_fault(names: &IndexSet<&[u8]>, words: &[&[u8]], expected: &[Expected]) -> LineFault {
+fn rest_fault(names: &IndexSet<&[u8]>, words: &[&[u8]], expected: &[Expected]) -> LineFault
+    ensures { is_of_length result ≡ false }
+{
     for (at, expected) in expected.iter().enumerate() {
         let Some(word) = words.get(at) else {
             return LineFault::Ends(*expected);
         };
         if let Some(wanted) = word_fault(names, word, *expected) {
-            return LineFault::Word(Quoted::of(word), wanted);
+            return wrong(word, wanted);
         }
     }
     match words.get(expected.len()) {
-        Some(word) => LineFault::Word(Quoted::of(word), Expected::End),
+        Some(word) => wrong(word, Expected::End),
         None => LineFault::Ends(Expected::End),
     }
 }
 
-/// Where a line goes wrong that is refused where it stands, by its words and the names that were given before, and by
-/// whether glances may stand in the script.
-pub fn explain(stage: Stage, names: &IndexSet<&[u8]>, words: &[&[u8]], glances: bool) -> LineFault {
-    for word in words {
+/// Whether the words are those of a remark.
+fn is_remark(words: &[&[u8]]) -> bool {
+    match words.first() {
+        Some(word) => word.first() == Some(&b'#'),
+        None => false,
+    }
+}
+
+/// What is wrong with a word that is no ASCII, the one at this place among the words.
+fn not_ascii(words: &[&[u8]], at: usize, word: &[u8]) -> LineFault
+    ensures { is_of_length result ≡ false }
+{
+    if at == 0 && word.starts_with(MARK) {
+        LineFault::Mark
+    } else if is_remark(words) {
+        LineFault::Word(Quoted::of(word), Expected::AsciiRemark)
+    } else {
+        LineFault::Word(Quoted::of(word), Expected::Ascii)
+    }
+}
+
+/// What in the words is no ASCII, if something is.
+fn ascii_fault(words: &[&[u8]]) -> Option<LineFault>
+    ensures { IfSome result (λ fault. is_of_length fault ≡ false) }
+{
+    for (at, word) in words.iter().enumerate() {
         if !is_plain(word) {
-            return LineFault::Word(Quoted::of(word), Expected::Ascii);
+            return Some(not_ascii(words, at, word));
         }
+    }
+    None
+}
+
+/// Whether the last word ends in a carriage return. No line with such a word is in the grammar, but a remark.
+fn ends_in_return(words: &[&[u8]]) -> bool {
+    match words.last() {
+        Some(word) => word.last() == Some(&b'\r'),
+        None => false,
+    }
+}
+
+/// What is wrong with a line's words whatever it says: one is no ASCII, or the last one ends in a carriage return.
+pub fn bytes_fault(words: &[&[u8]]) -> Option<LineFault>
+    ensures { IfSome result (λ fault. is_of_length fault ≡ false) }
+{
+    if let Some(fault) = ascii_fault(words) {
+        return Some(fault);
+    }
+    if ends_in_return(words) {
+        Some(LineFault::Return)
+    } else {
+        None
+    }
+}
+
+/// Where a line goes wrong that is refused where it stands though it isn't too long, by its words and the names that were
+/// given before, and by whether glances may stand in the script.
+pub fn explain(stage: Stage, names: &IndexSet<&[u8]>, words: &[&[u8]], glances: bool) -> LineFault
+    ensures { is_of_length result ≡ false }
+{
+    if let Some(fault) = bytes_fault(words) {
+        return fault;
     }
     let Some((first, rest)) = words.split_first() else {
         return LineFault::Ends(beginning(stage, glances));

@@ -40,6 +40,20 @@ pub enum Expected {
     End,
     /// A word of ASCII.
     Ascii,
+    /// A word of ASCII in a remark.
+    AsciiRemark,
+    /// The first word of a line of a dialogue.
+    Asked,
+    /// An element and a request's number, with a dot between them.
+    Waiter,
+    /// The number of an element in a dialogue.
+    Asker,
+    /// The number of a request.
+    Number,
+    /// What a request of a dialogue asks for.
+    Operation,
+    /// Where a request of a dialogue acts.
+    Address,
 }
 
 impl Expected {
@@ -61,6 +75,15 @@ impl Expected {
             Expected::Value => "a number from 0 to 18446744073709551615",
             Expected::End => "the end of the line",
             Expected::Ascii => "ASCII",
+            Expected::AsciiRemark => "ASCII, in a remark as elsewhere,",
+            Expected::Asked => "E.N, collect, confirm, window, room, turn, count or quit",
+            Expected::Waiter => {
+                "E.N, with an element's number E from 0 to 65535 and a request's number N,"
+            }
+            Expected::Asker => "an element's number from 0 to 65535",
+            Expected::Number => "a request's number",
+            Expected::Operation => "alloc, fetch, store, take, put, release or reset",
+            Expected::Address => "an address from 0 to 4294967295",
         }
     }
 }
@@ -82,7 +105,7 @@ pub struct Quoted {
 
 impl Quoted {
     /// The beginning of a word.
-    pub(crate) fn of(word: &[u8]) -> Quoted {
+    pub fn of(word: &[u8]) -> Quoted {
         let mut bytes = [0; MOST_QUOTED];
         let length = word.len();
         let quoted = length.min(MOST_QUOTED);
@@ -109,6 +132,18 @@ pub enum LineFault {
     /// The first word that isn't what the grammar has in its place.
     #[error("{0}, where {1} is expected")]
     Word(Quoted, Expected),
+    /// The first such word begins a remark, and the line has words before it.
+    #[error("{0}, where {1} is expected: a remark needs a line of its own")]
+    Remark(Quoted, Expected),
+    /// The line ends in a carriage return, which is no space.
+    #[error("the line ends in a carriage return: is it a Windows file?")]
+    Return,
+    /// The line begins with the three bytes of a byte-order mark.
+    #[error("the line begins with a byte-order mark, which is no ASCII: save the file without one")]
+    Mark,
+    /// The line has more than 4,096 bytes.
+    #[error("the line is too long")]
+    TooLong,
 }
 
 /// Why a text is no script.
@@ -117,6 +152,9 @@ pub enum ScriptFault {
     /// There was not enough memory.
     #[error("not enough memory for the script")]
     NoMemory,
+    /// It has more than 256 MiB.
+    #[error("the script is too large: it may have 268435456 bytes, which are 256 MiB")]
+    TooLarge,
     /// A line isn't in the grammar where it stands.
     #[error("line {line}: {fault}")]
     BadLine {
@@ -134,7 +172,7 @@ impl ScriptFault {
     {
         match self {
             ScriptFault::NoMemory => Refusal::NoMemory,
-            ScriptFault::BadLine { .. } => Refusal::BadScript,
+            ScriptFault::TooLarge | ScriptFault::BadLine { .. } => Refusal::BadScript,
         }
     }
 }

@@ -4,11 +4,11 @@ ghost use Rattle.std.specs.List.{before_first, list_all, list_any, position, pos
 ghost use Rattle.std.specs.Char.{is_ascii};
 ghost use Rattle.std.specs.Option.{option_and_then, option_map};
 ghost use Rattle.std.specs.Str.{bytes_eq};
-ghost use Rattle.im_script.specs.Grammar.{digit_after, is_name, is_name_byte, kind_of, number_up_to, offset_of};
+ghost use Rattle.im_script.specs.Grammar.{digit_after, is_line, is_name, is_name_byte, kind_of, number_up_to, offset_of};
 ghost use Rattle.im_script.specs.Grammar.{place_of, place_past, texts, words_of};
 
 use crate::places::Place;
-use crate::{MAX_NAME, MAX_OFFSET};
+use crate::{MAX_LINE, MAX_NAME, MAX_OFFSET};
 use im_types::Kind;
 use indexmap::IndexSet;
 use std::alloc::{AllocError, Global};
@@ -83,6 +83,13 @@ pub fn is_plain(text: &[u8]) -> bool
     ensures { result ≡ list_all is_ascii text.now }
 {
     text.iter().all(|byte| byte.is_ascii())
+}
+
+/// Whether a line may be read: it has 4,096 bytes at most, and each is ASCII.
+pub fn is_line(line: &[u8]) -> bool
+    ensures { result ≡ is_line line.now }
+{
+    line.len() <= MAX_LINE && is_plain(line)
 }
 
 /// Whether each byte of a word may stand in a name.

@@ -6,16 +6,25 @@ mod faults;
 mod grammar;
 mod lines;
 mod places;
+mod reading;
 mod script;
 
+pub use explaining::{behind_request, bytes_fault};
 pub use faults::{Expected, LineFault, Quoted, ScriptFault};
-pub use grammar::{is_plain, read_number, read_u32, split_words};
+pub use grammar::{is_line, is_plain, read_number, read_u32, split_words};
 pub use lines::read_action;
 pub use places::{Action, Place};
+pub use reading::{TextFault, read_text};
 pub use script::{
     Allocation, Heard, Reader, Said, Script, ScriptLine, read_script, read_script_with_glances,
     split_line,
 };
+
+/// The most bytes of a script: 256 MiB.
+pub const MAX_SCRIPT: usize = 268_435_456;
+
+/// The most bytes of a line, without its line feed: of a script, and of a dialogue.
+pub const MAX_LINE: usize = 4_096;
 
 /// The most bytes of a name.
 pub const MAX_NAME: usize = 16;

@@ -1,16 +1,18 @@
 //! Scripts, read line by line.
-ghost use Rattle.std.specs.Prelude.{◌≡◌, ◌⊎◌, ◌∷◌, [], ℕ, List, None, Some, IfOk, IfErr, IfSome, IsSome, OnOk};
-ghost use Rattle.std.specs.Prelude.{false, true};
-ghost use Rattle.im_script.specs.declared.faults.ScriptFault.TheVariants.{NoMemory};
-ghost use Rattle.im_script.specs.Faults.{IsFirstFault, line_of};
+ghost use Rattle.std.specs.Prelude.{◌≡◌, ◌⊎◌, ◌↔◌, ◌<◌, ◌∷◌, [], ℕ, List, None, Some, IfOk, IfErr, IfSome, IsSome, OnOk};
+ghost use Rattle.std.specs.Prelude.{Err, false, length, not, true};
+ghost use Rattle.im_script.specs.declared.faults.ScriptFault.TheVariants.{NoMemory, TooLarge};
+ghost use Rattle.im_script.specs.Faults.{IsFirstFault, is_of_size, line_of, tells_length};
+ghost use Rattle.im_script.specs.Grammar.{is_short};
 ghost use Rattle.std.specs.Option.{option_map_or};
-ghost use Rattle.im_script.specs.Script.{lines_of, script_of};
+ghost use Rattle.im_script.specs.Script.{is_few, lines_of, script_of};
 
 use crate::explaining::explain;
-use crate::faults::ScriptFault;
-use crate::grammar::{is_plain, read_number, split_words};
+use crate::faults::{LineFault, ScriptFault};
+use crate::grammar::{is_line, read_number, split_words};
 use crate::lines::{is_setup, read_action, read_glance, read_named_block, read_part};
 use crate::places::{Action, Place};
+use crate::{MAX_LINE, MAX_SCRIPT};
 use im_types::{Kind, Refusal};
 use indexmap::IndexSet;
 use std::alloc::{AllocError, Global};
@@ -191,7 +193,7 @@ impl<'a> Reader<'a> {
     fn read_line(&mut self, alloc: Global, line: &'a [u8]) -> Result<Said, Refusal>
         ensures { Follows result (counted (draft_of self.old) line.entry.now) (draft_of self.new) }
     {
-        if !is_plain(line) {
+        if !is_line(line) {
             return Err(Refusal::BadScript);
         }
         let words = split_words(alloc, line).map_err(|_| Refusal::NoMemory)?;
@@ -200,8 +202,16 @@ impl<'a> Reader<'a> {
 
     /// The fault of the line with this number, which was refused, in a script that may have glances or not.
     fn fault(&self, alloc: Global, line: usize, text: &'a [u8], glances: bool) -> ScriptFault
-        ensures { IfSome (line_of result) (λ number. number ≡ line) }
+        ensures line { IfSome (line_of result) (λ number. number ≡ line) }
+        ensures size { is_of_size result ≡ false }
+        ensures long { IfSome (line_of result) (λ _. tells_length result ≡ not (is_short text.entry.now)) }
     {
+        if text.len() > MAX_LINE {
+            return ScriptFault::BadLine {
+                line,
+                fault: LineFault::TooLong,
+            };
+        }
         match split_words(alloc, text) {
             Ok(words) => ScriptFault::BadLine {
                 line,
@@ -212,7 +222,7 @@ impl<'a> Reader<'a> {
     }
 
     /// Reads the line with this number, from 1: what it says where it stands. Its fault has the number, and where in
-    /// the line it is; `NoMemory` comes where a growth was refused. A reader that answered a fault is of no use any
+    /// the line it is, which is `TooLong` exactly where it has more than 4,096 bytes; `NoMemory` comes where a growth was refused. A reader that answered a fault is of no use any
     /// more.
     pub fn read(
         &mut self,
@@ -223,6 +233,9 @@ impl<'a> Reader<'a> {
         ensures ok { IfOk result (λ said. counted (draft_of self.old) line.entry.now ≡ Some (draft_of self.new, said)) }
         ensures bad { IfErr result (λ fault. IfSome (line_of fault)
             (λ at. (at ≡ number) × (counted (draft_of self.old) line.entry.now ≡ None))) }
+        ensures size { IfErr result (λ fault. is_of_size fault ≡ false) }
+        ensures long { IfErr result (λ fault. IfSome (line_of fault)
+            (λ _. tells_length fault ≡ not (is_short line.entry.now))) }
     {
         match self.read_line(alloc, line) {
             Ok(said) => Ok(said),
@@ -272,7 +285,7 @@ impl<'a> Reader<'a> {
     fn hear_any(&mut self, alloc: Global, line: &'a [u8]) -> Result<Heard, Refusal>
         ensures { Hears result (heard true (draft_of self.old) line.entry.now) (draft_of self.new) }
     {
-        if !is_plain(line) {
+        if !is_line(line) {
             return Err(Refusal::BadScript);
         }
         let words = split_words(alloc, line).map_err(|_| Refusal::NoMemory)?;
@@ -302,6 +315,9 @@ impl<'a> Reader<'a> {
             ≡ Some (draft_of self.new, said)) }
         ensures bad { IfErr result (λ fault. IfSome (line_of fault)
             (λ at. (at ≡ number) × (heard glances (draft_of self.old) line.entry.now ≡ None))) }
+        ensures size { IfErr result (λ fault. is_of_size fault ≡ false) }
+        ensures long { IfErr result (λ fault. IfSome (line_of fault)
+            (λ _. tells_length fault ≡ not (is_short line.entry.now))) }
     {
         match self.hear_line(alloc, line, glances) {
             Ok(said) => Ok(said),
@@ -321,6 +337,9 @@ impl<'a> Reader<'a> {
             ≡ Some (draft_of self.new, said)) }
         ensures bad { IfErr result (λ fault. IfSome (line_of fault)
             (λ at. (at ≡ number) × (heard true (draft_of self.old) line.entry.now ≡ None))) }
+        ensures size { IfErr result (λ fault. is_of_size fault ≡ false) }
+        ensures long { IfErr result (λ fault. IfSome (line_of fault)
+            (λ _. tells_length fault ≡ not (is_short line.entry.now))) }
     {
         self.hear(alloc, number, line, true)
     }
@@ -338,8 +357,10 @@ pub fn split_line(text: &[u8]) -> (&[u8], Option<&[u8]>)
     (text, None)
 }
 
-/// Reads a text that may have glances or not.
+/// Reads a text that isn't too large, and may have glances or not.
 fn read_lines(alloc: Global, text: &[u8], glances: bool) -> Result<Script<'_>, ScriptFault>
+    requires few { is_few text.now ≡ true }
+    ensures size { IfErr result (λ fault. is_of_size fault ≡ false) }
     ensures text { IfOk result (λ script. script ≡ text.now) }
     ensures ok { OnOk result (IsSome (script_of glances text.now)) }
     ensures bad { IfErr result (λ fault. (fault ≡ NoMemory) ⊎ (script_of glances text.now ≡ None)) }
@@ -354,16 +375,31 @@ fn read_lines(alloc: Global, text: &[u8], glances: bool) -> Result<Script<'_>, S
     Ok(Script { text })
 }
 
-/// Reads a text, and answers that it is a script without glances. The fault of a text that is none is its first line
-/// that isn't in the grammar where it stands; `NoMemory` comes where a growth was refused. Beside the setup's names no
-/// memory is kept.
+/// Reads a text that may have glances or not.
+fn read_any(alloc: Global, text: &[u8], glances: bool) -> Result<Script<'_>, ScriptFault>
+    ensures text { IfOk result (λ script. script ≡ text.now) }
+    ensures ok { OnOk result (IsSome (script_of glances text.now)) }
+    ensures bad { IfErr result (λ fault. (fault ≡ NoMemory) ⊎ (script_of glances text.now ≡ None)) }
+    ensures first { IfErr result (λ fault. IfSome (line_of fault) (IsFirstFault glances text.now)) }
+    ensures full { (result ≡ Err TooLarge) ↔ (MAX_SCRIPT < length text.now) }
+{
+    if text.len() > MAX_SCRIPT {
+        return Err(ScriptFault::TooLarge);
+    }
+    read_lines(alloc, text, glances)
+}
+
+/// Reads a text, and answers that it is a script without glances. The fault of a text that is none is `TooLarge` where it
+/// has more than 256 MiB, and else its first line that isn't in the grammar where it stands; `NoMemory` comes where a
+/// growth was refused. Beside the setup's names no memory is kept.
 pub fn read_script(alloc: Global, text: &[u8]) -> Result<Script<'_>, ScriptFault>
     ensures text { IfOk result (λ script. script ≡ text.now) }
     ensures ok { OnOk result (IsSome (script_of false text.now)) }
     ensures bad { IfErr result (λ fault. (fault ≡ NoMemory) ⊎ (script_of false text.now ≡ None)) }
     ensures first { IfErr result (λ fault. IfSome (line_of fault) (IsFirstFault false text.now)) }
+    ensures full { (result ≡ Err TooLarge) ↔ (MAX_SCRIPT < length text.now) }
 {
-    read_lines(alloc, text, false)
+    read_any(alloc, text, false)
 }
 
 /// Reads a text, and answers that it is a script, which may have glances: the line `glance PLACE` may stand in a part.
@@ -373,6 +409,7 @@ pub fn read_script_with_glances(alloc: Global, text: &[u8]) -> Result<Script<'_>
     ensures ok { OnOk result (IsSome (script_of true text.now)) }
     ensures bad { IfErr result (λ fault. (fault ≡ NoMemory) ⊎ (script_of true text.now ≡ None)) }
     ensures first { IfErr result (λ fault. IfSome (line_of fault) (IsFirstFault true text.now)) }
+    ensures full { (result ≡ Err TooLarge) ↔ (MAX_SCRIPT < length text.now) }
 {
-    read_lines(alloc, text, true)
+    read_any(alloc, text, true)
 }
