@@ -1,4 +1,4 @@
-.PHONY: check test imem examples demo clients library install c-examples try try-tests
+.PHONY: check test imem examples demo clients library install c-examples try try-tests model
 
 # What the gate can't see, in seconds: documents against the sources, links, layout, what stands twice.
 check:
@@ -38,3 +38,7 @@ c-examples: library
 # Every story, with no proof.
 try-tests:
 	scripts/try-stories
+
+# The model of the lock, the queue and the bells, searched in all schedules of two ports; needs Debian's spin.
+model:
+	scripts/model
