@@ -1,4 +1,4 @@
-.PHONY: check test imem examples demo clients library install c-examples trials try try-tests
+.PHONY: check test imem examples demo clients library install c-examples model trials try try-tests
 
 # What the gate can't see, in seconds: documents against the sources, links, layout, what stands twice.
 check:
@@ -42,3 +42,7 @@ trials: imem
 # Every story, with no proof.
 try-tests:
 	scripts/try-stories
+
+# The model of the lock, the queue and the bells, searched in all schedules of two ports; needs Debian's spin.
+model:
+	scripts/model

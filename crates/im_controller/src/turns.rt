@@ -2,19 +2,21 @@
 //! before those that it wakes, and then no group gets large. Those for whom an answer waits go past the queue together,
 //! as they have but to take it, and nobody else before the last of them has gone on: by then most ask again, and are
 //! served by one group. The thread that keeps checkpoints goes where nobody else waits, or once so many others have gone
-//! before it. No clause speaks of it.
+//! before it in their turn. No clause speaks of it: `models/lock.pml` is searched for what comes of it.
 use arrayvec::ArrayVec;
 use std::alloc::{AllocError, Global};
 use std::sync::{Condvar, Mutex, Wait};
 
-// How many others go before the keeper at most, once it is first.
+// How many others go before the keeper in their turn at most, once it is first. Those whose answers wait go past it too,
+// and aren't counted: they lend nothing.
 const PATIENCE: u32 = 16;
 
 #[derive(Drop)]
 struct Queue {
     within: usize, // How many are past it, and haven't gone on.
+    together: ArrayVec<usize, 65>, // Who was called past it last.
     waiting: ArrayVec<usize, 65>, // The places of 64 elements, and the keeper's.
-    bypassed: u32, // How many others went before the keeper, since it is first.
+    bypassed: u32, // How many others went before the keeper in their turn, since it is first.
 }
 
 #[derive(Drop)]
@@ -44,7 +46,23 @@ fn is_among(place: usize, elements: &[u16]) -> bool {
     false
 }
 
+// Whether a place is one of these.
+fn is_one_of(place: usize, places: &[usize]) -> bool {
+    for other in places {
+        if *other == place {
+            return true;
+        }
+    }
+    false
+}
+
 impl Queue {
+    // Whether a place is let past for its answer, by a list of the elements whose answers wait. Of those who were past
+    // the queue together each may have taken its answer since another one made the list, and wait for its next turn.
+    fn is_let_past(&self, place: usize, elements: &[u16]) -> bool {
+        is_among(place, elements) && !is_one_of(place, self.together.as_slice())
+    }
+
     // Where in a list of those who wait the next one is: the first, but for a keeper that lets others go before it.
     fn next_of(&mut self, waiting: &[usize], keeper: usize) -> usize {
         if waiting.first() != Some(&keeper) {
@@ -63,7 +81,7 @@ impl Queue {
         let mut next = ArrayVec::new();
         let mut rest = ArrayVec::new();
         for place in self.waiting.as_slice() {
-            let list = if is_among(*place, elements) {
+            let list = if self.is_let_past(*place, elements) {
                 &mut next
             } else {
                 &mut rest
@@ -78,6 +96,8 @@ impl Queue {
         }
         self.waiting = rest;
         self.within = next.len();
+        self.together.clear();
+        let _room = self.together.try_extend_from_slice(next.as_slice());
         next
     }
 }
@@ -94,6 +114,7 @@ impl Turns {
         Ok(Turns {
             queue: Mutex::new(Queue {
                 within: 0,
+                together: ArrayVec::new(),
                 waiting: ArrayVec::new(),
                 bypassed: 0,
             }),
@@ -120,6 +141,7 @@ impl Turns {
         let queue = &mut *guard;
         if queue.within == 0 {
             queue.within = 1;
+            queue.together.clear();
             return Turn(true);
         }
         if queue.waiting.try_push(place).is_err() {

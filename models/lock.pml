@@ -1,0 +1,521 @@
+/* How threads take turns: the lock of im_controller, the queue before it, the inbox, answers that wait for their ports, the bells,
+   the thread that keeps checkpoints, `Controller::end`, and a fault of the device.
+
+   A line `of FUNCTION SUM` stands over each block that says what that function does, with a sum of its body: scripts/model --check
+   compares it with the sources, and scripts/model --sums renews it once the block was looked at again. scripts/model searches this
+   model, with the settings and the wrong variants that are named there.
+
+   One holding of the lock is one step, with the reading of a bell that ends it: all that it touches lies under the lock, but for the
+   inbox and the bells, and what others do to these meanwhile can be told as done before or after it. Who is called out of the queue
+   is called in the step that takes it out: it need not go on at once. A mutex and a condition variable are taken for right: nobody
+   sleeps through a notification, and nobody wakes for no reason. A bell's count is kept as whether it was rung since it was read.
+
+   Left out: a queue that is full (two threads that keep checkpoints), ports and glances that are made meanwhile, pipes and senders,
+   a trace that is full, plans, readers for which a show waits, a group that is cut in two within one holding but by a fault. */
+#ifndef N
+#define N 2                             /* Ports. Port e stores into cell e, and fetches cell e + 1, the last one cell 0. */
+#endif
+#ifndef SLOTS
+#define SLOTS 2                         /* Of the journal. */
+#endif
+#ifndef PATIENCE
+#define PATIENCE 2                      /* As in turns.rt, where it is 16. */
+#endif
+#ifndef SILENT
+#define SILENT 0                        /* A call behind which no server is rung. */
+#endif
+#ifndef QUIET
+#define QUIET 0                         /* A call behind which the keeper isn't rung. */
+#endif
+#define AFTER_A_GROUP 1
+#define AFTER_A_CONFIRMATION 2
+#define AFTER_A_TURN 3
+#define AFTER_A_RETIREMENT 4
+#define ANY 5
+#define PLACES (N + 1)
+#define KEEPER N
+#define ROOM (SLOTS - fresh - taken - stale)
+#ifdef ENDLESS
+#define SPEND skip                      /* Ports that ask for ever need no slots: so the journal is never full. */
+#else
+#define SPEND fresh++
+#endif
+
+mtype = { Nothing, Store, Fetch };                       /* What is asked. */
+mtype = { Told, Deferred, JournalFull, Failed };         /* What is answered; Failed stands for Device too. */
+mtype = { Go, Wait, Stalled, Done };                     /* What else a call comes to. */
+mtype = { Active, Waits, Retired };                      /* Server, but for one with no port. */
+mtype = { Absent, Works, Sleeps, Ended };                /* Keeper. */
+mtype = { Worked, Pressed, Idle };                       /* Kept, beside Ended and Failed. */
+
+byte within, together, waiting[PLACES], many, bypassed;  /* turns.rt: the queue; who was called last as bits. */
+byte called[PLACES];                                     /* turns.rt: the places. */
+mtype asked[N] = Nothing;                                /* inbox.rt */
+mtype unclaimed[N] = Nothing;                            /* log.rt: the answer that waits in an element's place. */
+bool stored[N];                                          /* The memory: whether a cell is full, */
+mtype entry[N] = Nothing;                                /* and what is kept for a port's fetch: Deferred or Told. */
+byte fresh, taken, stale;                                /* Slots since the last checkpoint, of one that is under way, to be swept. */
+bool worn, failed;                                       /* No checkpoint begins any more; the engine has failed. */
+mtype server[N] = Active;                                /* servers.rt */
+bool sleeper[N];                                         /* Whether a server is noted as one that sleeps. */
+mtype keeper = Absent;                                   /* keeper.rt */
+bool rung[N], parked[N];                                 /* bell.rt: the answers', for each port, */
+bool work_rung, work_parked;                             /* and the keeper's. */
+byte ended; bool keeper_ended;                           /* Threads that have ended. */
+
+/* What is only looked at: how many are past the queue; who was let past it for its answer; who awaits an answer, and who has gone;
+   how many went before the keeper since it is first. */
+#ifdef LEFT
+bool over;                                               /* Whether those who rightly sleep for ever are let go, to end. */
+#else
+#define over false
+#endif
+byte past; bool let_past[N]; mtype does[N] = Active; byte ahead;
+byte i, j, k, any, did;                                  /* Used within a step, and 0 between any two. */
+
+#ifdef FORGETS_WHO_WAS_PAST
+#define IS_LET_PAST(place) (place < N && (answered & (1 << place)) != 0)
+#else
+#define IS_LET_PAST(place) (place < N && (answered & ~together & (1 << place)) != 0)
+#endif
+/* Out of the queue, and called.
+   of im_controller::Turns::call 3625e446725f */
+inline take(at) {
+  k = waiting[at];
+  if :: k < N -> let_past[k] = any :: else fi;
+#ifdef BOUND
+  if :: waiting[0] == KEEPER && at > 0 -> ahead++; assert(ahead <= BOUND)
+     :: waiting[0] == KEEPER && at == 0 -> ahead = 0
+     :: else fi;
+#endif
+  within++; past++; called[k]++; many--; did = did | (1 << k);
+  i = at; do :: i < many -> waiting[i] = waiting[i + 1]; i++ :: else -> break od;
+  waiting[many] = 0; k = 0; i = 0
+}
+/* of im_controller::Queue::next_of 9db6b6427ff3: into j. */
+inline next_of() {
+  if :: waiting[0] != KEEPER -> j = 0
+     :: waiting[0] == KEEPER && many > 1 && bypassed < PATIENCE -> bypassed++; j = 1
+     :: else -> bypassed = 0; j = 0 fi
+}
+/* of im_controller::Turns::pass_on d92f725ef33c
+   of im_controller::Queue::take_next d98cedbf6716
+   of im_controller::Queue::is_let_past 78aabf60833d
+   of im_controller::is_among b6616fcdf154
+   of im_controller::is_one_of a5aecfe605c3 */
+inline pass_on(answered) {
+  d_step {
+    within--; past--;
+    if :: within == 0 ->
+          any = true; j = 0;
+          do :: j < many -> if :: IS_LET_PAST(waiting[j]) -> take(j) :: else -> j++ fi
+             :: else -> break od;
+          any = false;
+          if :: within == 0 && many > 0 -> next_of(); take(j) :: else fi;
+          together = did; did = 0; j = 0;
+#ifdef FORGETS_THE_LAST
+          if :: many > 0 -> many--; waiting[many] = 0 :: else fi;
+#endif
+#ifdef COUNTS_ONE
+          if :: within > 1 -> within = 1 :: else fi;
+#endif
+       :: else fi;
+    answered = 0
+  }
+}
+/* of im_controller::Turns::wait 65fcb198c2d4
+   of im_controller::Turns::wait_to_keep 3e3500866a98
+   of im_controller::Turns::keeper 66384cdc0d6d */
+inline wait_turn(place) {
+  if :: atomic { within == 0 -> within = 1; together = 0; assert(past == 0); past = 1 }
+     :: atomic { within != 0 -> waiting[many] = place; many++ }; atomic { called[place] > 0 -> called[place]-- }
+  fi
+}
+
+inline count_answers() { d_step { i = 0; do :: i < N -> rung[i] = true; i++ :: else -> break od; i = 0 } }
+inline wake_answers() {
+  d_step {
+    i = 0;
+#ifdef WAKES_ONE
+    do :: i < N && !parked[i] -> i++ :: else -> break od; if :: i < N -> parked[i] = false :: else fi;
+#else
+    do :: i < N -> parked[i] = false; i++ :: else -> break od;
+#endif
+    i = 0
+  }
+}
+/* of im_controller::Bell::ring 94c2d9f659e6 */
+inline ring_answers() {
+#ifdef WAKES_BEFORE_IT_COUNTS
+  wake_answers(); count_answers()
+#else
+  count_answers(); wake_answers()
+#endif
+}
+inline ring_work() { work_rung = true; work_parked = false }
+/* of im_controller::Bell::wait_past 5bd1c1bc8883
+   of im_controller::Bell::read 26601f99c85c: the reading is a false in `rung`. */
+inline wait_past_answers(e) {
+  do :: rung[e] -> break
+     :: atomic { !rung[e] -> parked[e] = true }; !parked[e] || over; if :: over -> break :: else fi
+  od
+}
+inline wait_past_work() {
+  do :: work_rung -> break
+     :: atomic { !work_rung -> work_parked = true }; !work_parked
+  od
+}
+/* of im_controller::who_sleeps 00ef1800e674
+   of im_controller::wake_keeper 4f718459f48f
+   of im_controller::Servers::is_one_waiting 58d86ae0485b: as it is to be, it tells of each that sleeps. */
+inline who_sleeps() {
+  to_keeper = (keeper == Sleeps);
+  if :: to_keeper -> keeper = Works :: else fi;
+  to_servers = false;
+  i = 0; do :: i < N -> to_servers = to_servers || sleeper[i]; i++ :: else -> break od; i = 0
+}
+/* of im_controller::Controller::wake aa82cc4f5857 */
+inline wake(call) {
+  if :: SILENT == call -> to_servers = false :: else fi;
+  if :: QUIET == call || QUIET == ANY -> to_keeper = false :: else fi;
+  if :: to_keeper -> to_keeper = false; ring_work() :: else fi;
+  if :: to_servers -> to_servers = false; ring_answers() :: else fi
+}
+
+/* of im_controller::Servers::change d38f95d1cd67
+   of im_controller::begin_wait 9e785d1206c9: as it is to be, who is told to wait is noted whether it has retired or not. */
+inline change(e, state) { if :: server[e] != Retired -> server[e] = state :: else fi }
+inline note(e, sleeps) {
+#ifdef AS_IT_IS
+  sleeper[e] = (sleeps && server[e] == Waits)
+#else
+  sleeper[e] = sleeps
+#endif
+}
+/* of im_controller::is_stuck 1d9e9a66cdf7
+   of im_controller::is_past 32715c23789f
+   of im_controller::are_stuck cefccf9160d0 */
+inline are_stuck(e) {
+  any = true; i = 0;
+  do :: i < N ->
+        if :: i != e && (server[i] == Active || (server[i] == Waits && entry[i] == Told)) -> any = false :: else fi; i++
+     :: else -> break od
+}
+/* `Stalled` is told where all others have gone, or wait for what isn't there. */
+inline see_all_wait(e) {
+  i = 0;
+  do :: i < N -> assert(i == e || does[i] == Done || (does[i] == Waits && entry[i] != Told)); i++ :: else -> break od
+}
+/* of im_controller::begin_wait 9e785d1206c9
+   of im_controller::ask_once efbc0eb78cca */
+inline ask_once(e) {
+  if :: failed -> change(e, Active); got = Failed
+     :: !failed && entry[e] == Told -> change(e, Active); got = Go
+     :: else ->
+        are_stuck(e);
+        if :: any -> change(e, Active); see_all_wait(e); got = Stalled
+           :: else -> change(e, Waits); got = Wait fi;
+        any = false; i = 0
+  fi;
+  note(e, got == Wait);
+  if :: got != Wait && does[e] != Done -> does[e] = Active :: else fi
+}
+
+inline may_fail() {
+#ifdef FAULT
+  if :: !failed -> failed = true; fresh = 0; taken = 0; stale = 0 :: true fi
+#else
+  skip
+#endif
+}
+/* of im_checkpoint::Checkpoint::turn 289b5895956f: with a page or none, and a slot for each sweep. */
+inline turn() {
+  if :: taken > 0 -> stale = taken; taken = 0; did = true
+     :: taken == 0 && stale > 0 -> stale--; did = true
+     :: taken == 0 && stale == 0 && fresh > 0 && !worn -> taken = fresh; fresh = 0; did = true
+     :: else -> did = false fi
+}
+/* of im_controller::make_room 4a21f830692a
+   of im_controller::is_pressed 511dac7cb2a9
+   of im_controller::is_room_nearer bc732fad2a64: a fault in it is one of the call behind it. */
+inline make_room() {
+  do :: keeper == Works && !failed && ROOM < N ->
+        if :: stale > 0 -> stale = 0 :: else -> turn(); if :: !did -> break :: else fi fi
+     :: else -> break od;
+  did = false
+}
+/* of im_controller::lend_group 9604e848a54d
+   of im_engine::Engine::serve_group 5a0bc42558a0: the fault may fall before each member, which begins a group then. */
+inline serve_member(m) {
+  may_fail();
+  if :: failed -> unclaimed[m] = Failed
+     :: !failed && ROOM == 0 -> unclaimed[m] = JournalFull
+     :: !failed && ROOM > 0 && asked[m] == Store ->
+        SPEND; stored[m] = true; unclaimed[m] = Told;
+        if :: entry[(m + N - 1) % N] == Deferred -> entry[(m + N - 1) % N] = Told :: else fi
+     :: else -> SPEND; entry[m] = (stored[(m + 1) % N] -> Told : Deferred); unclaimed[m] = entry[m]
+  fi;
+  asked[m] = Nothing
+}
+/* of im_controller::hold 09a70e0e3b04
+   of im_controller::serve_asked 806520597510
+   of im_controller::Inbox::next_group a8192a4a8c3b
+   of im_controller::Inbox::gather 4744c952cbf6
+   of im_controller::Log::claim 9ee4b9d37411 */
+inline hold(e) {
+  if :: unclaimed[e] != Nothing -> skip
+     :: else ->
+#if !defined(FORGETS_WHO_WAS_PAST) || !defined(BOUND)
+        assert(!let_past[e]);              /* Who was let past takes its answer, and lends nothing. */
+#endif
+        make_room(); j = 0;
+        do :: j < N -> if :: asked[j] != Nothing && unclaimed[j] == Nothing -> serve_member(j) :: else fi; j++
+           :: else -> break od;
+        j = 0
+  fi;
+  let_past[e] = false; got = unclaimed[e]; unclaimed[e] = Nothing
+}
+/* of im_controller::who_is_answered 8eb3a0142884
+   of im_controller::Log::answered aaae3520f553 */
+inline who_is_answered() {
+  answered = 0; i = 0;
+  do :: i < N -> if :: unclaimed[i] != Nothing -> answered = answered | (1 << i) :: else fi; i++ :: else -> break od;
+  i = 0
+}
+/* of im_controller::Port::submit f0a149169b38
+   of im_controller::Controller::ask 6a11fccc4065
+   of im_controller::Inbox::ask cf302d929a91
+   of im_controller::Controller::serve_all 3c613d6d26c2 */
+inline submit(e, op) {
+  d_step { asked[e] = op; got = Nothing };
+  do :: got == Nothing ->
+        wait_turn(e);
+        atomic { hold(e); who_sleeps(); who_is_answered() };
+        pass_on(answered);
+        wake(AFTER_A_GROUP)
+     :: else -> break od
+}
+/* of im_controller::Port::help 0e90bbc25526
+   of im_controller::lend_turn ed4fb0a68abb
+   of im_controller::told_turn ef17c1018823
+   of im_serving::help 4b93685dd560: got is Go where it is worth to ask again. */
+inline help(e) {
+  wait_turn(e);
+  atomic {
+    may_fail(); turn();
+    got = (failed -> Failed : (!did && ROOM == 0 -> JournalFull : Go));
+    did = false; who_sleeps()
+  };
+  pass_on(answered);
+  wake(AFTER_A_TURN)
+}
+/* of im_controller::Port::confirm db962f76eabc
+   of im_controller::Controller::serve 227e892fa6c0
+   of im_controller::lend 363dc7535b36 */
+inline confirm(e) {
+  wait_turn(e);
+  atomic {
+    make_room(); may_fail();
+    if :: failed -> got = Failed
+       :: !failed && ROOM == 0 -> got = JournalFull
+       :: else -> SPEND; got = Told fi;
+    who_sleeps()
+  };
+  pass_on(answered);
+  wake(AFTER_A_CONFIRMATION)
+}
+/* of im_controller::Port::collect 1bcc57de0d56
+   of im_controller::find 05e6a733d6ac
+   of im_controller::look 4a40d63c418d */
+inline collect(e) {
+  wait_turn(e);
+  got = (failed -> Failed : Told);
+  pass_on(answered)
+}
+/* of im_controller::Port::await_answer 72ad4d04f473 */
+inline await_answer(e) {
+  if :: does[e] != Done -> does[e] = Waits :: else fi;
+  do :: wait_turn(e);
+        d_step {
+          ask_once(e);
+#if !defined(READS_BEHIND_THE_LOCK) && !defined(READS_BEHIND_THE_QUEUE)
+          rung[e] = false
+#endif
+        };
+#ifdef READS_BEHIND_THE_LOCK
+        rung[e] = false;
+#endif
+        pass_on(answered);
+#ifdef READS_BEHIND_THE_QUEUE
+        rung[e] = false;
+#endif
+        if :: got != Wait || over -> break :: else fi;
+        wait_past_answers(e)
+  od
+}
+/* of im_controller::Port::retire 43c9c8774cb7
+   of im_controller::retire b96ba3dbb1ff */
+inline retire(e) {
+  wait_turn(e);
+  d_step { server[e] = Retired; does[e] = Done; who_sleeps() };
+  pass_on(answered);
+  wake(AFTER_A_RETIREMENT)
+}
+/* Asked again after each turn that the full journal needed.
+   of im_serving::submit e2da9378ddc4 */
+inline submit_to_end(e, op) {
+  again = true;
+  do :: again -> submit(e, op); if :: got == JournalFull -> help(e); again = (got == Go) :: else -> again = false fi
+     :: else -> break od
+}
+/* of im_serving::confirm 8824b1fbeeff */
+inline confirm_to_end(e) {
+  again = true;
+  do :: again -> confirm(e); if :: got == JournalFull -> help(e); again = (got == Go) :: else -> again = false fi
+     :: else -> break od
+}
+
+/* of im_serving::serve_element 20bb9aae2cee
+   of im_serving::serve_to_end b227e1699eb4
+   of im_serving::serve_one 4c3d1d8d767c
+   of im_serving::make_place 83c6539d9850
+   of im_serving::await_one 8464d289f16b
+   of im_serving::await_rest 56b9cf79b970 */
+proctype Port(byte e) {
+  bool to_keeper, to_servers, again, awaits; byte answered; mtype first = Nothing, second = Nothing, got = Nothing;
+  atomic {
+#if defined(ROLES)
+    first = (e == N - 1 -> Store : Fetch)
+#elif defined(SHORT)
+    if :: first = Store :: first = Fetch fi
+#else
+    if :: first = Store; second = Fetch
+       :: first = Fetch; second = Store
+#ifdef STALL
+       :: first = Fetch
+#endif
+    fi
+#endif
+  };
+#ifdef ENDLESS
+  do :: submit(e, Store) :: collect(e) od;
+#endif
+#ifdef IDLE
+  /* The last one's client sends nothing until all others have ended, or no thread can go on but for this: after a fault they have to. */
+  if :: e == N - 1 -> (ended == N - 1 || (!failed && timeout)) :: else fi;
+#endif
+  do :: first != Nothing ->
+        submit_to_end(e, first);
+        if :: got == Failed || got == JournalFull -> goto refused :: else fi;
+        if :: got == Deferred -> awaits = true :: else fi;
+#ifdef WINDOW
+        /* The window is full: what is kept is awaited, looked at once more, and confirmed. */
+        if :: second != Nothing ->
+              if :: awaits -> awaits = false; await_answer(e); if :: got == Failed || got == Stalled -> goto refused :: else fi
+                 :: else fi;
+              collect(e); if :: got == Failed -> goto refused :: else fi;
+              confirm_to_end(e);
+              if :: got == Failed || got == JournalFull -> goto refused :: else fi
+           :: else fi;
+#endif
+        atomic { first = second; second = Nothing }
+     :: else -> break od;
+#ifdef AFTER
+  if :: awaits -> awaits = false; retire(e); await_answer(e); goto gone :: true fi;
+#endif
+  if :: awaits -> awaits = false; await_answer(e) :: else fi;
+refused:
+#ifdef LEFT
+  if :: does[e] = Done; goto gone :: true fi;
+#endif
+  retire(e);
+gone:
+  atomic { got = Nothing; awaits = false; first = Nothing; second = Nothing; ended++ }
+}
+
+/* of im_controller::keep_once 6b7a37edfd93
+   of im_controller::fall_asleep c434cd36bdfa
+   of im_controller::mark_ended 6d93c18ca7af */
+inline keep_once() {
+  if :: keeper == Ended -> kept = Ended
+     :: else ->
+        keeper = Works; may_fail();
+        if :: failed -> kept = Failed
+           :: else ->
+              turn();
+              if :: !did -> keeper = Sleeps; kept = Idle
+                 :: else -> kept = (ROOM < N -> Pressed : Worked) fi;
+              did = false
+        fi
+  fi
+}
+/* of im_controller::Controller::keep_checkpoints_and_tell ea88d876f913 */
+proctype Keeper() {
+  byte answered; mtype kept = Nothing;
+  wait_turn(KEEPER);
+  do :: atomic {
+          keep_once();
+#ifndef KEEPER_READS_BEHIND_THE_LOCK
+          work_rung = false
+#endif
+        };
+#ifdef KEEPER_READS_BEHIND_THE_LOCK
+        work_rung = false;
+#endif
+        if :: kept == Pressed -> skip                     /* It keeps its place. */
+           :: else ->
+              pass_on(answered);
+              if :: kept == Ended -> break
+                 :: kept == Worked -> skip
+                 :: kept == Idle -> wait_past_work()
+                 :: kept == Failed ->
+#ifndef SILENT_FAULT
+                    ring_answers();
+#endif
+                    break
+              fi;
+              wait_turn(KEEPER)
+        fi
+  od;
+  atomic { kept = Nothing; keeper_ended = true }
+}
+
+/* of im_serving::serve_within 5ef35795fcbb
+   of im_controller::Controller::end b9584e903a68 */
+init {
+  atomic {
+#ifdef WORN
+    if :: worn = true :: true fi;
+#endif
+#ifdef NO_KEEPER
+    keeper_ended = true;
+#else
+    run Keeper();
+#endif
+    i = 0; do :: i < N -> run Port(i); i++ :: else -> break od; i = 0
+  }
+#ifdef LEFT
+  timeout;
+  d_step {
+    any = false;
+    i = 0; do :: i < N -> any = any || (server[i] == Active && does[i] == Done); i++ :: else -> break od;
+    i = 0;
+    do :: i < N -> assert(does[i] == Done || (parked[i] && entry[i] == Deferred && !failed && any)); i++ :: else -> break od;
+    i = 0; any = false; over = true
+  };
+#endif
+#ifndef EARLY
+  ended == N;
+#endif
+#ifdef CLEAN
+  (ROOM == SLOTS || failed);                             /* The keeper comes to an empty journal by itself. */
+#endif
+  keeper = Ended;
+#ifndef SILENT_END
+  ring_work();
+#endif
+  ended == N && keeper_ended;
+  /* Nobody waits in the queue or was called in vain, and no answer waits for its port. */
+  assert(within == 0 && many == 0 && past == 0);
+  i = 0; do :: i < N -> assert(unclaimed[i] == Nothing && called[i] == 0); i++ :: else -> break od; i = 0
+}
