@@ -2,13 +2,16 @@
 
 use crate::glances::{Looked, ROUNDS, watch};
 use crate::parts::{Part, Told, play};
-use im_controller::{Controller, Name, Port, Shown};
+use im_controller::{Controller, Name, Port, Shown, Standing, Teller};
 use im_disk::Disk;
 use im_glass::Glance;
 use std::alloc::{AllocError, Global};
-use std::sync::Wait;
+use std::sync::{Mutex, Wait};
 use std::thread;
 use std::thread::{JoinHandle, Scope, Threads};
+
+/// How often it is looked whether the journal has its room, at most.
+const MOST_LOOKS: u32 = 200_000_000;
 
 /// A port, and what is done with it.
 #[derive(Drop)]
@@ -37,6 +40,26 @@ pub struct Played<K: Name> {
     pub looked: Vec<Looked<Shown<K>>>,
     /// The thread that keeps checkpoints was there to the end, and was refused nothing.
     pub kept: bool,
+    /// The journal had the room that was waited for, with no port asking any more.
+    pub rested: bool,
+}
+
+// Notes the room that the journal had after the keeper's last turn.
+#[derive(Drop)]
+struct Noting<'a, R> {
+    rt: &'a R,
+    room: &'a Mutex<u32>,
+}
+
+impl<R: Wait> Teller for Noting<'_, R> {
+    fn listens(&mut self) -> bool {
+        true
+    }
+
+    fn tell(&mut self, standing: Standing) {
+        let mut room = self.room.lock(self.rt);
+        *room = standing.room;
+    }
 }
 
 // Plays the part of one thread.
@@ -66,8 +89,26 @@ fn begin<'s, E, D: Disk + Drop + Send, K: Name + Send + Sync, R: Threads + Wait 
 }
 
 // Keeps checkpoints until the controller ends, and says whether nothing was refused.
-fn keep_to_end<D: Disk, K: Name, R: Wait>(rt: &R, controller: &Controller<D, K>) -> bool {
-    controller.keep_checkpoints(rt).is_ok()
+fn keep_to_end<D: Disk, K: Name, R: Wait>(
+    rt: &R,
+    controller: &Controller<D, K>,
+    room: &Mutex<u32>,
+) -> bool {
+    let mut noting = Noting { rt, room };
+    controller
+        .keep_checkpoints_and_tell(rt, &mut noting)
+        .is_ok()
+}
+
+// Waits until the journal has this room, while no port asks: only the thread that keeps checkpoints can make it.
+fn rest<R: Wait>(rt: &R, room: &Mutex<u32>, wanted: u32) -> bool {
+    for _ in 0..MOST_LOOKS {
+        let seen = room.lock(rt);
+        if *seen == wanted {
+            return true;
+        }
+    }
+    false
 }
 
 // Begins the thread that keeps checkpoints, if one can be made.
@@ -75,8 +116,9 @@ fn keep<'s, E, D: Disk + Drop + Send, K: Name + Send + Sync, R: Threads + Wait +
     rt: &'s R,
     scope: &Scope<'s, E>,
     controller: &'s Controller<D, K>,
+    room: &'s Mutex<u32>,
 ) -> Option<JoinHandle<bool>> {
-    match scope.spawn(move || keep_to_end(rt, controller)) {
+    match scope.spawn(move || keep_to_end(rt, controller, room)) {
         Ok(keeper) => Some(keeper),
         Err(_) => None,
     }
@@ -151,13 +193,14 @@ fn play_tasks<'s, E, D: Disk + Drop + Send, K: Name + Send + Sync, R: Threads + 
 }
 
 /// Plays all parts, each in a thread of its own, beside one for each glance, and the thread that keeps checkpoints until
-/// they have returned: all at once, or in turn, each once the one before it has ended. `AllocError` where there is no
-/// room for a list of them.
+/// they have returned: all at once, or in turn, each once the one before it has ended; and then until the journal has the
+/// room that is waited for, if one is. `AllocError` where there is no room for a list of them.
 pub fn play_all<D: Disk + Drop + Send, K: Name + Send + Sync, R: Threads + Wait + Sync>(
     rt: &R,
     alloc: Global,
     controller: &Controller<D, K>,
     in_turn: bool,
+    wanted: Option<u32>,
     tasks: Vec<Task<K>>,
     glances: Vec<Glance<Shown<K>>>,
 ) -> Result<Played<K>, AllocError> {
@@ -165,16 +208,27 @@ pub fn play_all<D: Disk + Drop + Send, K: Name + Send + Sync, R: Threads + Wait 
     let watchers = Vec::with_capacity(alloc, glances.len())?;
     let mut done = Vec::with_capacity(alloc, tasks.len())?;
     let mut looked = Vec::with_capacity(alloc, glances.len())?;
+    let room = Mutex::new(0);
+    let room = &room;
     thread::scope(thread::scope_env(), rt, move |scope| {
-        let keeper = keep(rt, scope, controller);
+        let keeper = keep(rt, scope, controller, room);
         let watchers = watch_all(scope, glances, watchers);
         play_tasks(rt, scope, controller, in_turn, tasks, threads, &mut done);
         end_watchers(rt, watchers, &mut looked);
+        let rested = match wanted {
+            Some(wanted) => rest(rt, room, wanted),
+            None => true,
+        };
         controller.end(rt);
         let kept = match keeper {
             Some(keeper) => keeper.join(rt),
             None => false,
         };
-        Ok(Played { done, looked, kept })
+        Ok(Played {
+            done,
+            looked,
+            kept,
+            rested,
+        })
     })
 }

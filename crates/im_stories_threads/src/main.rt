@@ -64,6 +64,7 @@ fn show_all<R: Threads + Wait + Sync>(rt: &R, alloc: Global, said: &mut String) 
     for scene in [
         Scene::Two,
         Scene::KeeperWorks,
+        Scene::KeeperAlone,
         Scene::OneLine,
         Scene::ServersWait,
         Scene::Sixteen,

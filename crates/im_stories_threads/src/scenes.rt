@@ -14,6 +14,9 @@ use std::alloc::Global;
 use std::sync::Wait;
 use std::thread::Threads;
 
+// The slots of a short journal.
+const SLOTS: u32 = 16;
+
 /// What is shown.
 #[derive(Clone, Copy)]
 pub enum Scene {
@@ -21,6 +24,8 @@ pub enum Scene {
     Two,
     /// More fetches than the journal has room for, and nobody helps.
     KeeperWorks,
+    /// A few fetches, and then nobody asks until the journal has all its room again.
+    KeeperAlone,
     /// A trace with room for one line.
     OneLine,
     /// A server that is woken, and one that waits for nobody.
@@ -38,7 +43,7 @@ impl Scene {
     pub fn limits(self) -> Option<Limits> {
         match self {
             Scene::Two => Limits::new(64, 3, 256),
-            Scene::KeeperWorks => Limits::new(64, 3, 16),
+            Scene::KeeperWorks | Scene::KeeperAlone => Limits::new(64, 3, SLOTS),
             Scene::OneLine => Limits::new(64, 2, 16),
             Scene::ServersWait => Limits::new(64, 3, 256),
             Scene::Sixteen => Limits::new(512, 17, 4096),
@@ -61,7 +66,7 @@ impl Scene {
     fn threads(self) -> u16 {
         match self {
             Scene::Two | Scene::KeeperWorks | Scene::ServersWait => 2,
-            Scene::OneLine | Scene::Readers => 1,
+            Scene::OneLine | Scene::Readers | Scene::KeeperAlone => 1,
             Scene::Sixteen => 16,
             Scene::Great => 0,
         }
@@ -73,6 +78,7 @@ impl Scene {
             (Scene::Two, _) => Part::Fetches(10),
             (Scene::KeeperWorks, 1) => Part::Fetches(16),
             (Scene::KeeperWorks, _) => Part::Fetches(1),
+            (Scene::KeeperAlone, _) => Part::Fetches(8), // The ports make no room while as many slots are free.
             (Scene::OneLine, _) => Part::Fetches(2),
             (Scene::ServersWait, 1) => Part::Waits,
             (Scene::ServersWait, _) => Part::StoresAndStalls,
@@ -96,6 +102,14 @@ impl Scene {
         matches!(self, Scene::KeeperWorks)
     }
 
+    // The room of the journal that is waited for once all ports have played, if it is.
+    fn rests(self) -> Option<u32> {
+        match self {
+            Scene::KeeperAlone => Some(SLOTS),
+            _ => None,
+        }
+    }
+
     // The number that the port of element 1 asks for at the end, if it asks.
     fn asks(self) -> Option<u64> {
         match self {
@@ -115,7 +129,10 @@ impl Scene {
 
     // Whether its trace is of fetches where no block is.
     fn is_of_fetches(self) -> bool {
-        matches!(self, Scene::Two | Scene::KeeperWorks | Scene::OneLine)
+        matches!(
+            self,
+            Scene::Two | Scene::KeeperWorks | Scene::KeeperAlone | Scene::OneLine
+        )
     }
 
     /// Its head.
@@ -124,6 +141,8 @@ impl Scene {
             Scene::Two => "two ports of ten fetches beside the thread that keeps checkpoints",
             Scene::KeeperWorks =>
                 "sixteen fetches and one more, a journal of sixteen slots, and nobody helps",
+            Scene::KeeperAlone =>
+                "eight fetches, and nobody asks while all slots are made free again",
             Scene::OneLine => "a trace with room for one line",
             Scene::ServersWait => "one server is woken, and one waits for nobody",
             Scene::Sixteen => "sixteen threads of 1,002 requests each",
@@ -259,16 +278,25 @@ fn tasks<K: Name, R: Wait>(
 
 // Tells what came of the parts and the readings, gathers the ports, and gives the glances back.
 fn gather<K: Name>(
+    scene: Scene,
     played: Played<K>,
     ports: &mut Vec<Port<K>>,
     said: &mut String,
 ) -> Result<Vec<Looked<Shown<K>>>> {
-    let Played { done, looked, kept } = played;
+    let Played {
+        done,
+        looked,
+        kept,
+        rested,
+    } = played;
     for done in done {
         add_told(said, &done)?;
         ports.push(done.port)?;
     }
     add_looked(said, looked.as_slice())?;
+    if let Some(room) = scene.rests() {
+        writeln!(said, "  the journal has room for {room} again: {rested}")?;
+    }
     writeln!(said, "  checkpoints were kept to the end: {kept}")?;
     Ok(looked)
 }
@@ -285,8 +313,16 @@ fn play<K: Name + Send + Sync, R: Threads + Wait + Sync>(
     ports.push(set_up(rt, controller, scene, said)?)?;
     let tasks = tasks(rt, alloc, controller, scene, said)?;
     let glances = glances(rt, alloc, controller, scene.readers())?;
-    let played = play_all(rt, alloc, controller, scene.is_in_turn(), tasks, glances)?;
-    let looked = gather(played, &mut ports, said)?;
+    let played = play_all(
+        rt,
+        alloc,
+        controller,
+        scene.is_in_turn(),
+        scene.rests(),
+        tasks,
+        glances,
+    )?;
+    let looked = gather(scene, played, &mut ports, said)?;
     if !looked.is_empty() {
         if let Some(port) = ports.as_mut_slice().get_mut(1) {
             ask_and_teach(rt, controller, port, looked, said)?;
