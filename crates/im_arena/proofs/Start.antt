@@ -1,8 +1,10 @@
 -- The table of a new arena: one row with all nodes in turn.
-use Rattle.std.proofs.Common.{◌≡◌, ◌≢◌, ℕ, zero, suc, ◌+◌, ◌-◌, ◌*◌, ◌<◌, ◌≤◌, List, [], length, get_or, take, replicate, refl, sym, ap, ◌∙◌, inl, inr, arith, length-set}
+use Rattle.std.proofs.Common.{◌≡◌, ◌≢◌, ℕ, zero, suc, ◌+◌, ◌-◌, ◌*◌, ◌<◌, ◌≤◌, List, [], length, get_or, take}
+use Rattle.std.proofs.Common.{replicate, refl, sym, ap, ◌∙◌, inl, inr, arith, length-set}
 use Rattle.std.specs.Prelude.{nat_lt}
 use Rattle.std.proofs.lemmas.Bool.{cases_eq, eq-eqb, le-ltb}
-use Rattle.std.proofs.lemmas.List.{take_all, get_or-take, length-take-le, get_or-set_same, get_or-set_other, get_or-replicate, length-replicate, length-map, ext_get_or}
+use Rattle.std.proofs.lemmas.List.{take_all, get_or-take, length-take-le, get_or-set_same, get_or-set_other}
+use Rattle.std.proofs.lemmas.List.{get_or-replicate, length-replicate, length-map, ext_get_or}
 use Rattle.std.proofs.lemmas.List.Sums.{sum_by_more}
 use Rattle.std.proofs.lemmas.List.Folds.{sum_by-replicate}
 use Rattle.std.specs.List.{sum_by}
@@ -10,7 +12,8 @@ use Rattle.im_types.specs.declared.TheConstants.{NONE}
 use Rattle.im_arena.specs.declared.table.Node.{Node}
 use Rattle.im_arena.specs.declared.table.Row.{Row}
 use Rattle.im_arena.specs.Chain.{place_from}
-use Rattle.im_arena.specs.Table.{Span, blank_row, blank_span, empty_row, full_row, start_rows, AreFree, next_of, used_of, first_of, last_of, count_of, span_of, spans_of, waiters_on, held, IsArena}
+use Rattle.im_arena.specs.Table.{Span, blank_row, blank_span, empty_row, full_row, start_rows, AreFree, next_of}
+use Rattle.im_arena.specs.Table.{used_of, first_of, last_of, count_of, span_of, spans_of, waiters_on, held, IsArena}
 use Rattle.im_arena.proofs.Moves.{place_from-last}
 use Rattle.im_arena.proofs.Tables.{eqb-no, span_at, steps-are}
 use Rattle.im_arena.proofs.Views.{list_at-held, length-held}
@@ -45,14 +48,16 @@ module _ (table : List Node) (lists nodes : ℕ) (start : AreFree table nodes) (
   spans = spans_of table rows
 
   row_count : length rows ≡ lists + 1
-  row_count = length-set (replicate (lists + 1) empty_row) lists (full_row nodes) ∙ length-replicate (lists + 1) empty_row
+  row_count = length-set (replicate (lists + 1) empty_row) lists (full_row nodes)
+      ∙ length-replicate (lists + 1) empty_row
 
   size : length spans ≡ lists + 1
   size = length-map rows (span_of table) ∙ row_count
 
   -- the spans of the two rows
   span_empty : span_of table empty_row ≡ empty_span
-  span_empty = ap (with_count NONE NONE) (steps-are (next_of table) NONE 0 (length table) (λ i lt. absurd (omega arith)) refl (omega arith))
+  span_empty = ap (with_count NONE NONE)
+      (steps-are (next_of table) NONE 0 (length table) (λ i lt. absurd (omega arith)) refl (omega arith))
 
   past_last : 0 < nodes → place_from (next_of table) 0 nodes ≡ NONE
   past_last some =
@@ -71,12 +76,16 @@ module _ (table : List Node) (lists nodes : ℕ) (start : AreFree table nodes) (
   at_lists : get_or spans lists blank_span ≡ span_of table (full_row nodes)
   at_lists =
       span_at table rows lists (omega (arith, row_count))
-      ∙ ap (span_of table) (get_or-set_same (replicate (lists + 1) empty_row) lists (full_row nodes) blank_row (omega (arith, length-replicate (lists + 1) empty_row)))
+      ∙ ap (span_of table)
+      (get_or-set_same (replicate (lists + 1) empty_row) lists (full_row nodes) blank_row
+      (omega (arith, length-replicate (lists + 1) empty_row)))
 
   at_other : (a : ℕ) → a < lists + 1 → a ≢ lists → get_or spans a blank_span ≡ empty_span
   at_other a lt ne =
       span_at table rows a (omega (arith, row_count))
-      ∙ ap (span_of table) (get_or-set_other (replicate (lists + 1) empty_row) lists a (full_row nodes) blank_row ne ∙ get_or-replicate (lists + 1) a empty_row blank_row lt)
+      ∙ ap (span_of table)
+      (get_or-set_other (replicate (lists + 1) empty_row) lists a (full_row nodes) blank_row ne
+      ∙ get_or-replicate (lists + 1) a empty_row blank_row lt)
       ∙ span_empty
 
   -- the last row has all nodes
@@ -125,9 +134,11 @@ module _ (table : List Node) (lists nodes : ℕ) (start : AreFree table nodes) (
       let all : take (lists + 1) spans ≡ spans = take_all (lists + 1) spans (omega (arith, size)) in
       let sum : sum_by f (take (lists + 1) spans) ≡ sum_by f spans = ap (sum_by f) all in
       let empty : take lists spans ≡ replicate lists empty_span =
-      ext_get_or blank_span _ _ (length-take-le lists spans (omega (arith, size)) ∙ sym (length-replicate lists empty_span)) (λ b lt.
+      ext_get_or blank_span _ _
+      (length-take-le lists spans (omega (arith, size)) ∙ sym (length-replicate lists empty_span)) (λ b lt.
       let within : b < lists = omega (arith, length-take-le lists spans (omega (arith, size))) in
-      get_or-take lists spans b blank_span within ∙ at_other b (omega arith) (λ e. omega arith) ∙ sym (get_or-replicate lists b empty_span blank_span within)) in
+      get_or-take lists spans b blank_span within ∙ at_other b (omega arith) (λ e. omega arith)
+      ∙ sym (get_or-replicate lists b empty_span blank_span within)) in
       let none : sum_by f (take lists spans) ≡ lists * 0 = ap (sum_by f) empty ∙ sum_by-replicate f lists empty_span in
       omega (arith, full_count)
 
@@ -141,8 +152,11 @@ module _ (table : List Node) (lists nodes : ℕ) (start : AreFree table nodes) (
             rw (place_is a i is lt) (omega (arith, start.size));
         apart = λ a b i j al bl il jl same.
             let xs = is_last a i al il in
-            let ys = is_last b j bl jl in
-            (omega arith, sym (place_is a i xs (omega (arith, count_is a xs))) ∙ same ∙ place_is b j ys (omega (arith, count_is b ys)));
+            let ys = is_last b j bl jl in (
+              omega arith,
+              sym (place_is a i xs (omega (arith, count_is a xs))) ∙ same
+                  ∙ place_is b j ys (omega (arith, count_is b ys)),
+            );
         covered = λ n lt none.
             let inside : n < nodes = omega (arith, start.size) in
             none lists n (omega (arith, size)) (omega (arith, count_is lists refl)) (place_is lists n refl inside);
@@ -171,7 +185,8 @@ module _ (table : List Node) (lists nodes : ℕ) (start : AreFree table nodes) (
   }
 
   pub held-start : (held table spans lists).lists ≡ replicate lists []
-  held-start = ext_get_or [] _ _ (length-held table spans lists (omega (arith, size)) ∙ sym (length-replicate lists [])) (λ b lt.
+  held-start = ext_get_or [] _ _
+      (length-held table spans lists (omega (arith, size)) ∙ sym (length-replicate lists [])) (λ b lt.
       let within : b < lists = omega (arith, length-held table spans lists (omega (arith, size))) in
       list_at-held table spans lists b within (omega (arith, size))
       ∙ ap (λ (x : Span). waiters_on table x) (at_other b (omega arith) (λ e. omega arith))

@@ -1,5 +1,6 @@
 -- What is shown of the nodes of an arena.
-use Rattle.std.proofs.Common.{◌≡◌, ◌≢◌, ◌↔◌, ℕ, zero, suc, ◌+◌, ◌<◌, Bool, true, false, List, [], map, length, get_or, slice_get, Some, None, refl, sym, ap, ◌∙◌, inl, inr, arith, true≢false}
+use Rattle.std.proofs.Common.{◌≡◌, ◌≢◌, ◌↔◌, ℕ, zero, suc, ◌+◌, ◌<◌, Bool, true, false, List, [], map, length, get_or}
+use Rattle.std.proofs.Common.{slice_get, Some, None, refl, sym, ap, ◌∙◌, inl, inr, arith, true≢false}
 use Rattle.std.proofs.lemmas.Bool.{cases_eq, eq-eqb, le-ltb, lt-ltb}
 use Rattle.std.proofs.lemmas.Option.{slice_get-get_or}
 use Rattle.std.proofs.lemmas.List.{get_or-take, get_or-map, length-take-le, length-map}
@@ -11,8 +12,11 @@ use Rattle.im_types.specs.declared.records.NodeRecord.TheVariants.{Listed as Lis
 use Rattle.im_arena.specs.declared.table.Row.{Row}
 use Rattle.im_arena.specs.declared.table.Ends.{Ends}
 use Rattle.im_arena.specs.Chain.{place_from, along}
-use Rattle.im_arena.specs.Lists.{Links, list_at, Threads, free_record, link_of, first_in, last_in, ends_at, next_in, node_at, IsThreaded}
-use Rattle.im_arena.specs.Table.{Span, blank_node, blank_row, blank_span, record_if, record_of, ends_of, next_of, used_of, waiter_of, first_of, last_of, count_of, span_of, spans_of, row_at, shown, IsArena}
+use Rattle.im_arena.specs.Lists.{Links, list_at, Threads, free_record, link_of, first_in, last_in, ends_at, next_in}
+use Rattle.im_arena.specs.Lists.{node_at, IsThreaded}
+use Rattle.im_arena.specs.Table.{Span, blank_node, blank_row, blank_span, record_if, record_of, ends_of, next_of}
+use Rattle.im_arena.specs.Table.{used_of, waiter_of, first_of, last_of, count_of, span_of, spans_of, row_at, shown}
+use Rattle.im_arena.specs.Table.{IsArena}
 use Rattle.im_arena.proofs.Moves.{place_from-same}
 use Rattle.im_arena.proofs.Tables.{eqb-no, span_at, first_within, end_of}
 use Rattle.im_arena.proofs.Views.{length-along, list_at-held, length-held, span_count}
@@ -37,16 +41,22 @@ last_in-ends_of r none = elim (cases_eq r.first NONE) [
 
 -- the links lead along a chain
 Threads-along : (records : List NodeRecord) (item : ℕ → Waiter) (next : ℕ → ℕ) (before at last n : ℕ)
-    → ((i : ℕ) → i < n → slice_get records (place_from next at i) ≡ Some (ListNode (next (place_from next at i)) (item (place_from next at i))))
+    → ((i : ℕ) → i < n → slice_get records (place_from next at i)
+    ≡ Some (ListNode (next (place_from next at i)) (item (place_from next at i))))
     → place_from next at n ≡ NONE
     → (n ≡ 0 → before ≡ last)
     → ((k : ℕ) → n ≡ k + 1 → place_from next at k ≡ last)
     → Threads records before at last (along item next at n)
 Threads-along records item next before at last zero reads end none some = (end, none refl)
-Threads-along records item next before at last (suc n) reads end none some =
-    (next at, reads 0 (omega arith), Threads-along records item next at (next at) last n (λ i lt. reads (suc i) (omega arith)) end (λ e. some 0 (omega arith)) (λ k e. some (suc k) (omega arith)))
+Threads-along records item next before at last (suc n) reads end none some = (
+  next at,
+  reads 0 (omega arith),
+  Threads-along records item next at (next at) last n
+      (λ i lt. reads (suc i) (omega arith)) end (λ e. some 0 (omega arith)) (λ k e. some (suc k) (omega arith)),
+)
 
-module _ (nodes : List Node) (rows : List Row) (lists free_nodes : ℕ) (arena : IsArena nodes rows lists free_nodes) where
+module _ (nodes : List Node) (rows : List Row) (lists free_nodes : ℕ)
+    (arena : IsArena nodes rows lists free_nodes) where
   abbrev spans : List Span
   spans = spans_of nodes rows
 
@@ -59,17 +69,20 @@ module _ (nodes : List Node) (rows : List Row) (lists free_nodes : ℕ) (arena :
   abbrev next : ℕ → ℕ
   next = next_of nodes
 
-  record_at : (n : ℕ) → n < length nodes → slice_get (map record_of nodes) n ≡ Some (record_of (get_or nodes n blank_node))
+  record_at : (n : ℕ) → n < length nodes → slice_get (map record_of nodes) n
+      ≡ Some (record_of (get_or nodes n blank_node))
   record_at n lt =
       slice_get-get_or (map record_of nodes) n free_record (omega (arith, length-map nodes record_of))
       ∙ ap Some (get_or-map record_of nodes n blank_node free_record lt)
 
-  used_record : (n : ℕ) → n < length nodes → used_of nodes n ≡ true → slice_get (map record_of nodes) n ≡ Some (ListNode (next_of nodes n) (waiter_of nodes n))
+  used_record : (n : ℕ) → n < length nodes → used_of nodes n ≡ true → slice_get (map record_of nodes) n
+      ≡ Some (ListNode (next_of nodes n) (waiter_of nodes n))
   used_record n lt used = record_at n lt ∙ ap (λ u. Some (record_if u (get_or nodes n blank_node))) used
 
   pub used_next : (n : ℕ) → n < length nodes → used_of nodes n ≡ true → next_in links n ≡ next_of nodes n
   used_next n lt used =
-      ap link_of (get_or-map record_of nodes n blank_node free_record lt ∙ ap (λ u. record_if u (get_or nodes n blank_node)) used)
+      ap link_of (get_or-map record_of nodes n blank_node free_record lt
+      ∙ ap (λ u. record_if u (get_or nodes n blank_node)) used)
 
   pub row_span : (a : ℕ) → a < lists → get_or spans a blank_span ≡ span_of nodes (get_or rows a blank_row)
   row_span a lt = span_at nodes rows a (omega (arith, arena.size))
@@ -78,23 +91,33 @@ module _ (nodes : List Node) (rows : List Row) (lists free_nodes : ℕ) (arena :
   pub empty_first : (a : ℕ) → a < lists → (get_or rows a blank_row).first ≡ NONE → count_of spans a ≡ 0
   empty_first a lt none = elim (cases_eq (count_of spans a) 0) [
     | inl empty ↦ empty
-    | inr some ↦ absurd (omega (arith, ap (λ (s : Span). s.first) (row_span a lt), first_within nodes spans arena.sound a (omega (arith, size)) (omega arith), arena.sound.chains.few))
+    | inr some ↦ absurd (omega (
+      arith,
+      ap (λ (s : Span). s.first) (row_span a lt),
+      first_within nodes spans arena.sound a
+          (omega (arith, size)) (omega arith),
+      arena.sound.chains.few,
+    ))
   ]
 
   first_empty : (a : ℕ) → a < lists → count_of spans a ≡ 0 → (get_or rows a blank_row).first ≡ NONE
-  first_empty a lt empty = ap (λ (s : Span). s.first) (sym (row_span a lt)) ∙ arena.sound.chains.no_first a (omega (arith, size)) empty
+  first_empty a lt empty = ap (λ (s : Span). s.first) (sym (row_span a lt))
+      ∙ arena.sound.chains.no_first a (omega (arith, size)) empty
 
   pub ends_is : (a : ℕ) → a < lists → ends_at links a ≡ ends_of (get_or rows a blank_row)
-  ends_is a lt = get_or-take lists (map ends_of rows) a None lt ∙ get_or-map ends_of rows a blank_row None (omega (arith, arena.size))
+  ends_is a lt = get_or-take lists (map ends_of rows) a None lt
+      ∙ get_or-map ends_of rows a blank_row None (omega (arith, arena.size))
 
   pub first_is : (a : ℕ) → a < lists → first_in (ends_at links a) ≡ first_of spans a
-  first_is a lt = ap first_in (ends_is a lt) ∙ first_in-ends_of (get_or rows a blank_row) ∙ ap (λ (s : Span). s.first) (sym (row_span a lt))
+  first_is a lt = ap first_in (ends_is a lt) ∙ first_in-ends_of (get_or rows a blank_row)
+      ∙ ap (λ (s : Span). s.first) (sym (row_span a lt))
 
   pub last_is : (a : ℕ) → a < lists → last_in (ends_at links a) ≡ last_of spans a
   last_is a lt =
       let last : last_of spans a ≡ (get_or rows a blank_row).last = ap (λ (s : Span). s.last) (row_span a lt) in
       ap last_in (ends_is a lt)
-      ∙ last_in-ends_of (get_or rows a blank_row) (λ none. sym last ∙ arena.sound.chains.no_last a (omega (arith, size)) (empty_first a lt none)) ∙ sym last
+      ∙ last_in-ends_of (get_or rows a blank_row)
+      (λ none. sym last ∙ arena.sound.chains.no_last a (omega (arith, size)) (empty_first a lt none)) ∙ sym last
 
   list_is : (a : ℕ) → a < lists → list_at (shown nodes rows lists).held a ≡ row_at nodes spans a
   list_is a lt = list_at-held nodes spans lists a lt (omega (arith, size))
@@ -103,8 +126,10 @@ module _ (nodes : List Node) (rows : List Row) (lists free_nodes : ℕ) (arena :
   length_is a lt = ap length (list_is a lt) ∙ length-along (waiter_of nodes) next (first_of spans a) (count_of spans a)
 
   -- each node of a list is in use
-  pub used_at : (a i : ℕ) → a < lists → i < count_of spans a → used_of nodes (place_from next (first_of spans a) i) ≡ true
-  used_at a i al il = arena.sound.chains.marked a i (omega (arith, size)) il ∙ lt-ltb (a + 1) (length spans) (omega (arith, size))
+  pub used_at : (a i : ℕ) → a < lists → i < count_of spans a → used_of nodes (place_from next (first_of spans a) i)
+      ≡ true
+  used_at a i al il = arena.sound.chains.marked a i (omega (arith, size)) il
+      ∙ lt-ltb (a + 1) (length spans) (omega (arith, size))
 
   pub within : (a i : ℕ) → a < lists → i < count_of spans a → place_from next (first_of spans a) i < length nodes
   within a i al il = arena.sound.chains.within a i (omega (arith, size)) il
@@ -112,11 +137,14 @@ module _ (nodes : List Node) (rows : List Row) (lists free_nodes : ℕ) (arena :
   node_is : (a i : ℕ) → a < lists → i < count_of spans a → node_at links a i ≡ place_from next (first_of spans a) i
   node_is a i al il =
       ap (λ p. place_from (next_in links) p i) (first_is a al)
-      ∙ place_from-same next (next_in links) (first_of spans a) i (λ j lt. used_next _ (within a j al (omega arith)) (used_at a j al (omega arith)))
+      ∙ place_from-same next (next_in links) (first_of spans a) i
+      (λ j lt. used_next _ (within a j al (omega arith)) (used_at a j al (omega arith)))
 
-  threads_row : (a : ℕ) → a < lists → Threads (map record_of nodes) NONE (first_of spans a) (last_of spans a) (row_at nodes spans a)
+  threads_row : (a : ℕ) → a < lists
+      → Threads (map record_of nodes) NONE (first_of spans a) (last_of spans a) (row_at nodes spans a)
   threads_row a al =
-      Threads-along (map record_of nodes) (waiter_of nodes) next NONE (first_of spans a) (last_of spans a) (count_of spans a)
+      Threads-along (map record_of nodes) (waiter_of nodes) next NONE (first_of spans a) (last_of spans a)
+      (count_of spans a)
       (λ i lt. used_record _ (within a i al lt) (used_at a i al lt))
       (end_of nodes spans arena.sound a (omega (arith, size)) (count_of spans a) refl)
       (λ e. sym (arena.sound.chains.no_last a (omega (arith, size)) e))
@@ -126,7 +154,9 @@ module _ (nodes : List Node) (rows : List Row) (lists free_nodes : ℕ) (arena :
   is_empty a al = (
     λ e. elim (cases_eq (count_of spans a) 0) [
       | inl none ↦ list_is a al ∙ ap (λ n. along (waiter_of nodes) next (first_of spans a) n) none
-      | inr some ↦ absurd (not_none (sym (ends_of-some (get_or rows a blank_row) (λ none. some (empty_first a al none))) ∙ sym (ends_is a al) ∙ e))
+      | inr some ↦ absurd
+          (not_none (sym (ends_of-some (get_or rows a blank_row) (λ none. some (empty_first a al none)))
+          ∙ sym (ends_is a al) ∙ e))
     ],
     λ e. ends_is a al ∙ ends_of-none (get_or rows a blank_row) (first_empty a al (sym (length_is a al) ∙ ap length e)),
   )
@@ -135,10 +165,13 @@ module _ (nodes : List Node) (rows : List Row) (lists free_nodes : ℕ) (arena :
       not_none h = cc
 
   -- a node that is reached from no list is free
-  unused : (n : ℕ) → n < length nodes → ((a i : ℕ) → a < lists → i < count_of spans a → place_from next (first_of spans a) i ≢ n) → used_of nodes n ≡ false
+  unused : (n : ℕ) → n < length nodes
+      → ((a i : ℕ) → a < lists → i < count_of spans a → place_from next (first_of spans a) i ≢ n) → used_of nodes n
+      ≡ false
   unused n lt unreached = by_mark (used_of nodes n) refl
     where
-      on_no_row : used_of nodes n ≡ true → (a i : ℕ) → a < length spans → i < count_of spans a → place_from next (first_of spans a) i ≢ n
+      on_no_row : used_of nodes n ≡ true → (a i : ℕ) → a < length spans → i < count_of spans a
+          → place_from next (first_of spans a) i ≢ n
       on_no_row used a i al il same = elim (cases_eq a lists) [
         | inl is ↦
             let free = arena.sound.chains.marked a i al il ∙ le-ltb (a + 1) (length spans) (omega (arith, size)) in
@@ -168,6 +201,8 @@ module _ (nodes : List Node) (rows : List Row) (lists free_nodes : ℕ) (arena :
         arena.sound.chains.apart a b i j (omega (arith, size)) (omega (arith, size)) ic jc
         (sym (node_is a i ai ic) ∙ same ∙ node_is b j bi jc);
     unreached = λ n lt none.
-        let free = unused n lt (λ a i al il same. none a i (omega (arith, length-held nodes spans lists (omega (arith, size)))) (omega (arith, length_is a al)) (node_is a i al il ∙ same)) in
+        let free = unused n lt
+        (λ a i al il same. none a i (omega (arith, length-held nodes spans lists (omega (arith, size))))
+        (omega (arith, length_is a al)) (node_is a i al il ∙ same)) in
         record_at n lt ∙ ap (λ u. Some (record_if u (get_or nodes n blank_node))) free;
   }

@@ -1,8 +1,11 @@
 -- What callers see of a table.
-use Rattle.std.proofs.Common.{◌≡◌, ◌≢◌, ℕ, zero, suc, ◌+◌, ◌<◌, ◌≤◌, List, [], ◌∷◌, ◌++◌, map, length, get_or, set, take, drop, refl, sym, ap, subst, ◌∙◌, inl, inr, arith, length-set, slice_get, Some, None}
+use Rattle.std.proofs.Common.{◌≡◌, ◌≢◌, ℕ, zero, suc, ◌+◌, ◌<◌, ◌≤◌, List, [], ◌∷◌, ◌++◌, map, length, get_or, set}
+use Rattle.std.proofs.Common.{take, drop, refl, sym, ap, subst, ◌∙◌, inl, inr, arith, length-set, slice_get, Some}
+use Rattle.std.proofs.Common.{None}
 use Rattle.std.proofs.lemmas.Option.{slice_get-get_or, slice_get_past}
 use Rattle.std.proofs.lemmas.Bool.{cases_eq}
-use Rattle.std.proofs.lemmas.List.{get_or-set_same, get_or-set_other, get_or-take, get_or-map, ext_get_or, length-append, length-take-le, length-map, take-map, take_all, get_or_read}
+use Rattle.std.proofs.lemmas.List.{get_or-set_same, get_or-set_other, get_or-take, get_or-map, ext_get_or}
+use Rattle.std.proofs.lemmas.List.{length-append, length-take-le, length-map, take-map, take_all, get_or_read}
 use Rattle.std.proofs.lemmas.List.Sums.{sum_by_more, sum_by-cons}
 use Rattle.std.specs.List.{sum_by}
 use Rattle.im_types.specs.declared.TheConstants.{NONE}
@@ -11,7 +14,9 @@ use Rattle.im_arena.specs.declared.table.Node.{Node}
 use Rattle.im_arena.specs.declared.table.Row.{Row}
 use Rattle.im_arena.specs.Chain.{along, place_from}
 use Rattle.im_arena.specs.Lists.{Lists, list_at, with_list, free}
-use Rattle.im_arena.specs.Table.{Span, blank_row, blank_span, blank_node, waiter_in, count_of, first_of, waiter_of, next_of, steps_from, span_of, spans_of, ends_of, waiters_on, row_at, held, Sound, IsArena, Transferred}
+use Rattle.im_arena.specs.Table.{Span, blank_row, blank_span, blank_node, waiter_in, count_of, first_of, waiter_of}
+use Rattle.im_arena.specs.Table.{next_of, steps_from, span_of, spans_of, ends_of, waiters_on, row_at, held, Sound}
+use Rattle.im_arena.specs.Table.{IsArena, Transferred}
 use Rattle.im_arena.proofs.Moves.{place_from-last}
 use Rattle.im_arena.proofs.Tables.{span_at, end_of, count_within, two_counts}
 
@@ -23,12 +28,16 @@ pub length-row : (nodes : List Node) (spans : List Span) (a : ℕ) → length (r
 length-row nodes spans a = length-along (waiter_of nodes) (next_of nodes) (first_of spans a) (count_of spans a)
 
 -- a list by its number
-pub list_at-held : (nodes : List Node) (spans : List Span) (n b : ℕ) → b < n → n ≤ length spans → list_at (held nodes spans n) b ≡ row_at nodes spans b
+pub list_at-held : (nodes : List Node) (spans : List Span) (n b : ℕ) → b < n → n ≤ length spans
+    → list_at (held nodes spans n) b ≡ row_at nodes spans b
 list_at-held nodes spans n b lt le =
-    get_or-take n (map (waiters_on nodes) spans) b [] lt ∙ get_or-map (waiters_on nodes) spans b blank_span [] (omega arith)
+    get_or-take n (map (waiters_on nodes) spans) b [] lt
+    ∙ get_or-map (waiters_on nodes) spans b blank_span [] (omega arith)
 
-pub length-held : (nodes : List Node) (spans : List Span) (n : ℕ) → n ≤ length spans → length (take n (map (waiters_on nodes) spans)) ≡ n
-length-held nodes spans n le = length-take-le n (map (waiters_on nodes) spans) (omega (arith, length-map spans (waiters_on nodes)))
+pub length-held : (nodes : List Node) (spans : List Span) (n : ℕ) → n ≤ length spans
+    → length (take n (map (waiters_on nodes) spans)) ≡ n
+length-held nodes spans n le = length-take-le n (map (waiters_on nodes) spans)
+    (omega (arith, length-map spans (waiters_on nodes)))
 
 -- one list is changed
 pub held-changed : (nodes nodes2 : List Node) (spans spans2 : List Span) (n list : ℕ) (waiters : List Waiter)
@@ -44,7 +53,8 @@ held-changed nodes nodes2 spans spans2 n list waiters le size table inside chang
     ext_get_or [] _ _ (omega (arith, length-set (take n (map (waiters_on nodes) spans)) list waiters)) (λ b lt.
     list_at-held nodes2 spans2 n b (omega arith) (omega arith) ∙ elim (cases_eq b list) [
       | inl is ↦ ap (row_at nodes2 spans2) is ∙ changed
-          ∙ sym (ap (λ x. get_or (set (take n (map (waiters_on nodes) spans)) list waiters) x []) is ∙ get_or-set_same (take n (map (waiters_on nodes) spans)) list waiters [] (omega arith))
+          ∙ sym (ap (λ x. get_or (set (take n (map (waiters_on nodes) spans)) list waiters) x []) is
+          ∙ get_or-set_same (take n (map (waiters_on nodes) spans)) list waiters [] (omega arith))
       | inr other ↦ others b (omega arith) other ∙ sym (list_at-held nodes spans n b (omega arith) le)
           ∙ sym (get_or-set_other (take n (map (waiters_on nodes) spans)) list b waiters [] other)
     ]) in
@@ -60,11 +70,13 @@ module _ (nodes : List Node) (spans : List Span) (lists : ℕ) (arena : IsTable 
   -- the last span has the nodes that are on no list
   pub free_count : sum_by length (held nodes spans lists).lists + count_of spans lists ≡ length nodes
   free_count =
-      let counts : sum_by length (take lists (map (waiters_on nodes) spans)) ≡ sum_by (λ (s : Span). s.count) (take lists spans) =
+      let counts : sum_by length (take lists (map (waiters_on nodes) spans))
+      ≡ sum_by (λ (s : Span). s.count) (take lists spans) =
       ap (sum_by length) (take-map (waiters_on nodes) lists spans) ∙ by_list (take lists spans) in
       let more = sum_by_more (λ (s : Span). s.count) spans lists blank_span (omega (arith, arena.size)) in
       let all : take (lists + 1) spans ≡ spans = take_all (lists + 1) spans (omega (arith, arena.size)) in
-      let total : sum_by (λ (s : Span). s.count) (take (lists + 1) spans) ≡ sum_by (λ (s : Span). s.count) spans = ap (sum_by (λ (s : Span). s.count)) all in
+      let total : sum_by (λ (s : Span). s.count) (take (lists + 1) spans)
+      ≡ sum_by (λ (s : Span). s.count) spans = ap (sum_by (λ (s : Span). s.count)) all in
       omega (arith, arena.sound.total)
     where
       by_list : (rs : List Span) → sum_by length (map (waiters_on nodes) rs) ≡ sum_by (λ (s : Span). s.count) rs
@@ -77,7 +89,8 @@ module _ (nodes : List Node) (spans : List Span) (lists : ℕ) (arena : IsTable 
   pub free-is : free (held nodes spans lists) ≡ count_of spans lists
   free-is = omega (arith, free_count)
 
-module _ (nodes : List Node) (rows : List Row) (lists free_nodes : ℕ) (arena : IsArena nodes rows lists free_nodes) where
+module _ (nodes : List Node) (rows : List Row) (lists free_nodes : ℕ)
+    (arena : IsArena nodes rows lists free_nodes) where
   abbrev spans : List Span
   spans = spans_of nodes rows
 
@@ -100,40 +113,52 @@ module _ (nodes : List Node) (rows : List Row) (lists free_nodes : ℕ) (arena :
   inside-held list lt = omega (arith, length-held nodes spans lists (omega (arith, span_count)))
 
   -- one node is moved, from the free ones or to them
-  module _ (nodes2 : List Node) (rows2 : List Row) (list : ℕ) (content : Node) (result : Waiter) (inside : list < lists) where
+  module _ (nodes2 : List Node) (rows2 : List Row) (list : ℕ) (content : Node) (result : Waiter)
+      (inside : list < lists) where
     pub held-pushed : Transferred nodes nodes2 rows rows2 lists list content result
-        → held nodes2 (spans_of nodes2 rows2) lists ≡ with_list (held nodes spans lists) list (list_at (held nodes spans lists) list ++ waiter_in content ∷ [])
+        → held nodes2 (spans_of nodes2 rows2) lists
+        ≡ with_list (held nodes spans lists) list (list_at (held nodes spans lists) list ++ waiter_in content ∷ [])
     held-pushed t =
-        held-changed nodes nodes2 spans (spans_of nodes2 rows2) lists list _ (omega (arith, span_count)) (length-map rows2 (span_of nodes2) ∙ t.size ∙ sym (length-map rows (span_of nodes))) t.table inside
-        (t.back ∙ ap (λ ws. ws ++ waiter_in content ∷ []) (sym (list_at-held nodes spans lists list inside (omega (arith, span_count)))))
+        held-changed nodes nodes2 spans (spans_of nodes2 rows2) lists list _ (omega (arith, span_count))
+        (length-map rows2 (span_of nodes2) ∙ t.size ∙ sym (length-map rows (span_of nodes))) t.table inside
+        (t.back ∙ ap (λ ws. ws ++ waiter_in content ∷ [])
+        (sym (list_at-held nodes spans lists list inside (omega (arith, span_count)))))
         (λ b lt ne. t.others b (omega (arith, arena.size)) (λ e. omega arith) ne)
 
     pub held-popped : Transferred nodes nodes2 rows rows2 list lists content result
-        → held nodes2 (spans_of nodes2 rows2) lists ≡ with_list (held nodes spans lists) list (drop 1 (list_at (held nodes spans lists) list))
+        → held nodes2 (spans_of nodes2 rows2) lists
+        ≡ with_list (held nodes spans lists) list (drop 1 (list_at (held nodes spans lists) list))
     held-popped t =
-        held-changed nodes nodes2 spans (spans_of nodes2 rows2) lists list _ (omega (arith, span_count)) (length-map rows2 (span_of nodes2) ∙ t.size ∙ sym (length-map rows (span_of nodes))) t.table inside
+        held-changed nodes nodes2 spans (spans_of nodes2 rows2) lists list _ (omega (arith, span_count))
+        (length-map rows2 (span_of nodes2) ∙ t.size ∙ sym (length-map rows (span_of nodes))) t.table inside
         (sym (ap (drop 1) (list_at-held nodes spans lists list inside (omega (arith, span_count)) ∙ t.front)))
         (λ b lt ne. t.others b (omega (arith, arena.size)) ne (λ e. omega arith))
 
     pub first-popped : Transferred nodes nodes2 rows rows2 list lists content result
         → Some result ≡ slice_get (list_at (held nodes spans lists) list) 0
     first-popped t =
-        sym (ap (λ ws. slice_get ws 0) (list_at-held nodes spans lists list inside (omega (arith, span_count)) ∙ t.front))
+        sym (ap (λ ws. slice_get ws 0)
+        (list_at-held nodes spans lists list inside (omega (arith, span_count)) ∙ t.front))
 
     -- the count of free nodes after the move
-    pub count-pushed : Transferred nodes nodes2 rows rows2 lists list content result → free_nodes ≡ suc (count_of (spans_of nodes2 rows2) lists)
+    pub count-pushed : Transferred nodes nodes2 rows rows2 lists list content result → free_nodes
+        ≡ suc (count_of (spans_of nodes2 rows2) lists)
     count-pushed t =
-        arena.count ∙ sym (length-row nodes spans lists) ∙ ap length t.front ∙ ap suc (length-row nodes2 (spans_of nodes2 rows2) lists)
+        arena.count ∙ sym (length-row nodes spans lists) ∙ ap length t.front
+        ∙ ap suc (length-row nodes2 (spans_of nodes2 rows2) lists)
 
-    pub count-popped : Transferred nodes nodes2 rows rows2 list lists content result → count_of (spans_of nodes2 rows2) lists ≡ free_nodes + 1
+    pub count-popped : Transferred nodes nodes2 rows rows2 list lists content result
+        → count_of (spans_of nodes2 rows2) lists ≡ free_nodes + 1
     count-popped t =
-        sym (length-row nodes2 (spans_of nodes2 rows2) lists) ∙ ap length t.back ∙ length-append (row_at nodes spans lists) (waiter_in content ∷ [])
+        sym (length-row nodes2 (spans_of nodes2 rows2) lists) ∙ ap length t.back
+        ∙ length-append (row_at nodes spans lists) (waiter_in content ∷ [])
         ∙ ap (λ n. n + 1) (length-row nodes spans lists ∙ sym arena.count)
 
   -- a list that isn't empty leaves this many free
   pub free-less : (list : ℕ) → list < lists → 0 < count_of spans list → free_nodes < length nodes
   free-less list inside some =
-      let both = two_counts nodes spans arena.sound list lists (omega (arith, span_count)) (omega (arith, span_count)) (λ e. omega arith) in
+      let both = two_counts nodes spans arena.sound list lists (omega (arith, span_count))
+      (omega (arith, span_count)) (λ e. omega arith) in
       omega (arith, arena.count)
 
   -- what the read of a row tells
@@ -189,17 +214,20 @@ module _ (nodes : List Node) (rows : List Row) (lists free_nodes : ℕ) (arena :
     some-first some = omega (arith, steps-is, not_end 0 (omega arith) some)
 
     pub none-first : r.first ≡ NONE → list_at (held nodes spans lists) list ≡ []
-    none-first none = list_at-read ∙ ap (along (waiter_of nodes) (next_of nodes) r.first) (sym (at_end 0 (omega arith) none))
+    none-first none = list_at-read
+        ∙ ap (along (waiter_of nodes) (next_of nodes) r.first) (sym (at_end 0 (omega arith) none))
 
     pub first-none : list_at (held nodes spans lists) list ≡ [] → r.first ≡ NONE
     first-none empty =
         let none : 0 ≡ steps = omega (arith, list-steps, ap length empty) in
         ap (place_from (next_of nodes) r.first) none ∙ place-end
 
-    pub held-none : r.first ≡ NONE → held nodes spans lists ≡ with_list (held nodes spans lists) list (drop 1 (list_at (held nodes spans lists) list))
+    pub held-none : r.first ≡ NONE → held nodes spans lists
+        ≡ with_list (held nodes spans lists) list (drop 1 (list_at (held nodes spans lists) list))
     held-none none =
         held-changed nodes nodes spans spans lists list _ (omega (arith, span_count)) refl refl inside
-        (sym (list_at-held nodes spans lists list inside (omega (arith, span_count))) ∙ none-first none ∙ sym (ap (drop 1) (none-first none)))
+        (sym (list_at-held nodes spans lists list inside (omega (arith, span_count))) ∙ none-first none
+        ∙ sym (ap (drop 1) (none-first none)))
         (λ b lt ne. refl)
 
     pub past-read : (place : ℕ) → steps ≤ place → slice_get (list_at (held nodes spans lists) list) place ≡ None
@@ -208,27 +236,38 @@ module _ (nodes : List Node) (rows : List Row) (lists free_nodes : ℕ) (arena :
     -- the ends of the row, as they are shown
     pub ends-read : Some (ends_of r) ≡ slice_get (take lists (map ends_of rows)) list
     ends-read = sym (
-        slice_get-get_or (take lists (map ends_of rows)) list None (omega (arith, length-take-le lists (map ends_of rows) (omega (arith, arena.size, length-map rows ends_of))))
-        ∙ ap Some (get_or-take lists (map ends_of rows) list None inside ∙ get_or-map ends_of rows list blank_row None (omega (arith, arena.size))
+        slice_get-get_or (take lists (map ends_of rows)) list None
+        (omega (
+          arith,
+          length-take-le lists (map ends_of rows)
+              (omega (arith, arena.size, length-map rows ends_of)),
+        ))
+        ∙ ap Some (get_or-take lists (map ends_of rows) list None inside
+        ∙ get_or-map ends_of rows list blank_row None (omega (arith, arena.size))
         ∙ ap ends_of (sym (get_or_read rows list r (omega (arith, arena.size)) read blank_row))))
 
     -- a step of a walk
-    pub step-read : (i at : ℕ) (n : Node) → i < steps → at ≡ place_from (next_of nodes) r.first i → n ≡ get_or nodes at n → n.next ≡ place_from (next_of nodes) r.first (i + 1)
+    pub step-read : (i at : ℕ) (n : Node) → i < steps → at ≡ place_from (next_of nodes) r.first i → n
+        ≡ get_or nodes at n → n.next ≡ place_from (next_of nodes) r.first (i + 1)
     step-read i at n lt is read_node =
-        let there : n ≡ get_or nodes at blank_node = get_or_read nodes at n (omega (arith, place-read i lt)) read_node blank_node in
+        let there : n ≡ get_or nodes at blank_node = get_or_read nodes at n
+        (omega (arith, place-read i lt)) read_node blank_node in
         ap (λ (x : Node). x.next) there ∙ ap (next_of nodes) is ∙ sym (place_from-last (next_of nodes) r.first i)
         ∙ ap (place_from (next_of nodes) r.first) (let e : suc i ≡ i + 1 = omega arith in e)
 
-get_or-along : {X : Type 0} (item : ℕ → X) (next : ℕ → ℕ) (at n k : ℕ) (d : X) → k < n → get_or (along item next at n) k d ≡ item (place_from next at k)
+get_or-along : {X : Type 0} (item : ℕ → X) (next : ℕ → ℕ) (at n k : ℕ) (d : X) → k < n
+    → get_or (along item next at n) k d ≡ item (place_from next at k)
 get_or-along item next at zero k d lt = absurd (omega arith)
 get_or-along item next at (suc n) zero d lt = refl
 get_or-along item next at (suc n) (suc k) d lt = get_or-along item next (next at) n k d (omega arith)
 
-pub slice_get-along : {X : Type 0} (item : ℕ → X) (next : ℕ → ℕ) (at n k : ℕ) → k < n → slice_get (along item next at n) k ≡ Some (item (place_from next at k))
+pub slice_get-along : {X : Type 0} (item : ℕ → X) (next : ℕ → ℕ) (at n k : ℕ) → k < n
+    → slice_get (along item next at n) k ≡ Some (item (place_from next at k))
 slice_get-along item next at n k lt =
     slice_get-get_or (along item next at n) k (item 0) (omega (arith, length-along item next at n))
     ∙ ap Some (get_or-along item next at n k (item 0) lt)
 
 -- what the read of a node tells
-pub waiter-read : (nodes : List Node) (at : ℕ) (n : Node) → at < length nodes → n ≡ get_or nodes at n → waiter_in n ≡ waiter_of nodes at
+pub waiter-read : (nodes : List Node) (at : ℕ) (n : Node) → at < length nodes → n ≡ get_or nodes at n → waiter_in n
+    ≡ waiter_of nodes at
 waiter-read nodes at n lt read = ap waiter_in (get_or_read nodes at n lt read blank_node)

@@ -47,4 +47,5 @@ module _ (nodes : List Node) (at : ℕ) (walk : IsWalk nodes at) where
     }
 
     pub first-left : waiters_from nodes at ≡ waiter_of nodes at ∷ waiters_from nodes (next at)
-    first-left = ap (along (waiter_of nodes) next at) steps-here ∙ ap (λ n. waiter_of nodes at ∷ along (waiter_of nodes) next (next at) n) (sym steps-behind)
+    first-left = ap (along (waiter_of nodes) next at) steps-here
+        ∙ ap (λ n. waiter_of nodes at ∷ along (waiter_of nodes) next (next at) n) (sym steps-behind)

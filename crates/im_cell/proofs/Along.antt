@@ -1,5 +1,6 @@
 -- The least place, found from one leaf to the next.
-use Rattle.std.proofs.Common.{◌≡◌, ℕ, ◌+◌, ◌-◌, ◌*◌, ◌<◌, ◌≤◌, ◌^◌, List, ◌++◌, length, take, drop, Bool, Option, Some, inl, inr, sym, ap, ◌∙◌, arith}
+use Rattle.std.proofs.Common.{◌≡◌, ℕ, ◌+◌, ◌-◌, ◌*◌, ◌<◌, ◌≤◌, ◌^◌, List, ◌++◌, length, take, drop, Bool, Option}
+use Rattle.std.proofs.Common.{Some, inl, inr, sym, ap, ◌∙◌, arith}
 use Rattle.std.specs.Prelude.{option_map}
 use Rattle.std.proofs.Math.Seq.{take-add}
 use Rattle.std.proofs.lemmas.Bool.{cases_lt}
@@ -12,7 +13,8 @@ use Rattle.im_cell.proofs.Splits.{first, across, second, longest-append, back-fe
 use Rattle.im_cell.proofs.Sums.{back_of-is}
 
 -- a leaf in which the first place of a block ends has cells
-pub leaf-there : (cells : List (Option Bool)) (leaf n : ℕ) → longest (take (leaf * PART) cells) < n → n ≤ longest (take ((leaf + 1) * PART) cells) → leaf * PART < length cells
+pub leaf-there : (cells : List (Option Bool)) (leaf n : ℕ) → longest (take (leaf * PART) cells) < n
+    → n ≤ longest (take ((leaf + 1) * PART) cells) → leaf * PART < length cells
 leaf-there cells leaf n none room = elim (cases_lt (leaf * PART) (length cells)) [
   | inl some ↦ some
   | inr past ↦
@@ -22,8 +24,10 @@ leaf-there cells leaf n none room = elim (cases_lt (leaf * PART) (length cells))
 ]
 
 -- the cells up to a leaf, those of the leaf, and what is known of their summaries
-module _ (cells : List (Option Bool)) (leaf n : ℕ) (before own : Summary) (few : length cells < 2 ^ 32) (there : leaf * PART < length cells)
-    (sums : Summarises before (take (leaf * PART) cells)) (part : Summarises own (part_at PART cells leaf)) (some : 0 < n) (none : before.longest < n)
+module _ (cells : List (Option Bool)) (leaf n : ℕ) (before own : Summary) (few : length cells < 2 ^ 32)
+    (there : leaf * PART < length cells)
+    (sums : Summarises before (take (leaf * PART) cells)) (part : Summarises own (part_at PART cells leaf))
+    (some : 0 < n) (none : before.longest < n)
     (room : n ≤ longest (take ((leaf + 1) * PART) cells)) where
   abbrev pub xs : List (Option Bool)
   xs = take (leaf * PART) cells
@@ -36,7 +40,8 @@ module _ (cells : List (Option Bool)) (leaf n : ℕ) (before own : Summary) (few
 
   upto : take ((leaf + 1) * PART) cells ≡ xs ++ ys
   unfolding part_at
-  upto = ap (λ k. take k cells) (let e : (leaf + 1) * PART ≡ leaf * PART + PART = omega arith in e) ∙ take-add (leaf * PART) PART cells
+  upto = ap (λ k. take k cells) (let e : (leaf + 1) * PART ≡ leaf * PART + PART = omega arith in e)
+      ∙ take-add (leaf * PART) PART cells
 
   part-few : leaf * PART + length ys ≤ length cells
   unfolding part_at
@@ -60,16 +65,20 @@ module _ (cells : List (Option Bool)) (leaf n : ℕ) (before own : Summary) (few
   -- the place is that among the cells up to the leaf and in it
   whole : place n cells ≡ place n (xs ++ ys)
   whole =
-      ap (place n) (sym (take-append-drop ((leaf + 1) * PART) cells)) ∙ first (take ((leaf + 1) * PART) cells) (drop ((leaf + 1) * PART) cells) n some room ∙ ap (place n) upto
+      ap (place n) (sym (take-append-drop ((leaf + 1) * PART) cells))
+      ∙ first (take ((leaf + 1) * PART) cells) (drop ((leaf + 1) * PART) cells) n some room ∙ ap (place n) upto
 
   -- across the bound of the leaf, where so many free cells meet there
   pub place-across : n ≤ back_of before + own.front → place n cells ≡ Some (leaf * PART - back_of before)
   place-across fits =
-      whole ∙ across xs ys n some short (omega (arith, back-is, part.first)) ∙ ap (λ k. Some k) (let e : length xs - back xs ≡ leaf * PART - back_of before = omega (arith, long, back-is) in e)
+      whole ∙ across xs ys n some short (omega (arith, back-is, part.first))
+      ∙ ap (λ k. Some k)
+      (let e : length xs - back xs ≡ leaf * PART - back_of before = omega (arith, long, back-is) in e)
 
   -- else within it
   pub place-inside : back_of before + own.front < n → place n cells ≡ option_map (λ k. leaf * PART + k) (place n ys)
-  place-inside less = whole ∙ second xs ys n short (omega (arith, back-is, part.first)) ∙ ap (λ m. option_map (λ k. m + k) (place n ys)) long
+  place-inside less = whole ∙ second xs ys n short (omega (arith, back-is, part.first))
+      ∙ ap (λ m. option_map (λ k. m + k) (place n ys)) long
 
   pub room-inside : back_of before + own.front < n → n ≤ longest ys
   room-inside less = let l = longest-append xs ys in omega (arith, longest-upto, short, back-is, part.first, room)

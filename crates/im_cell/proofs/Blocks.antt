@@ -1,5 +1,6 @@
 -- Blocks stay whole.
-use Rattle.std.proofs.Common.{◌≡◌, inl, inr, ⊎_elim, ℕ, zero, suc, ◌+◌, ◌<◌, ◌≤◌, List, [], ◌∷◌, ◌++◌, map, take, length, get_or, set, Some, None, refl, sym, ap, ◌∙◌, subst, arith, length-set}
+use Rattle.std.proofs.Common.{◌≡◌, inl, inr, ⊎_elim, ℕ, zero, suc, ◌+◌, ◌<◌, ◌≤◌, List, [], ◌∷◌, ◌++◌, map, take}
+use Rattle.std.proofs.Common.{length, get_or, set, Some, None, refl, sym, ap, ◌∙◌, subst, arith, length-set}
 use Rattle.std.specs.Prelude.{Option}
 use Rattle.std.proofs.lemmas.Bool.{cases_lt, cases_eq}
 use Rattle.std.proofs.lemmas.List.{get_or-set_same, get_or-set_other, get_or_past, take_more}
@@ -13,7 +14,8 @@ use Rattle.im_types.specs.declared.cells.Cell.TheVariants.{Empty}
 use Rattle.im_types.specs.declared.records.CellRecord.{CellRecord}
 use Rattle.im_cell.specs.declared.slots.Slot.{Slot}
 use Rattle.im_cell.specs.declared.records.Record.{Record}
-use Rattle.im_cell.specs.declared.records.Record.TheVariants.{Empty as IsEmpty, Waiting as IsWaiting, Full as IsFull, Clashed as IsClashed, Free}
+use Rattle.im_cell.specs.declared.records.Record.TheVariants.{Empty as IsEmpty, Waiting as IsWaiting, Full as IsFull}
+use Rattle.im_cell.specs.declared.records.Record.TheVariants.{Clashed as IsClashed, Free}
 use Rattle.im_cell.specs.Records.{slot_of, slots_of, record_shown}
 use Rattle.im_cell.specs.Slots.{slot_at, block_in, block_at, with_cell, new_slot, empty_slot, shown_slot, HasBlocks}
 
@@ -25,35 +27,46 @@ some_same : (b c : Block) → Some b ≡ Some c → b ≡ c
 some_same b c e = cc
 
 -- another cell in the same block
-pub HasBlocks-set : (slots : List (Option Slot)) (a : ℕ) (slot : Slot) (cell : Cell) → slot_at slots a ≡ Some slot → HasBlocks slots → HasBlocks (set slots a (new_slot slot.block cell))
+pub HasBlocks-set : (slots : List (Option Slot)) (a : ℕ) (slot : Slot) (cell : Cell) → slot_at slots a ≡ Some slot
+    → HasBlocks slots → HasBlocks (set slots a (new_slot slot.block cell))
 HasBlocks-set slots a slot cell at blocks = record {
-  within = λ b block is. let w = blocks.within b block (sym (same b) ∙ is) in (w.0, w.1, omega (arith, length-set slots a (new_slot slot.block cell)));
+  within = λ b block is. let w = blocks.within b block (sym (same b) ∙ is) in
+      (w.0, w.1, omega (arith, length-set slots a (new_slot slot.block cell)));
   whole = λ b block is c lo hi. same c ∙ blocks.whole b block (sym (same b) ∙ is) c lo hi;
 }
   where
     within : a < length slots
-    within = elim (cases_lt a (length slots)) [ inl less ↦ less | inr past ↦ absurd (some_none slot (sym at ∙ get_or_past slots a None past)) ]
+    within = elim (cases_lt a (length slots)) [
+      | inl less ↦ less
+      | inr past ↦ absurd
+          (some_none slot (sym at ∙ get_or_past slots a None past))
+    ]
 
     same : (b : ℕ) → block_at (set slots a (new_slot slot.block cell)) b ≡ block_at slots b
     same b = elim (cases_eq b a) [
       | inl e ↦
-          ap (λ i. block_at (set slots a (new_slot slot.block cell)) i) e ∙ ap block_in (get_or-set_same slots a (new_slot slot.block cell) None within)
+          ap (λ i. block_at (set slots a (new_slot slot.block cell)) i) e
+          ∙ ap block_in (get_or-set_same slots a (new_slot slot.block cell) None within)
           ∙ sym (ap block_in at) ∙ sym (ap (block_at slots) e)
       | inr ne ↦ ap block_in (get_or-set_other slots a b (new_slot slot.block cell) None ne)
     ]
 
 -- a new block, where there was none
-pub HasBlocks-placed : (slots : List (Option Slot)) (base n : ℕ) (kind : Kind) → place n slots ≡ Some base → HasBlocks slots → HasBlocks (fill slots base n (empty_slot base n kind))
+pub HasBlocks-placed : (slots : List (Option Slot)) (base n : ℕ) (kind : Kind) → place n slots ≡ Some base
+    → HasBlocks slots → HasBlocks (fill slots base n (empty_slot base n kind))
 HasBlocks-placed slots base n kind e blocks = record {
   within = λ a b is. ⊎_elim
       (λ same. let w = blocks.within a b (sym (ap block_in same) ∙ is) in (w.0, w.1, omega (arith, long)))
       (λ h. let mine : block ≡ b = some_same block b (sym (ap block_in h.2) ∙ is) in
-      let p = ap (λ (b : Block). b.base) mine in let q = ap (λ (b : Block). b.length) mine in (omega arith, omega arith, omega (arith, long, fits)))
+      let p = ap (λ (b : Block). b.base) mine in let q = ap (λ (b : Block). b.length) mine in
+      (omega arith, omega arith, omega (arith, long, fits)))
       (get_or-fill slots base n new a);
   whole = λ a b is c lo hi. ⊎_elim
       (λ same. ⊎_elim
       (λ same_c. ap block_in same_c ∙ blocks.whole a b (sym (ap block_in same) ∙ is) c lo hi)
-      (λ h. absurd (some_none b (sym (blocks.whole a b (sym (ap block_in same) ∙ is) c lo hi) ∙ ap block_in (place-free n slots base e c h.0 h.1))))
+      (λ h. absurd (some_none b
+      (sym (blocks.whole a b (sym (ap block_in same) ∙ is) c lo hi)
+      ∙ ap block_in (place-free n slots base e c h.0 h.1))))
       (get_or-fill slots base n new c))
       (λ h. let mine : block ≡ b = some_same block b (sym (ap block_in h.2) ∙ is) in
       let p = ap (λ (b : Block). b.base) mine in let q = ap (λ (b : Block). b.length) mine in
@@ -74,10 +87,12 @@ HasBlocks-placed slots base n kind e blocks = record {
     fits = place-fits n slots base e
 
 -- a block is gone
-pub HasBlocks-released : (slots : List (Option Slot)) (block : Block) → block_at slots block.base ≡ Some block → HasBlocks slots → HasBlocks (fill slots block.base block.length None)
+pub HasBlocks-released : (slots : List (Option Slot)) (block : Block) → block_at slots block.base ≡ Some block
+    → HasBlocks slots → HasBlocks (fill slots block.base block.length None)
 HasBlocks-released slots block at blocks = record {
   within = λ a b is. ⊎_elim
-      (λ same. let w = blocks.within a b (sym (ap block_in same) ∙ is) in (w.0, w.1, omega (arith, length-fill slots block.base block.length None)))
+      (λ same. let w = blocks.within a b (sym (ap block_in same) ∙ is) in
+      (w.0, w.1, omega (arith, length-fill slots block.base block.length None)))
       (λ h. absurd (some_none b (sym is ∙ ap block_in h.2)))
       (get_or-fill slots block.base block.length None a);
   whole = λ a b is c lo hi. ⊎_elim
@@ -85,11 +100,14 @@ HasBlocks-released slots block at blocks = record {
       (λ same_c. ap block_in same_c ∙ blocks.whole a b (sym (ap block_in same) ∙ is) c lo hi)
       (λ h.
       let was = sym (ap block_in same) ∙ is in
-      let mine : b ≡ block = some_same b block (sym (blocks.whole a b was c lo hi) ∙ blocks.whole block.base block at c h.0 h.1) in
+      let mine : b ≡ block = some_same b block
+      (sym (blocks.whole a b was c lo hi) ∙ blocks.whole block.base block at c h.0 h.1) in
       let p = ap (λ (b : Block). b.base) mine in
       let q = ap (λ (b : Block). b.length) mine in
       let w = blocks.within a b was in
-      absurd (some_none b (sym is ∙ ap block_in (get_or-fill_in slots block.base block.length None a (omega arith) (omega arith) (omega arith)))))
+      absurd (some_none b
+      (sym is ∙ ap block_in
+      (get_or-fill_in slots block.base block.length None a (omega arith) (omega arith) (omega arith)))))
       (get_or-fill slots block.base block.length None c))
       (λ h. absurd (some_none b (sym is ∙ ap block_in h.2)))
       (get_or-fill slots block.base block.length None a);
@@ -97,20 +115,26 @@ HasBlocks-released slots block at blocks = record {
 
 -- cells that are all changed into one are filled with it
 change_each-fill : {X : Type 0} (change : Option X → Option X) (xs : List (Option X)) (base n : ℕ) (x : Option X)
-    → ((b : ℕ) → base ≤ b → b < base + n → b < length xs → change (get_or xs b None) ≡ x) → change_each change xs base n ≡ fill xs base n x
+    → ((b : ℕ) → base ≤ b → b < base + n → b < length xs → change (get_or xs b None) ≡ x)
+    → change_each change xs base n ≡ fill xs base n x
 change_each-fill change [] base n x same = refl
 change_each-fill change (y ∷ xs) zero zero x same = refl
 change_each-fill change (y ∷ xs) zero (suc n) x same =
     ap (λ z. z ∷ change_each change xs zero n) (same 0 (omega arith) (omega arith) (omega arith))
-    ∙ ap (λ zs. x ∷ zs) (change_each-fill change xs zero n x (λ b lo hi h. same (suc b) (omega arith) (omega arith) (omega arith)))
+    ∙ ap (λ zs. x ∷ zs) (change_each-fill change xs zero n x
+    (λ b lo hi h. same (suc b) (omega arith) (omega arith) (omega arith)))
 change_each-fill change (y ∷ xs) (suc base) n x same =
-    ap (λ zs. y ∷ zs) (change_each-fill change xs base n x (λ b lo hi h. same (suc b) (omega arith) (omega arith) (omega arith)))
+    ap (λ zs. y ∷ zs) (change_each-fill change xs base n x
+    (λ b lo hi h. same (suc b) (omega arith) (omega arith) (omega arith)))
 
 -- the cells of a block are empty
-module _ (slots : List (Option Slot)) (block : Block) (at : block_at slots block.base ≡ Some block) (blocks : HasBlocks slots) where
+module _ (slots : List (Option Slot)) (block : Block) (at : block_at slots block.base ≡ Some block)
+    (blocks : HasBlocks slots) where
   -- emptied one by one, they are filled
-  pub emptied-fill : change_each (with_cell Empty) slots block.base block.length ≡ fill slots block.base block.length (new_slot block Empty)
-  emptied-fill = change_each-fill (with_cell Empty) slots block.base block.length (new_slot block Empty) (λ b lo hi h. empty_there (slot_at slots b) (blocks.whole block.base block at b lo hi))
+  pub emptied-fill : change_each (with_cell Empty) slots block.base block.length
+      ≡ fill slots block.base block.length (new_slot block Empty)
+  emptied-fill = change_each-fill (with_cell Empty) slots block.base block.length (new_slot block Empty)
+      (λ b lo hi h. empty_there (slot_at slots b) (blocks.whole block.base block at b lo hi))
     where
       empty_there : (o : Option Slot) → block_in o ≡ Some block → with_cell Empty o ≡ new_slot block Empty
       empty_there None is = absurd (some_none block (sym is))
@@ -131,7 +155,8 @@ module _ (slots : List (Option Slot)) (block : Block) (at : block_at slots block
       own (Some slot) = refl
 
       same : (b : ℕ) → block_at (change_each (with_cell Empty) slots block.base block.length) b ≡ block_at slots b
-      same b = ⊎_elim (λ h. ap block_in h) (λ h. ap block_in h.2 ∙ own (slot_at slots b)) (get_or-change_each (with_cell Empty) slots block.base block.length b)
+      same b = ⊎_elim (λ h. ap block_in h) (λ h. ap block_in h.2 ∙ own (slot_at slots b))
+          (get_or-change_each (with_cell Empty) slots block.base block.length b)
 
 -- what is known of the block whose base is this address
 pub record IsBlock (slots : List (Option Slot)) (block : Block) : Type 0 where
@@ -140,7 +165,8 @@ pub record IsBlock (slots : List (Option Slot)) (block : Block) : Type 0 where
   pub inside : block.base + block.length ≤ length slots
 
 -- a slot that stands at the base of its own block
-pub IsBlock-base : (slots : List (Option Slot)) (a : ℕ) (slot : Slot) → slot_at slots a ≡ Some slot → slot.block.base ≡ a → HasBlocks slots → IsBlock slots slot.block
+pub IsBlock-base : (slots : List (Option Slot)) (a : ℕ) (slot : Slot) → slot_at slots a ≡ Some slot → slot.block.base
+    ≡ a → HasBlocks slots → IsBlock slots slot.block
 IsBlock-base slots a slot at base blocks =
     let here : block_at slots slot.block.base ≡ Some slot.block = ap (block_at slots) base ∙ ap block_in at in
     let w = blocks.within slot.block.base slot.block here in
@@ -151,8 +177,10 @@ IsBlock-base slots a slot at base blocks =
     }
 
 -- the same, where a look-up at an address of the table found it
-pub IsBlock-found : (slots value : List (Option Slot)) (a : ℕ) (found : Option Slot) (slot : Slot) → slots ≡ value → found ≡ slot_at value a → found ≡ Some slot → slot.block.base ≡ a → HasBlocks slots → IsBlock slots slot.block
-IsBlock-found slots value a found slot same look is base blocks = IsBlock-base slots a slot (ap (λ s. slot_at s a) same ∙ sym look ∙ is) base blocks
+pub IsBlock-found : (slots value : List (Option Slot)) (a : ℕ) (found : Option Slot) (slot : Slot) → slots ≡ value
+    → found ≡ slot_at value a → found ≡ Some slot → slot.block.base ≡ a → HasBlocks slots → IsBlock slots slot.block
+IsBlock-found slots value a found slot same look is base blocks = IsBlock-base slots a slot
+    (ap (λ s. slot_at s a) same ∙ sym look ∙ is) base blocks
 
 -- the slots of records are those that they show
 slot-shown : (kept : Record) → slot_of kept ≡ shown_slot (record_shown kept)
@@ -162,20 +190,24 @@ slot-shown (IsFull block v) = refl
 slot-shown (IsClashed block v) = refl
 slot-shown (Free hole next) = refl
 
-pub slots-shown : (records : List Record) (row : List CellRecord) → map record_shown records ≡ row → slots_of records ≡ map shown_slot row
+pub slots-shown : (records : List Record) (row : List CellRecord) → map record_shown records ≡ row → slots_of records
+    ≡ map shown_slot row
 slots-shown records row view = each records ∙ ap (map shown_slot) view
   where
     each : (records : List Record) → slots_of records ≡ map shown_slot (map record_shown records)
     each [] = refl
-    each (kept ∷ records) = ap (λ slot. slot ∷ slots_of records) (slot-shown kept) ∙ ap (λ slots. shown_slot (record_shown kept) ∷ slots) (each records)
+    each (kept ∷ records) = ap (λ slot. slot ∷ slots_of records) (slot-shown kept)
+        ∙ ap (λ slots. shown_slot (record_shown kept) ∷ slots) (each records)
 
 -- one more of the cells that are put into a row
-pub row-more : (cells row new : List CellRecord) (i : ℕ) (d : CellRecord) → row ≡ take i cells → i < length cells → new ≡ row ++ get_or cells i d ∷ [] → new ≡ take (i + 1) cells
+pub row-more : (cells row new : List CellRecord) (i : ℕ) (d : CellRecord) → row ≡ take i cells → i < length cells
+    → new ≡ row ++ get_or cells i d ∷ [] → new ≡ take (i + 1) cells
 row-more cells row new i d begun inside pushed =
     pushed ∙ ap (λ (row : List CellRecord). row ++ get_or cells i d ∷ []) begun ∙ sym (take_more cells i d inside)
 
 -- the same of a block that was found at an address of the table
-pub IsBlock-at : (slots value : List (Option Slot)) (a : ℕ) (block : Block) → slots ≡ value → block.base ≡ a → block_at value a ≡ Some block → HasBlocks slots → IsBlock slots block
+pub IsBlock-at : (slots value : List (Option Slot)) (a : ℕ) (block : Block) → slots ≡ value → block.base ≡ a
+    → block_at value a ≡ Some block → HasBlocks slots → IsBlock slots block
 IsBlock-at slots value a block same base at blocks =
     let here : block_at slots block.base ≡ Some block = ap (block_at slots) base ∙ ap (λ s. block_at s a) same ∙ at in
     let w = blocks.within block.base block here in

@@ -1,5 +1,6 @@
 -- The way down the tree: what a node's cells are, and where their least place lies.
-use Rattle.std.proofs.Common.{◌≡◌, ℕ, zero, suc, ◌+◌, ◌-◌, ◌*◌, ◌/◌, ◌<◌, ◌≤◌, ◌^◌, List, ◌++◌, length, take, drop, Bool, Option, None, Some, refl, sym, ap, ◌∙◌, subst, arith}
+use Rattle.std.proofs.Common.{◌≡◌, ℕ, zero, suc, ◌+◌, ◌-◌, ◌*◌, ◌/◌, ◌<◌, ◌≤◌, ◌^◌, List, ◌++◌, length, take, drop}
+use Rattle.std.proofs.Common.{Bool, Option, None, Some, refl, sym, ap, ◌∙◌, subst, arith}
 use Rattle.std.specs.Prelude.{option_map}
 use Rattle.std.proofs.Math.Nat.{add-mul, mul-add, mul-one, mul_comm, zero-mul, mul-le-mul_left}
 use Rattle.std.proofs.Math.Seq.{take-add}
@@ -8,8 +9,10 @@ use Rattle.im_types.specs.Place.{place}
 use Rattle.im_cell.specs.declared.summaries.Summary.{Summary}
 use Rattle.im_cell.specs.declared.tree.Way.{Way}
 use Rattle.im_cell.specs.declared.tree.Way.TheVariants.{Across, Within}
-use Rattle.im_cell.specs.Summaries.{back, longest, Summarises, back_of, node_at, part_at, leaves_at, leaves_of, IsTree, IsInLeaf, Leads}
-use Rattle.im_cell.proofs.Splits.{first, across, second, place-none, option_map-zero, longest-append, longest-few, back-few, back-longest, front-few}
+use Rattle.im_cell.specs.Summaries.{back, longest, Summarises, back_of, node_at, part_at, leaves_at, leaves_of}
+use Rattle.im_cell.specs.Summaries.{IsTree, IsInLeaf, Leads}
+use Rattle.im_cell.proofs.Splits.{first, across, second, place-none, option_map-zero, longest-append, longest-few}
+use Rattle.im_cell.proofs.Splits.{back-few, back-longest, front-few}
 use Rattle.im_cell.proofs.Sums.{back_of-is, Summarises-joined}
 
 -- the first node, of those that so many rows down are below a node
@@ -46,11 +49,13 @@ width-two : (p l : ℕ) → p * (2 * l) ≡ p * l + p * l
 width-two p l = let two : 2 * l ≡ l + l = omega arith in ap (λ i. p * i) two ∙ mul-add p l l
 
 -- the first cell of the next node of a row is so many cells behind that of a node
-pub start-next : (p leaves h k : ℕ) → leaves ≤ lowest h k → (lowest h (k + 1) - leaves) * p ≡ (lowest h k - leaves) * p + p * leaves_at h
+pub start-next : (p leaves h k : ℕ) → leaves ≤ lowest h k → (lowest h (k + 1) - leaves) * p
+    ≡ (lowest h k - leaves) * p + p * leaves_at h
 start-next p leaves h k low =
     let next = lowest-next h k in
     let on : lowest h (k + 1) - leaves ≡ lowest h k - leaves + leaves_at h = omega arith in
-    ap (λ i. i * p) on ∙ add-mul (lowest h k - leaves) (leaves_at h) p ∙ ap (λ i. (lowest h k - leaves) * p + i) (mul_comm (leaves_at h) p)
+    ap (λ i. i * p) on ∙ add-mul (lowest h k - leaves) (leaves_at h) p
+    ∙ ap (λ i. (lowest h k - leaves) * p + i) (mul_comm (leaves_at h) p)
 
 -- the cells of a node so many rows above the leaves, where a leaf has p cells
 abbrev pub cells_of : ℕ → ℕ → List (Option Bool) → ℕ → ℕ → List (Option Bool)
@@ -60,7 +65,8 @@ cells_of p leaves cells (suc h) k = cells_of p leaves cells h (2 * k) ++ cells_o
 -- the cells of a node, where a leaf has p cells
 module _ (p leaves : ℕ) (cells : List (Option Bool)) where
   -- they are one run of the cells
-  pub cells-part : (h k : ℕ) → leaves ≤ lowest h k → cells_of p leaves cells h k ≡ take (p * leaves_at h) (drop ((lowest h k - leaves) * p) cells)
+  pub cells-part : (h k : ℕ) → leaves ≤ lowest h k → cells_of p leaves cells h k
+      ≡ take (p * leaves_at h) (drop ((lowest h k - leaves) * p) cells)
   unfolding part_at
   cells-part zero k le = ap (λ w. take w (drop ((k - leaves) * p) cells)) (sym (mul-one p))
   cells-part (suc h) k le =
@@ -69,7 +75,9 @@ module _ (p leaves : ℕ) (cells : List (Option Bool)) where
       let next = lowest-next h (2 * k) in
       let on : (lowest h (2 * k + 1) - leaves) * p ≡ o + w = start-next p leaves h (2 * k) le in
       ap (λ xs. xs ++ cells_of p leaves cells h (2 * k + 1)) (cells-part h (2 * k) le)
-      ∙ ap (λ ys. take w (drop o cells) ++ ys) (cells-part h (2 * k + 1) (omega arith) ∙ ap (λ i. take w (drop i cells)) on ∙ ap (take w) (sym (drop-drop w o cells)))
+      ∙ ap (λ ys. take w (drop o cells) ++ ys)
+      (cells-part h (2 * k + 1) (omega arith) ∙ ap (λ i. take w (drop i cells)) on
+      ∙ ap (take w) (sym (drop-drop w o cells)))
       ∙ sym (take-add w w (drop o cells)) ∙ ap (λ i. take i (drop o cells)) (sym (width-two p (leaves_at h)))
 
   -- they are no more than all cells
@@ -81,7 +89,8 @@ module _ (p leaves : ℕ) (cells : List (Option Bool)) where
       omega (arith, length-take w (drop o cells), length-drop o cells)
 
   -- a node before another one that has cells has as many as a node of its row may have
-  pub cells-full : (h k : ℕ) → leaves ≤ lowest h k → 0 < length (cells_of p leaves cells h (k + 1)) → length (cells_of p leaves cells h k) ≡ p * leaves_at h
+  pub cells-full : (h k : ℕ) → leaves ≤ lowest h k → 0 < length (cells_of p leaves cells h (k + 1))
+      → length (cells_of p leaves cells h k) ≡ p * leaves_at h
   cells-full h k le some =
       let w : ℕ = p * leaves_at h in
       let o : ℕ = (lowest h k - leaves) * p in
@@ -89,7 +98,14 @@ module _ (p leaves : ℕ) (cells : List (Option Bool)) where
       let on : (lowest h (k + 1) - leaves) * p ≡ o + w = start-next p leaves h k le in
       let left = ap length (cells-part h k le) in
       let right = ap length (cells-part h (k + 1) (omega arith) ∙ ap (λ i. take w (drop i cells)) on) in
-      omega (arith, length-take w (drop o cells), length-drop o cells, length-take w (drop (o + w) cells), length-drop (o + w) cells)
+      omega (
+        arith,
+        length-take w (drop o cells),
+        length-drop o cells,
+        length-take w
+            (drop (o + w) cells),
+        length-drop (o + w) cells,
+      )
 
 -- what a tree's nodes sum up
 module _ (p : ℕ) (nodes : List Summary) (cells : List (Option Bool)) (t : IsTree p nodes cells) where
@@ -98,7 +114,8 @@ module _ (p : ℕ) (nodes : List Summary) (cells : List (Option Bool)) (t : IsTr
   leaves = leaves_of nodes
 
   -- each node is the summary of its cells
-  pub sum-at : (h k : ℕ) → 0 < k → leaves ≤ lowest h k → lowest h k + leaves_at h ≤ 2 * leaves → Summarises (node_at nodes k) (cells_of p leaves cells h k)
+  pub sum-at : (h k : ℕ) → 0 < k → leaves ≤ lowest h k → lowest h k + leaves_at h ≤ 2 * leaves
+      → Summarises (node_at nodes k) (cells_of p leaves cells h k)
   sum-at zero k some low high =
       let e : leaves + (k - leaves) ≡ k = omega arith in
       subst (λ i. Summarises (node_at nodes i) (part_at p cells (k - leaves))) e (t.leaves (k - leaves) (omega arith))
@@ -125,14 +142,16 @@ module _ (p : ℕ) (nodes : List Summary) (cells : List (Option Bool)) (t : IsTr
   root-cells =
       let root = lowest-root t.height in
       let same = ap (λ l. p * l) t.power in
-      cells-part p leaves cells t.height 1 (omega (arith, t.power)) ∙ ap (λ o. take (p * leaves_at t.height) (drop o cells)) (sym root-start)
+      cells-part p leaves cells t.height 1 (omega (arith, t.power))
+      ∙ ap (λ o. take (p * leaves_at t.height) (drop o cells)) (sym root-start)
       ∙ take_all (p * leaves_at t.height) cells (omega (arith, t.inside))
 
   -- the root is the summary of all cells
   pub root-sum : Summarises (node_at nodes 1) cells
   root-sum =
       let root = lowest-root t.height in
-      subst (λ xs. Summarises (node_at nodes 1) xs) root-cells (sum-at t.height 1 (omega arith) (omega (arith, t.power)) (omega (arith, t.power)))
+      subst (λ xs. Summarises (node_at nodes 1) xs) root-cells
+      (sum-at t.height 1 (omega arith) (omega (arith, t.power)) (omega (arith, t.power)))
 
   -- there is a root
   pub root-inside : 1 < length nodes
@@ -170,12 +189,14 @@ pub record FitsAcross (left : Summary) (base wide : ℕ) : Type 0 where
   pub back : back_of left ≤ base + wide / 2
 
 -- one base behind another
-option_map-add : (o : Option ℕ) (a b c : ℕ) → a + b ≡ c → option_map (λ m. a + m) (option_map (λ m. b + m) o) ≡ option_map (λ m. c + m) o
+option_map-add : (o : Option ℕ) (a b c : ℕ) → a + b ≡ c → option_map (λ m. a + m) (option_map (λ m. b + m) o)
+    ≡ option_map (λ m. c + m) o
 option_map-add None a b c e = refl
 option_map-add (Some m) a b c e = ap (λ j. Some j) (let e : a + (b + m) ≡ c + m = omega arith in e)
 
 -- a step of the way down, by the summaries of the two nodes below alone
-module _ (p leaves : ℕ) (cells : List (Option Bool)) (few : length cells < 2 ^ 32) (n : ℕ) (positive : 0 < n) (k base wide h : ℕ)
+module _ (p leaves : ℕ) (cells : List (Option Bool)) (few : length cells < 2 ^ 32) (n : ℕ) (positive : 0 < n)
+    (k base wide h : ℕ)
     (r : ReachesAt p leaves cells n k base wide (suc h)) where
   -- the cells of the first node below
   abbrev xs : List (Option Bool)
@@ -230,7 +251,8 @@ module _ (p leaves : ℕ) (cells : List (Option Bool)) (few : length cells < 2 ^
 
     -- the second has cells, where the place lies across the two
     across-some : left.longest < n → n ≤ back_of left + right.front → 0 < length ys
-    across-some short room = let e = back_is in omega (arith, sums_left.most, sums_right.first, back-longest xs, front-few ys)
+    across-some short room = let e = back_is in omega
+        (arith, sums_left.most, sums_right.first, back-longest xs, front-few ys)
 
     -- to the first node below, where it has room
     pub step-left : n ≤ left.longest → Reaches p leaves cells n (2 * k) base (wide / 2)
@@ -254,17 +276,20 @@ module _ (p leaves : ℕ) (cells : List (Option Bool)) (few : length cells < 2 ^
         }
 
     -- the place across the two nodes below, where the first has no room
-    pub step-across : left.longest < n → n ≤ back_of left + right.front → place n cells ≡ Some (base + wide / 2 - back_of left)
+    pub step-across : left.longest < n → n ≤ back_of left + right.front → place n cells
+        ≡ Some (base + wide / 2 - back_of left)
     step-across short room =
         let f = full (across-some short room) in
         let b = back_is in
         let fewer = back-few xs in
         let e : base + (length xs - back xs) ≡ base + wide / 2 - back_of left = omega arith in
-        r.place_is ∙ ap (option_map (λ m. base + m)) (across xs ys n positive (omega (arith, sums_left.most)) (omega (arith, sums_right.first)))
+        r.place_is ∙ ap (option_map (λ m. base + m))
+        (across xs ys n positive (omega (arith, sums_left.most)) (omega (arith, sums_right.first)))
         ∙ ap (λ m. Some m) e
 
     -- to the second node below, where there is room neither in the first nor across the two
-    pub step-right : left.longest < n → back_of left + right.front < n → Reaches p leaves cells n (2 * k + 1) (base + wide / 2) (wide / 2)
+    pub step-right : left.longest < n → back_of left + right.front < n
+        → Reaches p leaves cells n (2 * k + 1) (base + wide / 2) (wide / 2)
     step-right short small =
         let l = long in
         let e = next in
@@ -281,7 +306,9 @@ module _ (p leaves : ℕ) (cells : List (Option Bool)) (few : length cells < 2 ^
             high = right-high;
             start = start-right;
             wide_is = half;
-            place_is = r.place_is ∙ ap (option_map (λ m. base + m)) (second xs ys n (omega (arith, sums_left.most)) (omega (arith, sums_right.first)))
+            place_is = r.place_is
+                ∙ ap (option_map (λ m. base + m))
+                (second xs ys n (omega (arith, sums_left.most)) (omega (arith, sums_right.first)))
                 ∙ option_map-add (place n ys) base (length xs) (base + wide / 2) (omega arith);
             room = more;
             fits = omega arith;
@@ -321,14 +348,16 @@ module _ (p leaves : ℕ) (cells : List (Option Bool)) (n k base wide : ℕ) whe
     room = r.room;
     fits = let s = r.start in let f = r.fits in omega arith;
   }
-  in-leaf (suc h) r le = let o = lowest-over h (2 * k) in let w = leaves-some h in let b = r.high in absurd (omega arith)
+  in-leaf (suc h) r le = let o = lowest-over h (2 * k) in let w = leaves-some h in let b = r.high in absurd
+      (omega arith)
 
   -- a node from the first leaf on is a leaf
   pub Reaches-leaf : Reaches p leaves cells n k base wide → leaves ≤ k → IsInLeaf p leaves cells n (k - leaves)
   Reaches-leaf r = in-leaf r.height r.there
 
 -- the way down a tree
-module _ (p : ℕ) (nodes : List Summary) (cells : List (Option Bool)) (t : IsTree p nodes cells) (n : ℕ) (positive : 0 < n) where
+module _ (p : ℕ) (nodes : List Summary) (cells : List (Option Bool)) (t : IsTree p nodes cells) (n : ℕ)
+    (positive : 0 < n) where
   -- how many leaves the tree has
   abbrev leaf_count : ℕ
   leaf_count = leaves_of nodes
@@ -356,71 +385,93 @@ module _ (p : ℕ) (nodes : List Summary) (cells : List (Option Bool)) (t : IsTr
   module _ (k base wide h : ℕ) (r : ReachesAt p leaf_count cells n k base wide (suc h)) where
     -- the first node below is the summary of its cells
     sums-left : Summarises (node_at nodes (2 * k)) (cells_of p leaf_count cells h (2 * k))
-    sums-left = let e = lowest-next h (2 * k) in let b = r.high in let s = r.some in sum-at p nodes cells t h (2 * k) (omega arith) r.low (omega arith)
+    sums-left = let e = lowest-next h (2 * k) in let b = r.high in let s = r.some in sum-at p nodes cells t h (2 * k)
+        (omega arith) r.low (omega arith)
 
     -- so is the second
     sums-right : Summarises (node_at nodes (2 * k + 1)) (cells_of p leaf_count cells h (2 * k + 1))
-    sums-right = let e = lowest-next h (2 * k) in let b = r.high in let l = r.low in sum-at p nodes cells t h (2 * k + 1) (omega arith) (omega arith) (omega arith)
+    sums-right = let e = lowest-next h (2 * k) in let b = r.high in let l = r.low in sum-at p nodes cells t h
+        (2 * k + 1) (omega arith) (omega arith) (omega arith)
 
     -- to the first node below, where it has room
     pub go-left : n ≤ (node_at nodes (2 * k)).longest → Reaches p leaf_count cells n (2 * k) base (wide / 2)
-    go-left = step-left p leaf_count cells t.few n positive k base wide h r (node_at nodes (2 * k)) (node_at nodes (2 * k + 1)) sums-left sums-right
+    go-left = step-left p leaf_count cells t.few n positive k base wide h r (node_at nodes (2 * k))
+        (node_at nodes (2 * k + 1)) sums-left sums-right
 
     -- the place across the two nodes below, where the first has no room
-    pub go-across : (node_at nodes (2 * k)).longest < n → n ≤ back_of (node_at nodes (2 * k)) + (node_at nodes (2 * k + 1)).front
+    pub go-across : (node_at nodes (2 * k)).longest < n
+        → n ≤ back_of (node_at nodes (2 * k)) + (node_at nodes (2 * k + 1)).front
         → place n cells ≡ Some (base + wide / 2 - back_of (node_at nodes (2 * k)))
-    go-across = step-across p leaf_count cells t.few n positive k base wide h r (node_at nodes (2 * k)) (node_at nodes (2 * k + 1)) sums-left sums-right
+    go-across = step-across p leaf_count cells t.few n positive k base wide h r (node_at nodes (2 * k))
+        (node_at nodes (2 * k + 1)) sums-left sums-right
 
     -- to the second node below, where there is room neither in the first nor across the two
-    pub go-right : (node_at nodes (2 * k)).longest < n → back_of (node_at nodes (2 * k)) + (node_at nodes (2 * k + 1)).front < n
+    pub go-right : (node_at nodes (2 * k)).longest < n
+        → back_of (node_at nodes (2 * k)) + (node_at nodes (2 * k + 1)).front < n
         → Reaches p leaf_count cells n (2 * k + 1) (base + wide / 2) (wide / 2)
-    go-right = step-right p leaf_count cells t.few n positive k base wide h r (node_at nodes (2 * k)) (node_at nodes (2 * k + 1)) sums-left sums-right
+    go-right = step-right p leaf_count cells t.few n positive k base wide h r (node_at nodes (2 * k))
+        (node_at nodes (2 * k + 1)) sums-left sums-right
 
     -- no sum of the numbers at the node is too large
     pub go-fits : FitsStep (node_at nodes (2 * k)) (node_at nodes (2 * k + 1)) base wide
-    go-fits = step-fits p leaf_count cells t.few n positive k base wide h r (node_at nodes (2 * k)) (node_at nodes (2 * k + 1)) sums-left sums-right t.wide
+    go-fits = step-fits p leaf_count cells t.few n positive k base wide h r (node_at nodes (2 * k))
+        (node_at nodes (2 * k + 1)) sums-left sums-right t.wide
 
     -- the same where the place lies across the two nodes below
-    pub go-fits-across : (node_at nodes (2 * k)).longest < n → n ≤ back_of (node_at nodes (2 * k)) + (node_at nodes (2 * k + 1)).front → FitsAcross (node_at nodes (2 * k)) base wide
-    go-fits-across = step-fits-across p leaf_count cells t.few n positive k base wide h r (node_at nodes (2 * k)) (node_at nodes (2 * k + 1)) sums-left sums-right
+    pub go-fits-across : (node_at nodes (2 * k)).longest < n
+        → n ≤ back_of (node_at nodes (2 * k)) + (node_at nodes (2 * k + 1)).front
+        → FitsAcross (node_at nodes (2 * k)) base wide
+    go-fits-across = step-fits-across p leaf_count cells t.few n positive k base wide h r (node_at nodes (2 * k))
+        (node_at nodes (2 * k + 1)) sums-left sums-right
 
   -- the same steps, where the row is only said
-  at-left : (k base wide h : ℕ) → ReachesAt p leaf_count cells n k base wide h → k < leaf_count → n ≤ (node_at nodes (2 * k)).longest → Reaches p leaf_count cells n (2 * k) base (wide / 2)
+  at-left : (k base wide h : ℕ) → ReachesAt p leaf_count cells n k base wide h → k < leaf_count
+      → n ≤ (node_at nodes (2 * k)).longest → Reaches p leaf_count cells n (2 * k) base (wide / 2)
   at-left k base wide zero r less = absurd (Reaches-above p leaf_count cells n k base wide r less)
   at-left k base wide (suc h) r less = go-left k base wide h r
 
-  at-across : (k base wide h : ℕ) → ReachesAt p leaf_count cells n k base wide h → k < leaf_count → (node_at nodes (2 * k)).longest < n
-      → n ≤ back_of (node_at nodes (2 * k)) + (node_at nodes (2 * k + 1)).front → place n cells ≡ Some (base + wide / 2 - back_of (node_at nodes (2 * k)))
+  at-across : (k base wide h : ℕ) → ReachesAt p leaf_count cells n k base wide h → k < leaf_count
+      → (node_at nodes (2 * k)).longest < n
+      → n ≤ back_of (node_at nodes (2 * k)) + (node_at nodes (2 * k + 1)).front → place n cells
+      ≡ Some (base + wide / 2 - back_of (node_at nodes (2 * k)))
   at-across k base wide zero r less = absurd (Reaches-above p leaf_count cells n k base wide r less)
   at-across k base wide (suc h) r less = go-across k base wide h r
 
-  at-right : (k base wide h : ℕ) → ReachesAt p leaf_count cells n k base wide h → k < leaf_count → (node_at nodes (2 * k)).longest < n
-      → back_of (node_at nodes (2 * k)) + (node_at nodes (2 * k + 1)).front < n → Reaches p leaf_count cells n (2 * k + 1) (base + wide / 2) (wide / 2)
+  at-right : (k base wide h : ℕ) → ReachesAt p leaf_count cells n k base wide h → k < leaf_count
+      → (node_at nodes (2 * k)).longest < n
+      → back_of (node_at nodes (2 * k)) + (node_at nodes (2 * k + 1)).front < n
+      → Reaches p leaf_count cells n (2 * k + 1) (base + wide / 2) (wide / 2)
   at-right k base wide zero r less = absurd (Reaches-above p leaf_count cells n k base wide r less)
   at-right k base wide (suc h) r less = go-right k base wide h r
 
-  at-fits : (k base wide h : ℕ) → ReachesAt p leaf_count cells n k base wide h → k < leaf_count → FitsStep (node_at nodes (2 * k)) (node_at nodes (2 * k + 1)) base wide
+  at-fits : (k base wide h : ℕ) → ReachesAt p leaf_count cells n k base wide h → k < leaf_count
+      → FitsStep (node_at nodes (2 * k)) (node_at nodes (2 * k + 1)) base wide
   at-fits k base wide zero r less = absurd (Reaches-above p leaf_count cells n k base wide r less)
   at-fits k base wide (suc h) r less = go-fits k base wide h r
 
-  at-fits-across : (k base wide h : ℕ) → ReachesAt p leaf_count cells n k base wide h → k < leaf_count → (node_at nodes (2 * k)).longest < n
-      → n ≤ back_of (node_at nodes (2 * k)) + (node_at nodes (2 * k + 1)).front → FitsAcross (node_at nodes (2 * k)) base wide
+  at-fits-across : (k base wide h : ℕ) → ReachesAt p leaf_count cells n k base wide h → k < leaf_count
+      → (node_at nodes (2 * k)).longest < n
+      → n ≤ back_of (node_at nodes (2 * k)) + (node_at nodes (2 * k + 1)).front
+      → FitsAcross (node_at nodes (2 * k)) base wide
   at-fits-across k base wide zero r less = absurd (Reaches-above p leaf_count cells n k base wide r less)
   at-fits-across k base wide (suc h) r less = go-fits-across k base wide h r
 
   -- the steps, whatever the row
   module _ (k base wide : ℕ) (r : Reaches p leaf_count cells n k base wide) where
     -- to the first node below, where it has room
-    pub Reaches-left : k < leaf_count → n ≤ (node_at nodes (2 * k)).longest → Reaches p leaf_count cells n (2 * k) base (wide / 2)
+    pub Reaches-left : k < leaf_count → n ≤ (node_at nodes (2 * k)).longest
+        → Reaches p leaf_count cells n (2 * k) base (wide / 2)
     Reaches-left = at-left k base wide r.height r.there
 
     -- the place across the two nodes below, where the first has no room
-    pub place-across : k < leaf_count → (node_at nodes (2 * k)).longest < n → n ≤ back_of (node_at nodes (2 * k)) + (node_at nodes (2 * k + 1)).front
+    pub place-across : k < leaf_count → (node_at nodes (2 * k)).longest < n
+        → n ≤ back_of (node_at nodes (2 * k)) + (node_at nodes (2 * k + 1)).front
         → place n cells ≡ Some (base + wide / 2 - back_of (node_at nodes (2 * k)))
     place-across = at-across k base wide r.height r.there
 
     -- to the second node below, where there is room neither in the first nor across the two
-    pub Reaches-right : k < leaf_count → (node_at nodes (2 * k)).longest < n → back_of (node_at nodes (2 * k)) + (node_at nodes (2 * k + 1)).front < n
+    pub Reaches-right : k < leaf_count → (node_at nodes (2 * k)).longest < n
+        → back_of (node_at nodes (2 * k)) + (node_at nodes (2 * k + 1)).front < n
         → Reaches p leaf_count cells n (2 * k + 1) (base + wide / 2) (wide / 2)
     Reaches-right = at-right k base wide r.height r.there
 
@@ -429,7 +480,9 @@ module _ (p : ℕ) (nodes : List Summary) (cells : List (Option Bool)) (t : IsTr
     Reaches-fits = at-fits k base wide r.height r.there
 
     -- the same where the place lies across the two nodes below
-    pub Reaches-fits-across : k < leaf_count → (node_at nodes (2 * k)).longest < n → n ≤ back_of (node_at nodes (2 * k)) + (node_at nodes (2 * k + 1)).front → FitsAcross (node_at nodes (2 * k)) base wide
+    pub Reaches-fits-across : k < leaf_count → (node_at nodes (2 * k)).longest < n
+        → n ≤ back_of (node_at nodes (2 * k)) + (node_at nodes (2 * k + 1)).front
+        → FitsAcross (node_at nodes (2 * k)) base wide
     Reaches-fits-across = at-fits-across k base wide r.height r.there
 
 -- what the end of the way says of the place

@@ -1,11 +1,13 @@
 -- The place as the least base.
-use Rattle.std.proofs.Common.{◌≡◌, ℕ, zero, suc, ◌<◌, List, [], ◌∷◌, Some, None, Bool, true, false, cond, refl, ap, ◌∙◌, arith}
+use Rattle.std.proofs.Common.{◌≡◌, ℕ, zero, suc, ◌<◌, List, [], ◌∷◌, Some, None, Bool, true, false, cond, refl, ap}
+use Rattle.std.proofs.Common.{◌∙◌, arith}
 use Rattle.std.specs.Prelude.{Option, option_map}
 use Rattle.im_types.specs.Place.{begins_free, is_free, place, IsLeastFree}
 
 module _ {X : Type 0} where
   least_step : (n : ℕ) (x : Option X) (xs : List (Option X)) → ((b : ℕ) → place n xs ≡ Some b → IsLeastFree xs n b)
-      → (t : Bool) → begins_free n (x ∷ xs) ≡ t → (o : Option ℕ) → place n xs ≡ o → (base : ℕ) → cond t (Some 0) (option_map suc o) ≡ Some base → IsLeastFree (x ∷ xs) n base
+      → (t : Bool) → begins_free n (x ∷ xs) ≡ t → (o : Option ℕ) → place n xs ≡ o → (base : ℕ)
+      → cond t (Some 0) (option_map suc o) ≡ Some base → IsLeastFree (x ∷ xs) n base
   least_step n x xs further true t o p zero e = record { free = t; least = λ b under. absurd (omega arith) }
   least_step n x xs further true t o p (suc base) e = let at_start : 0 ≡ suc base = cc in absurd (omega arith)
   least_step n x xs further false t None p base e = absurd (cc)
@@ -22,4 +24,5 @@ module _ {X : Type 0} where
   -- the place is the least base from which on so many cells are free
   pub place-is_least : (cells : List (Option X)) (n base : ℕ) → place n cells ≡ Some base → IsLeastFree cells n base
   place-is_least [] n base e = absurd (cc)
-  place-is_least (x ∷ cells) n base e = least_step n x cells (place-is_least cells n) (begins_free n (x ∷ cells)) refl (place n cells) refl base e
+  place-is_least (x ∷ cells) n base e = least_step n x cells (place-is_least cells n)
+      (begins_free n (x ∷ cells)) refl (place n cells) refl base e

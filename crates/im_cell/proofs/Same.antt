@@ -1,5 +1,7 @@
 -- Cells that are all the same.
-use Rattle.std.proofs.Common.{◌≡◌, ℕ, zero, suc, ◌+◌, ◌-◌, ◌<◌, ◌≤◌, List, [], ◌∷◌, length, map, take, drop, replicate, Bool, true, false, Option, None, Some, ◌≢◌, inl, inr, refl, sym, ap, ◌∙◌, arith}
+use Rattle.std.proofs.Common.{◌≡◌, ℕ, zero, suc, ◌+◌, ◌-◌, ◌<◌, ◌≤◌, List, [], ◌∷◌, length, map, take, drop}
+use Rattle.std.proofs.Common.{replicate, Bool, true, false, Option, None, Some, ◌≢◌, inl, inr, refl, sym, ap, ◌∙◌}
+use Rattle.std.proofs.Common.{arith}
 use Rattle.std.specs.Prelude.{◌||◌}
 use Rattle.std.specs.List.{list_any}
 use Rattle.std.proofs.lemmas.Bool.Decides.{nat_tests}
@@ -34,7 +36,8 @@ module _ {X : Type 0} where
   Summarises-held n None last e is = absurd (omega arith)
   Summarises-held n (Some x) last e is = record {
     first = sym (front-held n x);
-    last = is ∙ ap (λ k. back_in k 0) (sym (count-marks n (Some x))) ∙ ap (back_in (length (map mark (replicate n (Some x))))) (sym (back-held n x));
+    last = is ∙ ap (λ k. back_in k 0) (sym (count-marks n (Some x)))
+        ∙ ap (back_in (length (map mark (replicate n (Some x))))) (sym (back-held n x));
     most = sym (longest-held n x);
   }
 
@@ -64,7 +67,8 @@ module _ (X : Type 0) where
 
 module _ {X : Type 0} where
   -- the summary of cells that are all free
-  pub Summarises-free : (n : ℕ) (o : Option X) → run_at 0 o ≢ 0 → Summarises (record { longest = n; front = n; back = NONE }) (map mark (replicate n o))
+  pub Summarises-free : (n : ℕ) (o : Option X) → run_at 0 o ≢ 0
+      → Summarises (record { longest = n; front = n; back = NONE }) (map mark (replicate n o))
   Summarises-free n (Some x) ne = absurd (ne refl)
   Summarises-free n None ne =
       let xs : List (Option Bool) = free-marks X n in
@@ -81,21 +85,28 @@ module _ {X : Type 0} where
   -- the least place among them
   pub place-held : (cells n : ℕ) (o : Option X) → 0 < n → run_at 0 o ≡ 0 → None ≡ place n (replicate cells o)
   place-held cells n None some e = absurd (omega arith)
-  place-held cells n (Some x) some e = sym (place-none (replicate cells (Some x)) n (omega (arith, longest-some cells x)))
+  place-held cells n (Some x) some e = sym
+      (place-none (replicate cells (Some x)) n (omega (arith, longest-some cells x)))
 
   -- no place among fewer cells than the block has
   pub place-short : (cells n : ℕ) (o : Option X) → cells < n → None ≡ place n (replicate cells o)
-  place-short cells n o short = sym (place-none (replicate cells o) n (omega (arith, longest-few (replicate cells o), length-replicate cells o)))
+  place-short cells n o short = sym
+      (place-none (replicate cells o) n (omega (arith, longest-few (replicate cells o), length-replicate cells o)))
 
   -- the place among free cells is at the first
-  pub place-free-here : (cells n : ℕ) (o : Option X) → 0 < n → run_at 0 o ≢ 0 → n ≤ cells → Some 0 ≡ place n (replicate cells o)
-  place-free-here cells n None some ne fits = sym (place-here n (replicate cells None) some (omega (arith, front-none X cells)))
+  pub place-free-here : (cells n : ℕ) (o : Option X) → 0 < n → run_at 0 o ≢ 0 → n ≤ cells → Some 0
+      ≡ place n (replicate cells o)
+  place-free-here cells n None some ne fits = sym
+      (place-here n (replicate cells None) some (omega (arith, front-none X cells)))
   place-free-here cells n (Some x) some ne fits = absurd (ne refl)
 
   -- the place in a part that has room, where all its cells are the same
-  pub place-alike : (n cells : ℕ) (o : Option X) → 0 < n → n ≤ longest (map mark (replicate cells o)) → place n (map mark (replicate cells o)) ≡ Some 0
+  pub place-alike : (n cells : ℕ) (o : Option X) → 0 < n → n ≤ longest (map mark (replicate cells o))
+      → place n (map mark (replicate cells o)) ≡ Some 0
   place-alike n cells None some room =
-      place-marks n (replicate {A = Option X} cells None) ∙ sym (place-free-here cells n None some (λ e. omega arith) (omega (arith, longest-few (map mark (replicate {A = Option X} cells None)), count-marks {X = X} cells None)))
+      place-marks n (replicate {A = Option X} cells None)
+      ∙ sym (place-free-here cells n None some (λ e. omega arith)
+      (omega (arith, longest-few (map mark (replicate {A = Option X} cells None)), count-marks {X = X} cells None)))
   place-alike n cells (Some x) some room = absurd (omega (arith, longest-held cells x))
 
   -- all cells are set
@@ -139,7 +150,8 @@ module _ {X : Type 0} (p : X → Bool) where
   any-taken zero m x test e few some = absurd (omega arith)
   any-taken (suc n) zero x test e few some = absurd (omega arith)
   any-taken (suc n) (suc m) x true e few some = ap (λ b. b || list_any p (take n (replicate m x))) (sym e)
-  any-taken (suc n) (suc m) x false e few some = sym (none-put x (take n (replicate m x)) e (none-take n (replicate m x) (none-same m x e)))
+  any-taken (suc n) (suc m) x false e few some = sym
+      (none-put x (take n (replicate m x)) e (none-take n (replicate m x) (none-same m x e)))
 
   -- what is left behind so many of them is more of the same
   drop-same : (b m k : ℕ) (x : X) → m ≡ b + k → drop b (replicate m x) ≡ replicate k x
@@ -150,4 +162,5 @@ module _ {X : Type 0} (p : X → Bool) where
   -- one of them passes a test where all do
   pub any-same : (b n m : ℕ) (x : X) → b + n ≤ m → 0 < n → p x ≡ list_any p (take n (drop b (replicate m x)))
   any-same b n m x fits some =
-      any-taken n (m - b) x (p x) refl (omega arith) some ∙ ap (λ xs. list_any p (take n xs)) (sym (drop-same b m (m - b) x (omega arith)))
+      any-taken n (m - b) x (p x) refl (omega arith) some
+      ∙ ap (λ xs. list_any p (take n xs)) (sym (drop-same b m (m - b) x (omega arith)))

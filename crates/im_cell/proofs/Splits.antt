@@ -1,5 +1,6 @@
 -- Runs of free cells in two parts, one behind the other, and the least place in the two.
-use Rattle.std.proofs.Common.{◌≡◌, ◌⊎◌, ⊎_elim, inl, inr, ℕ, zero, suc, ◌+◌, ◌-◌, ◌<◌, ◌≤◌, List, [], ◌∷◌, ◌++◌, length, Bool, true, false, Option, None, Some, refl, sym, ap, ◌∙◌, arith, true≢false}
+use Rattle.std.proofs.Common.{◌≡◌, ◌⊎◌, ⊎_elim, inl, inr, ℕ, zero, suc, ◌+◌, ◌-◌, ◌<◌, ◌≤◌, List, [], ◌∷◌, ◌++◌}
+use Rattle.std.proofs.Common.{length, Bool, true, false, Option, None, Some, refl, sym, ap, ◌∙◌, arith, true≢false}
 use Rattle.std.specs.Prelude.{max, cond, option_map}
 use Rattle.std.proofs.lemmas.Bool.{cases_lt}
 use Rattle.std.proofs.lemmas.List.{length-append}
@@ -65,7 +66,8 @@ module _ {X : Type 0} where
       by_whole false e = part e
 
   -- a part is free at both of its ends throughout, or at neither
-  pub ends : (xs : List (Option X)) → ((front xs ≡ length xs) × (back xs ≡ length xs)) ⊎ ((front xs < length xs) × (back xs < length xs))
+  pub ends : (xs : List (Option X)) → ((front xs ≡ length xs) × (back xs ≡ length xs))
+      ⊎ ((front xs < length xs) × (back xs < length xs))
   ends xs = elim (is_it xs) [
     | whole w ↦ inl (whole-front xs w, whole-back xs w)
     | part p ↦ inr (part-front xs p, less xs p)
@@ -116,7 +118,8 @@ module _ {X : Type 0} where
   place-here n (x ∷ xs) some le = ap (λ b. cond b (Some 0) (option_map suc (place n xs))) (free-front n (x ∷ xs) le)
 
   -- it is not, where fewer do
-  pub place-there : (n : ℕ) (x : Option X) (xs : List (Option X)) → front (x ∷ xs) < n → place n (x ∷ xs) ≡ option_map suc (place n xs)
+  pub place-there : (n : ℕ) (x : Option X) (xs : List (Option X)) → front (x ∷ xs) < n → place n (x ∷ xs)
+      ≡ option_map suc (place n xs)
   place-there n x xs lt = ap (λ b. cond b (Some 0) (option_map suc (place n xs))) (not_free-front n (x ∷ xs) lt)
 
   -- there is none that is longer than the longest run
@@ -137,20 +140,23 @@ module _ {X : Type 0} where
         let same = front-part (x ∷ xs) ys (part-front (x ∷ xs) p) in
         ⊎_elim
         (λ (there : front (x ∷ xs) < n).
-        place-there n x (xs ++ ys) (omega arith) ∙ ap (option_map suc) (first xs ys n some (omega arith)) ∙ sym (place-there n x xs there))
+        place-there n x (xs ++ ys) (omega arith) ∙ ap (option_map suc) (first xs ys n some (omega arith))
+        ∙ sym (place-there n x xs there))
         (λ (here : n ≤ front (x ∷ xs)).
         place-here n (x ∷ xs ++ ys) some (omega arith) ∙ sym (place-here n (x ∷ xs) some here))
         (cases_lt (front (x ∷ xs)) n)
   ]
 
   -- it lies across both, where that has none and the two runs that meet have
-  pub across : (xs ys : List (Option X)) (n : ℕ) → 0 < n → longest xs < n → n ≤ back xs + front ys → place n (xs ++ ys) ≡ Some (length xs - back xs)
+  pub across : (xs ys : List (Option X)) (n : ℕ) → 0 < n → longest xs < n → n ≤ back xs + front ys
+      → place n (xs ++ ys) ≡ Some (length xs - back xs)
   across [] ys n some short le = place-here n ys some (omega arith)
   across (x ∷ xs) ys n some short le = elim (is_it (x ∷ xs)) [
     | whole w ↦
         let all = front-whole (x ∷ xs) ys (whole-front (x ∷ xs) w) in
         let b = whole-back (x ∷ xs) w in
-        place-here n (x ∷ xs ++ ys) some (omega arith) ∙ ap (λ k. Some k) (let e : 0 ≡ length (x ∷ xs) - back (x ∷ xs) = omega arith in e)
+        place-here n (x ∷ xs ++ ys) some (omega arith)
+        ∙ ap (λ k. Some k) (let e : 0 ≡ length (x ∷ xs) - back (x ∷ xs) = omega arith in e)
     | part p ↦
         let same = front-part (x ∷ xs) ys (part-front (x ∷ xs) p) in
         let b = part-back x xs p in
@@ -160,18 +166,21 @@ module _ {X : Type 0} where
   ]
 
   -- else it lies in the second
-  pub second : (xs ys : List (Option X)) (n : ℕ) → longest xs < n → back xs + front ys < n → place n (xs ++ ys) ≡ option_map (λ k. length xs + k) (place n ys)
+  pub second : (xs ys : List (Option X)) (n : ℕ) → longest xs < n → back xs + front ys < n → place n (xs ++ ys)
+      ≡ option_map (λ k. length xs + k) (place n ys)
   second [] ys n short none = option_map-zero (place n ys)
   second (x ∷ xs) ys n short none = elim (is_it (x ∷ xs)) [
     | whole w ↦
         let all = front-whole (x ∷ xs) ys (whole-front (x ∷ xs) w) in
         let b = whole-back (x ∷ xs) w in
         let rest = back-few xs in
-        place-there n x (xs ++ ys) (omega arith) ∙ ap (option_map suc) (second xs ys n (omega arith) (omega arith)) ∙ option_map-twice (place n ys) (length xs)
+        place-there n x (xs ++ ys) (omega arith) ∙ ap (option_map suc) (second xs ys n (omega arith) (omega arith))
+        ∙ option_map-twice (place n ys) (length xs)
     | part p ↦
         let same = front-part (x ∷ xs) ys (part-front (x ∷ xs) p) in
         let b = part-back x xs p in
-        place-there n x (xs ++ ys) (omega arith) ∙ ap (option_map suc) (second xs ys n (omega arith) (omega arith)) ∙ option_map-twice (place n ys) (length xs)
+        place-there n x (xs ++ ys) (omega arith) ∙ ap (option_map suc) (second xs ys n (omega arith) (omega arith))
+        ∙ option_map-twice (place n ys) (length xs)
   ]
 
   -- the back of two parts
@@ -222,7 +231,8 @@ module _ {X : Type 0} where
       go (x ∷ xs) p = part-back x (xs ++ ys) (append-part (x ∷ xs) ys p) ∙ go xs p
 
   -- the longest run of two parts
-  pub longest-append : (xs ys : List (Option X)) → longest (xs ++ ys) ≡ max (max (longest xs) (longest ys)) (back xs + front ys)
+  pub longest-append : (xs ys : List (Option X)) → longest (xs ++ ys)
+      ≡ max (max (longest xs) (longest ys)) (back xs + front ys)
   longest-append [] ys = let f = front-longest ys in omega arith
     where
       front-longest : (zs : List (Option X)) → front zs ≤ longest zs

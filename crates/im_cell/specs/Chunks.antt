@@ -1,5 +1,6 @@
 -- A table's cells in chunks, one behind the other. (Own.)
-use Rattle.std.specs.Prelude.{◌≡◌, ℕ, zero, suc, ◌-◌, ◌*◌, ◌/◌, ◌<◌, ◌≤◌, min, List, [], ◌∷◌, ◌++◌, length, map, slice_index_or, replicate, Bool, true, false, Option, if◌then◌else◌}
+use Rattle.std.specs.Prelude.{◌≡◌, ℕ, zero, suc, ◌-◌, ◌*◌, ◌/◌, ◌<◌, ◌≤◌, min, List, [], ◌∷◌, ◌++◌, length, map}
+use Rattle.std.specs.Prelude.{slice_index_or, replicate, Bool, true, false, Option, if◌then◌else◌}
 use Rattle.im_cell.specs.declared.chunk.TheConstants.{CHUNK}
 use Rattle.im_cell.specs.declared.chunk.Kept.{Kept}
 use Rattle.im_cell.specs.declared.chunk.Kept.TheVariants.{Each, Leaves, Whole}

@@ -1,12 +1,14 @@
 -- The records of a table, one for each cell. (Own.)
 use Rattle.std.specs.Prelude.{List, map, Bool, Option, None}
 use Rattle.im_types.specs.declared.cells.Cell.TheVariants.{Empty, Waiting, Full, Clashed}
-use Rattle.im_types.specs.declared.records.PresenceTag.TheVariants.{Empty as TagEmpty, Waiting as TagWaiting, Full as TagFull, Clashed as TagClashed}
+use Rattle.im_types.specs.declared.records.PresenceTag.TheVariants.{Empty as TagEmpty, Waiting as TagWaiting}
+use Rattle.im_types.specs.declared.records.PresenceTag.TheVariants.{Full as TagFull, Clashed as TagClashed}
 use Rattle.im_types.specs.declared.records.CellRecord.{CellRecord}
 use Rattle.im_types.specs.declared.records.CellRecord.TheVariants.{Free as FreeCell, Held as BlockCell}
 use Rattle.im_cell.specs.declared.slots.Slot.{Slot}
 use Rattle.im_cell.specs.declared.records.Record.{Record}
-use Rattle.im_cell.specs.declared.records.Record.TheVariants.{Empty as IsEmpty, Waiting as IsWaiting, Full as IsFull, Clashed as IsClashed, Free}
+use Rattle.im_cell.specs.declared.records.Record.TheVariants.{Empty as IsEmpty, Waiting as IsWaiting, Full as IsFull}
+use Rattle.im_cell.specs.declared.records.Record.TheVariants.{Clashed as IsClashed, Free}
 use Rattle.im_cell.specs.Slots.{new_slot}
 use Rattle.im_cell.specs.Summaries.{mark}
 

@@ -1,6 +1,8 @@
 -- Summaries of parts of a table: how many free cells there are at either end, and in the longest run. A tree of them leads
 -- to the least place. (Own.)
-use Rattle.std.specs.Prelude.{◌≡◌, ℕ, zero, suc, ◌+◌, ◌*◌, ◌/◌, ◌%◌, ◌^◌, ◌<◌, ◌≤◌, ◌==◌, max, option_map, List, [], ◌∷◌, length, take, drop, Bool, true, false, Option, None, Some, slice_index_or, if◌then◌else◌}
+use Rattle.std.specs.Prelude.{◌≡◌, ℕ, zero, suc, ◌+◌, ◌*◌, ◌/◌, ◌%◌, ◌^◌, ◌<◌, ◌≤◌, ◌==◌, max, option_map, List, []}
+use Rattle.std.specs.Prelude.{◌∷◌, length, take, drop, Bool, true, false, Option, None, Some, slice_index_or}
+use Rattle.std.specs.Prelude.{if◌then◌else◌}
 use Rattle.im_types.specs.declared.TheConstants.{NONE}
 use Rattle.im_types.specs.Place.{place}
 use Rattle.im_cell.specs.declared.tree.Way.{Way}

@@ -1,5 +1,6 @@
 -- Cells one after another: those that are waited for, and those that are full.
-use Rattle.std.proofs.Common.{◌≡◌, ℕ, zero, suc, ◌+◌, ◌-◌, ◌<◌, ◌≤◌, List, ◌++◌, sym, ap, ◌∙◌, take, drop, length, append-nil, arith}
+use Rattle.std.proofs.Common.{◌≡◌, ℕ, zero, suc, ◌+◌, ◌-◌, ◌<◌, ◌≤◌, List, ◌++◌, sym, ap, ◌∙◌, take, drop, length}
+use Rattle.std.proofs.Common.{append-nil, arith}
 use Rattle.std.specs.Prelude.{Option, None, Bool, ◌||◌}
 use Rattle.std.specs.List.{list_any}
 use Rattle.std.proofs.Math.Seq.{drop-cons}
@@ -23,6 +24,7 @@ waits-step cells a (suc n) within some =
     ∙ ap (λ k. is_waiting_cell (held_at cells a) || waits_in cells (a + 1) k) less
 
 -- behind the last cell nothing is left
-pub fills-all : (m : Contents) (xs : List Change) (a : ℕ) → length m.cells ≤ a → xs ++ fills_from a (drop a m.cells) ≡ opening m → xs ≡ opening m
+pub fills-all : (m : Contents) (xs : List Change) (a : ℕ) → length m.cells ≤ a → xs ++ fills_from a (drop a m.cells)
+    ≡ opening m → xs ≡ opening m
 fills-all m xs a past all =
     sym (append-nil xs) ∙ ap (λ l. xs ++ fills_from a l) (sym (drop_all a m.cells past)) ∙ all

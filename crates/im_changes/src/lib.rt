@@ -2,7 +2,8 @@
 //! definitions of `im_types`.
 #![tactic(auto)]
 
-ghost use Rattle.std.specs.Prelude.{◌≡◌, ◌+◌, ◌≤◌, ◌++◌, Option, true, drop, take, length, option_map, OnOk, IfOk, IfSome};
+ghost use Rattle.std.specs.Prelude.{◌≡◌, ◌+◌, ◌≤◌, ◌++◌, Option, true, drop, take, length, option_map, OnOk, IfOk};
+ghost use Rattle.std.specs.Prelude.{IfSome};
 ghost use Rattle.std.specs.List.{AllByRecursion, list_any};
 ghost use Rattle.im_types.specs.Contents.{Held, held_at, full_in};
 ghost use Rattle.im_types.specs.Act.{block_with_base, is_waiting_cell};

@@ -1,5 +1,6 @@
 -- The memory that records show: each of its parts is tested by itself, and it is the only one.
-use Rattle.std.proofs.Common.{◌≡◌, ⊎_elim, ℕ, ◌+◌, ◌<◌, ◌≤◌, List, Option, Some, length, get_or, refl, sym, ap, ◌∙◌, subst, arith}
+use Rattle.std.proofs.Common.{◌≡◌, ⊎_elim, ℕ, ◌+◌, ◌<◌, ◌≤◌, List, Option, Some, length, get_or, refl, sym, ap, ◌∙◌}
+use Rattle.std.proofs.Common.{subst, arith}
 use Rattle.std.specs.Prelude.{slice_get}
 use Rattle.std.proofs.lemmas.Bool.{cases_lt}
 use Rattle.std.proofs.lemmas.Option.{get_or_from_slice_get}
@@ -15,7 +16,8 @@ use Rattle.im_contents.proofs.BlockLemmas.{length-cells_shown, blocks_of_others}
 use Rattle.im_contents.proofs.ListLemmas.{lists_unique}
 
 -- one more element of a list has what those before it have
-pub one_more : {X : Type 0} (P : X → Type 0) (xs : List X) (n : ℕ) (x : X) → x ≡ get_or xs n x → P x → ((i : ℕ) (y : X) → i < n → slice_get xs i ≡ Some y → P y)
+pub one_more : {X : Type 0} (P : X → Type 0) (xs : List X) (n : ℕ) (x : X) → x ≡ get_or xs n x → P x
+    → ((i : ℕ) (y : X) → i < n → slice_get xs i ≡ Some y → P y)
     → (i : ℕ) (y : X) → i < n + 1 → slice_get xs i ≡ Some y → P y
 one_more P xs n x is here before = λ i y lt there. ⊎_elim
     (λ (less : i < n). before i y less there)
@@ -39,7 +41,8 @@ module _ (s : Sizes) (r : Records) where
   }
 
   -- records that have the parts show a memory, where who waits agrees
-  pub shown_of : HaveParts s.cells s.elements r.cells r.windows → (lists : List (List Waiter)) → ShowLists r.nodes r.cells lists
+  pub shown_of : HaveParts s.cells s.elements r.cells r.windows → (lists : List (List Waiter))
+      → ShowLists r.nodes r.cells lists
       → WaitersAgree (cells_shown r.cells lists) (kept_for r.windows) → ShowsRecords s r (shown_by lists)
   shown_of parts lists chained agree = record {
     lists = lists;
@@ -56,15 +59,18 @@ module _ (s : Sizes) (r : Records) where
   }
 
   -- a memory that is shown has these lists, and agrees with them
-  module _ (few : length r.nodes ≤ NONE) (m : Contents) (shown : ShowsRecords s r m) (lists : List (List Waiter)) (chained : ShowLists r.nodes r.cells lists) where
+  module _ (few : length r.nodes ≤ NONE) (m : Contents) (shown : ShowsRecords s r m) (lists : List (List Waiter))
+      (chained : ShowLists r.nodes r.cells lists) where
     pub cells_are : m.cells ≡ cells_shown r.cells lists
-    cells_are = shown.cells ∙ ap (cells_shown r.cells) (lists_unique r.nodes r.cells shown.lists lists few shown.chained chained)
+    cells_are = shown.cells
+        ∙ ap (cells_shown r.cells) (lists_unique r.nodes r.cells shown.lists lists few shown.chained chained)
 
     pub agrees_of : WaitersAgree (cells_shown r.cells lists) (kept_for r.windows)
     agrees_of = subst (λ (cells : List (Option Held)). WaitersAgree cells (kept_for r.windows)) cells_are
         (subst (λ (windows : List Window). WaitersAgree m.cells (kept_for windows)) shown.windows shown.memory.agrees)
 
-  pub memory_unique : (m other : Contents) → length r.nodes ≤ NONE → ShowsRecords s r m → ShowsRecords s r other → m ≡ other
+  pub memory_unique : (m other : Contents) → length r.nodes ≤ NONE → ShowsRecords s r m → ShowsRecords s r other → m
+      ≡ other
   memory_unique m other few shown also =
       let cells_same : m.cells ≡ other.cells = cells_are few m shown also.lists also.chained ∙ sym also.cells in
       let windows_same : m.windows ≡ other.windows = shown.windows ∙ sym also.windows in

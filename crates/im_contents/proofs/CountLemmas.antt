@@ -1,5 +1,6 @@
 -- Who waits and what waits agree exactly where they do by count.
-use Rattle.std.proofs.Common.{◌≡◌, ⊎_elim, ℕ, zero, suc, ◌<◌, ◌≤◌, Bool, true, false, List, [], ◌∷◌, Option, Some, None, refl, sym, ap, ◌∙◌, arith, if◌then◌else◌}
+use Rattle.std.proofs.Common.{◌≡◌, ⊎_elim, ℕ, zero, suc, ◌<◌, ◌≤◌, Bool, true, false, List, [], ◌∷◌, Option, Some}
+use Rattle.std.proofs.Common.{None, refl, sym, ap, ◌∙◌, arith, if◌then◌else◌}
 use Rattle.std.proofs.lemmas.Bool.{true≢false, cases_lt}
 use Rattle.im_types.specs.declared.operations.Waiter.{Waiter}
 use Rattle.im_types.specs.declared.operations.Kept.{Kept}
@@ -38,7 +39,8 @@ same_kept x y o a b = cc
 
 -- one waits at one address
 one_address : (a b : ℕ) (entry : Option Kept) → Waits a entry → Waits b entry → a ≡ b
-one_address a b entry v w = sym v.there ∙ ap (λ (k : Kept). address_of k.op) (same_kept v.kept w.kept entry v.is w.is) ∙ w.there
+one_address a b entry v w = sym v.there
+    ∙ ap (λ (k : Kept). address_of k.op) (same_kept v.kept w.kept entry v.is w.is) ∙ w.there
 
 pub waiting_one : (a : ℕ) (entry : Option Kept) → Waits a entry → waiting entry ≡ 1
 waiting_one a entry w = ap waiting w.is ∙ ap bit w.waits
@@ -52,7 +54,8 @@ module _ (who : Waiter) where
       omega arith
 
   -- who stands in no list but one
-  only_at : (cells : List (Option Held)) (a : ℕ) → ((b : ℕ) → (b ≡ a → ⊥) → times who (waiters_at cells b) ≡ 0) → all_times who cells ≡ times who (waiters_at cells a)
+  only_at : (cells : List (Option Held)) (a : ℕ) → ((b : ℕ) → (b ≡ a → ⊥) → times who (waiters_at cells b) ≡ 0)
+      → all_times who cells ≡ times who (waiters_at cells a)
   only_at [] a none = refl
   only_at (cell ∷ cells) zero none =
       let rest : all_times who cells ≡ 0 = none_in cells (λ b. none (suc b) (λ e. omega arith)) in
@@ -60,7 +63,8 @@ module _ (who : Waiter) where
       omega arith
   only_at (cell ∷ cells) (suc a) none =
       let here : times who (waiters_in cell) ≡ 0 = none zero (λ e. omega arith) in
-      let rest : all_times who cells ≡ times who (waiters_at cells a) = only_at cells a (λ b ne. none (suc b) (λ e. ne (omega arith))) in
+      let rest : all_times who cells
+      ≡ times who (waiters_at cells a) = only_at cells a (λ b ne. none (suc b) (λ e. ne (omega arith))) in
       let same : times who (waiters_at (cell ∷ cells) (suc a)) ≡ times who (waiters_at cells a) = refl in
       omega arith
 
@@ -82,7 +86,8 @@ module _ (cells : List (Option Held)) (kept : Waiter → Option Kept) where
     -- who waits for one cell stands in no list of another
     elsewhere : (who : Waiter) (a : ℕ) → Waits a (kept who) → (b : ℕ) → (b ≡ a → ⊥) → times who (waiters_at cells b) ≡ 0
     elsewhere who a w b ne = ⊎_elim
-        (λ (some : 0 < times who (waiters_at cells b)). absurd (ne (one_address b a (kept who) (waits_at b (held_at cells b) (kept who) (by.each who b (omega arith))) w)))
+        (λ (some : 0 < times who (waiters_at cells b)). absurd
+        (ne (one_address b a (kept who) (waits_at b (held_at cells b) (kept who) (by.each who b (omega arith))) w)))
         (λ (none : times who (waiters_at cells b) ≤ 0). omega arith)
         (cases_lt 0 (times who (waiters_at cells b)))
 
@@ -91,11 +96,14 @@ module _ (cells : List (Option Held)) (kept : Waiter → Option Kept) where
       listed = λ who a. ⊎_elim
           (λ (yes : waits_in a (held_at cells a) (kept who) ≡ true).
           let w = waits_at a (held_at cells a) (kept who) yes in
-          sym (only_at who cells a (elsewhere who a w)) ∙ by.once who ∙ waiting_one a (kept who) w ∙ sym (ap bit yes) ∙ sym (bit_if (waits_in a (held_at cells a) (kept who))))
+          sym (only_at who cells a (elsewhere who a w)) ∙ by.once who ∙ waiting_one a (kept who) w ∙ sym (ap bit yes)
+          ∙ sym (bit_if (waits_in a (held_at cells a) (kept who))))
           (λ (nay : waits_in a (held_at cells a) (kept who) ≡ false).
           ⊎_elim
           (λ (some : 0 < times who (waiters_at cells a)). absurd (true≢false (sym (by.each who a (omega arith)) ∙ nay)))
-          (λ (none : times who (waiters_at cells a) ≤ 0). zeros (times who (waiters_at cells a)) (bit (waits_in a (held_at cells a) (kept who))) none (ap bit nay) ∙ sym (bit_if (waits_in a (held_at cells a) (kept who))))
+          (λ (none : times who (waiters_at cells a) ≤ 0). zeros (times who (waiters_at cells a))
+          (bit (waits_in a (held_at cells a) (kept who))) none (ap bit nay)
+          ∙ sym (bit_if (waits_in a (held_at cells a) (kept who))))
           (cases_lt 0 (times who (waiters_at cells a))))
           (bool_cases (waits_in a (held_at cells a) (kept who)));
       somewhere = λ who k is waits.
@@ -103,8 +111,10 @@ module _ (cells : List (Option Held)) (kept : Waiter → Option Kept) where
           let s = some_at who cells (omega arith) in
           let in_it = by.each who s.0 s.1 in
           let w = waits_at s.0 (held_at cells s.0) (kept who) in_it in
-          let here : address_of k.op ≡ s.0 = ap (λ (x : Kept). address_of x.op) (same_kept k w.kept (kept who) is w.is) ∙ w.there in
-          ap (λ (x : ℕ). waits_in x (held_at cells x) (Some k)) here ∙ ap (λ (x : Option Kept). waits_in s.0 (held_at cells s.0) x) (sym is) ∙ in_it;
+          let here : address_of k.op
+          ≡ s.0 = ap (λ (x : Kept). address_of x.op) (same_kept k w.kept (kept who) is w.is) ∙ w.there in
+          ap (λ (x : ℕ). waits_in x (held_at cells x) (Some k)) here
+          ∙ ap (λ (x : Option Kept). waits_in s.0 (held_at cells s.0) x) (sym is) ∙ in_it;
     }
       where
         zeros : (x y : ℕ) → x ≤ 0 → y ≡ 0 → x ≡ y
@@ -114,23 +124,27 @@ module _ (cells : List (Option Held)) (kept : Waiter → Option Kept) where
     stands : (who : Waiter) (a : ℕ) → times who (waiters_at cells a) ≡ bit (waits_in a (held_at cells a) (kept who))
     stands who a = agree.listed who a ∙ bit_if (waits_in a (held_at cells a) (kept who))
 
-    absent : (who : Waiter) (a : ℕ) → waits_in a (held_at cells a) (kept who) ≡ false → times who (waiters_at cells a) ≡ 0
+    absent : (who : Waiter) (a : ℕ) → waits_in a (held_at cells a) (kept who) ≡ false
+        → times who (waiters_at cells a) ≡ 0
     absent who a e = stands who a ∙ ap bit e
 
     -- who waits for no cell stands in no list
     quiet : (who : Waiter) → ((a : ℕ) → Waits a (kept who) → ⊥) → all_times who cells ≡ 0
     quiet who none = none_in who cells (λ b. ⊎_elim
-        (λ (yes : waits_in b (held_at cells b) (kept who) ≡ true). absurd (none b (waits_at b (held_at cells b) (kept who) yes)))
+        (λ (yes : waits_in b (held_at cells b) (kept who) ≡ true). absurd
+        (none b (waits_at b (held_at cells b) (kept who) yes)))
         (λ (nay : waits_in b (held_at cells b) (kept who) ≡ false). absent who b nay)
         (bool_cases (waits_in b (held_at cells b) (kept who))))
 
     at_own : (who : Waiter) (k : Kept) → kept who ≡ Some k → is_waiting k ≡ true → all_times who cells ≡ 1
     at_own who k is waits =
         let a : ℕ = address_of k.op in
-        let yes : waits_in a (held_at cells a) (kept who) ≡ true = ap (λ (x : Option Kept). waits_in a (held_at cells a) x) is ∙ agree.somewhere who k is waits in
+        let yes : waits_in a (held_at cells a) (kept who)
+        ≡ true = ap (λ (x : Option Kept). waits_in a (held_at cells a) x) is ∙ agree.somewhere who k is waits in
         let w = waits_at a (held_at cells a) (kept who) yes in
         only_at who cells a (λ b ne. ⊎_elim
-        (λ (there : waits_in b (held_at cells b) (kept who) ≡ true). absurd (ne (one_address b a (kept who) (waits_at b (held_at cells b) (kept who) there) w)))
+        (λ (there : waits_in b (held_at cells b) (kept who) ≡ true). absurd
+        (ne (one_address b a (kept who) (waits_at b (held_at cells b) (kept who) there) w)))
         (λ (nay : waits_in b (held_at cells b) (kept who) ≡ false). absent who b nay)
         (bool_cases (waits_in b (held_at cells b) (kept who))))
         ∙ stands who a ∙ ap bit yes
@@ -139,7 +153,9 @@ module _ (cells : List (Option Held)) (kept : Waiter → Option Kept) where
     once_of who None is = quiet who (λ a w. none_some w.kept (sym is ∙ w.is))
     once_of who (Some k) is = ⊎_elim
         (λ (yes : is_waiting k ≡ true). at_own who k is yes ∙ sym (ap bit yes))
-        (λ (nay : is_waiting k ≡ false). quiet who (λ a w. true≢false (sym w.waits ∙ ap is_waiting (same_kept w.kept k (kept who) w.is is) ∙ nay)) ∙ sym (ap bit nay))
+        (λ (nay : is_waiting k ≡ false). quiet who
+        (λ a w. true≢false (sym w.waits ∙ ap is_waiting (same_kept w.kept k (kept who) w.is is) ∙ nay))
+        ∙ sym (ap bit nay))
         (bool_cases (is_waiting k))
 
     pub count_of_agree : AgreeByCount cells kept

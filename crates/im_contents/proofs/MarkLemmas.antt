@@ -1,7 +1,10 @@
 -- Marks, counted.
-use Rattle.std.proofs.Common.{◌≡◌, ◌⊎◌, inl, inr, ℕ, zero, suc, ◌+◌, ◌<◌, ◌≤◌, ◌==◌, Bool, true, false, not, cond, List, [], ◌∷◌, None, Some, length, get_or, set, replicate, refl, sym, ap, ◌∙◌, arith, ⊎_elim, if◌then◌else◌, count_by, ◌&&◌}
+use Rattle.std.proofs.Common.{◌≡◌, ◌⊎◌, inl, inr, ℕ, zero, suc, ◌+◌, ◌<◌, ◌≤◌, ◌==◌, Bool, true, false, not, cond}
+use Rattle.std.proofs.Common.{List, [], ◌∷◌, None, Some, length, get_or, set, replicate, refl, sym, ap, ◌∙◌, arith}
+use Rattle.std.proofs.Common.{⊎_elim, if◌then◌else◌, count_by, ◌&&◌}
 use Rattle.std.proofs.lemmas.Bool.{cases_eq, cases_lt, eq-eqb, ne_eqb, true≢false, and_parts}
-use Rattle.std.proofs.lemmas.List.{get_or_past, get_or-set_same, get_or-set_other, get_or_default, get_or-replicate, length-replicate}
+use Rattle.std.proofs.lemmas.List.{get_or_past, get_or-set_same, get_or-set_other, get_or_default, get_or-replicate}
+use Rattle.std.proofs.lemmas.List.{length-replicate}
 use Rattle.std.proofs.lemmas.List.Sums.{sum_by-set}
 use Rattle.im_types.specs.declared.TheConstants.{NONE}
 use Rattle.im_types.specs.declared.operations.Waiter.{Waiter}
@@ -63,28 +66,38 @@ abbrev pub unmarked : List Bool → ℕ
 unmarked marks = count_by not marks
 
 pub in_marks : (marks : List Bool) (at : ℕ) → get_or marks at true ≡ false → at < length marks
-in_marks marks at e = ⊎_elim (λ (lt : at < length marks). lt) (λ (past : length marks ≤ at). absurd (true≢false (sym (get_or_past marks at true past) ∙ e))) (cases_lt at (length marks))
+in_marks marks at e = ⊎_elim (λ (lt : at < length marks). lt)
+    (λ (past : length marks ≤ at). absurd (true≢false (sym (get_or_past marks at true past) ∙ e)))
+    (cases_lt at (length marks))
 
-pub marked-set : (marks : List Bool) (at : ℕ) → get_or marks at true ≡ false → (n : ℕ) → marked (set marks at true) n ≡ bit (n == at) + marked marks n
+pub marked-set : (marks : List Bool) (at : ℕ) → get_or marks at true ≡ false → (n : ℕ) → marked (set marks at true) n
+    ≡ bit (n == at) + marked marks n
 marked-set marks at e n =
     let lt : at < length marks = in_marks marks at e in
     ⊎_elim
     (λ (same : n ≡ at).
-    let new_is : marked (set marks at true) n ≡ 1 = ap bit (ap (λ (k : ℕ). get_or (set marks at true) k false) same ∙ get_or-set_same marks at true false lt) in
-    let old_is : marked marks n ≡ 0 = ap bit (ap (λ (k : ℕ). get_or marks k false) same ∙ get_or_default marks at false true lt ∙ e) in
+    let new_is : marked (set marks at true) n
+    ≡ 1 = ap bit (ap (λ (k : ℕ). get_or (set marks at true) k false) same
+    ∙ get_or-set_same marks at true false lt) in
+    let old_is : marked marks n
+    ≡ 0 = ap bit (ap (λ (k : ℕ). get_or marks k false) same ∙ get_or_default marks at false true lt ∙ e) in
     let one = bit_same n at same in
     omega arith)
     (λ (other : n ≡ at → ⊥).
-    let new_is : marked (set marks at true) n ≡ marked marks n = ap bit (get_or-set_other marks at n true false other) in
+    let new_is : marked (set marks at true) n
+    ≡ marked marks n = ap bit (get_or-set_other marks at n true false other) in
     let zero_more = bit_other n at other in
     omega arith)
     (cases_eq n at)
 
-pub unmarked-set : (marks : List Bool) (at : ℕ) → get_or marks at true ≡ false → unmarked (set marks at true) + 1 ≡ unmarked marks
+pub unmarked-set : (marks : List Bool) (at : ℕ) → get_or marks at true ≡ false → unmarked (set marks at true) + 1
+    ≡ unmarked marks
 unmarked-set marks at e =
     let step : Bool → ℕ = (λ (b : Bool). cond (not b) 1 0) in
-    let counted : unmarked (set marks at true) + step (get_or marks at true) ≡ unmarked marks + step true = sum_by-set (λ b. cond (not b) 1 0) marks at true true (in_marks marks at e) in
-    plus_one (unmarked (set marks at true)) (unmarked marks) (step (get_or marks at true)) (step true) counted (ap step e) refl
+    let counted : unmarked (set marks at true) + step (get_or marks at true)
+    ≡ unmarked marks + step true = sum_by-set (λ b. cond (not b) 1 0) marks at true true (in_marks marks at e) in
+    plus_one (unmarked (set marks at true)) (unmarked marks) (step (get_or marks at true)) (step true) counted
+    (ap step e) refl
   where
     plus_one : (a b c d : ℕ) → a + c ≡ b + d → c ≡ 1 → d ≡ 0 → a + 1 ≡ b
     plus_one a b c d sums one none = omega arith
@@ -108,10 +121,12 @@ listed nodes n = bit (is_listed (node_at nodes n))
 pub free_listed : (next link : ℕ) (who : Waiter) → FreeNode next ≡ ListNode link who → ⊥
 free_listed next link who e = true≢false (sym (ap is_listed e))
 
-pub in_nodes : (nodes : List NodeRecord) (at next : ℕ) (who : Waiter) → node_at nodes at ≡ ListNode next who → at < length nodes
+pub in_nodes : (nodes : List NodeRecord) (at next : ℕ) (who : Waiter) → node_at nodes at ≡ ListNode next who
+    → at < length nodes
 in_nodes nodes at next who e = ⊎_elim
     (λ (lt : at < length nodes). lt)
-    (λ (past : length nodes ≤ at). absurd (free_listed NONE next who (sym (get_or_past nodes at (FreeNode NONE) past) ∙ e)))
+    (λ (past : length nodes ≤ at). absurd
+    (free_listed NONE next who (sym (get_or_past nodes at (FreeNode NONE) past) ∙ e)))
     (cases_lt at (length nodes))
 
 -- a node of a list that no walk has visited
@@ -119,10 +134,12 @@ pub record IsFresh (marks : List Bool) (nodes : List NodeRecord) (at next : ℕ)
   pub mark : get_or marks at true ≡ false
   pub node : node_at nodes at ≡ ListNode next who
 
-pub fresh_node : (marks : List Bool) (nodes : List NodeRecord) (at next : ℕ) (who : Waiter) → fresh marks nodes at ≡ ListNode next who → IsFresh marks nodes at next who
+pub fresh_node : (marks : List Bool) (nodes : List NodeRecord) (at next : ℕ) (who : Waiter) → fresh marks nodes at
+    ≡ ListNode next who → IsFresh marks nodes at next who
 fresh_node marks nodes at next who e = by_mark (get_or marks at true) refl e
   where
-    by_mark : (b : Bool) → get_or marks at true ≡ b → (if b then FreeNode NONE else node_at nodes at) ≡ ListNode next who → IsFresh marks nodes at next who
+    by_mark : (b : Bool) → get_or marks at true ≡ b → (if b then FreeNode NONE else node_at nodes at)
+        ≡ ListNode next who → IsFresh marks nodes at next who
     by_mark true is f = absurd (free_listed NONE next who f)
     by_mark false is f = record { mark = is; node = f }
 
@@ -138,14 +155,18 @@ bits_same true false e = absurd (true≢false (bit_zero true e))
 bits_same false true e = absurd (true≢false (sym (bit_one false e)))
 bits_same false false e = refl
 
-pub reached_marks : (marks : List Bool) (nodes : List NodeRecord) → length marks ≡ length nodes → are_reached marks nodes ≡ true → (n : ℕ) → marked marks n ≡ listed nodes n
+pub reached_marks : (marks : List Bool) (nodes : List NodeRecord) → length marks ≡ length nodes
+    → are_reached marks nodes ≡ true → (n : ℕ) → marked marks n ≡ listed nodes n
 reached_marks [] [] size e n = refl
 reached_marks [] (x ∷ nodes) size e n = absurd (omega arith)
 reached_marks (m ∷ marks) [] size e n = absurd (omega arith)
-reached_marks (m ∷ marks) (x ∷ nodes) size e zero = same_bits m (is_listed x) (and_parts (same_mark m (is_listed x)) (are_reached marks nodes) e).0
-reached_marks (m ∷ marks) (x ∷ nodes) size e (suc n) = reached_marks marks nodes (omega arith) (and_parts (same_mark m (is_listed x)) (are_reached marks nodes) e).1 n
+reached_marks (m ∷ marks) (x ∷ nodes) size e zero = same_bits m (is_listed x)
+    (and_parts (same_mark m (is_listed x)) (are_reached marks nodes) e).0
+reached_marks (m ∷ marks) (x ∷ nodes) size e (suc n) = reached_marks marks nodes (omega arith)
+    (and_parts (same_mark m (is_listed x)) (are_reached marks nodes) e).1 n
 
-pub marks_reached : (marks : List Bool) (nodes : List NodeRecord) → length marks ≡ length nodes → ((n : ℕ) → marked marks n ≡ listed nodes n) → are_reached marks nodes ≡ true
+pub marks_reached : (marks : List Bool) (nodes : List NodeRecord) → length marks ≡ length nodes
+    → ((n : ℕ) → marked marks n ≡ listed nodes n) → are_reached marks nodes ≡ true
 marks_reached [] nodes size same = refl
 marks_reached (m ∷ marks) [] size same = refl
 marks_reached (m ∷ marks) (x ∷ nodes) size same =

@@ -1,5 +1,7 @@
 -- One step of a walk, and of the walks over all cells, for their loops.
-use Rattle.std.proofs.Common.{◌≡◌, ℕ, suc, ◌+◌, ◌-◌, ◌<◌, ◌≤◌, ◌==◌, Bool, true, false, List, [], ◌∷◌, ◌++◌, Option, None, Some, length, drop, replicate, set, refl, sym, ap, ◌∙◌, subst, arith, if◌then◌else◌}
+use Rattle.std.proofs.Common.{◌≡◌, ℕ, suc, ◌+◌, ◌-◌, ◌<◌, ◌≤◌, ◌==◌, Bool, true, false, List, [], ◌∷◌, ◌++◌, Option}
+use Rattle.std.proofs.Common.{None, Some, length, drop, replicate, set, refl, sym, ap, ◌∙◌, subst, arith}
+use Rattle.std.proofs.Common.{if◌then◌else◌}
 use Rattle.std.specs.Prelude.{option_and_then}
 use Rattle.std.proofs.lemmas.List.{append_assoc, append-nil, length-append, drop_all}
 use Rattle.im_types.specs.declared.TheConstants.{NONE}
@@ -8,22 +10,29 @@ use Rattle.im_types.specs.declared.records.CellRecord.{CellRecord}
 use Rattle.im_types.specs.declared.records.NodeRecord.{NodeRecord}
 use Rattle.im_types.specs.declared.records.NodeRecord.TheVariants.{Free as FreeNode, Listed as ListNode}
 use Rattle.im_contents.specs.Row.{cut, Rise}
-use Rattle.im_contents.specs.Walk.{Walked, fresh, next_of, behind, visit, walk, walk_cell, AllWalked, with_list, after_lists, walk_all, are_reached, lists_if_reached, lists_in}
+use Rattle.im_contents.specs.Walk.{Walked, fresh, next_of, behind, visit, walk, walk_cell, AllWalked, with_list}
+use Rattle.im_contents.specs.Walk.{after_lists, walk_all, are_reached, lists_if_reached, lists_in}
 use Rattle.im_contents.proofs.MarkLemmas.{none_some, some_same, when, unless}
 use Rattle.im_contents.proofs.RowLemmas.{Rise-push, cut-push}
 
-behind-behind : (front : List Waiter) (who : Waiter) (rest : Option Walked) → behind front (behind (who ∷ []) rest) ≡ behind (front ++ who ∷ []) rest
+behind-behind : (front : List Waiter) (who : Waiter) (rest : Option Walked) → behind front (behind (who ∷ []) rest)
+    ≡ behind (front ++ who ∷ []) rest
 behind-behind front who None = refl
-behind-behind front who (Some w) = ap (λ (l : List Waiter). Some (record { waiters = l; marks = w.marks })) (sym (append_assoc front (who ∷ []) w.waiters))
+behind-behind front who (Some w) = ap (λ (l : List Waiter). Some (record { waiters = l; marks = w.marks }))
+    (sym (append_assoc front (who ∷ []) w.waiters))
 
 -- a walk has come to a node
-module _ (nodes : List NodeRecord) (last n i : ℕ) (lt : i < n) (marks : List Bool) (at : ℕ) (front : List Waiter) (whole : Option Walked) (inv : whole ≡ behind front (walk nodes last (n - i) marks at)) where
-  seen : (f : NodeRecord) → fresh marks nodes at ≡ f → whole ≡ behind front (visit last at (set marks at true) f (walk nodes last (n - (i + 1)) (set marks at true) (next_of f)))
+module _ (nodes : List NodeRecord) (last n i : ℕ) (lt : i < n) (marks : List Bool) (at : ℕ) (front : List Waiter)
+    (whole : Option Walked) (inv : whole ≡ behind front (walk nodes last (n - i) marks at)) where
+  seen : (f : NodeRecord) → fresh marks nodes at ≡ f → whole
+      ≡ behind front (visit last at (set marks at true) f
+      (walk nodes last (n - (i + 1)) (set marks at true) (next_of f)))
   seen f is =
       let left : n - i ≡ suc (n - (i + 1)) = omega arith in
       inv
       ∙ ap (λ (k : ℕ). behind front (walk nodes last k marks at)) left
-      ∙ ap (λ (r : NodeRecord). behind front (visit last at (set marks at true) r (walk nodes last (n - (i + 1)) (set marks at true) (next_of r)))) is
+      ∙ ap (λ (r : NodeRecord). behind front
+      (visit last at (set marks at true) r (walk nodes last (n - (i + 1)) (set marks at true) (next_of r)))) is
 
   pub lost : (next : ℕ) → fresh marks nodes at ≡ FreeNode next → whole ≡ None
   lost next is = seen (FreeNode next) is
@@ -38,29 +47,39 @@ module _ (nodes : List NodeRecord) (last n i : ℕ) (lt : i < n) (marks : List B
     abbrev at_end : Option Walked
     at_end = if at == last then Some alone else None
 
-    behind_if : (b : Bool) → behind front (if b then Some alone else None) ≡ (if b then Some (record { waiters = front ++ who ∷ []; marks = set marks at true }) else None)
+    behind_if : (b : Bool) → behind front (if b then Some alone else None)
+        ≡ (if b then Some (record { waiters = front ++ who ∷ []; marks = set marks at true }) else None)
     behind_if true = refl
     behind_if false = refl
 
-    pub ended : (next == NONE) ≡ true → whole ≡ (if at == last then Some (record { waiters = front ++ who ∷ []; marks = set marks at true }) else None)
-    ended e = seen (ListNode next who) is ∙ ap (λ (o : Option Walked). behind front o) (when (next == NONE) at_end (behind (who ∷ []) further) e) ∙ behind_if (at == last)
+    pub ended : (next == NONE) ≡ true → whole
+        ≡ (if at == last then Some (record { waiters = front ++ who ∷ []; marks = set marks at true }) else None)
+    ended e = seen (ListNode next who) is
+        ∙ ap (λ (o : Option Walked). behind front o) (when (next == NONE) at_end (behind (who ∷ []) further) e)
+        ∙ behind_if (at == last)
 
-    pub went : (next == NONE) ≡ false → whole ≡ behind (front ++ who ∷ []) (walk nodes last (n - (i + 1)) (set marks at true) next)
+    pub went : (next == NONE) ≡ false → whole
+        ≡ behind (front ++ who ∷ []) (walk nodes last (n - (i + 1)) (set marks at true) next)
     went ne =
         seen (ListNode next who) is
         ∙ ap (λ (o : Option Walked). behind front o) (unless (next == NONE) at_end (behind (who ∷ []) further) ne)
         ∙ behind-behind front who further
 
-after_after : (front : List (List Waiter)) (waiters : List Waiter) (rest : Option AllWalked) → after_lists front (with_list waiters rest) ≡ after_lists (front ++ waiters ∷ []) rest
+after_after : (front : List (List Waiter)) (waiters : List Waiter) (rest : Option AllWalked)
+    → after_lists front (with_list waiters rest) ≡ after_lists (front ++ waiters ∷ []) rest
 after_after front waiters None = refl
-after_after front waiters (Some r) = ap (λ (l : List (List Waiter)). Some (record { lists = l; marks = r.marks })) (sym (append_assoc front (waiters ∷ []) r.lists))
+after_after front waiters (Some r) = ap (λ (l : List (List Waiter)). Some (record { lists = l; marks = r.marks }))
+    (sym (append_assoc front (waiters ∷ []) r.lists))
 
 -- the walks have come to a cell
-module _ (nodes : List NodeRecord) (cell : CellRecord) (cells : List CellRecord) (marks : List Bool) (waiters : List Waiter) (ends : List ℕ) (whole : Option AllWalked)
+module _ (nodes : List NodeRecord) (cell : CellRecord) (cells : List CellRecord) (marks : List Bool)
+    (waiters : List Waiter) (ends : List ℕ) (whole : Option AllWalked)
     (inv : whole ≡ after_lists (cut waiters 0 ends) (walk_all nodes (cell ∷ cells) marks)) where
   -- there is no list for it
   pub cell_lost : behind waiters (walk_cell nodes cell marks) ≡ None → whole ≡ None
-  cell_lost e = inv ∙ ap (λ (o : Option Walked). after_lists (cut waiters 0 ends) (option_and_then (λ w. with_list w.waiters (walk_all nodes cells w.marks)) o)) (none_behind (walk_cell nodes cell marks) e)
+  cell_lost e = inv ∙ ap (λ (o : Option Walked). after_lists (cut waiters 0 ends)
+      (option_and_then (λ w. with_list w.waiters (walk_all nodes cells w.marks)) o))
+      (none_behind (walk_cell nodes cell marks) e)
     where
       none_behind : (o : Option Walked) → behind waiters o ≡ None → o ≡ None
       none_behind None e = refl
@@ -72,22 +91,28 @@ module _ (nodes : List NodeRecord) (cell : CellRecord) (cells : List CellRecord)
     pub is : whole ≡ after_lists (cut now 0 (ends ++ length now ∷ [])) (walk_all nodes cells marked)
 
   pub cell_found : Rise 0 ends (length waiters) → (now : List Waiter) (marked : List Bool)
-      → behind waiters (walk_cell nodes cell marks) ≡ Some (record { waiters = now; marks = marked }) → IsFurther now marked
+      → behind waiters (walk_cell nodes cell marks) ≡ Some (record { waiters = now; marks = marked })
+      → IsFurther now marked
   cell_found rise now marked e = by_walk (walk_cell nodes cell marks) refl e
     where
       found : (w : Walked) → walk_cell nodes cell marks ≡ Some w → IsFurther (waiters ++ w.waiters) w.marks
       found w is = record {
-        rise = Rise-push 0 ends (length waiters) (length (waiters ++ w.waiters)) rise (omega (arith, length-append waiters w.waiters));
+        rise = Rise-push 0 ends (length waiters) (length (waiters ++ w.waiters)) rise
+            (omega (arith, length-append waiters w.waiters));
         is = inv
-            ∙ ap (λ (o : Option Walked). after_lists (cut waiters 0 ends) (option_and_then (λ v. with_list v.waiters (walk_all nodes cells v.marks)) o)) is
+            ∙ ap (λ (o : Option Walked). after_lists (cut waiters 0 ends)
+            (option_and_then (λ v. with_list v.waiters (walk_all nodes cells v.marks)) o)) is
             ∙ after_after (cut waiters 0 ends) w.waiters (walk_all nodes cells w.marks)
-            ∙ ap (λ (l : List (List Waiter)). after_lists l (walk_all nodes cells w.marks)) (sym (cut-push waiters w.waiters 0 ends rise));
+            ∙ ap (λ (l : List (List Waiter)). after_lists l (walk_all nodes cells w.marks))
+            (sym (cut-push waiters w.waiters 0 ends rise));
       }
 
-      by_walk : (o : Option Walked) → walk_cell nodes cell marks ≡ o → behind waiters o ≡ Some (record { waiters = now; marks = marked }) → IsFurther now marked
+      by_walk : (o : Option Walked) → walk_cell nodes cell marks ≡ o → behind waiters o
+          ≡ Some (record { waiters = now; marks = marked }) → IsFurther now marked
       by_walk None is f = absurd (none_some (record { waiters = now; marks = marked }) f)
       by_walk (Some w) is f = subst (λ (x : Walked). IsFurther x.waiters x.marks)
-          (some_same (record { waiters = waiters ++ w.waiters; marks = w.marks }) (record { waiters = now; marks = marked }) f) (found w is)
+          (some_same (record { waiters = waiters ++ w.waiters; marks = w.marks })
+          (record { waiters = now; marks = marked }) f) (found w is)
 
 -- the walks are at their end
 module _ (nodes : List NodeRecord) (cells : List CellRecord) where
@@ -98,7 +123,8 @@ module _ (nodes : List NodeRecord) (cells : List CellRecord) where
   unfolding lists_in
   none_in e = ap (λ (o : Option AllWalked). option_and_then (lists_if_reached nodes) o) e
 
-  pub all_walked : (front : List (List Waiter)) (marks : List Bool) (i : ℕ) → whole ≡ after_lists front (walk_all nodes (drop i cells) marks) → length cells ≤ i
+  pub all_walked : (front : List (List Waiter)) (marks : List Bool) (i : ℕ) → whole
+      ≡ after_lists front (walk_all nodes (drop i cells) marks) → length cells ≤ i
       → lists_in nodes cells ≡ (if are_reached marks nodes then Some front else None)
   unfolding lists_in
   all_walked front marks i inv past = ap (λ (o : Option AllWalked). option_and_then (lists_if_reached nodes) o)

@@ -1,5 +1,7 @@
 -- A walk follows a chain, and each chain is walked.
-use Rattle.std.proofs.Common.{◌≡◌, ℕ, zero, suc, ◌+◌, ◌<◌, ◌≤◌, ◌==◌, Bool, true, false, List, [], ◌∷◌, ◌++◌, Option, None, Some, length, get_or, set, refl, sym, ap, ◌∙◌, subst, arith, ⊎_elim, if◌then◌else◌}
+use Rattle.std.proofs.Common.{◌≡◌, ℕ, zero, suc, ◌+◌, ◌<◌, ◌≤◌, ◌==◌, Bool, true, false, List, [], ◌∷◌, ◌++◌, Option}
+use Rattle.std.proofs.Common.{None, Some, length, get_or, set, refl, sym, ap, ◌∙◌, subst, arith, ⊎_elim}
+use Rattle.std.proofs.Common.{if◌then◌else◌}
 use Rattle.std.proofs.lemmas.Bool.{eqb-true, eq-eqb, ne_eqb}
 use Rattle.std.proofs.lemmas.List.{length-set}
 use Rattle.im_types.specs.declared.TheConstants.{NONE}
@@ -8,7 +10,9 @@ use Rattle.im_types.specs.declared.records.NodeRecord.{NodeRecord}
 use Rattle.im_types.specs.declared.records.NodeRecord.TheVariants.{Free as FreeNode, Listed as ListNode}
 use Rattle.im_types.specs.Chains.{first_of, last_of, Holds, IsChain, uses}
 use Rattle.im_contents.specs.Walk.{Walked, fresh, next_of, behind, visit, walk}
-use Rattle.im_contents.proofs.MarkLemmas.{none_some, some_same, when, unless, bool_cases, bit_same, marked, unmarked, in_nodes, marked-set, unmarked-set, not_marked, node_at, IsFresh, fresh_node}
+use Rattle.im_contents.proofs.MarkLemmas.{none_some, some_same, when, unless, bool_cases, bit_same, marked, unmarked}
+use Rattle.im_contents.proofs.MarkLemmas.{in_nodes, marked-set, unmarked-set, not_marked, node_at, IsFresh}
+use Rattle.im_contents.proofs.MarkLemmas.{fresh_node}
 
 -- the chain that a walk has followed: none of its nodes was marked, and all are now
 pub record Trail (nodes : List NodeRecord) (marks : List Bool) (at last : ℕ) (w : Walked) : Type 0 where
@@ -29,23 +33,37 @@ record Behind (front : List Waiter) (rest : Option Walked) (w : Walked) : Type 0
   pub rest_is : rest ≡ Some walked
   pub is : record { waiters = front ++ walked.waiters; marks = walked.marks } ≡ w
 
-behind_some : (front : List Waiter) (rest : Option Walked) (w : Walked) → behind front rest ≡ Some w → Behind front rest w
+behind_some : (front : List Waiter) (rest : Option Walked) (w : Walked) → behind front rest ≡ Some w
+    → Behind front rest w
 behind_some front None w e = absurd (none_some w e)
-behind_some front (Some v) w e = record { walked = v; rest_is = refl; is = some_same (record { waiters = front ++ v.waiters; marks = v.marks }) w e }
+behind_some front (Some v) w e = record {
+  walked = v;
+  rest_is = refl;
+  is = some_same
+      (record { waiters = front ++ v.waiters; marks = v.marks }) w e;
+}
 
 module _ (nodes : List NodeRecord) (last : ℕ) where
   -- at the last node
-  ended : (marks : List Bool) (at next : ℕ) (who : Waiter) → length marks ≡ length nodes → IsFresh marks nodes at next who → next ≡ NONE → at ≡ last
+  ended : (marks : List Bool) (at next : ℕ) (who : Waiter) → length marks ≡ length nodes
+      → IsFresh marks nodes at next who → next ≡ NONE → at ≡ last
       → Trail nodes marks at last (record { waiters = who ∷ []; marks = set marks at true })
   ended marks at next who size here ends at_last = record {
     chain = at ∷ [];
-    is = record { some = omega arith; first_is = refl; last_is = at_last; holds = (here.node ∙ ap (λ (k : ℕ). ListNode k who) ends, tt) };
+    is = record {
+      some = omega arith;
+      first_is = refl;
+      last_is = at_last;
+      holds =
+          (here.node ∙ ap (λ (k : ℕ). ListNode k who) ends, tt);
+    };
     size = length-set marks at true;
     counts = λ n. let more = marked-set marks at here.mark n in omega arith;
   }
 
   -- at a node before others
-  went_on : (marks : List Bool) (at next : ℕ) (who : Waiter) (v : Walked) → length marks ≡ length nodes → IsFresh marks nodes at next who → Trail nodes (set marks at true) next last v
+  went_on : (marks : List Bool) (at next : ℕ) (who : Waiter) (v : Walked) → length marks ≡ length nodes
+      → IsFresh marks nodes at next who → Trail nodes (set marks at true) next last v
       → Trail nodes marks at last (record { waiters = who ∷ v.waiters; marks = v.marks })
   went_on marks at next who v size here t = record {
     chain = at ∷ t.chain;
@@ -62,9 +80,12 @@ module _ (nodes : List NodeRecord) (last : ℕ) where
       one_more : (c : List ℕ) → 1 ≤ length (at ∷ c)
       one_more c = omega arith
 
-  module _ (most : ℕ) (ih : (m : List Bool) (a : ℕ) (v : Walked) → length m ≡ length nodes → walk nodes last most m a ≡ Some v → Trail nodes m a last v) where
-    visited : (marks : List Bool) (at : ℕ) (w : Walked) → length marks ≡ length nodes → (f : NodeRecord) → fresh marks nodes at ≡ f
-        → visit last at (set marks at true) f (walk nodes last most (set marks at true) (next_of f)) ≡ Some w → Trail nodes marks at last w
+  module _ (most : ℕ) (ih : (m : List Bool) (a : ℕ) (v : Walked) → length m ≡ length nodes → walk nodes last most m a
+      ≡ Some v → Trail nodes m a last v) where
+    visited : (marks : List Bool) (at : ℕ) (w : Walked) → length marks ≡ length nodes → (f : NodeRecord)
+        → fresh marks nodes at ≡ f
+        → visit last at (set marks at true) f (walk nodes last most (set marks at true) (next_of f)) ≡ Some w
+        → Trail nodes marks at last w
     visited marks at w size (FreeNode next) is e = absurd (none_some w e)
     visited marks at w size (ListNode next who) is e =
         let here = fresh_node marks nodes at next who is in
@@ -77,22 +98,28 @@ module _ (nodes : List NodeRecord) (last : ℕ) where
         ⊎_elim
         (λ (good : (at == last) ≡ true).
         let same : alone ≡ w = some_same alone w (sym (when (at == last) (Some alone) None good) ∙ e1) in
-        subst (λ (x : Walked). Trail nodes marks at last x) same (ended marks at next who size here (eqb-true next NONE ends) (eqb-true at last good)))
+        subst (λ (x : Walked). Trail nodes marks at last x) same
+        (ended marks at next who size here (eqb-true next NONE ends) (eqb-true at last good)))
         (λ (bad : (at == last) ≡ false). absurd (none_some w (sym (unless (at == last) (Some alone) None bad) ∙ e1)))
         (bool_cases (at == last)))
         (λ (goes : (next == NONE) ≡ false).
-        let e2 : behind (who ∷ []) rest ≡ Some w = sym (unless (next == NONE) at_end (behind (who ∷ []) rest) goes) ∙ e in
+        let e2 : behind (who ∷ []) rest ≡ Some w = sym (unless (next == NONE) at_end (behind (who ∷ []) rest) goes)
+        ∙ e in
         let b = behind_some (who ∷ []) rest w e2 in
         subst (λ (x : Walked). Trail nodes marks at last x) b.is
-        (went_on marks at next who b.walked size here (ih (set marks at true) next b.walked (length-set marks at true ∙ size) b.rest_is)))
+        (went_on marks at next who b.walked size here
+        (ih (set marks at true) next b.walked (length-set marks at true ∙ size) b.rest_is)))
         (bool_cases (next == NONE))
 
-pub walk_sound : (nodes : List NodeRecord) (last most : ℕ) (marks : List Bool) (at : ℕ) (w : Walked) → length marks ≡ length nodes → walk nodes last most marks at ≡ Some w → Trail nodes marks at last w
+pub walk_sound : (nodes : List NodeRecord) (last most : ℕ) (marks : List Bool) (at : ℕ) (w : Walked) → length marks
+    ≡ length nodes → walk nodes last most marks at ≡ Some w → Trail nodes marks at last w
 walk_sound nodes last zero marks at w size e = absurd (none_some w e)
-walk_sound nodes last (suc most) marks at w size e = visited nodes last most (λ m a v s h. walk_sound nodes last most m a v s h) marks at w size (fresh marks nodes at) refl e
+walk_sound nodes last (suc most) marks at w size e = visited nodes last most
+    (λ m a v s h. walk_sound nodes last most m a v s h) marks at w size (fresh marks nodes at) refl e
 
 -- the walk over a chain
-pub record Done (nodes : List NodeRecord) (last most : ℕ) (marks : List Bool) (at : ℕ) (chain : List ℕ) (waiters : List Waiter) : Type 0 where
+pub record Done (nodes : List NodeRecord) (last most : ℕ) (marks : List Bool) (at : ℕ) (chain : List ℕ)
+    (waiters : List Waiter) : Type 0 where
   pub walked : Walked
   pub is : walk nodes last most marks at ≡ Some walked
   pub waiters_are : walked.waiters ≡ waiters
@@ -105,7 +132,8 @@ holds_nil nodes (who ∷ waiters) h = absurd h
 
 module _ (nodes : List NodeRecord) (few : length nodes ≤ NONE) where
   -- a node of the chain isn't marked yet
-  unvisited : (marks : List Bool) (at : ℕ) (chain : List ℕ) (next : ℕ) (who : Waiter) → length marks ≡ length nodes → node_at nodes at ≡ ListNode next who
+  unvisited : (marks : List Bool) (at : ℕ) (chain : List ℕ) (next : ℕ) (who : Waiter) → length marks ≡ length nodes
+      → node_at nodes at ≡ ListNode next who
       → uses at (at ∷ chain) + marked marks at ≤ 1 → get_or marks at true ≡ false
   unvisited marks at chain next who size is once =
       let lt = in_nodes nodes at next who is in
@@ -114,13 +142,18 @@ module _ (nodes : List NodeRecord) (few : length nodes ≤ NONE) where
       not_marked marks at (omega arith) none
 
   -- the walk takes the node
-  takes : (last most : ℕ) (marks : List Bool) (at next : ℕ) (who : Waiter) → get_or marks at true ≡ false → node_at nodes at ≡ ListNode next who
-      → walk nodes last (suc most) marks at ≡ visit last at (set marks at true) (ListNode next who) (walk nodes last most (set marks at true) next)
+  takes : (last most : ℕ) (marks : List Bool) (at next : ℕ) (who : Waiter) → get_or marks at true ≡ false
+      → node_at nodes at ≡ ListNode next who
+      → walk nodes last (suc most) marks at
+      ≡ visit last at (set marks at true) (ListNode next who) (walk nodes last most (set marks at true) next)
   takes last most marks at next who open_mark is =
-      let f : fresh marks nodes at ≡ ListNode next who = unless (get_or marks at true) (FreeNode NONE) (node_at nodes at) open_mark ∙ is in
-      ap (λ (r : NodeRecord). visit last at (set marks at true) r (walk nodes last most (set marks at true) (next_of r))) f
+      let f : fresh marks nodes at
+      ≡ ListNode next who = unless (get_or marks at true) (FreeNode NONE) (node_at nodes at) open_mark ∙ is in
+      ap (λ (r : NodeRecord). visit last at (set marks at true) r
+      (walk nodes last most (set marks at true) (next_of r))) f
 
-  pub walk_complete : (most : ℕ) (marks : List Bool) (at : ℕ) (chain : List ℕ) (waiters : List Waiter) → length marks ≡ length nodes
+  pub walk_complete : (most : ℕ) (marks : List Bool) (at : ℕ) (chain : List ℕ) (waiters : List Waiter) → length marks
+      ≡ length nodes
       → Holds nodes (at ∷ chain) waiters → ((n : ℕ) → uses n (at ∷ chain) + marked marks n ≤ 1) → unmarked marks ≤ most
       → Done nodes (last_of (at ∷ chain)) most marks at (at ∷ chain) waiters
   walk_complete most marks at chain [] size holds once room = absurd holds
@@ -134,7 +167,8 @@ module _ (nodes : List NodeRecord) (few : length nodes ≤ NONE) where
       record {
         walked = alone;
         is = takes at most marks at NONE who mark holds.0
-            ∙ when (NONE == NONE) (if at == at then Some alone else None) (behind (who ∷ []) (walk nodes at most (set marks at true) NONE)) (eq-eqb NONE NONE refl)
+            ∙ when (NONE == NONE) (if at == at then Some alone else None)
+            (behind (who ∷ []) (walk nodes at most (set marks at true) NONE)) (eq-eqb NONE NONE refl)
             ∙ when (at == at) (Some alone) None (eq-eqb at at refl);
         waiters_are = ap (λ (l : List Waiter). who ∷ l) (holds_nil nodes waiters holds.1);
         size = length-set marks at true;
@@ -143,14 +177,17 @@ module _ (nodes : List NodeRecord) (few : length nodes ≤ NONE) where
   walk_complete (suc most) marks at (next ∷ chain) (who ∷ waiters) size holds once room =
       let mark = unvisited marks at (next ∷ chain) next who size holds.0 (once at) in
       let less = unmarked-set marks at mark in
-      let done = walk_complete most (set marks at true) next chain waiters (length-set marks at true ∙ size) holds.1 (λ n. let more = marked-set marks at mark n in let o = once n in omega arith) (omega arith) in
+      let done = walk_complete most (set marks at true) next chain waiters (length-set marks at true ∙ size) holds.1
+      (λ n. let more = marked-set marks at mark n in let o = once n in omega arith) (omega arith) in
       let linked : next < length nodes = next_in chain waiters holds.1 in
       let last : ℕ = last_of (next ∷ chain) in
       let rest : Option Walked = walk nodes last most (set marks at true) next in
       record {
         walked = record { waiters = who ∷ done.walked.waiters; marks = done.walked.marks };
         is = takes last most marks at next who mark holds.0
-            ∙ unless (next == NONE) (if at == last then Some (record { waiters = who ∷ []; marks = set marks at true }) else None) (behind (who ∷ []) rest) (ne_eqb next NONE (λ e. omega arith))
+            ∙ unless (next == NONE)
+            (if at == last then Some (record { waiters = who ∷ []; marks = set marks at true }) else None)
+            (behind (who ∷ []) rest) (ne_eqb next NONE (λ e. omega arith))
             ∙ ap (λ (o : Option Walked). behind (who ∷ []) o) done.is;
         waiters_are = ap (λ (l : List Waiter). who ∷ l) done.waiters_are;
         size = done.size ∙ length-set marks at true;

@@ -1,5 +1,7 @@
 -- Agreement by marks: the entry of each who waits is marked, if it waits for that cell and isn't marked yet. (Own.)
-use Rattle.std.specs.Prelude.{◌≡◌, ℕ, ◌+◌, ◌*◌, ◌-◌, ◌<◌, ◌≤◌, List, [], ◌∷◌, length, Bool, true, false, not, replicate, ◌&&◌, Option, None, Some, option_and_then, slice_get, slice_index_or, slice_set, if◌then◌else◌}
+use Rattle.std.specs.Prelude.{◌≡◌, ℕ, ◌+◌, ◌*◌, ◌-◌, ◌<◌, ◌≤◌, List, [], ◌∷◌, length, Bool, true, false, not}
+use Rattle.std.specs.Prelude.{replicate, ◌&&◌, Option, None, Some, option_and_then, slice_get, slice_index_or}
+use Rattle.std.specs.Prelude.{slice_set, if◌then◌else◌}
 use Rattle.im_types.specs.declared.TheConstants.{WINDOW}
 use Rattle.im_types.specs.declared.operations.Kind.{Kind}
 use Rattle.im_types.specs.declared.operations.Waiter.{Waiter}

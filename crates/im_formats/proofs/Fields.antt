@@ -1,10 +1,13 @@
 -- The codes of operations and entries read back.
-use Rattle.std.proofs.Common.{◌≡◌, ℕ, ◌<◌, ◌^◌, ◌==◌, Bool, true, false, None, Some, nat_lt, refl, ap, arith, if◌then◌else◌}
+use Rattle.std.proofs.Common.{◌≡◌, ℕ, ◌<◌, ◌^◌, ◌==◌, Bool, true, false, None, Some, nat_lt, refl, ap, arith}
+use Rattle.std.proofs.Common.{if◌then◌else◌}
 use Rattle.std.proofs.lemmas.Bool.Decides.{nat_tests}
 use Rattle.im_types.specs.declared.operations.Op.{Op}
 use Rattle.im_types.specs.declared.operations.Op.TheVariants.{Alloc, Release, Reset, Fetch, Store, Take, Put}
 use Rattle.im_types.specs.declared.operations.Kind.TheVariants.{I, M}
-use Rattle.im_types.specs.declared.operations.Reply.TheVariants.{Base, NoSpace, BadLength, Value, Stored, Clash, NoCell, WrongKind, Released, NoBlock, StillWaiting, Cleared}
+use Rattle.im_types.specs.declared.operations.Reply.TheVariants.{Base, NoSpace, BadLength, Value, Stored, Clash}
+use Rattle.im_types.specs.declared.operations.Reply.TheVariants.{NoCell, WrongKind, Released, NoBlock, StillWaiting}
+use Rattle.im_types.specs.declared.operations.Reply.TheVariants.{Cleared}
 use Rattle.im_types.specs.declared.operations.Entry.{Entry}
 use Rattle.im_types.specs.declared.operations.Entry.TheVariants.{Waiting, Answered}
 use Rattle.im_types.specs.Agreement.{address_of}
@@ -37,7 +40,8 @@ below n lt = grind (arith, nat_tests)
 
 pub entry_of-spelled : (entry : Entry) → FitsEntry entry → entry_of (entry_code entry) (entry_number entry) ≡ Some entry
 entry_of-spelled Waiting fits = refl
-entry_of-spelled (Answered (Base a)) fits = ap (λ (b : Bool). if b then Some (Answered (Base a)) else None) (below a fits)
+entry_of-spelled (Answered (Base a)) fits = ap (λ (b : Bool). if b then Some (Answered (Base a)) else None)
+    (below a fits)
 entry_of-spelled (Answered NoSpace) fits = refl
 entry_of-spelled (Answered BadLength) fits = refl
 entry_of-spelled (Answered (Value v)) fits = refl

@@ -1,5 +1,6 @@
 -- A cell record and a node record read back what they spell.
-use Rattle.std.proofs.Common.{◌≡◌, ℕ, ◌+◌, ◌<◌, ◌≤◌, ◌^◌, ◌++◌, inl, inr, Bool, List, [], Option, None, Some, refl, ap, ◌∙◌, arith, if◌then◌else◌, option_and_then}
+use Rattle.std.proofs.Common.{◌≡◌, ℕ, ◌+◌, ◌<◌, ◌≤◌, ◌^◌, ◌++◌, inl, inr, Bool, List, [], Option, None, Some, refl}
+use Rattle.std.proofs.Common.{ap, ◌∙◌, arith, if◌then◌else◌, option_and_then}
 use Rattle.byteorder.specs.Endian.{little_number, little_bytes}
 use Rattle.byteorder.specs.Numbers.{little_number-reads_back}
 use Rattle.im_types.specs.declared.operations.Kind.{Kind}
@@ -7,12 +8,14 @@ use Rattle.im_types.specs.declared.operations.Kind.TheVariants.{I, M}
 use Rattle.im_types.specs.declared.operations.Block.{Block}
 use Rattle.im_types.specs.Bytes.{kind_code, same_bytes}
 use Rattle.im_types.specs.declared.records.PresenceTag.{PresenceTag}
-use Rattle.im_types.specs.declared.records.PresenceTag.TheVariants.{Empty as TagEmpty, Waiting as TagWaiting, Full as TagFull, Clashed as TagClashed}
+use Rattle.im_types.specs.declared.records.PresenceTag.TheVariants.{Empty as TagEmpty, Waiting as TagWaiting}
+use Rattle.im_types.specs.declared.records.PresenceTag.TheVariants.{Full as TagFull, Clashed as TagClashed}
 use Rattle.im_types.specs.declared.records.CellRecord.{CellRecord}
 use Rattle.im_types.specs.declared.records.CellRecord.TheVariants.{Free as FreeCell, Held as BlockCell}
 use Rattle.im_types.specs.declared.records.NodeRecord.{NodeRecord}
 use Rattle.im_types.specs.declared.records.NodeRecord.TheVariants.{Free as FreeNode, Listed as ListNode}
-use Rattle.im_types.specs.Records.{tag_code, tag_first, tag_last, tag_value, cell_bytes, node_bytes, IsLink, FitsTag, FitsCell, FitsNode}
+use Rattle.im_types.specs.Records.{tag_code, tag_first, tag_last, tag_value, cell_bytes, node_bytes, IsLink, FitsTag}
+use Rattle.im_types.specs.Records.{FitsCell, FitsNode}
 use Rattle.im_formats.specs.Reading.{tag_of, block_cell, cell_of, cell_in, cell_if, read_cell, node_in, read_node}
 use Rattle.im_formats.proofs.Same.{if_same, only_spelled, spelled_if}
 
@@ -31,14 +34,17 @@ pub record FitsFields (base length first last value : ℕ) : Type 0 where
   pub last_fits : last < 2 ^ 32
   pub value_fits : value < 2 ^ 64
 
-tag_fits : (nodes base length : ℕ) (tag : PresenceTag) → nodes ≤ 2 ^ 32 → base < 2 ^ 32 → length < 2 ^ 32 → FitsTag nodes tag → FitsFields base length (tag_first tag) (tag_last tag) (tag_value tag)
+tag_fits : (nodes base length : ℕ) (tag : PresenceTag) → nodes ≤ 2 ^ 32 → base < 2 ^ 32 → length < 2 ^ 32
+    → FitsTag nodes tag → FitsFields base length (tag_first tag) (tag_last tag) (tag_value tag)
 tag_fits nodes base length TagEmpty few b l fits = record { base_fits = b; length_fits = l; first_fits = omega arith; last_fits = omega arith; value_fits = omega arith }
 tag_fits nodes base length (TagWaiting first last) few b l fits =
     let f : first < nodes = fits.0 in
     let g : last < nodes = fits.1 in
     record { base_fits = b; length_fits = l; first_fits = omega arith; last_fits = omega arith; value_fits = omega arith }
-tag_fits nodes base length (TagFull v) few b l fits = record { base_fits = b; length_fits = l; first_fits = omega arith; last_fits = omega arith; value_fits = fits }
-tag_fits nodes base length (TagClashed v) few b l fits = record { base_fits = b; length_fits = l; first_fits = omega arith; last_fits = omega arith; value_fits = fits }
+tag_fits nodes base length
+    (TagFull v) few b l fits = record { base_fits = b; length_fits = l; first_fits = omega arith; last_fits = omega arith; value_fits = fits }
+tag_fits nodes base length
+    (TagClashed v) few b l fits = record { base_fits = b; length_fits = l; first_fits = omega arith; last_fits = omega arith; value_fits = fits }
 
 tag_of-spelled : (tag : PresenceTag) → tag_of (tag_code tag) (tag_first tag) (tag_last tag) (tag_value tag) ≡ Some tag
 tag_of-spelled TagEmpty = refl
@@ -46,51 +52,82 @@ tag_of-spelled (TagWaiting first last) = refl
 tag_of-spelled (TagFull v) = refl
 tag_of-spelled (TagClashed v) = refl
 
-cell_of-spelled : (block : Block) (kind : Kind) (tag : PresenceTag) → cell_of (tag_code tag) (kind_code kind) block.base block.length (tag_first tag) (tag_last tag) (tag_value tag) ≡ Some (BlockCell (record { base = block.base; length = block.length; kind = kind }) tag)
-cell_of-spelled block I tag = ap (λ (t : Option PresenceTag). block_cell block.base block.length (Some I) t) (tag_of-spelled tag)
-cell_of-spelled block M tag = ap (λ (t : Option PresenceTag). block_cell block.base block.length (Some M) t) (tag_of-spelled tag)
+cell_of-spelled : (block : Block) (kind : Kind) (tag : PresenceTag)
+    → cell_of (tag_code tag) (kind_code kind) block.base block.length (tag_first tag) (tag_last tag) (tag_value tag)
+    ≡ Some (BlockCell (record { base = block.base; length = block.length; kind = kind }) tag)
+cell_of-spelled block I tag = ap (λ (t : Option PresenceTag). block_cell block.base block.length (Some I) t)
+    (tag_of-spelled tag)
+cell_of-spelled block M tag = ap (λ (t : Option PresenceTag). block_cell block.base block.length (Some M) t)
+    (tag_of-spelled tag)
 
 -- the fields of a record read back, whatever is made of them
-fields-read_back : {X : Type 0} (make : ℕ → ℕ → ℕ → ℕ → ℕ → X) (base length first last value : ℕ) → FitsFields base length first last value →
-    make (little_number 4 (little_bytes 4 base ++ [])) (little_number 4 (little_bytes 4 length ++ [])) (little_number 4 (little_bytes 4 first ++ [])) (little_number 4 (little_bytes 4 last ++ [])) (little_number 8 (little_bytes 8 value ++ []))
+fields-read_back : {X : Type 0} (make : ℕ → ℕ → ℕ → ℕ → ℕ → X) (base length first last value : ℕ)
+    → FitsFields base length first last value →
+    make (little_number 4 (little_bytes 4 base ++ [])) (little_number 4 (little_bytes 4 length ++ []))
+    (little_number 4 (little_bytes 4 first ++ [])) (little_number 4 (little_bytes 4 last ++ []))
+    (little_number 8 (little_bytes 8 value ++ []))
     ≡ make base length first last value
 fields-read_back make base length first last value fits =
-    ap (λ (n : ℕ). make n (little_number 4 (little_bytes 4 length ++ [])) (little_number 4 (little_bytes 4 first ++ [])) (little_number 4 (little_bytes 4 last ++ [])) (little_number 8 (little_bytes 8 value ++ []))) (reads4 base fits.base_fits)
-    ∙ ap (λ (n : ℕ). make base n (little_number 4 (little_bytes 4 first ++ [])) (little_number 4 (little_bytes 4 last ++ [])) (little_number 8 (little_bytes 8 value ++ []))) (reads4 length fits.length_fits)
-    ∙ ap (λ (n : ℕ). make base length n (little_number 4 (little_bytes 4 last ++ [])) (little_number 8 (little_bytes 8 value ++ []))) (reads4 first fits.first_fits)
-    ∙ ap (λ (n : ℕ). make base length first n (little_number 8 (little_bytes 8 value ++ []))) (reads4 last fits.last_fits)
+    ap (λ (n : ℕ). make n (little_number 4 (little_bytes 4 length ++ []))
+    (little_number 4 (little_bytes 4 first ++ [])) (little_number 4 (little_bytes 4 last ++ []))
+    (little_number 8 (little_bytes 8 value ++ []))) (reads4 base fits.base_fits)
+    ∙ ap (λ (n : ℕ). make base n (little_number 4 (little_bytes 4 first ++ []))
+    (little_number 4 (little_bytes 4 last ++ [])) (little_number 8 (little_bytes 8 value ++ [])))
+    (reads4 length fits.length_fits)
+    ∙ ap (λ (n : ℕ). make base length n (little_number 4 (little_bytes 4 last ++ []))
+    (little_number 8 (little_bytes 8 value ++ []))) (reads4 first fits.first_fits)
+    ∙ ap (λ (n : ℕ). make base length first n (little_number 8 (little_bytes 8 value ++ [])))
+    (reads4 last fits.last_fits)
     ∙ ap (λ (n : ℕ). make base length first last n) (little_number-reads_back 8 value [] fits.value_fits)
 
-pub cell_in-spelled : (cells nodes : ℕ) (cell : CellRecord) → cells < 2 ^ 32 → nodes ≤ 2 ^ 32 → FitsCell cells nodes cell → cell_in (cell_bytes cell) ≡ Some cell
+pub cell_in-spelled : (cells nodes : ℕ) (cell : CellRecord) → cells < 2 ^ 32 → nodes ≤ 2 ^ 32
+    → FitsCell cells nodes cell → cell_in (cell_bytes cell) ≡ Some cell
 unfolding cell_in
 cell_in-spelled cells nodes (FreeCell hole next) few_cells few_nodes fits =
     let short : hole ≤ cells = fits.0 in
     let hole_is : little_number 4 (little_bytes 4 hole ++ []) ≡ hole = reads4 hole (omega arith) in
-    let next_is : little_number 4 (little_bytes 4 next ++ []) ≡ next = reads4 next (link_fits cells next (omega arith) fits.1) in
-    ap (λ (n : ℕ). Some (FreeCell n (little_number 4 (little_bytes 4 next ++ [])))) hole_is ∙ ap (λ (n : ℕ). Some (FreeCell hole n)) next_is
+    let next_is : little_number 4 (little_bytes 4 next ++ [])
+    ≡ next = reads4 next (link_fits cells next (omega arith) fits.1) in
+    ap (λ (n : ℕ). Some (FreeCell n (little_number 4 (little_bytes 4 next ++ [])))) hole_is
+    ∙ ap (λ (n : ℕ). Some (FreeCell hole n)) next_is
 cell_in-spelled cells nodes (BlockCell block tag) few_cells few_nodes fits =
     let within : block.base + block.length ≤ cells = fits.0 in
-    fields-read_back (λ b l f g v. cell_of (tag_code tag) (kind_code block.kind) b l f g v) block.base block.length (tag_first tag) (tag_last tag) (tag_value tag) (tag_fits nodes block.base block.length tag few_nodes (omega arith) (omega arith) fits.1)
+    fields-read_back (λ b l f g v. cell_of (tag_code tag) (kind_code block.kind) b l f g v) block.base block.length
+    (tag_first tag) (tag_last tag) (tag_value tag)
+    (tag_fits nodes block.base block.length tag few_nodes (omega arith) (omega arith) fits.1)
     ∙ cell_of-spelled block block.kind tag
 
-pub read_cell-spelled : (cells nodes : ℕ) (cell : CellRecord) → cells < 2 ^ 32 → nodes ≤ 2 ^ 32 → FitsCell cells nodes cell → read_cell (cell_bytes cell) ≡ Some cell
+pub read_cell-spelled : (cells nodes : ℕ) (cell : CellRecord) → cells < 2 ^ 32 → nodes ≤ 2 ^ 32
+    → FitsCell cells nodes cell → read_cell (cell_bytes cell) ≡ Some cell
 unfolding read_cell
 read_cell-spelled cells nodes cell few_cells few_nodes fits =
-    ap (λ (o : Option CellRecord). option_and_then (cell_if (cell_bytes cell)) o) (cell_in-spelled cells nodes cell few_cells few_nodes fits) ∙ if_same (cell_bytes cell) cell
+    ap (λ (o : Option CellRecord). option_and_then (cell_if (cell_bytes cell)) o)
+    (cell_in-spelled cells nodes cell few_cells few_nodes fits) ∙ if_same (cell_bytes cell) cell
 
 pub read_cell-only : (bytes : List ℕ) (cell : CellRecord) → read_cell bytes ≡ Some cell → bytes ≡ cell_bytes cell
 unfolding read_cell
 read_cell-only bytes cell e = only_spelled bytes cell_bytes (cell_in bytes) cell e
 
-pub node_in-spelled : (nodes : ℕ) (node : NodeRecord) → nodes ≤ 2 ^ 32 → FitsNode nodes node → node_in (node_bytes node) ≡ node
+pub node_in-spelled : (nodes : ℕ) (node : NodeRecord) → nodes ≤ 2 ^ 32 → FitsNode nodes node
+    → node_in (node_bytes node) ≡ node
 unfolding node_in
-node_in-spelled nodes (FreeNode next) few fits = ap (λ (n : ℕ). FreeNode n) (reads4 next (link_fits nodes next few fits))
+node_in-spelled nodes (FreeNode next) few fits = ap (λ (n : ℕ). FreeNode n)
+    (reads4 next (link_fits nodes next few fits))
 node_in-spelled nodes (ListNode next who) few fits =
-    ap (λ (n : ℕ). ListNode n (record { element = little_number 2 (little_bytes 2 who.element ++ []); number = little_number 8 (little_bytes 8 who.number ++ []) })) (reads4 next (link_fits nodes next few fits.0))
-    ∙ ap (λ (n : ℕ). ListNode next (record { element = n; number = little_number 8 (little_bytes 8 who.number ++ []) })) (little_number-reads_back 2 who.element [] fits.1)
-    ∙ ap (λ (n : ℕ). ListNode next (record { element = who.element; number = n })) (little_number-reads_back 8 who.number [] fits.2)
+    ap (λ (n : ℕ). ListNode n
+    (record {
+      element = little_number 2 (little_bytes 2 who.element ++ []);
+      number = little_number 8
+          (little_bytes 8 who.number ++ []);
+    })) (reads4 next (link_fits nodes next few fits.0))
+    ∙ ap (λ (n : ℕ). ListNode next
+    (record { element = n; number = little_number 8 (little_bytes 8 who.number ++ []) }))
+    (little_number-reads_back 2 who.element [] fits.1)
+    ∙ ap (λ (n : ℕ). ListNode next (record { element = who.element; number = n }))
+    (little_number-reads_back 8 who.number [] fits.2)
 
-node_again : (bytes : List ℕ) (node : NodeRecord) → node_in bytes ≡ node → bytes ≡ node_bytes node → read_node bytes ≡ Some node
+node_again : (bytes : List ℕ) (node : NodeRecord) → node_in bytes ≡ node → bytes ≡ node_bytes node → read_node bytes
+    ≡ Some node
 unfolding read_node
 node_again bytes node is same =
     ap (λ (n : NodeRecord). if same_of bytes n then Some n else None) is
@@ -100,7 +137,8 @@ node_again bytes node is same =
     same_of : List ℕ → NodeRecord → Bool
     same_of b n = same_bytes b (node_bytes n)
 
-pub read_node-spelled : (nodes : ℕ) (node : NodeRecord) → nodes ≤ 2 ^ 32 → FitsNode nodes node → read_node (node_bytes node) ≡ Some node
+pub read_node-spelled : (nodes : ℕ) (node : NodeRecord) → nodes ≤ 2 ^ 32 → FitsNode nodes node
+    → read_node (node_bytes node) ≡ Some node
 read_node-spelled nodes node few fits = node_again (node_bytes node) node (node_in-spelled nodes node few fits) refl
 
 pub read_node-only : (bytes : List ℕ) (node : NodeRecord) → read_node bytes ≡ Some node → bytes ≡ node_bytes node

@@ -1,6 +1,7 @@
 -- What it means that bytes are the same as a spelling.
 use Rattle.std.specs.Cmp.Lexicographic.{pointwise}
-use Rattle.std.proofs.Common.{nat_eq, ◌&&◌, ◌≡◌, ℕ, Bool, true, false, List, [], ◌∷◌, Option, None, Some, refl, ap, ◌∙◌, arith, if◌then◌else◌, option_and_then}
+use Rattle.std.proofs.Common.{nat_eq, ◌&&◌, ◌≡◌, ℕ, Bool, true, false, List, [], ◌∷◌, Option, None, Some, refl, ap}
+use Rattle.std.proofs.Common.{◌∙◌, arith, if◌then◌else◌, option_and_then}
 use Rattle.std.proofs.lemmas.Bool.Decides.{nat_tests}
 use Rattle.im_types.specs.Bytes.{same_bytes}
 
@@ -33,16 +34,20 @@ module _ {X : Type 0} where
   pub if_same : (xs : List ℕ) (x : X) → (if same_bytes xs xs then Some x else None) ≡ Some x
   if_same xs x = ap (λ (b : Bool). if b then Some x else None) (same_bytes_self xs)
 
-  by_test : (bytes spelled : List ℕ) (x y : X) (b : Bool) → same_bytes bytes spelled ≡ b → (if b then Some x else None) ≡ Some y → (x ≡ y) × (bytes ≡ spelled)
+  by_test : (bytes spelled : List ℕ) (x y : X) (b : Bool) → same_bytes bytes spelled ≡ b
+      → (if b then Some x else None) ≡ Some y → (x ≡ y) × (bytes ≡ spelled)
   by_test bytes spelled x y true same e = (cc, same_bytes_true bytes spelled same)
   by_test bytes spelled x y false same e = cc
 
   -- what reads is what was compared
-  pub spelled_if : (bytes spelled : List ℕ) (x y : X) → (if same_bytes bytes spelled then Some x else None) ≡ Some y → (x ≡ y) × (bytes ≡ spelled)
+  pub spelled_if : (bytes spelled : List ℕ) (x y : X) → (if same_bytes bytes spelled then Some x else None) ≡ Some y
+      → (x ≡ y) × (bytes ≡ spelled)
   spelled_if bytes spelled x y e = by_test bytes spelled x y (same_bytes bytes spelled) refl e
 
   -- a reading by the candidate of the fields gives only what its bytes spell
-  pub only_spelled : (bytes : List ℕ) (spelling : X → List ℕ) (candidate : Option X) (x : X) → option_and_then (λ y. if same_bytes bytes (spelling y) then Some y else None) candidate ≡ Some x → bytes ≡ spelling x
+  pub only_spelled : (bytes : List ℕ) (spelling : X → List ℕ) (candidate : Option X) (x : X)
+      → option_and_then (λ y. if same_bytes bytes (spelling y) then Some y else None) candidate ≡ Some x → bytes
+      ≡ spelling x
   only_spelled bytes spelling None x e = cc
   only_spelled bytes spelling (Some y) x e =
       let both = spelled_if bytes (spelling y) y x e in

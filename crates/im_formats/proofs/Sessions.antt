@@ -1,5 +1,7 @@
 -- A session record is spelled by one window alone.
-use Rattle.std.proofs.Common.{◌≡◌, ℕ, ◌+◌, ◌-◌, ◌*◌, ◌%◌, ◌<◌, ◌≤◌, zero, suc, take, drop, List, [], ◌∷◌, ◌++◌, Option, None, Some, length, replicate, slice_get, slice_index, refl, sym, ap, ◌∙◌, arith}
+use Rattle.std.proofs.Common.{◌≡◌, ℕ, ◌+◌, ◌-◌, ◌*◌, ◌%◌, ◌<◌, ◌≤◌, zero, suc, take, drop, List, [], ◌∷◌, ◌++◌}
+use Rattle.std.proofs.Common.{Option, None, Some, length, replicate, slice_get, slice_index, refl, sym, ap, ◌∙◌}
+use Rattle.std.proofs.Common.{arith}
 use Rattle.std.proofs.lemmas.List.{append_assoc, take_at, drop_at, drop-drop, length-replicate}
 use Rattle.byteorder.specs.Endian.{little_number}
 use Rattle.byteorder.specs.Numbers.{little_number-reads_back}
@@ -19,11 +21,14 @@ length-place None = refl
 length-place (Some k) = refl
 
 -- the i-th of the places
-pub places-piece : (n : ℕ) (w : Window) (ones rest : List ℕ) (place i : ℕ) → i < length ones → take 32 (drop (32 * i) (places_from n w place ones ++ rest)) ≡ place_bytes (entry_at n w (place + i))
+pub places-piece : (n : ℕ) (w : Window) (ones rest : List ℕ) (place i : ℕ) → i < length ones
+    → take 32 (drop (32 * i) (places_from n w place ones ++ rest)) ≡ place_bytes (entry_at n w (place + i))
 places-piece n w [] rest place i lt = absurd (omega arith)
 places-piece n w (one ∷ ones) rest place zero lt =
-    ap (λ (l : List ℕ). take 32 l) (append_assoc (place_bytes (entry_at n w place)) (places_from n w (place + 1) ones) rest)
-    ∙ take_at (place_bytes (entry_at n w place)) (places_from n w (place + 1) ones ++ rest) 32 (length-place (entry_at n w place))
+    ap (λ (l : List ℕ). take 32 l)
+    (append_assoc (place_bytes (entry_at n w place)) (places_from n w (place + 1) ones) rest)
+    ∙ take_at (place_bytes (entry_at n w place)) (places_from n w (place + 1) ones ++ rest) 32
+    (length-place (entry_at n w place))
     ∙ ap (λ (k : ℕ). place_bytes (entry_at n w k)) (same place)
   where
     same : (k : ℕ) → k ≡ k + 0
@@ -31,8 +36,11 @@ places-piece n w (one ∷ ones) rest place zero lt =
 places-piece n w (one ∷ ones) rest place (suc i) lt =
     ap (λ (k : ℕ). take 32 (drop k (places_from n w place (one ∷ ones) ++ rest))) (more i)
     ∙ ap (λ (l : List ℕ). take 32 l) (sym (drop-drop (32 * i) 32 (places_from n w place (one ∷ ones) ++ rest)))
-    ∙ ap (λ (l : List ℕ). take 32 (drop (32 * i) (drop 32 l))) (append_assoc (place_bytes (entry_at n w place)) (places_from n w (place + 1) ones) rest)
-    ∙ ap (λ (l : List ℕ). take 32 (drop (32 * i) l)) (drop_at (place_bytes (entry_at n w place)) (places_from n w (place + 1) ones ++ rest) 32 (length-place (entry_at n w place)))
+    ∙ ap (λ (l : List ℕ). take 32 (drop (32 * i) (drop 32 l)))
+    (append_assoc (place_bytes (entry_at n w place)) (places_from n w (place + 1) ones) rest)
+    ∙ ap (λ (l : List ℕ). take 32 (drop (32 * i) l))
+    (drop_at (place_bytes (entry_at n w place)) (places_from n w (place + 1) ones ++ rest) 32
+    (length-place (entry_at n w place)))
     ∙ places-piece n w ones rest (place + 1) i (omega arith)
     ∙ ap (λ (k : ℕ). place_bytes (entry_at n w k)) (same place i)
   where
@@ -54,7 +62,8 @@ ring_of_version Two = record { below = λ k. omega arith; turn_back = λ base j 
 some_inj : {X : Type 0} (x y : X) → Some x ≡ Some y → x ≡ y
 some_inj x y e = cc
 
-ext_get : (xs ys : List Kept) → length xs ≡ length ys → ((j : ℕ) → j < length xs → slice_get xs j ≡ slice_get ys j) → xs ≡ ys
+ext_get : (xs ys : List Kept) → length xs ≡ length ys → ((j : ℕ) → j < length xs → slice_get xs j ≡ slice_get ys j)
+    → xs ≡ ys
 ext_get [] [] size same = refl
 ext_get [] (y ∷ ys) size same = absurd (omega arith)
 ext_get (x ∷ xs) [] size same = absurd (omega arith)
@@ -68,9 +77,11 @@ abbrev turned : ℕ → Window → ℕ → ℕ
 turned n w place = (place + n - w.base % n) % n
 
 module _ (l : Layout) (ring : IsRing l.window) where
-  pub place_of_session : (w : Window) (place : ℕ) → place < l.window → take 32 (drop (32 * place) (drop 32 (session_bytes l w))) ≡ place_bytes (entry_at l.window w place)
+  pub place_of_session : (w : Window) (place : ℕ) → place < l.window
+      → take 32 (drop (32 * place) (drop 32 (session_bytes l w))) ≡ place_bytes (entry_at l.window w place)
   place_of_session w place lt =
-      places-piece l.window w (replicate l.window 0) (zeros (32 * l.window - 32)) 0 place (omega (arith, length-replicate {A = ℕ} l.window 0))
+      places-piece l.window w (replicate l.window 0) (zeros (32 * l.window - 32)) 0 place
+      (omega (arith, length-replicate {A = ℕ} l.window 0))
       ∙ ap (λ (k : ℕ). place_bytes (entry_at l.window w k)) (start place)
     where
       start : (k : ℕ) → 0 + k ≡ k
@@ -85,10 +96,12 @@ module _ (l : Layout) (ring : IsRing l.window) where
       by_cases (Some k) is = fits.fields j k is
 
   -- the same bytes have the same places
-  same_place : (w v : Window) → FitsWindow l w → FitsWindow l v → session_bytes l w ≡ session_bytes l v → (place : ℕ) → place < l.window → entry_at l.window w place ≡ entry_at l.window v place
+  same_place : (w v : Window) → FitsWindow l w → FitsWindow l v → session_bytes l w ≡ session_bytes l v → (place : ℕ)
+      → place < l.window → entry_at l.window w place ≡ entry_at l.window v place
   same_place w v fw fv e place lt =
       let bytes : place_bytes (entry_at l.window w place) ≡ place_bytes (entry_at l.window v place) =
-      sym (place_of_session w place lt) ∙ ap (λ (l : List ℕ). take 32 (drop (32 * place) (drop 32 l))) e ∙ place_of_session v place lt in
+      sym (place_of_session w place lt) ∙ ap (λ (l : List ℕ). take 32 (drop (32 * place) (drop 32 l))) e
+      ∙ place_of_session v place lt in
       some_inj (entry_at l.window w place) (entry_at l.window v place)
       (sym (place_in-spelled (entry_at l.window w place) (fits_at w fw (turned l.window w place)))
       ∙ ap place_in bytes
@@ -98,22 +111,27 @@ module _ (l : Layout) (ring : IsRing l.window) where
   same_base w v fw fv e =
       let bw : w.base ≤ LAST + 1 = fw.base_to in
       let bv : v.base ≤ LAST + 1 = fv.base_to in
-      sym (little_number-reads_back 8 w.base [] (omega arith)) ∙ ap (λ (l : List ℕ). little_number 8 (take 8 l)) e ∙ little_number-reads_back 8 v.base [] (omega arith)
+      sym (little_number-reads_back 8 w.base [] (omega arith)) ∙ ap (λ (l : List ℕ). little_number 8 (take 8 l)) e
+      ∙ little_number-reads_back 8 v.base [] (omega arith)
 
   same_count : (w v : Window) → session_bytes l w ≡ session_bytes l v → length w.kept ≡ length v.kept
   same_count w v e = ap (λ (l : List ℕ). slice_index l 8) e
 
-  same_kept : (w v : Window) → FitsWindow l w → FitsWindow l v → session_bytes l w ≡ session_bytes l v → (j : ℕ) → j < length w.kept → slice_get w.kept j ≡ slice_get v.kept j
+  same_kept : (w v : Window) → FitsWindow l w → FitsWindow l v → session_bytes l w ≡ session_bytes l v → (j : ℕ)
+      → j < length w.kept → slice_get w.kept j ≡ slice_get v.kept j
   same_kept w v fw fv e j lt =
       let few : length w.kept ≤ l.window = fw.few in
       let base : w.base ≡ v.base = same_base w v fw fv e in
       let at : ℕ = (w.base + j) % l.window in
-      let place : entry_at l.window w at ≡ entry_at l.window v at = same_place w v fw fv e at (ring.below (w.base + j)) in
+      let place : entry_at l.window w at
+      ≡ entry_at l.window v at = same_place w v fw fv e at (ring.below (w.base + j)) in
       let here : turned l.window w at ≡ j = ring.turn_back w.base j (omega arith) in
-      let there : turned l.window v at ≡ j = ap (λ (b : ℕ). (at + l.window - b % l.window) % l.window) (sym base) ∙ here in
+      let there : turned l.window v at ≡ j = ap (λ (b : ℕ). (at + l.window - b % l.window) % l.window) (sym base)
+      ∙ here in
       ap (λ (k : ℕ). slice_get w.kept k) (sym here) ∙ place ∙ ap (λ (k : ℕ). slice_get v.kept k) there
 
-  pub session_bytes-one : (w v : Window) → FitsWindow l w → FitsWindow l v → session_bytes l w ≡ session_bytes l v → w ≡ v
+  pub session_bytes-one : (w v : Window) → FitsWindow l w → FitsWindow l v → session_bytes l w ≡ session_bytes l v
+      → w ≡ v
   session_bytes-one w v fw fv e =
       let base : w.base ≡ v.base = same_base w v fw fv e in
       let kept : w.kept ≡ v.kept = ext_get w.kept v.kept (same_count w v e) (same_kept w v fw fv e) in

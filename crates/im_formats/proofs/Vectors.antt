@@ -14,23 +14,29 @@ abbrev sizes : ℕ → ℕ → ℕ → Sizes
 sizes cells elements slots = record { cells = cells; elements = elements; slots = slots }
 
 -- the least image, the default elements with few and with the default slots, and the largest image
-pages : area_pages layout_1 (sizes 1 1 16) ∷ area_pages layout_1 (sizes 4096 16 16) ∷ area_pages layout_1 (sizes 65536 64 4096) ∷ [] ≡ 3 ∷ 37 ∷ 532 ∷ []
+pages : area_pages layout_1 (sizes 1 1 16) ∷ area_pages layout_1 (sizes 4096 16 16) ∷ area_pages layout_1
+    (sizes 65536 64 4096) ∷ [] ≡ 3 ∷ 37 ∷ 532 ∷ []
 pages = refl
 
-journals : journal_at layout_1 (sizes 1 1 16) ∷ journal_at layout_1 (sizes 4096 16 256) ∷ journal_at layout_1 (sizes 65536 64 4096) ∷ [] ≡ 32768 ∷ 311296 ∷ 4366336 ∷ []
+journals : journal_at layout_1 (sizes 1 1 16) ∷ journal_at layout_1 (sizes 4096 16 256) ∷ journal_at layout_1
+    (sizes 65536 64 4096) ∷ [] ≡ 32768 ∷ 311296 ∷ 4366336 ∷ []
 journals = refl
 
-lengths : image_length layout_1 (sizes 1 1 16) ∷ image_length layout_1 (sizes 4096 16 16) ∷ image_length layout_1 (sizes 4096 16 256) ∷ image_length layout_1 (sizes 65536 64 4096) ∷ [] ≡ 33792 ∷ 312320 ∷ 327680 ∷ 4628480 ∷ []
+lengths : image_length layout_1 (sizes 1 1 16) ∷ image_length layout_1 (sizes 4096 16 16) ∷ image_length layout_1
+    (sizes 4096 16 256) ∷ image_length layout_1 (sizes 65536 64 4096) ∷ [] ≡ 33792 ∷ 312320 ∷ 327680 ∷ 4628480 ∷ []
 lengths = refl
 
 -- in the second version: the default image, that of 65,536 cells, and the largest
-pages_of_two : area_pages layout_2 (sizes 4096 16 256) ∷ area_pages layout_2 (sizes 65536 64 4096) ∷ area_pages layout_2 (sizes 1048576 64 4096) ∷ [] ≡ 52 ∷ 592 ∷ 8272 ∷ []
+pages_of_two : area_pages layout_2 (sizes 4096 16 256) ∷ area_pages layout_2
+    (sizes 65536 64 4096) ∷ area_pages layout_2 (sizes 1048576 64 4096) ∷ [] ≡ 52 ∷ 592 ∷ 8272 ∷ []
 pages_of_two = refl
 
-journals_of_two : journal_at layout_2 (sizes 4096 16 256) ∷ journal_at layout_2 (sizes 4096 16 16) ∷ [] ≡ 434176 ∷ 434176 ∷ []
+journals_of_two : journal_at layout_2 (sizes 4096 16 256) ∷ journal_at layout_2 (sizes 4096 16 16) ∷ []
+    ≡ 434176 ∷ 434176 ∷ []
 journals_of_two = refl
 
-lengths_of_two : image_length layout_2 (sizes 4096 16 256) ∷ image_length layout_2 (sizes 65536 64 4096) ∷ [] ≡ 450560 ∷ 5120000 ∷ []
+lengths_of_two : image_length layout_2 (sizes 4096 16 256) ∷ image_length layout_2 (sizes 65536 64 4096) ∷ []
+    ≡ 450560 ∷ 5120000 ∷ []
 lengths_of_two = refl
 
 -- the header of a new default image
@@ -53,7 +59,8 @@ slot_of_store : 0xA5 ∷ slot_body 1 2 store_42
 slot_of_store = refl
 
 -- a confirmation has code 8, and neither address nor value
-slot_of_confirmation : slot_body 1 16 (Confirm 1 17) ≡ 1 ∷ 8 ∷ 0 ∷ 1 ∷ 0 ∷ 0 ∷ 0 ∷ 16 ∷ zeros 7 ++ 17 ∷ zeros 7 ++ zeros 40
+slot_of_confirmation : slot_body 1 16 (Confirm 1 17)
+    ≡ 1 ∷ 8 ∷ 0 ∷ 1 ∷ 0 ∷ 0 ∷ 0 ∷ 16 ∷ zeros 7 ++ 17 ∷ zeros 7 ++ zeros 40
 slot_of_confirmation = refl
 
 -- a reset has code 9
@@ -79,12 +86,14 @@ abbrev small : Ring
 small = record { base = 0; slots = 2 }
 
 -- two slots from sequence number 16 on: the run is the first, and behind it is a stale one
-run_of_one : tail small 16 ((0xA5 ∷ slot_body 1 16 alloc_two) ++ (0xA5 ∷ slot_body 1 15 store_42)) ≡ Some (record { commands = alloc_two ∷ []; room = 0 })
+run_of_one : tail small 16 ((0xA5 ∷ slot_body 1 16 alloc_two) ++ (0xA5 ∷ slot_body 1 15 store_42))
+    ≡ Some (record { commands = alloc_two ∷ []; room = 0 })
 unfolding tail slot continues read_in command_in sequence_of
 run_of_one = refl
 
 -- a slot behind the run that is of no earlier command
-late_slot : tail small 16 ((0xA5 ∷ slot_body 1 16 alloc_two) ++ (0 ∷ slot_body 1 16 store_42)) ≡ Some (record { commands = alloc_two ∷ []; room = 1 })
+late_slot : tail small 16 ((0xA5 ∷ slot_body 1 16 alloc_two) ++ (0 ∷ slot_body 1 16 store_42))
+    ≡ Some (record { commands = alloc_two ∷ []; room = 1 })
 unfolding tail slot continues read_in command_in sequence_of
 late_slot = refl
 
@@ -92,7 +101,8 @@ late_slot = refl
 slot_of_leader : slot_body 3 0 alloc_two ≡ 3 ∷ 1 ∷ 0 ∷ 0 ∷ 0 ∷ 0 ∷ 0 ∷ zeros 8 ++ 1 ∷ zeros 7 ++ 2 ∷ zeros 7 ++ zeros 32
 slot_of_leader = refl
 
-slot_of_follower : slot_body 0 2 store_42 ≡ 0 ∷ 5 ∷ 0 ∷ 2 ∷ 0 ∷ 0 ∷ 0 ∷ 2 ∷ zeros 7 ++ 1 ∷ zeros 7 ++ zeros 8 ++ 0x2A ∷ zeros 7 ++ zeros 24
+slot_of_follower : slot_body 0 2 store_42
+    ≡ 0 ∷ 5 ∷ 0 ∷ 2 ∷ 0 ∷ 0 ∷ 0 ∷ 2 ∷ zeros 7 ++ 1 ∷ zeros 7 ++ zeros 8 ++ 0x2A ∷ zeros 7 ++ zeros 24
 slot_of_follower = refl
 
 -- a slot that counts so many commands, and one behind it that has this gate and counts so many under that number
@@ -109,7 +119,9 @@ unfolding tail slot continues read_in command_in sequence_of
 any_gate = refl
 
 -- the run may begin anew before both or behind both, and not between them
-boundaries_of_two : is_boundary 0 0 (run small 0 (two 2 0 0 1)) ∷ is_boundary 0 1 (run small 0 (two 2 0 0 1)) ∷ is_boundary 0 2 (run small 0 (two 2 0 0 1)) ∷ is_boundary 0 3 (run small 0 (two 2 0 0 1)) ∷ []
+boundaries_of_two : is_boundary 0 0 (run small 0 (two 2 0 0 1)) ∷ is_boundary 0 1
+    (run small 0 (two 2 0 0 1)) ∷ is_boundary 0 2 (run small 0 (two 2 0 0 1)) ∷ is_boundary 0 3
+    (run small 0 (two 2 0 0 1)) ∷ []
     ≡ true ∷ false ∷ true ∷ false ∷ []
 unfolding slot continues sequence_of
 boundaries_of_two = refl
@@ -150,10 +162,13 @@ abbrev last : ℕ
 last = 4611686018427387904
 
 -- a group that goes on to the last number, and one that goes past it
-group_to_the_last : tail small (last - 2) ((0xA5 ∷ slot_body 2 (last - 2) alloc_two) ++ (0 ∷ slot_body 0 (last - 1) store_42)) ≡ Some (record { commands = alloc_two ∷ store_42 ∷ []; room = 0 })
+group_to_the_last : tail small (last - 2)
+    ((0xA5 ∷ slot_body 2 (last - 2) alloc_two) ++ (0 ∷ slot_body 0 (last - 1) store_42))
+    ≡ Some (record { commands = alloc_two ∷ store_42 ∷ []; room = 0 })
 unfolding tail slot continues read_in command_in sequence_of
 group_to_the_last = refl
 
-group_past_the_last : tail small (last - 1) ((0 ∷ slot_body 0 last store_42) ++ (0xA5 ∷ slot_body 2 (last - 1) alloc_two)) ≡ None
+group_past_the_last : tail small (last - 1)
+    ((0 ∷ slot_body 0 last store_42) ++ (0xA5 ∷ slot_body 2 (last - 1) alloc_two)) ≡ None
 unfolding tail slot continues read_in command_in sequence_of
 group_past_the_last = refl

@@ -1,5 +1,6 @@
 -- A change is of the memory's own cells.
-use Rattle.std.proofs.Common.{◌≡◌, ◌≤◌, ◌<◌, ◌+◌, ℕ, suc, List, [], ◌∷◌, ◌++◌, Some, None, Bool, true, false, cond, refl, ap, arith, length, take, drop}
+use Rattle.std.proofs.Common.{◌≡◌, ◌≤◌, ◌<◌, ◌+◌, ℕ, suc, List, [], ◌∷◌, ◌++◌, Some, None, Bool, true, false, cond}
+use Rattle.std.proofs.Common.{refl, ap, arith, length, take, drop}
 use Rattle.std.specs.Prelude.{Option, option_map, nat_lt, ◌==◌}
 use Rattle.std.specs.List.{AllByRecursion, list_any}
 use Rattle.std.proofs.lemmas.Bool.Decides.{nat_tests}
@@ -12,7 +13,8 @@ use Rattle.im_types.specs.declared.commands.Command.TheVariants.{Request as Asks
 use Rattle.im_types.specs.declared.changes.Change.TheVariants.{Same, Gone}
 use Rattle.im_types.specs.Contents.{CellState, Empty, Full, Clashed, Held, Contents, HasBlocks, held_at, full_in}
 use Rattle.im_types.specs.Act.{same_kind, block_with_base, is_waiting_cell}
-use Rattle.im_types.specs.Changes.{is_below, store_change, store_change_in, emptying_change, change_of, change_by, fill_at, fills_from, opening}
+use Rattle.im_types.specs.Changes.{is_below, store_change, store_change_in, emptying_change, change_of, change_by}
+use Rattle.im_types.specs.Changes.{fill_at, fills_from, opening}
 use Rattle.im_laws.proofs.AgreementLemmas.{held_at-within}
 
 below : (n a : ℕ) → a < n → nat_lt a n ≡ true
@@ -30,10 +32,12 @@ store-below n a v h (Empty readers) = below n a h
 store-below n a v h (Full w) = gone-below n a 1 (omega arith)
 store-below n a v h (Clashed w) = refl
 
-emptied-below : (cells : List (Option Held)) → HasBlocks cells → (a : ℕ) → is_below (length cells) (emptying_change cells a (block_with_base a (held_at cells a))) ≡ true
+emptied-below : (cells : List (Option Held)) → HasBlocks cells → (a : ℕ)
+    → is_below (length cells) (emptying_change cells a (block_with_base a (held_at cells a))) ≡ true
 emptied-below cells blocks a = by_held (held_at cells a) refl
   where
-    by_waiters : (block : Block) → a + block.length ≤ length cells → (t : Bool) → is_below (length cells) (cond t Same (Gone a block.length)) ≡ true
+    by_waiters : (block : Block) → a + block.length ≤ length cells → (t : Bool)
+        → is_below (length cells) (cond t Same (Gone a block.length)) ≡ true
     by_waiters block h true = refl
     by_waiters block h false = gone-below (length cells) a block.length h
 
@@ -44,20 +48,24 @@ emptied-below cells blocks a = by_held (held_at cells a) refl
         let bounds = blocks.within a held.block (ap (λ (o : Option Held). option_map (λ (h : Held). h.block) o) e) in
         let last = bounds.2 in
         let same : held.block.base ≡ a = grind (arith, nat_tests) in
-        by_waiters held.block (omega (arith, last, same)) (list_any is_waiting_cell (take held.block.length (drop a cells)))
+        by_waiters held.block (omega (arith, last, same))
+        (list_any is_waiting_cell (take held.block.length (drop a cells)))
 
-    by_held : (o : Option Held) → held_at cells a ≡ o → is_below (length cells) (emptying_change cells a (block_with_base a o)) ≡ true
+    by_held : (o : Option Held) → held_at cells a ≡ o
+        → is_below (length cells) (emptying_change cells a (block_with_base a o)) ≡ true
     by_held None e = refl
     by_held (Some held) e = by_base held e (held.block.base == a) refl
 
-op-below : (cells : List (Option Held)) → HasBlocks cells → (op : Op) → is_below (length cells) (change_of cells op) ≡ true
+op-below : (cells : List (Option Held)) → HasBlocks cells → (op : Op) → is_below (length cells) (change_of cells op)
+    ≡ true
 op-below cells blocks (Alloc kind n) = refl
 op-below cells blocks (Fetch a) = refl
 op-below cells blocks (Take a) = refl
 op-below cells blocks (Put a v) = refl
 op-below cells blocks (Store a v) = by_held (held_at cells a) refl
   where
-    by_kind : (held : Held) → held_at cells a ≡ Some held → (t : Bool) → is_below (length cells) (cond t (store_change a v held.state) Same) ≡ true
+    by_kind : (held : Held) → held_at cells a ≡ Some held → (t : Bool)
+        → is_below (length cells) (cond t (store_change a v held.state) Same) ≡ true
     by_kind held e true = store-below (length cells) a v (held_at-within cells a held e) held.state
     by_kind held e false = refl
 
@@ -67,12 +75,14 @@ op-below cells blocks (Store a v) = by_held (held_at cells a) refl
 op-below cells blocks (Release a) = emptied-below cells blocks a
 op-below cells blocks (Reset a) = emptied-below cells blocks a
 
-pub command-below : (m : Contents) (command : Command) → HasBlocks m.cells → is_below (length m.cells) (change_by m command) ≡ true
+pub command-below : (m : Contents) (command : Command) → HasBlocks m.cells
+    → is_below (length m.cells) (change_by m command) ≡ true
 command-below m (Asks r) blocks = op-below m.cells blocks r.op
 command-below m (Confirm element upto) blocks = refl
 
 -- what an opening shows
-fills-below : (base n : ℕ) (cells : List (Option Held)) → base + length cells ≤ n → AllByRecursion (λ change. is_below n change ≡ true) (fills_from base cells)
+fills-below : (base n : ℕ) (cells : List (Option Held)) → base + length cells ≤ n
+    → AllByRecursion (λ change. is_below n change ≡ true) (fills_from base cells)
 fills-below base n [] h = tt
 fills-below base n (cell ∷ cells) h = by_value (full_in cell) (fills-below (suc base) n cells (omega arith))
   where

@@ -36,28 +36,35 @@ kind_of (Gone a n ∷ changes) = 2
 
 -- the law of groups, of any requests of other elements
 abbrev KnownBefore : Type 0
-KnownBefore = (m : Contents) (earlier : List Request) (r : Request) → AllByRecursion (λ e. r.element ≢ e.element) earlier
+KnownBefore = (m : Contents) (earlier : List Request) (r : Request)
+    → AllByRecursion (λ e. r.element ≢ e.element) earlier
     → changes_at (after_requests m earlier) (Asks r) ≡ changes_at m (Asks r)
 
 -- Two stores to one address: the second empties what the first filled.
 second_store_is_not_known : KnownBefore → ⊥
 unfolding empty_contents
-second_store_is_not_known law = differ 2 1 refl (ap kind_of (law one_cell (request 1 1 (Store 0 5) ∷ []) (request 2 1 (Store 0 6)) ((λ e. differ 2 1 refl e), tt)))
+second_store_is_not_known law = differ 2 1 refl
+    (ap kind_of (law one_cell (request 1 1 (Store 0 5) ∷ []) (request 2 1 (Store 0 6)) ((λ e. differ 2 1 refl e), tt)))
 
 -- A store behind an allocation: there was no cell.
 store_in_a_new_block_is_not_known : KnownBefore → ⊥
 unfolding empty_contents
-store_in_a_new_block_is_not_known law = differ 1 0 refl (ap kind_of (law sixteen_cells (request 0 1 (Alloc I 1) ∷ []) (request 1 1 (Store 0 5)) ((λ e. differ 1 0 refl e), tt)))
+store_in_a_new_block_is_not_known law = differ 1 0 refl
+    (ap kind_of (law sixteen_cells (request 0 1 (Alloc I 1) ∷ []) (request 1 1 (Store 0 5))
+    ((λ e. differ 1 0 refl e), tt)))
 
 -- A store behind a release: there is no cell any more.
 store_in_a_released_block_is_not_known : KnownBefore → ⊥
 unfolding empty_contents
-store_in_a_released_block_is_not_known law = differ 0 1 refl (ap kind_of (law one_cell (request 0 2 (Release 0) ∷ []) (request 1 1 (Store 0 5)) ((λ e. differ 1 0 refl e), tt)))
+store_in_a_released_block_is_not_known law = differ 0 1 refl
+    (ap kind_of (law one_cell (request 0 2 (Release 0) ∷ []) (request 1 1 (Store 0 5)) ((λ e. differ 1 0 refl e), tt)))
 
 -- A release behind the store that its reader waited for: it is answered with Released, and not with StillWaiting.
 release_is_not_known : KnownBefore → ⊥
 unfolding empty_contents
-release_is_not_known law = differ 2 0 refl (ap kind_of (law one_reader (request 2 1 (Store 0 5) ∷ []) (request 0 2 (Release 0)) ((λ e. differ 0 2 refl e), tt)))
+release_is_not_known law = differ 2 0 refl
+    (ap kind_of (law one_reader (request 2 1 (Store 0 5) ∷ []) (request 0 2 (Release 0))
+    ((λ e. differ 0 2 refl e), tt)))
 
 -- A fetch and a store to another address may stand before a store.
 a_group_is_known : AreBefore (request 1 1 (Fetch 0) ∷ request 2 1 (Store 1 6) ∷ []) (request 3 1 (Store 0 5))

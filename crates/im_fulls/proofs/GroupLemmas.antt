@@ -1,5 +1,6 @@
 -- What stands before a request in a group leaves its change.
-use Rattle.std.proofs.Common.{◌≡◌, ◌≢◌, ⊎_elim, ℕ, List, [], ◌∷◌, Some, None, Bool, true, false, cond, refl, sym, ap, ◌∙◌, subst}
+use Rattle.std.proofs.Common.{◌≡◌, ◌≢◌, ⊎_elim, ℕ, List, [], ◌∷◌, Some, None, Bool, true, false, cond, refl, sym, ap}
+use Rattle.std.proofs.Common.{◌∙◌, subst}
 use Rattle.std.specs.Prelude.{Option}
 use Rattle.std.proofs.lemmas.Bool.{cases_eq}
 use Rattle.im_types.specs.declared.operations.Op.{Op}
@@ -28,7 +29,8 @@ module _ (cells : List (Option Held)) (a v : ℕ) where
   abbrev Keeps : List (Option Held) → Type 0
   Keeps now = store_change_in a v (held_at now a) ≡ store_change_in a v (held_at cells a)
 
-  elsewhere : (kind : Kind) (f : CellState → Served) (b : ℕ) → b ≢ a → Keeps (at_cell kind f cells b (held_at cells b)).cells
+  elsewhere : (kind : Kind) (f : CellState → Served) (b : ℕ) → b ≢ a
+      → Keeps (at_cell kind f cells b (held_at cells b)).cells
   elsewhere kind f b other = by_held (held_at cells b) refl
     where
       by_kind : (held : Held) → held_at cells b ≡ Some held → (t : Bool)
@@ -37,7 +39,8 @@ module _ (cells : List (Option Held)) (a v : ℕ) where
       by_kind held at true = ⊎_elim
           (λ h. absurd (other (sym h.0)))
           (λ h. ap (store_change_in a v) h.1)
-          (held_at-set cells b a (Some (record { block = held.block; state = (f held.state).state })) (held_at-within cells b held at))
+          (held_at-set cells b a (Some (record { block = held.block; state = (f held.state).state }))
+          (held_at-within cells b held at))
 
       by_held : (o : Option Held) → held_at cells b ≡ o → Keeps (at_cell kind f cells b o).cells
       by_held None at = refl
@@ -45,22 +48,27 @@ module _ (cells : List (Option Held)) (a v : ℕ) where
 
   -- a cell that is served keeps what a store would change there
   here : (kind : Kind) (f : CellState → Served)
-      → ((s : CellState) → cond (same_kind I kind) (store_change a v (f s).state) Same ≡ cond (same_kind I kind) (store_change a v s) Same)
+      → ((s : CellState) → cond (same_kind I kind) (store_change a v (f s).state) Same
+      ≡ cond (same_kind I kind) (store_change a v s) Same)
       → Keeps (at_cell kind f cells a (held_at cells a)).cells
   here kind f same = by_held (held_at cells a) refl
     where
       by_kind : (held : Held) → held_at cells a ≡ Some held → (t : Bool) → same_kind kind held.block.kind ≡ t
-          → store_change_in a v (held_at (cond t (serve_cell cells a held.block (f held.state)) (only_tells cells WrongKind)).cells a)
+          → store_change_in a v
+          (held_at (cond t (serve_cell cells a held.block (f held.state)) (only_tells cells WrongKind)).cells a)
           ≡ store_change_in a v (Some held)
       by_kind held at false k = ap (store_change_in a v) at
       by_kind held at true k = ⊎_elim
           (λ h. ap (store_change_in a v) h.1
-          ∙ subst (λ k. cond (same_kind I k) (store_change a v (f held.state).state) Same ≡ cond (same_kind I k) (store_change a v held.state) Same)
+          ∙ subst (λ k. cond (same_kind I k) (store_change a v (f held.state).state) Same
+          ≡ cond (same_kind I k) (store_change a v held.state) Same)
           (same_kind-equal kind held.block.kind k) (same held.state))
           (λ h. absurd (h.0 refl))
-          (held_at-set cells a a (Some (record { block = held.block; state = (f held.state).state })) (held_at-within cells a held at))
+          (held_at-set cells a a (Some (record { block = held.block; state = (f held.state).state }))
+          (held_at-within cells a held at))
 
-      by_held : (o : Option Held) → held_at cells a ≡ o → store_change_in a v (held_at (at_cell kind f cells a o).cells a) ≡ store_change_in a v o
+      by_held : (o : Option Held) → held_at cells a ≡ o
+          → store_change_in a v (held_at (at_cell kind f cells a o).cells a) ≡ store_change_in a v o
       by_held None at = ap (store_change_in a v) at
       by_held (Some held) at = by_kind held at (same_kind kind held.block.kind) refl
 
@@ -70,7 +78,8 @@ module _ (cells : List (Option Held)) (a v : ℕ) where
   fetch-keeps who (Clashed w) = refl
 
   by_place : (kind : Kind) (f : CellState → Served)
-      → ((s : CellState) → cond (same_kind I kind) (store_change a v (f s).state) Same ≡ cond (same_kind I kind) (store_change a v s) Same)
+      → ((s : CellState) → cond (same_kind I kind) (store_change a v (f s).state) Same
+      ≡ cond (same_kind I kind) (store_change a v s) Same)
       → (b : ℕ) → Keeps (at_cell kind f cells b (held_at cells b)).cells
   by_place kind f same b = ⊎_elim
       (λ e. subst (λ b. Keeps (at_cell kind f cells b (held_at cells b)).cells) (sym e) (here kind f same))
@@ -108,10 +117,12 @@ module _ (m : Contents) (e r : Request) (other : r.element ≢ e.element) where
   accepted-kept : is_accepted (step m (Asks e)).contents (Asks r) ≡ is_accepted m (Asks r)
   accepted-kept = ⊎_elim
       (λ yes. let n = accepted-next m r yes in
-      next-accepted (step m (Asks e)).contents r (record { base = n.base; are = bounds-kept ∙ n.are; room = n.room; to_last = n.to_last }) ∙ sym yes)
+      next-accepted (step m (Asks e)).contents r
+      (record { base = n.base; are = bounds-kept ∙ n.are; room = n.room; to_last = n.to_last }) ∙ sym yes)
       (λ no. ⊎_elim
       (λ yes. let n = accepted-next (step m (Asks e)).contents r yes in
-      yes ∙ sym (next-accepted m r (record { base = n.base; are = sym bounds-kept ∙ n.are; room = n.room; to_last = n.to_last })))
+      yes ∙ sym (next-accepted m r
+      (record { base = n.base; are = sym bounds-kept ∙ n.are; room = n.room; to_last = n.to_last })))
       (λ also. also ∙ sym no)
       (true_or_false (is_accepted (step m (Asks e)).contents (Asks r))))
       (true_or_false (is_accepted m (Asks r)))
@@ -123,11 +134,13 @@ module _ (m : Contents) (e r : Request) (other : r.element ≢ e.element) where
     where
       change : change_of (step m (Asks e)).contents.cells r.op ≡ change_of m.cells r.op
       change = ⊎_elim
-          (λ accepted. ap (λ (s : Stepped). change_of s.contents.cells r.op) (ap (step_request m e) (accepted-fresh m e accepted)) ∙ change-kept m.cells (asker e) e.op r.op before)
+          (λ accepted. ap (λ (s : Stepped). change_of s.contents.cells r.op)
+          (ap (step_request m e) (accepted-fresh m e accepted)) ∙ change-kept m.cells (asker e) e.op r.op before)
           (λ refused. ap (λ (m : Contents). change_of m.cells r.op) (unaccepted-leaves m (Asks e) refused))
           (true_or_false (is_accepted m (Asks e)))
 
 pub group-changes : (m : Contents) (earlier : List Request) (r : Request) → AreBefore earlier r
     → changes_at (after_requests m earlier) (Asks r) ≡ changes_at m (Asks r)
 group-changes m [] r before = refl
-group-changes m (e ∷ earlier) r before = group-changes (step m (Asks e)).contents earlier r before.1 ∙ step-keeps_change m e r before.0.0 before.0.1
+group-changes m (e ∷ earlier) r before = group-changes (step m (Asks e)).contents earlier r before.1
+    ∙ step-keeps_change m e r before.0.0 before.0.1

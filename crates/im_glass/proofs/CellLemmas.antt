@@ -1,36 +1,42 @@
 -- Cells with their values, and what a change makes of them.
-use Rattle.std.proofs.Common.{◌≡◌, ◌<◌, ◌≤◌, ◌+◌, ℕ, zero, suc, List, [], ◌∷◌, length, set, get_or, replicate, Bool, true, false, Option, Some, None, refl, ap, ◌∙◌, arith, length-set}
+use Rattle.std.proofs.Common.{◌≡◌, ◌<◌, ◌≤◌, ◌+◌, ℕ, zero, suc, List, [], ◌∷◌, length, set, get_or, replicate, Bool}
+use Rattle.std.proofs.Common.{true, false, Option, Some, None, refl, ap, ◌∙◌, arith, length-set}
 use Rattle.im_types.specs.declared.changes.Change.{Change}
 use Rattle.im_types.specs.declared.changes.Change.TheVariants.{Same, Full, Gone}
 use Rattle.im_types.specs.Place.{fill}
 use Rattle.im_glass.specs.Cells.{cell_of, cells_of, written}
 
-pub cells_length : (fulls : List Bool) (values : List ℕ) → length fulls ≡ length values → length (cells_of fulls values) ≡ length fulls
+pub cells_length : (fulls : List Bool) (values : List ℕ) → length fulls ≡ length values
+    → length (cells_of fulls values) ≡ length fulls
 cells_length [] values e = refl
 cells_length (f ∷ fulls) [] e = absurd (omega (arith, e))
 cells_length (f ∷ fulls) (v ∷ values) e = ap suc (cells_length fulls values (omega (arith, e)))
 
-pub cells_get : (fulls : List Bool) (values : List ℕ) (a : ℕ) (f : Bool) (v : ℕ) → length fulls ≡ length values → a < length fulls
+pub cells_get : (fulls : List Bool) (values : List ℕ) (a : ℕ) (f : Bool) (v : ℕ) → length fulls ≡ length values
+    → a < length fulls
     → cell_of (get_or fulls a f) (get_or values a v) ≡ get_or (cells_of fulls values) a None
 cells_get [] values a f v e h = absurd (omega arith)
 cells_get (g ∷ fulls) [] a f v e h = absurd (omega (arith, e))
 cells_get (g ∷ fulls) (w ∷ values) zero f v e h = refl
 cells_get (g ∷ fulls) (w ∷ values) (suc a) f v e h = cells_get fulls values a f v (omega (arith, e)) (omega (arith, h))
 
-pub cells_past : (fulls : List Bool) (values : List ℕ) (a : ℕ) → length fulls ≤ a → None ≡ get_or (cells_of fulls values) a None
+pub cells_past : (fulls : List Bool) (values : List ℕ) (a : ℕ) → length fulls ≤ a → None
+    ≡ get_or (cells_of fulls values) a None
 cells_past [] values a h = refl
 cells_past (g ∷ fulls) [] a h = refl
 cells_past (g ∷ fulls) (w ∷ values) zero h = absurd (omega (arith, h))
 cells_past (g ∷ fulls) (w ∷ values) (suc a) h = cells_past fulls values a (omega (arith, h))
 
-pub cells_filled : (fulls : List Bool) (values : List ℕ) (a v : ℕ) → cells_of (set fulls a true) (set values a v) ≡ set (cells_of fulls values) a (Some v)
+pub cells_filled : (fulls : List Bool) (values : List ℕ) (a v : ℕ) → cells_of (set fulls a true) (set values a v)
+    ≡ set (cells_of fulls values) a (Some v)
 cells_filled [] values a v = refl
 cells_filled (g ∷ fulls) [] zero v = refl
 cells_filled (g ∷ fulls) [] (suc a) v = refl
 cells_filled (g ∷ fulls) (w ∷ values) zero v = refl
 cells_filled (g ∷ fulls) (w ∷ values) (suc a) v = ap (λ cells. cell_of g w ∷ cells) (cells_filled fulls values a v)
 
-pub cells_emptied : (fulls : List Bool) (values : List ℕ) (a : ℕ) → cells_of (set fulls a false) values ≡ set (cells_of fulls values) a None
+pub cells_emptied : (fulls : List Bool) (values : List ℕ) (a : ℕ) → cells_of (set fulls a false) values
+    ≡ set (cells_of fulls values) a None
 cells_emptied [] values a = refl
 cells_emptied (g ∷ fulls) [] zero = refl
 cells_emptied (g ∷ fulls) [] (suc a) = refl
@@ -47,11 +53,14 @@ fill-none [] base = refl
 fill-none (c ∷ cells) zero = refl
 fill-none (c ∷ cells) (suc base) = ap (λ cells. c ∷ cells) (fill-none cells base)
 
-pub fill-more : {X : Type 0} (cells : List (Option X)) (base n : ℕ) → set (fill cells base n None) (base + n) None ≡ fill cells base (suc n) None
+pub fill-more : {X : Type 0} (cells : List (Option X)) (base n : ℕ) → set (fill cells base n None) (base + n) None
+    ≡ fill cells base (suc n) None
 fill-more [] base n = refl
 fill-more (c ∷ cells) zero zero = ap (λ cells. None ∷ cells) (fill-none cells 0)
-fill-more (c ∷ cells) zero (suc n) = ap (λ (a : ℕ). set (None ∷ fill cells zero n None) a None) (let e : 0 + suc n ≡ suc (0 + n) = omega arith in e) ∙ ap (λ cells. None ∷ cells) (fill-more cells zero n)
-fill-more (c ∷ cells) (suc base) n = ap (λ (a : ℕ). set (c ∷ fill cells base n None) a None) (let e : suc base + n ≡ suc (base + n) = omega arith in e) ∙ ap (λ cells. c ∷ cells) (fill-more cells base n)
+fill-more (c ∷ cells) zero (suc n) = ap (λ (a : ℕ). set (None ∷ fill cells zero n None) a None)
+    (let e : 0 + suc n ≡ suc (0 + n) = omega arith in e) ∙ ap (λ cells. None ∷ cells) (fill-more cells zero n)
+fill-more (c ∷ cells) (suc base) n = ap (λ (a : ℕ). set (c ∷ fill cells base n None) a None)
+    (let e : suc base + n ≡ suc (base + n) = omega arith in e) ∙ ap (λ cells. c ∷ cells) (fill-more cells base n)
 
 pub length-filled : {X : Type 0} (cells : List (Option X)) (base n : ℕ) → length (fill cells base n None) ≡ length cells
 length-filled [] base n = refl

@@ -1,5 +1,7 @@
 -- What is put ahead, one change after another, and what a copy is after it.
-use Rattle.std.proofs.Common.{◌≡◌, ◌≢◌, ◌<◌, ℕ, zero, suc, replicate, Bool, true, false, List, [], ◌∷◌, ◌++◌, length, fold, set, get_or, sym, refl, ap, ◌∙◌, cond, subst, Option, Some, None, arith, append_assoc, get_or-set_same, get_or-set_other}
+use Rattle.std.proofs.Common.{◌≡◌, ◌≢◌, ◌<◌, ℕ, zero, suc, replicate, Bool, true, false, List, [], ◌∷◌, ◌++◌, length}
+use Rattle.std.proofs.Common.{fold, set, get_or, sym, refl, ap, ◌∙◌, cond, subst, Option, Some, None, arith}
+use Rattle.std.proofs.Common.{append_assoc, get_or-set_same, get_or-set_other}
 use Rattle.std.specs.Prelude.{◌==◌}
 use Rattle.std.proofs.lemmas.Bool.Decides.{nat_tests}
 use Rattle.std.proofs.lemmas.List.{append-nil}
@@ -13,40 +15,56 @@ use Rattle.im_glass.specs.Cells.{written}
 use Rattle.im_glass.specs.Copies.{History, CopyState, IsKept, GoesOn, IsIdle, applied_to, after_all, changes_ahead}
 use Rattle.im_glass.proofs.CellLemmas.{length-written}
 
-value_after-more : (a : ℕ) (changes : List Change) (change : Change) → value_after a None (changes ++ change ∷ []) ≡ changed a (value_after a None changes) change
+value_after-more : (a : ℕ) (changes : List Change) (change : Change) → value_after a None (changes ++ change ∷ [])
+    ≡ changed a (value_after a None changes) change
 value_after-more a changes change = go changes None
   where
-    go : (changes : List Change) (value : Option ℕ) → fold (changed a) value (changes ++ change ∷ []) ≡ changed a (fold (changed a) value changes) change
+    go : (changes : List Change) (value : Option ℕ) → fold (changed a) value (changes ++ change ∷ [])
+        ≡ changed a (fold (changed a) value changes) change
     go [] value = refl
     go (c ∷ changes) value = go changes (changed a value c)
 
-get_or-filled : (cells : List (Option ℕ)) (b v : ℕ) → b < length cells → (a : ℕ) → get_or (set cells b (Some v)) a None ≡ cond (a == b) (Some v) (get_or cells a None)
+get_or-filled : (cells : List (Option ℕ)) (b v : ℕ) → b < length cells → (a : ℕ)
+    → get_or (set cells b (Some v)) a None ≡ cond (a == b) (Some v) (get_or cells a None)
 get_or-filled cells b v below a = by_test (a == b) refl
   where
     by_test : (t : Bool) → (a == b) ≡ t → get_or (set cells b (Some v)) a None ≡ cond t (Some v) (get_or cells a None)
-    by_test true e = let same : a ≡ b = grind (arith, nat_tests) in rw same (let within : b < length cells = below in rw get_or-set_same refl)
+    by_test true e = let same : a
+        ≡ b = grind (arith, nat_tests) in rw same (let within : b < length cells = below in rw get_or-set_same refl)
     by_test false e = let other : a ≢ b = grind (arith, nat_tests) in rw get_or-set_other refl
 
 -- the cells after one more change
-pub written-kept : (cells : List (Option ℕ)) (changes : List Change) (change : Change) → ((a : ℕ) → get_or cells a None ≡ value_after a None changes)
-    → is_below (length cells) change ≡ true → (a : ℕ) → get_or (written cells change) a None ≡ value_after a None (changes ++ change ∷ [])
+pub written-kept : (cells : List (Option ℕ)) (changes : List Change) (change : Change)
+    → ((a : ℕ) → get_or cells a None ≡ value_after a None changes)
+    → is_below (length cells) change ≡ true → (a : ℕ) → get_or (written cells change) a None
+    ≡ value_after a None (changes ++ change ∷ [])
 written-kept cells changes Same kept below a = kept a ∙ sym (value_after-more a changes Same)
 written-kept cells changes (Full b v) kept below a =
-    get_or-filled cells b v (grind (arith, nat_tests)) a ∙ (ap (λ value. cond (a == b) (Some v) value) (kept a) ∙ sym (value_after-more a changes (Full b v)))
+    get_or-filled cells b v (grind (arith, nat_tests)) a
+    ∙ (ap (λ value. cond (a == b) (Some v) value) (kept a) ∙ sym (value_after-more a changes (Full b v)))
 written-kept cells changes (Gone base n) kept below a =
-    get_or-emptied cells base n a ∙ (ap (λ value. cond (is_among base n a) None value) (kept a) ∙ sym (value_after-more a changes (Gone base n)))
+    get_or-emptied cells base n a
+    ∙ (ap (λ value. cond (is_among base n a) None value) (kept a) ∙ sym (value_after-more a changes (Gone base n)))
 
-changes_ahead-more : (all : List Ahead) (ahead : Ahead) → changes_ahead (all ++ ahead ∷ []) ≡ changes_ahead all ++ ahead.change ∷ []
+changes_ahead-more : (all : List Ahead) (ahead : Ahead) → changes_ahead (all ++ ahead ∷ [])
+    ≡ changes_ahead all ++ ahead.change ∷ []
 changes_ahead-more [] ahead = refl
 changes_ahead-more (first ∷ all) ahead = ap (λ changes. first.change ∷ changes) (changes_ahead-more all ahead)
 
 -- one change more is put ahead
-pub goes_on-more : (n : ℕ) (book : Book) (changes : List Change) (all : List Ahead) (ahead : Ahead) → GoesOn n book changes all
-    → ahead.seen.book ≡ book → ahead.seen.log ≡ (changes ++ changes_ahead all) ++ ahead.change ∷ [] → ahead.count ≡ length ahead.seen.log → is_below n ahead.change ≡ true
-    → GoesOn n book changes (all ++ ahead ∷ []) × (changes_ahead (all ++ ahead ∷ []) ≡ changes_ahead all ++ ahead.change ∷ [])
-goes_on-more n book changes [] ahead h b e c below = ((b, e ∙ ap (λ l. l ++ ahead.change ∷ []) (append-nil changes), c, below, tt), refl)
+pub goes_on-more : (n : ℕ) (book : Book) (changes : List Change) (all : List Ahead) (ahead : Ahead)
+    → GoesOn n book changes all
+    → ahead.seen.book ≡ book → ahead.seen.log ≡ (changes ++ changes_ahead all) ++ ahead.change ∷ [] → ahead.count
+    ≡ length ahead.seen.log → is_below n ahead.change ≡ true
+    → GoesOn n book changes (all ++ ahead ∷ [])
+    × (changes_ahead (all ++ ahead ∷ []) ≡ changes_ahead all ++ ahead.change ∷ [])
+goes_on-more n book changes [] ahead h b e c below =
+    ((b, e ∙ ap (λ l. l ++ ahead.change ∷ []) (append-nil changes), c, below, tt), refl)
 goes_on-more n book changes (first ∷ all) ahead h b e c below =
-    let r = goes_on-more n book first.seen.log all ahead h.4 b (e ∙ ap (λ l. l ++ ahead.change ∷ []) (sym (ap (λ l. l ++ changes_ahead all) h.1 ∙ append_assoc changes (first.change ∷ []) (changes_ahead all)))) c below in
+    let r = goes_on-more n book first.seen.log all ahead h.4 b
+    (e ∙ ap (λ l. l ++ ahead.change ∷ [])
+    (sym (ap (λ l. l ++ changes_ahead all) h.1
+    ∙ append_assoc changes (first.change ∷ []) (changes_ahead all)))) c below in
     ((h.0, h.1, h.2, h.3, r.0), ap (λ l. first.change ∷ l) r.1)
 
 -- what a copy is after all that was put ahead
@@ -56,25 +74,40 @@ pub record Brought (book : Book) (changes : List Change) (n : ℕ) (s : CopyStat
   pub kept : IsKept s
   pub cells : length s.1 ≡ n
 
-pub brought : (all : List Ahead) (book : Book) (s : CopyState) → s.0.book ≡ book → IsKept s → GoesOn (length s.1) book s.0.log all
+pub brought : (all : List Ahead) (book : Book) (s : CopyState) → s.0.book ≡ book → IsKept s
+    → GoesOn (length s.1) book s.0.log all
     → Brought book (s.0.log ++ changes_ahead all) (length s.1) (after_all s all)
 brought [] book s b kept h = record { log = sym (append-nil s.0.log); book_is = b; kept = kept; cells = refl }
 brought (ahead ∷ all) book s b kept h =
     let next : CopyState = (ahead.seen, written s.1 ahead.change, ahead.count) in
     let is : applied_to s ahead ≡ next = rw h.3 refl in
     let same = length-written s.1 ahead.change in
-    let kept' : IsKept next = record { values = λ a. written-kept s.1 s.0.log ahead.change kept.values h.3 a ∙ ap (λ l. value_after a None l) (sym h.1); count = h.2 } in
+    let kept' : IsKept next = record {
+      values = λ a. written-kept s.1 s.0.log ahead.change kept.values h.3 a
+          ∙ ap (λ l. value_after a None l) (sym h.1);
+      count = h.2;
+    } in
     let r = brought all book next h.0 kept' (subst (λ (n : ℕ). GoesOn n book ahead.seen.log all) (sym same) h.4) in
     let r' : Brought book (s.0.log ++ changes_ahead (ahead ∷ all)) (length s.1) (after_all next all) =
-    record { log = r.log ∙ (ap (λ l. l ++ changes_ahead all) h.1 ∙ append_assoc s.0.log (ahead.change ∷ []) (changes_ahead all)); book_is = r.book_is; kept = r.kept; cells = r.cells ∙ same } in
-    subst (λ (q : CopyState). Brought book (s.0.log ++ changes_ahead (ahead ∷ all)) (length s.1) (after_all q all)) (sym is) r'
+    record {
+      log = r.log ∙
+          (ap (λ l. l ++ changes_ahead all) h.1
+          ∙ append_assoc s.0.log (ahead.change ∷ [])
+          (changes_ahead all));
+      book_is = r.book_is;
+      kept = r.kept;
+      cells = r.cells ∙ same;
+    } in
+    subst (λ (q : CopyState). Brought book (s.0.log ++ changes_ahead (ahead ∷ all)) (length s.1) (after_all q all))
+    (sym is) r'
 
 -- what changes nothing
 pub idle-all : (all : List Ahead) (s : CopyState) → IsIdle s all → after_all s all ≡ s
 idle-all [] s h = refl
 idle-all (ahead ∷ all) s h = ap (λ (q : CopyState). after_all q all) h.0 ∙ idle-all all s h.1
 
-pub idle-more : (all : List Ahead) (s : CopyState) (ahead : Ahead) → IsIdle s all → applied_to s ahead ≡ s → IsIdle s (all ++ ahead ∷ [])
+pub idle-more : (all : List Ahead) (s : CopyState) (ahead : Ahead) → IsIdle s all → applied_to s ahead ≡ s
+    → IsIdle s (all ++ ahead ∷ [])
 idle-more [] s ahead h e = (e, tt)
 idle-more (first ∷ all) s ahead h e = (h.0, idle-more all s ahead h.1 e)
 
@@ -91,5 +124,9 @@ all-none (suc n) (suc a) = all-none n a
 
 pub new-kept : (s : CopyState) (seen : History) (n : ℕ) → seen.log ≡ [] → s ≡ (seen, replicate n None, 0) → IsKept s
 new-kept s seen n none is =
-    let kept : IsKept (seen, replicate n None, 0) = record { values = λ a. all-none n a ∙ sym (ap (λ log. value_after a None log) none); count = sym (ap length none) } in
+    let kept : IsKept (seen, replicate n None, 0) = record {
+      values = λ a. all-none n a
+          ∙ sym (ap (λ log. value_after a None log) none);
+      count = sym (ap length none);
+    } in
     subst (λ (s : CopyState). IsKept s) (sym is) kept

@@ -3,7 +3,8 @@ use Rattle.std.proofs.Common.{◌≡◌, ◌≤◌, List, [], ◌∷◌, length,
 use mathlib.Core.List.{IsPrefix}
 
 -- of two beginnings of one list the shorter begins the longer
-pub prefix_shorter : {A : Type 0} (xs ys zs : List A) → IsPrefix xs zs → IsPrefix ys zs → length xs ≤ length ys → IsPrefix xs ys
+pub prefix_shorter : {A : Type 0} (xs ys zs : List A) → IsPrefix xs zs → IsPrefix ys zs → length xs ≤ length ys
+    → IsPrefix xs ys
 prefix_shorter [] ys zs p q le = (ys, refl)
 prefix_shorter (x ∷ xs) [] zs p q le = absurd (omega arith)
 prefix_shorter (x ∷ xs) (y ∷ ys) [] p q le = absurd (cc (p.1))

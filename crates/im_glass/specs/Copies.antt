@@ -1,5 +1,6 @@
 -- What the two copies hold, and what is put ahead of them. (Own.)
-use Rattle.std.specs.Prelude.{◌≡◌, ℕ, if◌then◌else◌, true, List, [], ◌∷◌, ◌++◌, length, fold, Option, None, slice_index_or}
+use Rattle.std.specs.Prelude.{◌≡◌, ℕ, if◌then◌else◌, true, List, [], ◌∷◌, ◌++◌, length, fold, Option, None}
+use Rattle.std.specs.Prelude.{slice_index_or}
 use Rattle.logbook.specs.Pages.{Book}
 use Rattle.logbook.specs.declared.tokens.Seen.{Seen}
 use Rattle.im_types.specs.declared.changes.Change.{Change}

@@ -25,26 +25,35 @@ event_with e op = record { request = record { element = e.request.element; numbe
 -- Of a law there are given: which state a cell has after the requests of its life so far (Agrees), and which entry the request that waits at a place
 -- of the cell's list has in the end, by all requests of the life and those so far (due).
 -- A request for the cell, after those so far, keeps both, and is given what the law says:
-pub record IsServed (kind : Kind) (a : ℕ) (Agrees : List Event → CellState → Type 0) (due : List Event → List Event → ℕ → Entry) (early : List Event) (e : Event) (state : CellState) : Type 0 where
+pub record IsServed (kind : Kind) (a : ℕ) (Agrees : List Event → CellState → Type 0)
+    (due : List Event → List Event → ℕ → Entry) (early : List Event) (e : Event) (state : CellState) : Type 0 where
   pub agrees : Agrees (early ++ e ∷ []) (served_by e state).state
   -- who waits is resumed with what is due, or waits on, perhaps at another place, and the same is due
-  pub waits : (all later : List Event) → all ≡ early ++ e ∷ later → (k : ℕ) (who : Waiter) → slice_get (waiters_of state) k ≡ Some who
+  pub waits : (all later : List Event) → all ≡ early ++ e ∷ later → (k : ℕ) (who : Waiter)
+      → slice_get (waiters_of state) k ≡ Some who
       → ((1 ≤ times who (answered_by e.request.op state)) × (due all early k ≡ Answered (given_by e.request.op)))
-      ⊎ ((j : ℕ) × (slice_get (waiters_of (served_by e state).state) j ≡ Some who) × (due all (early ++ e ∷ []) j ≡ due all early k))
+      ⊎ ((j : ℕ) × (slice_get (waiters_of (served_by e state).state) j ≡ Some who)
+      × (due all (early ++ e ∷ []) j ≡ due all early k))
   -- the asker has the lawful entry at once, or waits and this is due
-  pub asked : (all later : List Event) → all ≡ early ++ e ∷ later → IfSome (lawful_entry kind a all early e e.request.op) (λ entry.
+  pub asked : (all later : List Event) → all ≡ early ++ e ∷ later
+      → IfSome (lawful_entry kind a all early e e.request.op) (λ entry.
       ((reply : Reply) × ((served_by e state).entry ≡ Answered reply) × (entry ≡ Answered reply))
-      ⊎ ((j : ℕ) × (slice_get (waiters_of (served_by e state).state) j ≡ Some (asker e.request)) × (due all (early ++ e ∷ []) j ≡ entry)))
+      ⊎ ((j : ℕ) × (slice_get (waiters_of (served_by e state).state) j ≡ Some (asker e.request))
+      × (due all (early ++ e ∷ []) j ≡ entry)))
 
 -- where nobody waits and the asker is answered at once
-pub served_at_once : (kind : Kind) (a : ℕ) (Agrees : List Event → CellState → Type 0) (due : List Event → List Event → ℕ → Entry) (early : List Event) (e : Event) (state : CellState)
-    → waiters_of state ≡ [] → (reply : Reply) → (served_by e state).entry ≡ Answered reply → Agrees (early ++ e ∷ []) (served_by e state).state
-    → ((all later : List Event) → all ≡ early ++ e ∷ later → IfSome (lawful_entry kind a all early e e.request.op) (λ entry. entry ≡ Answered reply))
+pub served_at_once : (kind : Kind) (a : ℕ) (Agrees : List Event → CellState → Type 0)
+    (due : List Event → List Event → ℕ → Entry) (early : List Event) (e : Event) (state : CellState)
+    → waiters_of state ≡ [] → (reply : Reply) → (served_by e state).entry ≡ Answered reply
+    → Agrees (early ++ e ∷ []) (served_by e state).state
+    → ((all later : List Event) → all ≡ early ++ e ∷ later
+    → IfSome (lawful_entry kind a all early e e.request.op) (λ entry. entry ≡ Answered reply))
     → IsServed kind a Agrees due early e state
 served_at_once kind a Agrees due early e state nobody reply told agrees lawful = record {
   agrees = agrees;
   waits = λ all later is k who w. absurd (none-some who (sym (ap (λ waiters. slice_get waiters k) nobody) ∙ w));
-  asked = λ all later is. IfSome_then (lawful_entry kind a all early e e.request.op) (lawful all later is) (λ entry same. inl (reply, told, same));
+  asked = λ all later is. IfSome_then (lawful_entry kind a all early e e.request.op) (lawful all later is)
+      (λ entry same. inl (reply, told, same));
 }
 
 pub record CellLaw (kind : Kind) (a : ℕ) : Type 1 where
@@ -53,10 +62,14 @@ pub record CellLaw (kind : Kind) (a : ℕ) : Type 1 where
   -- a new cell
   pub begins : Agrees [] (Empty [])
   -- a request that isn't for the cell
-  pub passes : (early : List Event) (e : Event) (state : CellState) → is_for kind a e.request.op ≡ false → Agrees early state → Agrees (early ++ e ∷ []) state
-  pub passes_due : (all early : List Event) (e : Event) (k : ℕ) → is_for kind a e.request.op ≡ false → due all (early ++ e ∷ []) k ≡ due all early k
+  pub passes : (early : List Event) (e : Event) (state : CellState) → is_for kind a e.request.op ≡ false
+      → Agrees early state → Agrees (early ++ e ∷ []) state
+  pub passes_due : (all early : List Event) (e : Event) (k : ℕ) → is_for kind a e.request.op ≡ false
+      → due all (early ++ e ∷ []) k ≡ due all early k
   -- a request that is
-  pub serves : (early : List Event) (e : Event) (state : CellState) → is_for kind a e.request.op ≡ true → Agrees early state → IsServed kind a Agrees due early e state
+  pub serves : (early : List Event) (e : Event) (state : CellState) → is_for kind a e.request.op ≡ true
+      → Agrees early state → IsServed kind a Agrees due early e state
   -- at the end of the life who waits is still waiting
-  pub ends : (early : List Event) (state : CellState) → Agrees early state → (k : ℕ) (who : Waiter) → slice_get (waiters_of state) k ≡ Some who
+  pub ends : (early : List Event) (state : CellState) → Agrees early state → (k : ℕ) (who : Waiter)
+      → slice_get (waiters_of state) k ≡ Some who
       → due early early k ≡ Waiting

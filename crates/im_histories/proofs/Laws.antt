@@ -11,5 +11,6 @@ use Rattle.im_histories.proofs.AllLives.{lawful_lives}
 pub every_value_law : (cells elements : ℕ) (commands : List Command) → ValueLaw (empty_contents cells elements) commands
 every_value_law cells elements commands = lawful_lives I fetch_law cells elements commands
 
-pub every_matching_law : (cells elements : ℕ) (commands : List Command) → MatchingLaw (empty_contents cells elements) commands
+pub every_matching_law : (cells elements : ℕ) (commands : List Command)
+    → MatchingLaw (empty_contents cells elements) commands
 every_matching_law cells elements commands = lawful_lives M take_law cells elements commands

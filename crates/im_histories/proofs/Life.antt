@@ -1,5 +1,6 @@
 -- A law of one cell, said request by request, holds of the cell's whole life.
-use Rattle.std.proofs.Common.{◌≡◌, ⊎_elim, ℕ, ◌≤◌, List, [], ◌∷◌, ◌++◌, Some, None, true, false, cond, refl, sym, ap, ◌∙◌, subst, append_assoc, append-nil}
+use Rattle.std.proofs.Common.{◌≡◌, ⊎_elim, ℕ, ◌≤◌, List, [], ◌∷◌, ◌++◌, Some, None, true, false, cond, refl, sym, ap}
+use Rattle.std.proofs.Common.{◌∙◌, subst, append_assoc, append-nil}
 use Rattle.std.specs.Prelude.{slice_get, IfSome, ◌||◌}
 use Rattle.std.proofs.lemmas.List.{get_or-set_same}
 use Rattle.std.proofs.lemmas.Option.{none-some, IfSome_then, MatchOption-from_none}
@@ -18,11 +19,14 @@ use Rattle.im_types.specs.Agreement.{times, WaitingAgrees}
 use Rattle.im_types.specs.declared.operations.Reply.{Reply}
 use Rattle.im_types.specs.Act.{Served, Acted, serve_cell, act}
 use Rattle.im_types.specs.Step.{asker, step}
-use Rattle.im_types.specs.History.{Event, event_of, events, clears, ends_life, until_end, stores, entry_of_fetch, entry_of_take, entry_of_put, lawful_entry}
+use Rattle.im_types.specs.History.{Event, event_of, events, clears, ends_life, until_end, stores, entry_of_fetch}
+use Rattle.im_types.specs.History.{entry_of_take, entry_of_put, lawful_entry}
 use Rattle.im_histories.proofs.Given.{IsNext, held_at-within, step-agrees}
 use Rattle.im_histories.proofs.EndEntry.{Ends, ends-answered, ends-now, ends-later}
-use Rattle.im_histories.proofs.CellStep.{is_for, serve_op, answered_by, given_by, Meets, Passes, Serves, Frees, Clears, meets}
-use Rattle.im_histories.proofs.OneStep.{contents_of, event_for, Takes, Silent, Asked, takes_command, IsSound, sound-step, times-get, waiting_kept}
+use Rattle.im_histories.proofs.CellStep.{is_for, serve_op, answered_by, given_by, Meets, Passes, Serves, Frees}
+use Rattle.im_histories.proofs.CellStep.{Clears, meets}
+use Rattle.im_histories.proofs.OneStep.{contents_of, event_for, Takes, Silent, Asked, takes_command, IsSound}
+use Rattle.im_histories.proofs.OneStep.{sound-step, times-get, waiting_kept}
 use Rattle.im_histories.proofs.NewEntry.{own_entry, resumed_entry}
 use Rattle.im_histories.proofs.CellLaw.{IsServed, CellLaw}
 
@@ -41,7 +45,8 @@ waiting_entry Waiting e = refl
 waiting_entry (Answered reply) e = absurd (cc)
 
 -- of a request that isn't for the cell the laws say nothing
-unsaid : (kind : Kind) (a : ℕ) (all before : List Event) (e : Event) (op : Op) → is_for kind a op ≡ false → lawful_entry kind a all before e op ≡ None
+unsaid : (kind : Kind) (a : ℕ) (all before : List Event) (e : Event) (op : Op) → is_for kind a op ≡ false
+    → lawful_entry kind a all before e op ≡ None
 unsaid I a all before e (Alloc k n) h = refl
 unsaid I a all before e (Release b) h = refl
 unsaid I a all before e (Reset b) h = refl
@@ -59,7 +64,8 @@ unsaid M a all before e (Put b v) h = ap (λ t. cond t (Some (entry_of_put a bef
 
 -- from m on a request has in the end the entry that the laws say, if they say one
 abbrev pub EndsAsSaid : Kind → ℕ → Contents → List Command → List Event → List Event → Event → Type 0
-EndsAsSaid kind a m commands all before x = IfSome (lawful_entry kind a all before x x.request.op) (λ entry. Ends m commands (asker x.request) entry)
+EndsAsSaid kind a m commands all before x = IfSome (lawful_entry kind a all before x x.request.op)
+    (λ entry. Ends m commands (asker x.request) entry)
 
 module _ (kind : Kind) (a : ℕ) (law : CellLaw kind a) (base : ℕ) where
   -- the cell lies in a block with this base, after these requests of its life
@@ -71,42 +77,53 @@ module _ (kind : Kind) (a : ℕ) (law : CellLaw kind a) (base : ℕ) where
 
   -- each request of the life has in the end what the law says: who waits now, and the later ones
   pub record IsLawful (m : Contents) (commands : List Command) (held : Held) (early all : List Event) : Type 0 where
-    pub waits : (k : ℕ) (who : Waiter) → slice_get (waiters_of held.state) k ≡ Some who → Ends m commands who (law.due all early k)
+    pub waits : (k : ℕ) (who : Waiter) → slice_get (waiters_of held.state) k ≡ Some who
+        → Ends m commands who (law.due all early k)
     pub later : (before rest : List Event) (x : Event) → until_end base (events m commands) ≡ before ++ x ∷ rest
         → EndsAsSaid kind a m commands all (early ++ before) x
 
   -- no command is left
-  finished : (m : Contents) (held : Held) (early all : List Event) → IsSound m → IsAt m held early → all ≡ early ++ [] → IsLawful m [] held early all
+  finished : (m : Contents) (held : Held) (early all : List Event) → IsSound m → IsAt m held early → all
+      ≡ early ++ [] → IsLawful m [] held early all
   finished m held early all sound here is = record {
     waits = λ k who w.
         let kept = waiting_kept m sound.agrees a held here.at who (times-get (waiters_of held.state) k who w) in
         subst (Ends m [] who)
-        (waiting_entry kept.0.entry kept.2 ∙ sym (ap (λ xs. law.due xs early k) (is ∙ append-nil early) ∙ law.ends early held.state here.agrees k who w))
+        (waiting_entry kept.0.entry kept.2
+        ∙ sym (ap (λ xs. law.due xs early k) (is ∙ append-nil early)
+        ∙ law.ends early held.state here.agrees k who w))
         (ends-now m who kept.0 kept.1);
     later = λ before rest x e. absurd (nil_split before x rest e);
   }
 
-  module _ (m : Contents) (command : Command) (commands : List Command) (held : Held) (early all : List Event) (sound : IsSound m) (here : IsAt m held early) where
+  module _ (m : Contents) (command : Command) (commands : List Command) (held : Held) (early all : List Event)
+      (sound : IsSound m) (here : IsAt m held early) where
     abbrev next : Contents
     next = (step m command).contents
 
     abbrev more : List Event
     more = until_end base (events next commands)
 
-    one_earlier : (before : List Event) (x : Event) → EndsAsSaid kind a next commands all before x → EndsAsSaid kind a m (command ∷ commands) all before x
-    one_earlier before x h = IfSome_then (lawful_entry kind a all before x x.request.op) h (λ entry ends. ends-later m command commands (asker x.request) entry ends)
+    one_earlier : (before : List Event) (x : Event) → EndsAsSaid kind a next commands all before x
+        → EndsAsSaid kind a m (command ∷ commands) all before x
+    one_earlier before x h = IfSome_then (lawful_entry kind a all before x x.request.op) h
+        (λ entry ends. ends-later m command commands (asker x.request) entry ends)
 
     -- the command isn't among the requests of the life
-    quiet : event_of m command ≡ [] → IsLawful next commands held early all → IsLawful m (command ∷ commands) held early all
+    quiet : event_of m command ≡ [] → IsLawful next commands held early all
+        → IsLawful m (command ∷ commands) held early all
     quiet none rest_of = record {
       waits = λ k who w. ends-later m command commands who (law.due all early k) (rest_of.waits k who w);
-      later = λ before rest x e. one_earlier (early ++ before) x (rest_of.later before rest x (ap (λ es. until_end base (es ++ events next commands)) (sym none) ∙ e));
+      later = λ before rest x e. one_earlier (early ++ before) x
+          (rest_of.later before rest x (ap (λ es. until_end base (es ++ events next commands)) (sym none) ∙ e));
     }
 
     -- the command is one of them
-    module _ (e : Event) (one : event_of m command ≡ e ∷ []) (goes_on : ends_life base e.request.op e.entry ≡ false) where
+    module _ (e : Event) (one : event_of m command ≡ e ∷ [])
+        (goes_on : ends_life base e.request.op e.entry ≡ false) where
       life_from_here : until_end base (events m (command ∷ commands)) ≡ e ∷ more
-      life_from_here = ap (λ es. until_end base (es ++ events next commands)) one ∙ ap (λ t. cond t [] (e ∷ more)) goes_on
+      life_from_here = ap (λ es. until_end base (es ++ events next commands)) one
+          ∙ ap (λ t. cond t [] (e ∷ more)) goes_on
 
       early_and_more : all ≡ early ++ until_end base (events m (command ∷ commands)) → all ≡ early ++ e ∷ more
       early_and_more is = is ∙ ap (λ es. early ++ es) life_from_here
@@ -119,23 +136,31 @@ module _ (kind : Kind) (a : ℕ) (law : CellLaw kind a) (base : ℕ) where
           → (before rest : List Event) (x : Event) → e ∷ more ≡ before ++ x ∷ rest
           → EndsAsSaid kind a m (command ∷ commands) all (early ++ before) x
       listed held' rest_of own [] rest x is =
-          subst (λ (x : Event). EndsAsSaid kind a m (command ∷ commands) all (early ++ []) x) (same_head e x more rest is)
+          subst (λ (x : Event). EndsAsSaid kind a m (command ∷ commands) all (early ++ []) x)
+          (same_head e x more rest is)
           (subst (λ es. EndsAsSaid kind a m (command ∷ commands) all es e) (sym (append-nil early)) own)
       listed held' rest_of own (b ∷ before) rest x is =
-          subst (λ (b : Event). EndsAsSaid kind a m (command ∷ commands) all (early ++ b ∷ before) x) (same_head e b more (before ++ x ∷ rest) is)
+          subst (λ (b : Event). EndsAsSaid kind a m (command ∷ commands) all (early ++ b ∷ before) x)
+          (same_head e b more (before ++ x ∷ rest) is)
           (subst (λ es. EndsAsSaid kind a m (command ∷ commands) all es x) (append_assoc early (e ∷ []) before)
-          (one_earlier ((early ++ e ∷ []) ++ before) x (rest_of.later before rest x (same_tail e b more (before ++ x ∷ rest) is))))
+          (one_earlier ((early ++ e ∷ []) ++ before) x
+          (rest_of.later before rest x (same_tail e b more (before ++ x ∷ rest) is))))
 
       -- it isn't for the cell
-      passed : is_for kind a e.request.op ≡ false → IsLawful next commands held (early ++ e ∷ []) all → IsLawful m (command ∷ commands) held early all
+      passed : is_for kind a e.request.op ≡ false → IsLawful next commands held (early ++ e ∷ []) all
+          → IsLawful m (command ∷ commands) held early all
       passed other rest_of = record {
-        waits = λ k who w. ends-later m command commands who (law.due all early k) (subst (Ends next commands who) (law.passes_due all early e k other) (rest_of.waits k who w));
+        waits = λ k who w. ends-later m command commands who (law.due all early k)
+            (subst (Ends next commands who) (law.passes_due all early e k other) (rest_of.waits k who w));
         later = λ before rest x is.
-            listed held rest_of (MatchOption-from_none (lawful_entry kind a all early e e.request.op) _ (unsaid kind a all early e e.request.op other)) before rest x (sym life_from_here ∙ is);
+            listed held rest_of
+            (MatchOption-from_none (lawful_entry kind a all early e e.request.op) _
+            (unsaid kind a all early e e.request.op other)) before rest x (sym life_from_here ∙ is);
       }
 
     -- it is for the cell
-    module _ (r : Request) (new : IsNext m.windows r) (one : event_of m command ≡ event_for r (act m.cells (asker r) r.op) ∷ [])
+    module _ (r : Request) (new : IsNext m.windows r)
+        (one : event_of m command ≡ event_for r (act m.cells (asker r) r.op) ∷ [])
         (is : next ≡ contents_of m r (act m.cells (asker r) r.op))
         (mine : is_for kind a r.op ≡ true) (goes_on : ends_life base r.op (act m.cells (asker r) r.op).entry ≡ false)
         (acts : act m.cells (asker r) r.op ≡ serve_cell m.cells a held.block (serve_op (asker r) r.op held.state)) where
@@ -153,7 +178,8 @@ module _ (kind : Kind) (a : ℕ) (law : CellLaw kind a) (base : ℕ) where
 
       pub is_after : IsAt next held_after (early ++ e ∷ [])
       is_after = record {
-        at = ap (λ (c : Contents). held_at c.cells a) is ∙ ap (λ (acted : Acted). held_at acted.cells a) acts ∙ get_or-set_same m.cells a (Some held_after) None (held_at-within m.cells a held here.at);
+        at = ap (λ (c : Contents). held_at c.cells a) is ∙ ap (λ (acted : Acted). held_at acted.cells a) acts
+            ∙ get_or-set_same m.cells a (Some held_after) None (held_at-within m.cells a held here.at);
         is_kind = here.is_kind;
         is_base = here.is_base;
         agrees = served_rightly.agrees;
@@ -162,16 +188,19 @@ module _ (kind : Kind) (a : ℕ) (law : CellLaw kind a) (base : ℕ) where
       next_agrees : WaitingAgrees next
       next_agrees = step-agrees m command sound.agrees
 
-      resumed_end : (who : Waiter) → 1 ≤ times who (answered_by r.op held.state) → Ends m (command ∷ commands) who (Answered (given_by r.op))
+      resumed_end : (who : Waiter) → 1 ≤ times who (answered_by r.op held.state)
+          → Ends m (command ∷ commands) who (Answered (given_by r.op))
       resumed_end who some =
           let k = resumed_entry m sound.agrees r new a held here.at acts who some in
           ends-later m command commands who (Answered (given_by r.op))
-          (ends-answered next commands who k.0 (given_by r.op) next_agrees (ap (λ (c : Contents). kept_for c.windows who) is ∙ k.1) k.2)
+          (ends-answered next commands who k.0 (given_by r.op) next_agrees
+          (ap (λ (c : Contents). kept_for c.windows who) is ∙ k.1) k.2)
 
       own_end : (reply : Reply) → served.entry ≡ Answered reply → Ends m (command ∷ commands) (asker r) (Answered reply)
       own_end reply told =
           ends-later m command commands (asker r) (Answered reply)
-          (ends-answered next commands (asker r) (record { op = r.op; entry = e.entry }) reply next_agrees (ap (λ (c : Contents). kept_for c.windows (asker r)) is ∙ own_entry m sound.agrees r new)
+          (ends-answered next commands (asker r) (record { op = r.op; entry = e.entry }) reply next_agrees
+          (ap (λ (c : Contents). kept_for c.windows (asker r)) is ∙ own_entry m sound.agrees r new)
           (ap (λ (acted : Acted). acted.entry) acts ∙ told))
 
       pub served_lawful : all ≡ early ++ until_end base (events m (command ∷ commands))
@@ -179,63 +208,92 @@ module _ (kind : Kind) (a : ℕ) (law : CellLaw kind a) (base : ℕ) where
       served_lawful is_all rest_of = record {
         waits = λ k who w. ⊎_elim
             (λ resumed. subst (Ends m (command ∷ commands) who) (sym resumed.1) (resumed_end who resumed.0))
-            (λ stays. ends-later m command commands who (law.due all early k) (subst (Ends next commands who) stays.2 (rest_of.waits stays.0 who stays.1)))
+            (λ stays. ends-later m command commands who (law.due all early k)
+            (subst (Ends next commands who) stays.2 (rest_of.waits stays.0 who stays.1)))
             (served_rightly.waits all more (early_and_more e one goes_on is_all) k who w);
         later = λ before rest x f. listed e one goes_on held_after rest_of
-            (IfSome_then (lawful_entry kind a all early e r.op) (served_rightly.asked all more (early_and_more e one goes_on is_all)) (λ entry h. ⊎_elim
+            (IfSome_then (lawful_entry kind a all early e r.op)
+            (served_rightly.asked all more (early_and_more e one goes_on is_all)) (λ entry h. ⊎_elim
             (λ told. subst (Ends m (command ∷ commands) (asker r)) (sym told.2) (own_end told.0 told.1))
-            (λ waits. ends-later m command commands (asker r) entry (subst (Ends next commands (asker r)) waits.2 (rest_of.waits waits.0 (asker r) waits.1)))
+            (λ waits. ends-later m command commands (asker r) entry
+            (subst (Ends next commands (asker r)) waits.2 (rest_of.waits waits.0 (asker r) waits.1)))
             h))
             before rest x (sym (life_from_here e one goes_on) ∙ f);
       }
 
     -- it releases or empties the block
-    freed : (e : Event) → event_of m command ≡ e ∷ [] → ends_life base e.request.op e.entry ≡ true → waiters_of held.state ≡ []
+    freed : (e : Event) → event_of m command ≡ e ∷ [] → ends_life base e.request.op e.entry ≡ true
+        → waiters_of held.state ≡ []
         → IsLawful m (command ∷ commands) held early all
     freed e one gone nobody = record {
       waits = λ k who w. absurd (none-some who (sym (ap (λ waiters. slice_get waiters k) nobody) ∙ w));
-      later = λ before rest x is. absurd (nil_split before x rest (sym (ap (λ es. until_end base (es ++ events next commands)) one ∙ ap (λ t. cond t [] (e ∷ more)) gone) ∙ is));
+      later = λ before rest x is. absurd
+          (nil_split before x rest
+          (sym (ap (λ es. until_end base (es ++ events next commands)) one ∙ ap (λ t. cond t [] (e ∷ more)) gone)
+          ∙ is));
     }
 
     -- each command
     one_more : all ≡ early ++ until_end base (events m (command ∷ commands))
-        → ((held' : Held) (early' : List Event) → IsAt next held' early' → all ≡ early' ++ more → IsLawful next commands held' early' all)
+        → ((held' : Held) (early' : List Event) → IsAt next held' early' → all ≡ early' ++ more
+        → IsLawful next commands held' early' all)
         → IsLawful m (command ∷ commands) held early all
     one_more is_all rest_of = by_takes (takes_command m command)
       where
-        by_meets : (r : Request) → IsNext m.windows r → event_of m command ≡ event_for r (act m.cells (asker r) r.op) ∷ []
+        by_meets : (r : Request) → IsNext m.windows r → event_of m command
+            ≡ event_for r (act m.cells (asker r) r.op) ∷ []
             → next ≡ contents_of m r (act m.cells (asker r) r.op)
-            → Meets a held (asker r) r.op m.cells (act m.cells (asker r) r.op) → IsLawful m (command ∷ commands) held early all
+            → Meets a held (asker r) r.op m.cells (act m.cells (asker r) r.op)
+            → IsLawful m (command ∷ commands) held early all
         by_meets r new one is (Passes other goes_on at) =
             let e = event_for r (act m.cells (asker r) r.op) in
             let not_mine : is_for kind a r.op ≡ false = sym (ap (λ k. is_for k a r.op) here.is_kind) ∙ other in
-            let on : ends_life base r.op e.entry ≡ false = sym (ap (λ b. ends_life b r.op e.entry) here.is_base) ∙ goes_on in
+            let on : ends_life base r.op e.entry ≡ false = sym (ap (λ b. ends_life b r.op e.entry) here.is_base)
+            ∙ goes_on in
             passed e one on not_mine (rest_of held (early ++ e ∷ [])
-            (record { at = ap (λ (c : Contents). held_at c.cells a) is ∙ at; is_kind = here.is_kind; is_base = here.is_base; agrees = law.passes early e held.state not_mine here.agrees })
+            (record {
+              at = ap (λ (c : Contents). held_at c.cells a) is
+                  ∙ at;
+              is_kind = here.is_kind;
+              is_base = here.is_base;
+              agrees = law.passes early e held.state not_mine here.agrees;
+            })
             (then_more e one on is_all))
         by_meets r new one is (Serves mine goes_on acts) =
             let e = event_for r (act m.cells (asker r) r.op) in
             let yes_mine : is_for kind a r.op ≡ true = sym (ap (λ k. is_for k a r.op) here.is_kind) ∙ mine in
-            let on : ends_life base r.op e.entry ≡ false = sym (ap (λ b. ends_life b r.op e.entry) here.is_base) ∙ goes_on in
+            let on : ends_life base r.op e.entry ≡ false = sym (ap (λ b. ends_life b r.op e.entry) here.is_base)
+            ∙ goes_on in
             served_lawful r new one is yes_mine on acts is_all
-            (rest_of (held_after r new one is yes_mine on acts) (early ++ e ∷ []) (is_after r new one is yes_mine on acts) (then_more e one on is_all))
+            (rest_of (held_after r new one is yes_mine on acts) (early ++ e ∷ [])
+            (is_after r new one is yes_mine on acts) (then_more e one on is_all))
         by_meets r new one is (Frees gone nobody) =
             let e = event_for r (act m.cells (asker r) r.op) in
-            freed e one (sym (ap (λ b. ends_life b r.op e.entry) here.is_base) ∙ ap (λ t. t || clears held.block.base r.op e.entry) gone) nobody
+            freed e one (sym (ap (λ b. ends_life b r.op e.entry) here.is_base)
+            ∙ ap (λ t. t || clears held.block.base r.op e.entry) gone) nobody
         by_meets r new one is (Clears stays cleared nobody at) =
             let e = event_for r (act m.cells (asker r) r.op) in
-            freed e one (sym (ap (λ b. ends_life b r.op e.entry) here.is_base) ∙ ap (λ t. t || clears held.block.base r.op e.entry) stays ∙ cleared) nobody
+            freed e one (sym (ap (λ b. ends_life b r.op e.entry) here.is_base)
+            ∙ ap (λ t. t || clears held.block.base r.op e.entry) stays ∙ cleared) nobody
 
         by_takes : Takes m command → IsLawful m (command ∷ commands) held early all
         by_takes (Silent none same) = quiet none (rest_of held early
-            (record { at = ap (λ cells. held_at cells a) same ∙ here.at; is_kind = here.is_kind; is_base = here.is_base; agrees = here.agrees })
+            (record {
+              at = ap (λ cells. held_at cells a) same
+                  ∙ here.at;
+              is_kind = here.is_kind;
+              is_base = here.is_base;
+              agrees = here.agrees;
+            })
             (is_all ∙ ap (λ es. early ++ until_end base (es ++ events next commands)) none))
         by_takes (Asked r new one is) = by_meets r new one is (meets m.cells sound.blocks a held here.at (asker r) r.op)
 
   -- any commands
-  pub life_lawful : (commands : List Command) (m : Contents) (held : Held) (early all : List Event) → IsSound m → IsAt m held early
+  pub life_lawful : (commands : List Command) (m : Contents) (held : Held) (early all : List Event) → IsSound m
+      → IsAt m held early
       → all ≡ early ++ until_end base (events m commands)
       → IsLawful m commands held early all
   life_lawful [] m held early all sound here is = finished m held early all sound here is
   life_lawful (command ∷ commands) m held early all sound here is = one_more m command commands held early all sound here is
-      (λ held' early' here' is'. life_lawful commands (step m command).contents held' early' all (sound-step m command sound) here' is')
+      (λ held' early' here' is'. life_lawful commands (step m command).contents held' early' all
+      (sound-step m command sound) here' is')

@@ -1,5 +1,6 @@
 -- Elements of lists, by place and each, and what tests come to.
-use Rattle.std.proofs.Common.{◌≡◌, ℕ, zero, suc, List, [], ◌∷◌, ◌++◌, length, Some, None, Bool, true, cond, refl, sym, ap, ◌∙◌, subst, arith, append-nil}
+use Rattle.std.proofs.Common.{◌≡◌, ℕ, zero, suc, List, [], ◌∷◌, ◌++◌, length, Some, None, Bool, true, cond, refl, sym}
+use Rattle.std.proofs.Common.{ap, ◌∙◌, subst, arith, append-nil}
 use Rattle.std.specs.Prelude.{Option, slice_get, filter_map, IfSome}
 use Rattle.std.specs.List.{cons_option, AllByRecursion}
 use Rattle.std.proofs.lemmas.Option.{none-some}
@@ -17,22 +18,28 @@ get-end (y ∷ xs) ys zero x e = absurd (omega arith)
 get-end (y ∷ xs) ys (suc k) x e = get-end xs ys k x (omega arith)
 
 -- an entry that is said under a test that holds
-pub if_tested : {X : Type 0} (test : Bool) (x : X) (P : X → Type 0) → test ≡ true → P x → IfSome (cond test (Some x) None) P
+pub if_tested : {X : Type 0} (test : Bool) (x : X) (P : X → Type 0) → test ≡ true → P x
+    → IfSome (cond test (Some x) None) P
 if_tested test x P holds p = subst (λ t. IfSome (cond t (Some x) None) P) (sym holds) p
 
 -- one more event
-pub filter_map-skips : {X Y : Type 0} (f : X → Option Y) (xs : List X) (x : X) → f x ≡ None → filter_map f (xs ++ x ∷ []) ≡ filter_map f xs
-filter_map-skips f xs x none = filter_map-append f xs (x ∷ []) ∙ ap (λ o. filter_map f xs ++ cons_option o []) none ∙ append-nil (filter_map f xs)
+pub filter_map-skips : {X Y : Type 0} (f : X → Option Y) (xs : List X) (x : X) → f x ≡ None
+    → filter_map f (xs ++ x ∷ []) ≡ filter_map f xs
+filter_map-skips f xs x none = filter_map-append f xs (x ∷ []) ∙ ap (λ o. filter_map f xs ++ cons_option o []) none
+    ∙ append-nil (filter_map f xs)
 
 pub filter_map-adds : {X Y : Type 0} (f : X → Option Y) (xs later : List X) (x : X) (y : Y) → f x ≡ Some y
     → filter_map f (xs ++ x ∷ later) ≡ filter_map f xs ++ y ∷ filter_map f later
-filter_map-adds f xs later x y some = filter_map-append f xs (x ∷ later) ∙ ap (λ o. filter_map f xs ++ cons_option o (filter_map f later)) some
+filter_map-adds f xs later x y some = filter_map-append f xs (x ∷ later)
+    ∙ ap (λ o. filter_map f xs ++ cons_option o (filter_map f later)) some
 
 -- what holds of each element
-pub all_map : {X : Type 0} (P Q : X → Type 0) (xs : List X) → ((x : X) → P x → Q x) → AllByRecursion P xs → AllByRecursion Q xs
+pub all_map : {X : Type 0} (P Q : X → Type 0) (xs : List X) → ((x : X) → P x → Q x) → AllByRecursion P xs
+    → AllByRecursion Q xs
 all_map P Q [] f all = tt
 all_map P Q (x ∷ xs) f all = (f x all.0, all_map P Q xs f all.1)
 
-pub all_append : {X : Type 0} (P : X → Type 0) (xs ys : List X) → AllByRecursion P xs → AllByRecursion P ys → AllByRecursion P (xs ++ ys)
+pub all_append : {X : Type 0} (P : X → Type 0) (xs ys : List X) → AllByRecursion P xs → AllByRecursion P ys
+    → AllByRecursion P (xs ++ ys)
 all_append P [] ys none all = all
 all_append P (x ∷ xs) ys some all = (some.0, all_append P xs ys some.1 all)

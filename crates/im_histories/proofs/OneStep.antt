@@ -1,5 +1,6 @@
 -- One command on a memory: it leaves the cells, or it is a new request, which its operation serves.
-use Rattle.std.proofs.Common.{◌≡◌, ℕ, zero, suc, ◌≤◌, List, [], ◌∷◌, Some, Ok, Err, Bool, true, false, cond, refl, sym, ap, ◌∙◌, subst, arith}
+use Rattle.std.proofs.Common.{◌≡◌, ℕ, zero, suc, ◌≤◌, List, [], ◌∷◌, Some, Ok, Err, Bool, true, false, cond, refl}
+use Rattle.std.proofs.Common.{sym, ap, ◌∙◌, subst, arith}
 use Rattle.std.specs.Prelude.{Result, slice_get}
 use Rattle.std.proofs.lemmas.Option.{none-some, same_Some}
 use Rattle.im_types.specs.declared.operations.Waiter.{Waiter}
@@ -16,11 +17,16 @@ use Rattle.im_types.specs.Act.{Acted, act}
 use Rattle.im_types.specs.Step.{asker, step, step_request, step_confirm, is_fresh}
 use Rattle.im_types.specs.Agreement.{same_waiter, times, awaiting, waits_for, WaitingAgrees}
 use Rattle.im_types.specs.History.{Event, event_of}
-use Rattle.im_histories.proofs.Given.{IsNext, judge-fresh, act-blocks, step-agrees, listed_at, one_if, waits_for-kept, same_waiter-self}
+use Rattle.im_histories.proofs.Given.{IsNext, judge-fresh, act-blocks, step-agrees, listed_at, one_if, waits_for-kept}
+use Rattle.im_histories.proofs.Given.{same_waiter-self}
 
 -- the memory after an operation of a new request
 abbrev pub contents_of : Contents → Request → Acted → Contents
-contents_of m r acted = record { cells = acted.cells; windows = answer_each (note m.windows r acted.entry) acted.resumed }
+contents_of m r acted = record {
+  cells = acted.cells;
+  windows = answer_each
+      (note m.windows r acted.entry) acted.resumed;
+}
 
 abbrev pub event_for : Request → Acted → Event
 event_for r acted = record { request = r; entry = acted.entry }
@@ -36,11 +42,15 @@ takes_command m (Asks r) = by_judged (judge m.windows r) refl
   where
     by_judged : (j : Result Judged Refusal) → judge m.windows r ≡ j → Takes m (Asks r)
     by_judged (Err refusal) e =
-        Silent (ap (λ j. cond (is_fresh j) (event_for r (act m.cells (asker r) r.op) ∷ []) []) e) (ap (λ j. (step_request m r j).contents.cells) e)
+        Silent (ap (λ j. cond (is_fresh j) (event_for r (act m.cells (asker r) r.op) ∷ []) []) e)
+        (ap (λ j. (step_request m r j).contents.cells) e)
     by_judged (Ok (Repeat entry)) e =
-        Silent (ap (λ j. cond (is_fresh j) (event_for r (act m.cells (asker r) r.op) ∷ []) []) e) (ap (λ j. (step_request m r j).contents.cells) e)
+        Silent (ap (λ j. cond (is_fresh j) (event_for r (act m.cells (asker r) r.op) ∷ []) []) e)
+        (ap (λ j. (step_request m r j).contents.cells) e)
     by_judged (Ok Fresh) e =
-        Asked r (judge-fresh m.windows r e) (ap (λ j. cond (is_fresh j) (event_for r (act m.cells (asker r) r.op) ∷ []) []) e) (ap (λ j. (step_request m r j).contents) e)
+        Asked r (judge-fresh m.windows r e)
+        (ap (λ j. cond (is_fresh j) (event_for r (act m.cells (asker r) r.op) ∷ []) []) e)
+        (ap (λ j. (step_request m r j).contents) e)
 takes_command m (Confirm element upto) = Silent refl (by_result (confirm_window upto (slice_get m.windows element)))
   where
     by_result : (c : Result Window Refusal) → (step_confirm m element c).contents.cells ≡ m.cells
@@ -53,11 +63,16 @@ pub record IsSound (m : Contents) : Type 0 where
   pub agrees : WaitingAgrees m
 
 pub sound-step : (m : Contents) (command : Command) → IsSound m → IsSound (step m command).contents
-sound-step m command sound = record { blocks = by_takes (takes_command m command); agrees = step-agrees m command sound.agrees }
+sound-step m command sound = record {
+  blocks = by_takes
+      (takes_command m command);
+  agrees = step-agrees m command sound.agrees;
+}
   where
     by_takes : Takes m command → HasBlocks (step m command).contents.cells
     by_takes (Silent none same) = subst HasBlocks (sym same) sound.blocks
-    by_takes (Asked r next one is) = subst (λ (c : Contents). HasBlocks c.cells) (sym is) (act-blocks m.cells sound.blocks (asker r) r.op)
+    by_takes (Asked r next one is) = subst (λ (c : Contents). HasBlocks c.cells) (sym is)
+        (act-blocks m.cells sound.blocks (asker r) r.op)
 
 -- who waits at a cell
 pub times-get : (waiters : List Waiter) (k : ℕ) (who : Waiter) → slice_get waiters k ≡ Some who → 1 ≤ times who waiters
@@ -66,7 +81,9 @@ times-get (w ∷ waiters) zero who at = by_same (same_Some w who at)
   where
     by_same : w ≡ who → 1 ≤ times who (w ∷ waiters)
     by_same e =
-        let here : times who (w ∷ waiters) ≡ suc (times who waiters) = ap (λ t. cond t (suc (times who waiters)) (times who waiters)) (ap (same_waiter who) e ∙ same_waiter-self who) in
+        let here : times who (w ∷ waiters)
+        ≡ suc (times who waiters) = ap (λ t. cond t (suc (times who waiters)) (times who waiters))
+        (ap (same_waiter who) e ∙ same_waiter-self who) in
         omega arith
 times-get (w ∷ waiters) (suc k) who at = by_test (same_waiter who w) (times-get waiters k who at)
   where
@@ -79,7 +96,8 @@ one_if-true true h = refl
 one_if-true false h = let k : 1 ≤ 0 = h in absurd (omega arith)
 
 -- and has a waiting entry
-pub waiting_kept : (m : Contents) → WaitingAgrees m → (a : ℕ) (held : Held) → held_at m.cells a ≡ Some held → (who : Waiter) → 1 ≤ times who (waiters_of held.state)
+pub waiting_kept : (m : Contents) → WaitingAgrees m → (a : ℕ) (held : Held) → held_at m.cells a ≡ Some held
+    → (who : Waiter) → 1 ≤ times who (waiters_of held.state)
     → (k : Kept) × (kept_for m.windows who ≡ Some k) × (is_waiting k ≡ true)
 waiting_kept m agrees a held at who some =
     let listed = listed_at m.cells (kept_for m.windows) agrees a held at who in

@@ -1,12 +1,14 @@
 -- The pages of an area that spells records.
-use Rattle.std.proofs.Common.{◌≡◌, ◌⊎◌, inl, inr, ℕ, suc, ◌+◌, ◌-◌, ◌*◌, ◌/◌, ◌<◌, ◌≤◌, List, length, take, drop, refl, sym, ap, ◌∙◌, arith}
+use Rattle.std.proofs.Common.{◌≡◌, ◌⊎◌, inl, inr, ℕ, suc, ◌+◌, ◌-◌, ◌*◌, ◌/◌, ◌<◌, ◌≤◌, List, length, take, drop}
+use Rattle.std.proofs.Common.{refl, sym, ap, ◌∙◌, arith}
 use Rattle.std.specs.Prelude.{slice_get}
 use Rattle.std.proofs.Math.Nat.{mul-suc, mul-sub, mul-le-mul_left}
 use Rattle.std.proofs.lemmas.Bool.{cases_lt}
 use Rattle.std.proofs.lemmas.List.{drop-replicate, take-replicate, length-drop, length-take-le}
 use Rattle.std.proofs.lemmas.Option.{slice_get-get_or, slice_get_past}
 use Rattle.im_types.specs.Bytes.{zeros}
-use Rattle.im_types.specs.Layout.{Sizes, layout_in_use, page_bytes, area_bytes, area_pages, cell_pages, node_pages, session_pages, node_count, cell_part, node_part, session_part, record_at}
+use Rattle.im_types.specs.Layout.{Sizes, layout_in_use, page_bytes, area_bytes, area_pages, cell_pages, node_pages}
+use Rattle.im_types.specs.Layout.{session_pages, node_count, cell_part, node_part, session_part, record_at}
 use Rattle.im_types.specs.Pages.{Records, IsRow, SpellsArea}
 use Rattle.im_records.specs.Paging.{bytes_or_zeros}
 use Rattle.im_records.proofs.Pieces.{record_is, of_page, record_behind}
@@ -21,7 +23,9 @@ zeros_at size n i inside =
     ∙ take-replicate size (n - size * i) 0 (omega arith)
 
 -- what stands at each place of a row, behind its records too
-module _ {X : Type 0} (size : ℕ) (spelled : X → List ℕ) (Fits : X → Type 0) (none : X) (count all : ℕ) (bytes : List ℕ) (row : List X) (few : count ≤ all) (long : length bytes ≡ size * all) (is : IsRow size spelled Fits none count bytes row) where
+module _ {X : Type 0} (size : ℕ) (spelled : X → List ℕ) (Fits : X → Type 0) (none : X) (count all : ℕ)
+    (bytes : List ℕ) (row : List X) (few : count ≤ all) (long : length bytes ≡ size * all)
+    (is : IsRow size spelled Fits none count bytes row) where
   behind : (j : ℕ) → count ≤ j → j < all → record_at size bytes j ≡ zeros size
   behind j from lt =
       ap (λ (k : ℕ). record_at size bytes k) place
@@ -36,21 +40,30 @@ module _ {X : Type 0} (size : ℕ) (spelled : X → List ℕ) (Fits : X → Type
       left = length-drop (size * count) bytes ∙ ap (λ (k : ℕ). k - size * count) long ∙ sym (mul-sub size all count)
 
       inside : size * (j - count) + size ≤ size * (all - count)
-      inside = omega (arith, mul-suc size (j - count), mul-le-mul_left {m = suc (j - count)} {n = all - count} size (omega arith))
+      inside = omega (
+        arith,
+        mul-suc size (j - count),
+        mul-le-mul_left {m = suc (j - count)} {n = all - count} size
+            (omega arith),
+      )
 
   at_place : (j : ℕ) → j < all → record_at size bytes j ≡ bytes_or_zeros size spelled (slice_get row j)
   at_place j lt = by (cases_lt j count)
     where
       by : (j < count) ⊎ (count ≤ j) → record_at size bytes j ≡ bytes_or_zeros size spelled (slice_get row j)
-      by (inl below) = is.each j below ∙ sym (ap (bytes_or_zeros size spelled) (slice_get-get_or row j none (omega (arith, is.many))))
-      by (inr from) = behind j from lt ∙ sym (ap (bytes_or_zeros size spelled) (slice_get_past row j (omega (arith, is.many))))
+      by (inl below) = is.each j below
+          ∙ sym (ap (bytes_or_zeros size spelled) (slice_get-get_or row j none (omega (arith, is.many))))
+      by (inr from) = behind j from lt
+          ∙ sym (ap (bytes_or_zeros size spelled) (slice_get_past row j (omega (arith, is.many))))
 
   -- so a page of it spells its records
-  page_spells : (per pages i : ℕ) → all ≡ per * pages → per * i + per ≤ all → (page : List ℕ) → length page ≡ page_bytes → page ≡ record_at (size * per) bytes i → Spells size per spelled Fits none row i page
+  page_spells : (per pages i : ℕ) → all ≡ per * pages → per * i + per ≤ all → (page : List ℕ) → length page
+      ≡ page_bytes → page ≡ record_at (size * per) bytes i → Spells size per spelled Fits none row i page
   page_spells per pages i whole inside page size_is page_is = record {
     is_page = record {
       long = size_is;
-      each = λ k lt. ap (λ (p : List ℕ). record_at size p k) page_is ∙ of_page size per i k bytes lt ∙ at_place (per * i + k) (omega arith);
+      each = λ k lt. ap (λ (p : List ℕ). record_at size p k) page_is ∙ of_page size per i k bytes lt
+          ∙ at_place (per * i + k) (omega arith);
     };
     fits = λ k lt there. is.fits (per * i + k) (omega (arith, is.many));
   }
@@ -71,7 +84,8 @@ by_record size per a b is e = e ∙ ap (λ (p : ℕ). p * b) (sym is) ∙ assoc 
     assoc x y z = grind arith
 
 -- where an area spells records, each of its pages is a page of them
-module _ (s : Sizes) (r : Records) (area : List ℕ) (long : length area ≡ area_bytes layout_in_use s) (spells : SpellsArea layout_in_use s area r) where
+module _ (s : Sizes) (r : Records) (area : List ℕ) (long : length area ≡ area_bytes layout_in_use s)
+    (spells : SpellsArea layout_in_use s area r) where
   abbrev c : ℕ
   c = cell_pages s
 
@@ -84,14 +98,23 @@ module _ (s : Sizes) (r : Records) (area : List ℕ) (long : length area ≡ are
   page_long : (i : ℕ) → i < area_pages layout_in_use s → length (record_at page_bytes area i) ≡ page_bytes
   page_long i lt =
       ap length (record_is page_bytes i area)
-      ∙ length-take-le page_bytes (drop (page_bytes * i) area) (omega (arith, length-drop (page_bytes * i) area, long, lt))
+      ∙ length-take-le page_bytes (drop (page_bytes * i) area)
+      (omega (arith, length-drop (page_bytes * i) area, long, lt))
 
   pub page_of_area : (i : ℕ) → i < area_pages layout_in_use s → IsAreaPage s r i (record_at page_bytes area i)
   page_of_area i lt = record {
-    cells = λ below. page_spells 32 _ _ _ s.cells (128 * c) (cell_part s area) r.cells (cells_enough s.cells) cells_long spells.cells 128 c i refl (omega arith) (record_at page_bytes area i) (page_long i lt) (sym (page_of_take c i area below));
-    nodes = λ k is below. page_spells 16 _ _ _ (node_count layout_in_use s) (256 * n) (node_part layout_in_use s area) r.nodes (nodes_enough (node_count layout_in_use s)) nodes_long spells.nodes 256 n k refl (omega arith) (record_at page_bytes area i) (page_long i lt)
-        (ap (λ (j : ℕ). record_at page_bytes area j) is ∙ sym (page_of_take n k (drop (page_bytes * c) area) below ∙ page_of_drop c k area));
-    sessions = λ k is below. page_spells 4096 _ _ _ s.elements (1 * e) (session_part layout_in_use s area) r.windows (sessions_enough s.elements) sessions_long spells.sessions 1 e k refl (omega arith) (record_at page_bytes area i) (page_long i lt)
+    cells = λ below. page_spells 32 _ _ _ s.cells (128 * c) (cell_part s area) r.cells
+        (cells_enough s.cells) cells_long spells.cells 128 c i refl (omega arith) (record_at page_bytes area i)
+        (page_long i lt) (sym (page_of_take c i area below));
+    nodes = λ k is below. page_spells 16 _ _ _ (node_count layout_in_use s) (256 * n)
+        (node_part layout_in_use s area) r.nodes
+        (nodes_enough (node_count layout_in_use s)) nodes_long spells.nodes 256 n k refl (omega arith)
+        (record_at page_bytes area i) (page_long i lt)
+        (ap (λ (j : ℕ). record_at page_bytes area j) is
+        ∙ sym (page_of_take n k (drop (page_bytes * c) area) below ∙ page_of_drop c k area));
+    sessions = λ k is below. page_spells 4096 _ _ _ s.elements (1 * e) (session_part layout_in_use s area) r.windows
+        (sessions_enough s.elements) sessions_long spells.sessions 1 e k refl (omega arith)
+        (record_at page_bytes area i) (page_long i lt)
         (ap (λ (j : ℕ). record_at page_bytes area j) is ∙ sym (page_of_drop (c + n) k area));
   }
     where
@@ -99,7 +122,9 @@ module _ (s : Sizes) (r : Records) (area : List ℕ) (long : length area ≡ are
       cells_long = by_record 32 128 (length (cell_part s area)) c refl (length_of_take c area (omega (arith, long)))
 
       nodes_long : length (node_part layout_in_use s area) ≡ 16 * (256 * n)
-      nodes_long = by_record 16 256 (length (node_part layout_in_use s area)) n refl (length_of_take n (drop (page_bytes * c) area) (omega (arith, length-drop (page_bytes * c) area, long)))
+      nodes_long = by_record 16 256 (length (node_part layout_in_use s area)) n refl
+          (length_of_take n (drop (page_bytes * c) area) (omega (arith, length-drop (page_bytes * c) area, long)))
 
       sessions_long : length (session_part layout_in_use s area) ≡ 4096 * (1 * e)
-      sessions_long = by_record 4096 1 (length (session_part layout_in_use s area)) e refl (length-drop (page_bytes * (c + n)) area ∙ omega (arith, long))
+      sessions_long = by_record 4096 1 (length (session_part layout_in_use s area)) e refl
+          (length-drop (page_bytes * (c + n)) area ∙ omega (arith, long))

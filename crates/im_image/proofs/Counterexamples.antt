@@ -1,11 +1,13 @@
 -- The laws of areas, here and of im_records, say no more than they do: each one with a premise less, or with one that is weaker,
 -- fails at an area that is written out here. Of two areas with other windows each shows a memory, so the laws of one area are met.
-use Rattle.std.proofs.Common.{◌≡◌, ℕ, zero, suc, ◌+◌, ◌-◌, ◌<◌, nat_lt, Bool, true, false, List, [], ◌∷◌, get_or, replicate, Option, None, Some, if◌then◌else◌, refl, sym, ap, ◌∙◌, subst, arith}
+use Rattle.std.proofs.Common.{◌≡◌, ℕ, zero, suc, ◌+◌, ◌-◌, ◌<◌, nat_lt, Bool, true, false, List, [], ◌∷◌, get_or}
+use Rattle.std.proofs.Common.{replicate, Option, None, Some, if◌then◌else◌, refl, sym, ap, ◌∙◌, subst, arith}
 use Rattle.std.specs.Prelude.{slice_get, slice_index_or}
 use Rattle.std.proofs.lemmas.List.{length-replicate}
 use Rattle.im_types.proofs.Tests.{differ}
 use Rattle.im_types.specs.declared.operations.Kept.{Kept}
-use Rattle.im_types.specs.declared.records.PresenceTag.TheVariants.{Empty as TagEmpty, Waiting as TagWaiting, Full as TagFull, Clashed as TagClashed}
+use Rattle.im_types.specs.declared.records.PresenceTag.TheVariants.{Empty as TagEmpty, Waiting as TagWaiting}
+use Rattle.im_types.specs.declared.records.PresenceTag.TheVariants.{Full as TagFull, Clashed as TagClashed}
 use Rattle.im_types.specs.declared.records.CellRecord.{CellRecord}
 use Rattle.im_types.specs.declared.records.CellRecord.TheVariants.{Free as FreeCell, Held as BlockCell}
 use Rattle.im_types.specs.Sizes.{AreLimits}
@@ -18,7 +20,8 @@ use Rattle.im_types.specs.Pages.{Records, SpellsArea, ShowsRecords, Shows}
 use Rattle.im_laws.proofs.MemoryLemmas.{empty-memory}
 use Rattle.im_records.specs.Paging.{joined}
 use Rattle.im_image.specs.Encoding.{IsAreaPage, AreCounted}
-use Rattle.im_image.proofs.FreshArea.{area_with, records_with, contents_with, area_spelled, records_show, no_kept, new_window_fits}
+use Rattle.im_image.proofs.FreshArea.{area_with, records_with, contents_with, area_spelled, records_show, no_kept}
+use Rattle.im_image.proofs.FreshArea.{new_window_fits}
 
 -- ---- two areas: of the least sizes, with the new window and with one whose first entry was confirmed
 
@@ -38,7 +41,8 @@ confirmed_is_one : IsWindow confirmed
 confirmed_is_one = record { from_one = omega arith; few = omega arith; to_last = omega arith }
 
 -- nothing is kept in windows without entries
-none_kept : (base n element number : ℕ) → kept_for (replicate n (record { base = base; kept = [] })) (record { element = element; number = number }) ≡ None
+none_kept : (base n element number : ℕ)
+    → kept_for (replicate n (record { base = base; kept = [] })) (record { element = element; number = number }) ≡ None
 none_kept base zero element number = refl
 none_kept base (suc n) zero number = by_test (nat_lt number base)
   where
@@ -73,7 +77,9 @@ confirmed_memory s =
       blocks = empty.blocks;
       windows = λ element w at. subst IsWindow (only_one s.elements element confirmed w at) confirmed_is_one;
       agrees = record {
-        listed = λ who a. empty.agrees.listed who a ∙ ap (λ (o : Option Kept). if waits_in a (held_at (replicate s.cells None) a) o then 1 else 0) (none_kept 1 s.elements who.element who.number ∙ sym (none_kept 2 s.elements who.element who.number));
+        listed = λ who a. empty.agrees.listed who a
+            ∙ ap (λ (o : Option Kept). if waits_in a (held_at (replicate s.cells None) a) o then 1 else 0)
+            (none_kept 1 s.elements who.element who.number ∙ sym (none_kept 2 s.elements who.element who.number));
         somewhere = λ who k at waits. absurd (none_some k (sym (none_kept 2 s.elements who.element who.number) ∙ at));
       };
     }
@@ -92,19 +98,26 @@ shows_confirmed : (s : Sizes) → Shows layout_in_use s (area_with confirmed s) 
 shows_confirmed s = record { records = records_with confirmed s; spelled = area_spelled confirmed s refl confirmed_fits; shown = records_show confirmed s (confirmed_memory s) }
 
 -- `areas_spell_one_list_of_records`: two areas may spell two lists.
-two_areas_spell_two_lists : ((s : Sizes) (area another : List ℕ) (r q : Records) → AreLimits s.cells s.elements s.slots → SpellsArea layout_in_use s area r → SpellsArea layout_in_use s another q → r ≡ q) → ⊥
+two_areas_spell_two_lists :
+    ((s : Sizes) (area another : List ℕ) (r q : Records) → AreLimits s.cells s.elements s.slots
+    → SpellsArea layout_in_use s area r → SpellsArea layout_in_use s another q → r ≡ q) → ⊥
 unfolding records_with
 two_areas_spell_two_lists law =
-    let same : records_with new_window least ≡ records_with confirmed least = law least (area_with new_window least) (area_with confirmed least) _ _ least_limits
+    let same : records_with new_window least
+    ≡ records_with confirmed least = law least (area_with new_window least)
+    (area_with confirmed least) _ _ least_limits
     (area_spelled new_window least refl new_window_fits) (area_spelled confirmed least refl confirmed_fits) in
     differ 1 2 refl (ap (λ (r : Records). (slice_index_or r.windows 0 new_window).base) same)
 
 -- `areas_show_one_memory`: and two memories.
-two_areas_show_two_memories : ((s : Sizes) (area another : List ℕ) (m other : Contents) → AreLimits s.cells s.elements s.slots
+two_areas_show_two_memories :
+    ((s : Sizes) (area another : List ℕ) (m other : Contents) → AreLimits s.cells s.elements s.slots
     → Shows layout_in_use s area m → Shows layout_in_use s another other → m ≡ other) → ⊥
 unfolding contents_with
 two_areas_show_two_memories law =
-    let same : contents_with new_window least ≡ contents_with confirmed least = law least (area_with new_window least) (area_with confirmed least) _ _ least_limits (shows_new least) (shows_confirmed least) in
+    let same : contents_with new_window least
+    ≡ contents_with confirmed least = law least (area_with new_window least)
+    (area_with confirmed least) _ _ least_limits (shows_new least) (shows_confirmed least) in
     differ 1 2 refl (ap (λ (m : Contents). (slice_index_or m.windows 0 new_window).base) same)
 
 -- ---- an area of no pages, behind which a byte stands
@@ -118,10 +131,12 @@ none_counted = record { cells = refl; nodes = refl; windows = refl }
 
 -- `areas_show_the_memory`: not of an area with a byte too many, which isn't zero.
 an_area_has_its_length : ((s : Sizes) (r : Records) (m : Contents) (area : List ℕ) → AreCounted s r → ShowsRecords s r m
-    → ((i : ℕ) → i < area_pages layout_in_use s → IsAreaPage s r i (record_at page_bytes area i)) → Shows layout_in_use s area m) → ⊥
+    → ((i : ℕ) → i < area_pages layout_in_use s → IsAreaPage s r i (record_at page_bytes area i))
+    → Shows layout_in_use s area m) → ⊥
 an_area_has_its_length law =
     let shows : Shows layout_in_use none (1 ∷ []) (contents_with new_window none) =
-    law none (records_with new_window none) (contents_with new_window none) (1 ∷ []) none_counted (records_show new_window none (new_memory none)) (λ i lt. absurd (omega arith)) in
+    law none (records_with new_window none) (contents_with new_window none) (1 ∷ []) none_counted
+    (records_show new_window none (new_memory none)) (λ i lt. absurd (omega arith)) in
     differ 1 0 refl (ap (λ (l : List ℕ). get_or l 0 0) shows.spelled.sessions.rest)
 
 -- ---- an area of one page, of one cell and no element
@@ -142,10 +157,13 @@ no_nine (BlockCell block (TagFull v)) e = differ 9 3 refl e
 no_nine (BlockCell block (TagClashed v)) e = differ 9 4 refl e
 
 -- `pages_show_the_memory`: not where the last page, here the only one, may be anything.
-the_last_page_counts : ((s : Sizes) (r : Records) (m : Contents) (page : ℕ → List ℕ) → AreCounted s r → ShowsRecords s r m
-    → ((i : ℕ) → 1 + i < area_pages layout_in_use s → IsAreaPage s r i (page i)) → Shows layout_in_use s (joined (area_pages layout_in_use s) page) m) → ⊥
+the_last_page_counts : ((s : Sizes) (r : Records) (m : Contents) (page : ℕ → List ℕ) → AreCounted s r
+    → ShowsRecords s r m
+    → ((i : ℕ) → 1 + i < area_pages layout_in_use s → IsAreaPage s r i (page i))
+    → Shows layout_in_use s (joined (area_pages layout_in_use s) page) m) → ⊥
 the_last_page_counts law =
     let page : ℕ → List ℕ = λ i. 9 ∷ [] in
     let shows : Shows layout_in_use one_cell (9 ∷ []) (contents_with new_window one_cell) =
-    law one_cell (records_with new_window one_cell) (contents_with new_window one_cell) page one_counted (records_show new_window one_cell (new_memory one_cell)) (λ i lt. absurd (omega arith)) in
+    law one_cell (records_with new_window one_cell) (contents_with new_window one_cell) page one_counted
+    (records_show new_window one_cell (new_memory one_cell)) (λ i lt. absurd (omega arith)) in
     no_nine _ (ap (λ (l : List ℕ). get_or l 0 0) (shows.spelled.cells.each 0 (omega arith)))

@@ -1,5 +1,7 @@
 -- The area of a new image shows the empty memory.
-use Rattle.std.proofs.Common.{◌≡◌, ℕ, zero, suc, ◌+◌, ◌*◌, ◌-◌, ◌/◌, ◌<◌, ◌≤◌, List, [], ◌∷◌, ◌++◌, length, take, drop, replicate, slice_range, slice_index_or, inl, Option, None, Some, refl, sym, ap, ◌∙◌, arith, subst, slice_get, mul-zero, zero-add}
+use Rattle.std.proofs.Common.{◌≡◌, ℕ, zero, suc, ◌+◌, ◌*◌, ◌-◌, ◌/◌, ◌<◌, ◌≤◌, List, [], ◌∷◌, ◌++◌, length, take}
+use Rattle.std.proofs.Common.{drop, replicate, slice_range, slice_index_or, inl, Option, None, Some, refl, sym, ap}
+use Rattle.std.proofs.Common.{◌∙◌, arith, subst, slice_get, mul-zero, zero-add}
 use Rattle.std.proofs.Math.Nat.{mul-suc}
 use Rattle.std.proofs.lemmas.List.{length-append, length-replicate, append_assoc, take_at, drop_at, drop-drop}
 use Rattle.im_types.specs.declared.TheConstants.{NONE}
@@ -7,7 +9,9 @@ use Rattle.im_types.specs.declared.operations.Kept.{Kept}
 use Rattle.im_types.specs.Contents.{Held, Window, Contents, new_window, empty_contents}
 use Rattle.im_types.specs.Memory.{IsMemory}
 use Rattle.im_types.specs.Bytes.{zeros}
-use Rattle.im_types.specs.Layout.{Sizes, layout_in_use, page_bytes, cell_pages, node_pages, session_pages, area_bytes, node_count, cell_record_bytes, node_record_bytes, session_record_bytes, cell_part, node_part, session_part, record_at}
+use Rattle.im_types.specs.Layout.{Sizes, layout_in_use, page_bytes, cell_pages, node_pages, session_pages, area_bytes}
+use Rattle.im_types.specs.Layout.{node_count, cell_record_bytes, node_record_bytes, session_record_bytes, cell_part}
+use Rattle.im_types.specs.Layout.{node_part, session_part, record_at}
 use Rattle.im_types.specs.declared.records.CellRecord.TheVariants.{Free as FreeCell}
 use Rattle.im_types.specs.declared.records.NodeRecord.{NodeRecord}
 use Rattle.im_types.specs.declared.records.NodeRecord.TheVariants.{Free as FreeNode}
@@ -31,7 +35,8 @@ one_more : (size i : ℕ) → size * suc i ≡ size + size * i
 one_more size i = mul-suc size i ∙ omega arith
 
 -- record i of bytes that are a record so many times
-piece : (n size i : ℕ) (bytes rest : List ℕ) → length bytes ≡ size → i < n → take size (drop (size * i) (repeated n bytes ++ rest)) ≡ bytes
+piece : (n size i : ℕ) (bytes rest : List ℕ) → length bytes ≡ size → i < n
+    → take size (drop (size * i) (repeated n bytes ++ rest)) ≡ bytes
 piece zero size i bytes rest is lt = absurd (omega arith)
 piece (suc n) size zero bytes rest is lt =
     ap (λ (k : ℕ). take size (drop k (bytes ++ repeated n bytes ++ rest))) (nothing_before size)
@@ -47,8 +52,10 @@ piece (suc n) size (suc i) bytes rest is lt =
     comm : (a b : ℕ) → a + b ≡ a + b
     comm a b = refl
 
-record-repeated : (n size i : ℕ) (bytes rest : List ℕ) → length bytes ≡ size → i < n → record_at size (repeated n bytes ++ rest) i ≡ bytes
-record-repeated n size i bytes rest is lt = slice_is size (size * i) (repeated n bytes ++ rest) ∙ piece n size i bytes rest is lt
+record-repeated : (n size i : ℕ) (bytes rest : List ℕ) → length bytes ≡ size → i < n
+    → record_at size (repeated n bytes ++ rest) i ≡ bytes
+record-repeated n size i bytes rest is lt = slice_is size (size * i) (repeated n bytes ++ rest)
+    ∙ piece n size i bytes rest is lt
 
 pub get-replicate : {X : Type 0} (n i : ℕ) (x none : X) → i < n → slice_index_or (replicate n x) i none ≡ x
 get-replicate zero i x none lt = absurd (omega arith)
@@ -64,18 +71,25 @@ pub length-zeros : (n : ℕ) → length (zeros n) ≡ n
 length-zeros n = length-replicate n 0
 
 -- the bytes of a new row, and its records
-is_new_row : {X : Type 0} (pages size count : ℕ) (spelled : X → List ℕ) (Fits : X → Type 0) (none x : X) → length (spelled x) ≡ size → Fits x → IsRow size spelled Fits none count (new_row pages size (spelled x) count) (replicate count x)
+is_new_row : {X : Type 0} (pages size count : ℕ) (spelled : X → List ℕ) (Fits : X → Type 0) (none x : X)
+    → length (spelled x) ≡ size → Fits x
+    → IsRow size spelled Fits none count (new_row pages size (spelled x) count) (replicate count x)
 is_new_row pages size count spelled Fits none x is fits = record {
   many = length-replicate count x;
-  each = λ i lt. record-repeated count size i (spelled x) (zeros (page_bytes * pages - size * count)) is lt ∙ ap spelled (sym (get-replicate count i x none lt));
+  each = λ i lt. record-repeated count size i (spelled x) (zeros (page_bytes * pages - size * count)) is lt
+      ∙ ap spelled (sym (get-replicate count i x none lt));
   fits = λ i lt. subst Fits (sym (get-replicate count i x none lt)) fits;
   rest =
-      let size_is : length (repeated count (spelled x)) ≡ size * count = length-repeated count (spelled x) ∙ ap (λ (k : ℕ). k * count) is in
-      let dropped : drop (size * count) (new_row pages size (spelled x) count) ≡ zeros (page_bytes * pages - size * count) = drop_at (repeated count (spelled x)) (zeros (page_bytes * pages - size * count)) (size * count) size_is in
+      let size_is : length (repeated count (spelled x)) ≡ size * count = length-repeated count (spelled x)
+      ∙ ap (λ (k : ℕ). k * count) is in
+      let dropped : drop (size * count) (new_row pages size (spelled x) count)
+      ≡ zeros (page_bytes * pages - size * count) = drop_at (repeated count (spelled x))
+      (zeros (page_bytes * pages - size * count)) (size * count) size_is in
       dropped ∙ ap (λ (k : ℕ). zeros k) (sym (ap length dropped ∙ length-zeros (page_bytes * pages - size * count)));
 }
 
-pub length-row : (pages size count : ℕ) (bytes : List ℕ) → length bytes ≡ size → size * count ≤ 4096 * pages → length (new_row pages size bytes count) ≡ 4096 * pages
+pub length-row : (pages size count : ℕ) (bytes : List ℕ) → length bytes ≡ size → size * count ≤ 4096 * pages
+    → length (new_row pages size bytes count) ≡ 4096 * pages
 length-row pages size count bytes is fits =
     length-append (repeated count bytes) (zeros (4096 * pages - size * count))
     ∙ both (length-repeated count bytes ∙ ap (λ (k : ℕ). k * count) is) (length-zeros (4096 * pages - size * count))
@@ -96,7 +110,8 @@ abbrev node_row : Sizes → List ℕ
 node_row s = new_row (node_pages layout_in_use s) node_record_bytes (node_bytes new_node) (node_count layout_in_use s)
 
 abbrev window_row : Window → Sizes → List ℕ
-window_row w s = new_row (session_pages layout_in_use s) (session_record_bytes layout_in_use) (session_bytes layout_in_use w) s.elements
+window_row w s = new_row (session_pages layout_in_use s) (session_record_bytes layout_in_use)
+    (session_bytes layout_in_use w) s.elements
 
 -- the pages of a new area, but that each element has this window
 abbrev pub area_with : Window → Sizes → List ℕ
@@ -106,31 +121,50 @@ length-cells : (s : Sizes) → length (cell_row s) ≡ 4096 * cell_pages s
 length-cells s = length-row (cell_pages s) 32 s.cells (cell_bytes new_cell) refl (cells_fit s.cells)
 
 length-nodes : (s : Sizes) → length (node_row s) ≡ 4096 * node_pages layout_in_use s
-length-nodes s = length-row (node_pages layout_in_use s) 16 (node_count layout_in_use s) (node_bytes new_node) refl (nodes_fit (node_count layout_in_use s))
+length-nodes s = length-row (node_pages layout_in_use s) 16 (node_count layout_in_use s) (node_bytes new_node) refl
+    (nodes_fit (node_count layout_in_use s))
 
 length-sessions : (s : Sizes) → length (window_row new_window s) ≡ 4096 * session_pages layout_in_use s
-length-sessions s = length-row (session_pages layout_in_use s) 4096 s.elements (session_bytes layout_in_use new_window) refl (sessions_fit s.elements)
+length-sessions s = length-row (session_pages layout_in_use s) 4096 s.elements
+    (session_bytes layout_in_use new_window) refl (sessions_fit s.elements)
 
 pub length-area : (s : Sizes) → length (new_area s) ≡ area_bytes layout_in_use s
-length-area s = omega (arith, length-append (cell_row s ++ node_row s) (window_row new_window s), length-append (cell_row s) (node_row s), length-cells s, length-nodes s, length-sessions s)
+length-area s = omega (
+  arith,
+  length-append (cell_row s ++ node_row s) (window_row new_window s),
+  length-append
+      (cell_row s) (node_row s),
+  length-cells s,
+  length-nodes s,
+  length-sessions s,
+)
 
 -- the parts of such an area
 cell_part-with : (w : Window) (s : Sizes) → cell_part s (area_with w s) ≡ cell_row s
 cell_part-with w s =
-    ap (λ (l : List ℕ). take (4096 * cell_pages s) l) (append_assoc (cell_row s) (node_row s) (window_row w s)) ∙ take_at (cell_row s) (node_row s ++ window_row w s) (4096 * cell_pages s) (length-cells s)
+    ap (λ (l : List ℕ). take (4096 * cell_pages s) l) (append_assoc (cell_row s) (node_row s) (window_row w s))
+    ∙ take_at (cell_row s) (node_row s ++ window_row w s) (4096 * cell_pages s) (length-cells s)
 
 node_part-with : (w : Window) (s : Sizes) → node_part layout_in_use s (area_with w s) ≡ node_row s
 node_part-with w s =
-    ap (λ (l : List ℕ). take (4096 * node_pages layout_in_use s) (drop (4096 * cell_pages s) l)) (append_assoc (cell_row s) (node_row s) (window_row w s))
-    ∙ ap (λ (l : List ℕ). take (4096 * node_pages layout_in_use s) l) (drop_at (cell_row s) (node_row s ++ window_row w s) (4096 * cell_pages s) (length-cells s))
+    ap (λ (l : List ℕ). take (4096 * node_pages layout_in_use s) (drop (4096 * cell_pages s) l))
+    (append_assoc (cell_row s) (node_row s) (window_row w s))
+    ∙ ap (λ (l : List ℕ). take (4096 * node_pages layout_in_use s) l)
+    (drop_at (cell_row s) (node_row s ++ window_row w s) (4096 * cell_pages s) (length-cells s))
     ∙ take_at (node_row s) (window_row w s) (4096 * node_pages layout_in_use s) (length-nodes s)
 
 session_part-with : (w : Window) (s : Sizes) → session_part layout_in_use s (area_with w s) ≡ window_row w s
 session_part-with w s =
-    drop_at (cell_row s ++ node_row s) (window_row w s) (4096 * (cell_pages s + node_pages layout_in_use s)) (omega (arith, length-append (cell_row s) (node_row s), length-cells s, length-nodes s))
+    drop_at (cell_row s ++ node_row s) (window_row w s) (4096 * (cell_pages s + node_pages layout_in_use s))
+    (omega (arith, length-append (cell_row s) (node_row s), length-cells s, length-nodes s))
 
 unfoldable pub records_with : Window → Sizes → Records
-records_with w s = record { cells = replicate s.cells new_cell; nodes = replicate (node_count layout_in_use s) new_node; windows = replicate s.elements w }
+records_with w s = record {
+  cells = replicate s.cells new_cell;
+  nodes = replicate
+      (node_count layout_in_use s) new_node;
+  windows = replicate s.elements w;
+}
 
 pub no_kept : (i : ℕ) (k : Kept) → slice_get [] i ≡ Some k → ⊥
 no_kept i k e = none_some k e
@@ -141,22 +175,31 @@ no_kept i k e = none_some k e
 pub new_window_fits : FitsWindow layout_in_use new_window
 new_window_fits = record { base_from = omega arith; base_to = omega arith; few = omega arith; numbers = omega arith; known = refl; fields = λ i k e. absurd (no_kept i k e) }
 
-pub area_spelled : (w : Window) (s : Sizes) → length (session_bytes layout_in_use w) ≡ 4096 → FitsWindow layout_in_use w → SpellsArea layout_in_use s (area_with w s) (records_with w s)
+pub area_spelled : (w : Window) (s : Sizes) → length (session_bytes layout_in_use w) ≡ 4096
+    → FitsWindow layout_in_use w → SpellsArea layout_in_use s (area_with w s) (records_with w s)
 unfolding records_with
 area_spelled w s long fits = record {
-  cells = subst (λ (l : List ℕ). IsRow cell_record_bytes cell_bytes (FitsCell s.cells (node_count layout_in_use s)) (FreeCell 0 NONE) s.cells l (replicate s.cells new_cell)) (sym (cell_part-with w s))
-      (is_new_row (cell_pages s) 32 s.cells cell_bytes (FitsCell s.cells (node_count layout_in_use s)) (FreeCell 0 NONE) new_cell refl (none_yet s.cells, inl refl));
-  nodes = subst (λ (l : List ℕ). IsRow node_record_bytes node_bytes (FitsNode (node_count layout_in_use s)) (FreeNode NONE) (node_count layout_in_use s) l (replicate (node_count layout_in_use s) new_node)) (sym (node_part-with w s))
-      (is_new_row (node_pages layout_in_use s) 16 (node_count layout_in_use s) node_bytes (FitsNode (node_count layout_in_use s)) (FreeNode NONE) new_node refl (inl refl));
-  sessions = subst (λ (l : List ℕ). IsRow (session_record_bytes layout_in_use) (session_bytes layout_in_use) (FitsWindow layout_in_use) new_window s.elements l (replicate s.elements w)) (sym (session_part-with w s))
-      (is_new_row (session_pages layout_in_use s) 4096 s.elements (session_bytes layout_in_use) (FitsWindow layout_in_use) new_window w long fits);
+  cells = subst (λ (l : List ℕ). IsRow cell_record_bytes cell_bytes (FitsCell s.cells (node_count layout_in_use s))
+      (FreeCell 0 NONE) s.cells l (replicate s.cells new_cell)) (sym (cell_part-with w s))
+      (is_new_row (cell_pages s) 32 s.cells cell_bytes (FitsCell s.cells (node_count layout_in_use s))
+      (FreeCell 0 NONE) new_cell refl (none_yet s.cells, inl refl));
+  nodes = subst (λ (l : List ℕ). IsRow node_record_bytes node_bytes (FitsNode (node_count layout_in_use s))
+      (FreeNode NONE) (node_count layout_in_use s) l (replicate (node_count layout_in_use s) new_node))
+      (sym (node_part-with w s))
+      (is_new_row (node_pages layout_in_use s) 16 (node_count layout_in_use s) node_bytes
+      (FitsNode (node_count layout_in_use s)) (FreeNode NONE) new_node refl (inl refl));
+  sessions = subst (λ (l : List ℕ). IsRow (session_record_bytes layout_in_use) (session_bytes layout_in_use)
+      (FitsWindow layout_in_use) new_window s.elements l (replicate s.elements w)) (sym (session_part-with w s))
+      (is_new_row (session_pages layout_in_use s) 4096 s.elements (session_bytes layout_in_use)
+      (FitsWindow layout_in_use) new_window w long fits);
 }
   where
     none_yet : (n : ℕ) → 0 ≤ n
     none_yet n = omega arith
 
 -- nobody waits
-have_none : (nodes : List NodeRecord) (n : ℕ) → HaveChains nodes (replicate n new_cell) (replicate n []) (replicate n [])
+have_none : (nodes : List NodeRecord) (n : ℕ)
+    → HaveChains nodes (replicate n new_cell) (replicate n []) (replicate n [])
 have_none nodes zero = tt
 have_none nodes (suc n) = ((refl, refl), have_none nodes n)
 
@@ -172,14 +215,17 @@ no_cells (suc n) = ap (λ (l : List (Option Held)). None ∷ l) (no_cells n)
 unfoldable pub contents_with : Window → Sizes → Contents
 contents_with w s = record { cells = replicate s.cells None; windows = replicate s.elements w }
 
-pub records_show : (w : Window) (s : Sizes) → IsMemory s.cells s.elements (contents_with w s) → ShowsRecords s (records_with w s) (contents_with w s)
+pub records_show : (w : Window) (s : Sizes) → IsMemory s.cells s.elements (contents_with w s)
+    → ShowsRecords s (records_with w s) (contents_with w s)
 unfolding records_with contents_with
 records_show w s memory = record {
   lists = replicate s.cells [];
   chained = record {
     chains = replicate s.cells [];
     have = have_none (replicate (node_count layout_in_use s) new_node) s.cells;
-    once = λ n. no_uses n s.cells ∙ ap (λ (node : NodeRecord). bit (is_listed node)) (sym (get-replicate_default (node_count layout_in_use s) n new_node));
+    once = λ n. no_uses n s.cells
+        ∙ ap (λ (node : NodeRecord). bit (is_listed node))
+        (sym (get-replicate_default (node_count layout_in_use s) n new_node));
   };
   cells = no_cells s.cells;
   windows = refl;
@@ -190,11 +236,13 @@ empty_is : (s : Sizes) → contents_with new_window s ≡ empty_contents s.cells
 unfolding contents_with empty_contents
 empty_is s = refl
 
-pub new_area_shows : (s : Sizes) → IsMemory s.cells s.elements (empty_contents s.cells s.elements) → Shows layout_in_use s (new_area s) (empty_contents s.cells s.elements)
+pub new_area_shows : (s : Sizes) → IsMemory s.cells s.elements (empty_contents s.cells s.elements)
+    → Shows layout_in_use s (new_area s) (empty_contents s.cells s.elements)
 new_area_shows s memory =
     subst (λ (m : Contents). Shows layout_in_use s (new_area s) m) (empty_is s)
     (record {
       records = records_with new_window s;
       spelled = area_spelled new_window s refl new_window_fits;
-      shown = records_show new_window s (subst (λ (m : Contents). IsMemory s.cells s.elements m) (sym (empty_is s)) memory);
+      shown = records_show new_window s
+          (subst (λ (m : Contents). IsMemory s.cells s.elements m) (sym (empty_is s)) memory);
     })

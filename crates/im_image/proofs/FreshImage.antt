@@ -1,5 +1,7 @@
 -- A new image has no fault in its length and its headers, and its area in force shows the empty memory.
-use Rattle.std.proofs.Common.{◌≡◌, ℕ, zero, suc, ◌+◌, ◌*◌, ◌-◌, ◌≤◌, ◌&&◌, ◌==◌, nat_lt, nat_le, not, Bool, true, false, List, ◌∷◌, ◌++◌, length, take, drop, slice_range, Option, None, Some, refl, sym, ap, subst, ◌∙◌, arith, if◌then◌else◌}
+use Rattle.std.proofs.Common.{◌≡◌, ℕ, zero, suc, ◌+◌, ◌*◌, ◌-◌, ◌≤◌, ◌&&◌, ◌==◌, nat_lt, nat_le, not, Bool, true}
+use Rattle.std.proofs.Common.{false, List, ◌∷◌, ◌++◌, length, take, drop, slice_range, Option, None, Some, refl, sym}
+use Rattle.std.proofs.Common.{ap, subst, ◌∙◌, arith, if◌then◌else◌}
 use Rattle.std.proofs.lemmas.List.{length-append, append_assoc, take_at, drop_at, drop-drop}
 use Rattle.std.proofs.lemmas.Bool.Decides.{nat_tests}
 use Rattle.im_types.specs.declared.TheConstants.{MAX_CELLS, MAX_ELEMENTS, MIN_SLOTS, MAX_SLOTS}
@@ -10,7 +12,8 @@ use Rattle.im_types.specs.Contents.{empty_contents}
 use Rattle.im_types.specs.Memory.{IsMemory}
 use Rattle.im_types.specs.Bytes.{zeros}
 use Rattle.im_types.specs.Layout.{Sizes, layout_in_use, are_sizes, area_bytes, area_of, image_length}
-use Rattle.im_types.specs.Header.{Header, header_body, header_in, header_place, header_of, header_fault, place_fault, place_in_force as place_of, spells_header, or_else}
+use Rattle.im_types.specs.Header.{Header, header_body, header_in, header_place, header_of, header_fault, place_fault}
+use Rattle.im_types.specs.Header.{place_in_force as place_of, spells_header, or_else}
 use Rattle.im_types.specs.Pages.{Shows}
 use Rattle.im_types.specs.Meaning.{IsShown}
 use Rattle.im_formats.specs.Fitting.{FitsHeader}
@@ -41,15 +44,20 @@ apart s =
     ∙ append_assoc (first s) (zeros 8128) (new_area s ++ rest s)
 
 first_place : (s : Sizes) → header_place 0 (new_image 0xA5 s) ≡ first s
-first_place s = ap (λ (l : List ℕ). header_place 0 l) (apart s) ∙ take_at (first s) (zeros 8128 ++ (new_area s ++ rest s)) 64 refl
+first_place s = ap (λ (l : List ℕ). header_place 0 l) (apart s)
+    ∙ take_at (first s) (zeros 8128 ++ (new_area s ++ rest s)) 64 refl
 
 second_place : (s : Sizes) → header_place 1 (new_image 0xA5 s) ≡ zeros 64
 second_place s =
-    ap (λ (l : List ℕ). take 64 (drop 4096 l)) (apart s ∙ ap (λ (z : List ℕ). first s ++ (z ++ (new_area s ++ rest s))) (zeros-more 4032 4096))
-    ∙ ap (λ (l : List ℕ). take 64 l) (sym (drop-drop 4032 64 (first s ++ ((zeros 4032 ++ zeros 4096) ++ (new_area s ++ rest s)))))
-    ∙ ap (λ (l : List ℕ). take 64 (drop 4032 l)) (drop_at (first s) ((zeros 4032 ++ zeros 4096) ++ (new_area s ++ rest s)) 64 refl)
+    ap (λ (l : List ℕ). take 64 (drop 4096 l))
+    (apart s ∙ ap (λ (z : List ℕ). first s ++ (z ++ (new_area s ++ rest s))) (zeros-more 4032 4096))
+    ∙ ap (λ (l : List ℕ). take 64 l)
+    (sym (drop-drop 4032 64 (first s ++ ((zeros 4032 ++ zeros 4096) ++ (new_area s ++ rest s)))))
+    ∙ ap (λ (l : List ℕ). take 64 (drop 4032 l))
+    (drop_at (first s) ((zeros 4032 ++ zeros 4096) ++ (new_area s ++ rest s)) 64 refl)
     ∙ ap (λ (l : List ℕ). take 64 (drop 4032 l)) (append_assoc (zeros 4032) (zeros 4096) (new_area s ++ rest s))
-    ∙ ap (λ (l : List ℕ). take 64 l) (drop_at (zeros 4032) (zeros 4096 ++ (new_area s ++ rest s)) 4032 (length-zeros 4032))
+    ∙ ap (λ (l : List ℕ). take 64 l)
+    (drop_at (zeros 4032) (zeros 4096 ++ (new_area s ++ rest s)) 4032 (length-zeros 4032))
     ∙ ap (λ (z : List ℕ). take 64 (z ++ (new_area s ++ rest s))) (zeros-more 64 4032)
     ∙ ap (λ (l : List ℕ). take 64 l) (append_assoc (zeros 64) (zeros 4032) (new_area s ++ rest s))
     ∙ take_at (zeros 64) (zeros 4032 ++ (new_area s ++ rest s)) 64 refl
@@ -71,19 +79,32 @@ pub sizes_are : (s : Sizes) → AreLimits s.cells s.elements s.slots → are_siz
 sizes_are s limits =
     ap (λ (b : Bool). b && nat_le s.cells MAX_CELLS && nat_le 1 s.elements && nat_le s.elements MAX_ELEMENTS && nat_le MIN_SLOTS s.slots && nat_le s.slots MAX_SLOTS) (le_is 1 s.cells limits.some_cell)
     ∙ ap (λ (b : Bool). b && nat_le 1 s.elements && nat_le s.elements MAX_ELEMENTS && nat_le MIN_SLOTS s.slots && nat_le s.slots MAX_SLOTS) (le_is s.cells MAX_CELLS limits.few_cells)
-    ∙ ap (λ (b : Bool). b && nat_le s.elements MAX_ELEMENTS && nat_le MIN_SLOTS s.slots && nat_le s.slots MAX_SLOTS) (le_is 1 s.elements limits.some_element)
-    ∙ ap (λ (b : Bool). b && nat_le MIN_SLOTS s.slots && nat_le s.slots MAX_SLOTS) (le_is s.elements MAX_ELEMENTS limits.few_elements)
+    ∙ ap (λ (b : Bool). b && nat_le s.elements MAX_ELEMENTS && nat_le MIN_SLOTS s.slots && nat_le s.slots MAX_SLOTS)
+    (le_is 1 s.elements limits.some_element)
+    ∙ ap (λ (b : Bool). b && nat_le MIN_SLOTS s.slots && nat_le s.slots MAX_SLOTS)
+    (le_is s.elements MAX_ELEMENTS limits.few_elements)
     ∙ ap (λ (b : Bool). b && nat_le s.slots MAX_SLOTS) (le_is MIN_SLOTS s.slots limits.enough_slots)
     ∙ le_is s.slots MAX_SLOTS limits.few_slots
 
 first_spelled : (s : Sizes) → AreLimits s.cells s.elements s.slots → spells_header layout_in_use 0 (first s) ≡ true
-first_spelled s limits = spells_header-spelled layout_in_use 0 0xA5 (new_header s) (new_header_fits s limits) (sizes_are s limits)
+first_spelled s limits = spells_header-spelled layout_in_use 0 0xA5 (new_header s) (new_header_fits s limits)
+    (sizes_are s limits)
 
 new_places : (s : Sizes) → AreLimits s.cells s.elements s.slots → place_fault layout_in_use (first s) (zeros 64) ≡ None
 new_places s limits = ap (λ (b : Bool). if not b then Some BadHeader else None) (first_spelled s limits)
 
 pub length-image : (s : Sizes) → length (new_image 0xA5 s) ≡ image_length layout_in_use s
-length-image s = omega (arith, length-append (first s ++ zeros 8128 ++ new_area s) (rest s), length-append (first s ++ zeros 8128) (new_area s), length-append (first s) (zeros 8128), length-area s, length-zeros 8128, length-zeros (area_bytes layout_in_use s + 64 * s.slots))
+length-image s = omega (
+  arith,
+  length-append (first s ++ zeros 8128 ++ new_area s) (rest s),
+  length-append
+      (first s ++ zeros 8128) (new_area s),
+  length-append (first s)
+      (zeros 8128),
+  length-area s,
+  length-zeros 8128,
+  length-zeros (area_bytes layout_in_use s + 64 * s.slots),
+)
 
 long : (n : ℕ) → 8192 ≤ n → nat_lt n 8192 ≡ false
 long n le = grind (arith, nat_tests)
@@ -99,27 +120,38 @@ new_header_of s limits =
     ∙ header_in-spelled 0xA5 (new_header s) (new_header_fits s limits)
 
 abbrev fault_of : ℕ → List ℕ → List ℕ → Option Refusal
-fault_of n first second = if nat_lt n 8192 then Some WrongLength else or_else (place_fault layout_in_use first second) (if n == image_length layout_in_use (header_in (place_of first second)).sizes then None else Some WrongLength)
+fault_of n first second = if nat_lt n 8192 then Some WrongLength else or_else
+    (place_fault layout_in_use first second)
+    (if n == image_length layout_in_use (header_in (place_of first second)).sizes then None else Some WrongLength)
 
-pub new_image_good : (s : Sizes) → AreLimits s.cells s.elements s.slots → header_fault layout_in_use (new_image 0xA5 s) ≡ None
+pub new_image_good : (s : Sizes) → AreLimits s.cells s.elements s.slots
+    → header_fault layout_in_use (new_image 0xA5 s) ≡ None
 new_image_good s limits =
     let n : ℕ = length (new_image 0xA5 s) in
     let enough : 8192 ≤ length (new_image 0xA5 s) = omega (arith, length-image s) in
-    let is : (header_in (first s)).sizes ≡ s = ap (λ (h : Header). h.sizes) (header_in-spelled 0xA5 (new_header s) (new_header_fits s limits)) in
+    let is : (header_in (first s)).sizes
+    ≡ s = ap (λ (h : Header). h.sizes) (header_in-spelled 0xA5 (new_header s) (new_header_fits s limits)) in
     ap (λ (l : List ℕ). fault_of n l (header_place 1 (new_image 0xA5 s))) (first_place s)
     ∙ ap (λ (l : List ℕ). fault_of n (first s) l) (second_place s)
-    ∙ ap (λ (b : Bool). if b then Some WrongLength else or_else (place_fault layout_in_use (first s) (zeros 64)) (if n == image_length layout_in_use (header_in (first s)).sizes then None else Some WrongLength)) (long n enough)
-    ∙ ap (λ (f : Option Refusal). or_else f (if n == image_length layout_in_use (header_in (first s)).sizes then None else Some WrongLength)) (new_places s limits)
+    ∙ ap (λ (b : Bool). if b then Some WrongLength else or_else (place_fault layout_in_use (first s) (zeros 64))
+    (if n == image_length layout_in_use (header_in (first s)).sizes then None else Some WrongLength))
+    (long n enough)
+    ∙ ap (λ (f : Option Refusal). or_else f
+    (if n == image_length layout_in_use (header_in (first s)).sizes then None else Some WrongLength))
+    (new_places s limits)
     ∙ ap (λ (z : Sizes). if n == image_length layout_in_use z then None else Some WrongLength) is
     ∙ ap (λ (b : Bool). if b then None else Some WrongLength) (same n (image_length layout_in_use s) (length-image s))
 
 -- the area of the header in force is the new one
 pub area_in_place : (s : Sizes) → area_of layout_in_use s 0 (new_image 0xA5 s) ≡ new_area s
 area_in_place s =
-    ap (λ (at : ℕ). slice_range (new_image 0xA5 s) at (at + area_bytes layout_in_use s)) (begins (area_bytes layout_in_use s))
+    ap (λ (at : ℕ). slice_range (new_image 0xA5 s) at (at + area_bytes layout_in_use s))
+    (begins (area_bytes layout_in_use s))
     ∙ ap (λ (k : ℕ). take k (drop 8192 (new_image 0xA5 s))) (less 8192 (area_bytes layout_in_use s))
-    ∙ ap (λ (l : List ℕ). take (area_bytes layout_in_use s) (drop 8192 l)) (append_assoc (first s ++ zeros 8128) (new_area s) (rest s))
-    ∙ ap (λ (l : List ℕ). take (area_bytes layout_in_use s) l) (drop_at (first s ++ zeros 8128) (new_area s ++ rest s) 8192 front)
+    ∙ ap (λ (l : List ℕ). take (area_bytes layout_in_use s) (drop 8192 l))
+    (append_assoc (first s ++ zeros 8128) (new_area s) (rest s))
+    ∙ ap (λ (l : List ℕ). take (area_bytes layout_in_use s) l)
+    (drop_at (first s ++ zeros 8128) (new_area s ++ rest s) 8192 front)
     ∙ take_at (new_area s) (rest s) (area_bytes layout_in_use s) (length-area s)
   where
     begins : (n : ℕ) → 2 * 4096 + n * 0 ≡ 8192
@@ -131,7 +163,11 @@ area_in_place s =
     front : length (first s ++ zeros 8128) ≡ 8192
     front = omega (arith, length-append (first s) (zeros 8128), length-zeros 8128)
 
-pub new_image_shows : (s : Sizes) → AreLimits s.cells s.elements s.slots → IsMemory s.cells s.elements (empty_contents s.cells s.elements) → IsShown layout_in_use (new_image 0xA5 s) (empty_contents s.cells s.elements)
+pub new_image_shows : (s : Sizes) → AreLimits s.cells s.elements s.slots
+    → IsMemory s.cells s.elements (empty_contents s.cells s.elements)
+    → IsShown layout_in_use (new_image 0xA5 s) (empty_contents s.cells s.elements)
 new_image_shows s limits memory =
-    subst (λ (h : Header). Shows layout_in_use h.sizes (area_of layout_in_use h.sizes h.area (new_image 0xA5 s)) (empty_contents s.cells s.elements)) (sym (new_header_of s limits))
-    (subst (λ (l : List ℕ). Shows layout_in_use s l (empty_contents s.cells s.elements)) (sym (area_in_place s)) (new_area_shows s memory))
+    subst (λ (h : Header). Shows layout_in_use h.sizes (area_of layout_in_use h.sizes h.area (new_image 0xA5 s))
+    (empty_contents s.cells s.elements)) (sym (new_header_of s limits))
+    (subst (λ (l : List ℕ). Shows layout_in_use s l (empty_contents s.cells s.elements)) (sym (area_in_place s))
+    (new_area_shows s memory))

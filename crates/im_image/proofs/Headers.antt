@@ -1,11 +1,13 @@
 -- What the tests of a header say.
-use Rattle.std.proofs.Common.{◌≡◌, ℕ, ◌≤◌, ◌&&◌, ◌==◌, nat_le, Bool, true, false, Option, None, IsSome, is_some, List, sym, ap, ◌∙◌, arith, slice_range, if◌then◌else◌}
+use Rattle.std.proofs.Common.{◌≡◌, ℕ, ◌≤◌, ◌&&◌, ◌==◌, nat_le, Bool, true, false, Option, None, IsSome, is_some, List}
+use Rattle.std.proofs.Common.{sym, ap, ◌∙◌, arith, slice_range, if◌then◌else◌}
 use Rattle.std.proofs.lemmas.Bool.Decides.{nat_tests}
 use Rattle.im_types.specs.declared.TheConstants.{LAST, MAX_CELLS, MAX_ELEMENTS, MIN_SLOTS, MAX_SLOTS}
 use Rattle.im_types.specs.Sizes.{AreLimits}
 use Rattle.im_types.specs.Bytes.{same_bytes}
 use Rattle.im_types.specs.Layout.{Sizes, layout_1, layout_2, layout_named, are_sizes}
-use Rattle.im_types.specs.Header.{Header, header_in, header_body, is_header, spells_header, is_second, number_in_force, place_in_force}
+use Rattle.im_types.specs.Header.{Header, header_in, header_body, is_header, spells_header, is_second}
+use Rattle.im_types.specs.Header.{number_in_force, place_in_force}
 use Rattle.im_image.specs.Headers.{layout_at}
 use Rattle.im_formats.proofs.Same.{both_true}
 use Rattle.im_formats.proofs.Headers.{spells_header-only}
@@ -18,12 +20,14 @@ few_cells_by : (b : Bool) → (if b then layout_1 else layout_2).most_cells ≤ 
 few_cells_by true = omega arith
 few_cells_by false = omega arith
 
-pub sizes_in_range : (number : ℕ) (s : Sizes) → are_sizes (layout_named number) s ≡ true → AreLimits s.cells s.elements s.slots
+pub sizes_in_range : (number : ℕ) (s : Sizes) → are_sizes (layout_named number) s ≡ true
+    → AreLimits s.cells s.elements s.slots
 sizes_in_range number s e =
     let most : ℕ = (layout_named number).most_cells in
     let a = both_true (nat_le 1 s.cells && nat_le s.cells most && nat_le 1 s.elements && nat_le s.elements MAX_ELEMENTS && nat_le MIN_SLOTS s.slots) (nat_le s.slots MAX_SLOTS) e in
     let b = both_true (nat_le 1 s.cells && nat_le s.cells most && nat_le 1 s.elements && nat_le s.elements MAX_ELEMENTS) (nat_le MIN_SLOTS s.slots) a.0 in
-    let d = both_true (nat_le 1 s.cells && nat_le s.cells most && nat_le 1 s.elements) (nat_le s.elements MAX_ELEMENTS) b.0 in
+    let d = both_true (nat_le 1 s.cells && nat_le s.cells most && nat_le 1 s.elements)
+    (nat_le s.elements MAX_ELEMENTS) b.0 in
     let f = both_true (nat_le 1 s.cells && nat_le s.cells most) (nat_le 1 s.elements) d.0 in
     let g = both_true (nat_le 1 s.cells) (nat_le s.cells most) f.0 in
     record {
@@ -39,16 +43,27 @@ sizes_in_range number s e =
     under m n a b = omega (arith, a, b)
 
 -- what is a header's has its sizes in range
-pub limits_of_header : (area : ℕ) (h : Header) → is_header (layout_named h.version) area h ≡ true → AreLimits h.sizes.cells h.sizes.elements h.sizes.slots
+pub limits_of_header : (area : ℕ) (h : Header) → is_header (layout_named h.version) area h ≡ true
+    → AreLimits h.sizes.cells h.sizes.elements h.sizes.slots
 limits_of_header area h e =
-    sizes_in_range h.version h.sizes (both_true ((h.version == (layout_named h.version).version) && (h.area == area) && nat_le 1 h.generation && nat_le h.generation LAST && nat_le h.count LAST) (are_sizes (layout_named h.version) h.sizes) e).1
+    sizes_in_range h.version h.sizes
+    (both_true ((h.version == (layout_named h.version).version) &&
+    (h.area == area) && nat_le 1 h.generation && nat_le h.generation LAST && nat_le h.count LAST)
+    (are_sizes (layout_named h.version) h.sizes) e).1
 
 -- a header of these fields is spelled where the bytes spell one
-pub spelled_is : (area : ℕ) (bytes : List ℕ) (h : Header) (b : Bool) → h ≡ header_in bytes → b ≡ (same_bytes (slice_range bytes 1 64) (header_body h) && is_header (layout_named h.version) area h) → b ≡ spells_header (layout_named (header_in bytes).version) area bytes
-spelled_is area bytes h b is tested = tested ∙ ap (λ (k : Header). same_bytes (slice_range bytes 1 64) (header_body k) && is_header (layout_named k.version) area k) is
+pub spelled_is : (area : ℕ) (bytes : List ℕ) (h : Header) (b : Bool) → h ≡ header_in bytes → b
+    ≡ (same_bytes (slice_range bytes 1 64) (header_body h) && is_header (layout_named h.version) area h) → b
+    ≡ spells_header (layout_named (header_in bytes).version) area bytes
+spelled_is area bytes h b is tested = tested
+    ∙ ap (λ (k : Header). same_bytes (slice_range bytes 1 64) (header_body k) && is_header
+    (layout_named k.version) area k) is
 
-pub limits_of_spelled : (area : ℕ) (bytes : List ℕ) → spells_header (layout_named (header_in bytes).version) area bytes ≡ true → AreLimits (header_in bytes).sizes.cells (header_in bytes).sizes.elements (header_in bytes).sizes.slots
-limits_of_spelled area bytes e = limits_of_header area (header_in bytes) (spells_header-only (layout_named (header_in bytes).version) area bytes e).1
+pub limits_of_spelled : (area : ℕ) (bytes : List ℕ)
+    → spells_header (layout_named (header_in bytes).version) area bytes ≡ true
+    → AreLimits (header_in bytes).sizes.cells (header_in bytes).sizes.elements (header_in bytes).sizes.slots
+limits_of_spelled area bytes e = limits_of_header area (header_in bytes)
+    (spells_header-only (layout_named (header_in bytes).version) area bytes e).1
 
 pub false_true : false ≡ true → ⊥
 false_true e = cc
@@ -59,5 +74,8 @@ no_some o e some = false_true (sym (ap is_some e) ∙ some)
 -- which header is in force
 pub place_spells : (zero one : List ℕ) (b c : Bool) → b ≡ is_second zero one → b ≡ c
     → spells_header (layout_at zero one) (number_in_force zero one) (place_in_force zero one)
-    ≡ spells_header (layout_named (header_in (if c then one else zero)).version) (if c then 1 else 0) (if c then one else zero)
-place_spells zero one b c is same = ap (λ (s : Bool). spells_header (layout_named (header_in (if s then one else zero)).version) (if s then 1 else 0) (if s then one else zero)) (sym is ∙ same)
+    ≡ spells_header (layout_named (header_in (if c then one else zero)).version) (if c then 1 else 0)
+    (if c then one else zero)
+place_spells zero one b c is same = ap
+    (λ (s : Bool). spells_header (layout_named (header_in (if s then one else zero)).version) (if s then 1 else 0)
+    (if s then one else zero)) (sym is ∙ same)

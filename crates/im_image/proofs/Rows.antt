@@ -1,5 +1,6 @@
 -- Bytes that are repeated, and the records that they are.
-use Rattle.std.proofs.Common.{◌≡◌, ℕ, zero, suc, ◌+◌, ◌*◌, List, [], ◌∷◌, ◌++◌, length, refl, sym, ap, ◌∙◌, arith, add-one, mul-zero}
+use Rattle.std.proofs.Common.{◌≡◌, ℕ, zero, suc, ◌+◌, ◌*◌, List, [], ◌∷◌, ◌++◌, length, refl, sym, ap, ◌∙◌, arith}
+use Rattle.std.proofs.Common.{add-one, mul-zero}
 use Rattle.std.proofs.lemmas.List.{length-append, append_assoc}
 use Rattle.im_image.specs.Fresh.{repeated}
 
@@ -9,9 +10,11 @@ append_nil (x ∷ xs) = ap (λ (l : List ℕ). x ∷ l) (append_nil xs)
 
 repeated-suc : (n : ℕ) (bytes : List ℕ) → repeated (suc n) bytes ≡ repeated n bytes ++ bytes
 repeated-suc zero bytes = append_nil bytes
-repeated-suc (suc n) bytes = ap (λ (l : List ℕ). bytes ++ l) (repeated-suc n bytes) ∙ sym (append_assoc bytes (repeated n bytes) bytes)
+repeated-suc (suc n) bytes = ap (λ (l : List ℕ). bytes ++ l) (repeated-suc n bytes)
+    ∙ sym (append_assoc bytes (repeated n bytes) bytes)
 
-pub append-repeated : (n : ℕ) (start items bytes after : List ℕ) → items ≡ start ++ repeated n bytes → after ≡ items ++ bytes → after ≡ start ++ repeated (n + 1) bytes
+pub append-repeated : (n : ℕ) (start items bytes after : List ℕ) → items ≡ start ++ repeated n bytes → after
+    ≡ items ++ bytes → after ≡ start ++ repeated (n + 1) bytes
 append-repeated n start items bytes after so next =
     next
     ∙ ap (λ (l : List ℕ). l ++ bytes) so
@@ -21,13 +24,17 @@ append-repeated n start items bytes after so next =
 
 pub length-repeated : (n : ℕ) (bytes : List ℕ) → length (repeated n bytes) ≡ length bytes * n
 length-repeated zero bytes = sym (mul-zero (length bytes))
-length-repeated (suc n) bytes = length-append bytes (repeated n bytes) ∙ ap (λ (k : ℕ). length bytes + k) (length-repeated n bytes) ∙ sym (mul-suc' (length bytes) n)
+length-repeated (suc n) bytes = length-append bytes (repeated n bytes)
+    ∙ ap (λ (k : ℕ). length bytes + k) (length-repeated n bytes) ∙ sym (mul-suc' (length bytes) n)
   where
     mul-suc' : (a b : ℕ) → a * suc b ≡ a + a * b
     mul-suc' a b = grind arith
 
-pub longer_repeated : (n count : ℕ) (items start bytes : List ℕ) → items ≡ start ++ repeated n bytes → n ≡ count → length items ≡ length start + length bytes * count
+pub longer_repeated : (n count : ℕ) (items start bytes : List ℕ) → items ≡ start ++ repeated n bytes → n ≡ count
+    → length items ≡ length start + length bytes * count
 longer_repeated n count items start bytes so all =
-    ap length so ∙ length-append start (repeated n bytes) ∙ ap (λ (k : ℕ). length start + k) (length-repeated n bytes) ∙ ap (λ (k : ℕ). length start + length bytes * k) all
+    ap length so ∙ length-append start (repeated n bytes)
+    ∙ ap (λ (k : ℕ). length start + k) (length-repeated n bytes)
+    ∙ ap (λ (k : ℕ). length start + length bytes * k) all
 
 pub ruleset pushes = (append-repeated, length-repeated)

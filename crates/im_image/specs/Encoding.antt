@@ -2,7 +2,8 @@
 use Rattle.std.specs.Prelude.{◌≡◌, ℕ, ◌+◌, ◌*◌, ◌<◌, List, length, slice_index_or}
 use Rattle.im_types.specs.declared.TheConstants.{NONE}
 use Rattle.im_types.specs.Contents.{new_window}
-use Rattle.im_types.specs.Layout.{Sizes, layout_in_use, cell_record_bytes, node_record_bytes, session_record_bytes, on_a_page, cell_pages, node_pages, session_pages, node_count}
+use Rattle.im_types.specs.Layout.{Sizes, layout_in_use, cell_record_bytes, node_record_bytes, session_record_bytes}
+use Rattle.im_types.specs.Layout.{on_a_page, cell_pages, node_pages, session_pages, node_count}
 use Rattle.im_types.specs.declared.records.CellRecord.TheVariants.{Free as FreeCell}
 use Rattle.im_types.specs.declared.records.NodeRecord.TheVariants.{Free as FreeNode}
 use Rattle.im_types.specs.Records.{cell_bytes, node_bytes, session_bytes, FitsCell, FitsNode, FitsWindow}

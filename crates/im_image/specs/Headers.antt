@@ -1,7 +1,8 @@
 -- A header of the code, as the definitions see it. (Own.)
 use Rattle.std.specs.Prelude.{◌≡◌, ◌⊎◌, ℕ, List, true, false, ◌&&◌, is_none, Option, None, Some, ◌==◌, if◌then◌else◌}
 use Rattle.im_types.specs.declared.refusals.Refusal.{Refusal}
-use Rattle.im_types.specs.declared.refusals.Refusal.TheVariants.{WrongLength, NoHeader, BadHeader, BadPage, BadRecord, NoMemory, Device, OldVersion}
+use Rattle.im_types.specs.declared.refusals.Refusal.TheVariants.{WrongLength, NoHeader, BadHeader, BadPage, BadRecord}
+use Rattle.im_types.specs.declared.refusals.Refusal.TheVariants.{NoMemory, Device, OldVersion}
 use Rattle.im_types.specs.Header.{Header as Seen, header_in, place_in_force, place_fault, or_else}
 use Rattle.im_types.specs.Layout.{Layout, layout_named, sizes_of, image_length}
 use Rattle.im_image.specs.declared.header.Header.{Header}

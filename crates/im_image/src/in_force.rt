@@ -1,9 +1,12 @@
 //! Which header is in force.
-ghost use Rattle.std.specs.Prelude.{◌≡◌, ◌⊎◌, ◌↔◌, ◌≤◌, ◌||◌, ◌==◌, not, true, false, Some, None, Err, IfSome, IsSome, length, ◌<◌, IfOk};
+ghost use Rattle.std.specs.Prelude.{◌≡◌, ◌⊎◌, ◌↔◌, ◌≤◌, ◌||◌, ◌==◌, not, true, false, Some, None, Err, IfSome};
+ghost use Rattle.std.specs.Prelude.{IsSome, length, ◌<◌, IfOk};
 ghost use Rattle.std.specs.Prelude.{IfErr, OnOk, IsErrOf};
-ghost use Rattle.im_types.specs.declared.refusals.Refusal.TheVariants.{NoHeader, BadHeader, WrongLength, Device, OldVersion};
+ghost use Rattle.im_types.specs.declared.refusals.Refusal.TheVariants.{NoHeader, BadHeader, WrongLength, Device};
+ghost use Rattle.im_types.specs.declared.refusals.Refusal.TheVariants.{OldVersion};
 ghost use Rattle.im_types.specs.Layout.{image_length, layout_1};
-ghost use Rattle.im_types.specs.Header.{header_in, header_of, header_fault, layout_in, is_open_header, generation_in, is_second};
+ghost use Rattle.im_types.specs.Header.{header_in, header_of, header_fault, layout_in, is_open_header, generation_in};
+ghost use Rattle.im_types.specs.Header.{is_second};
 ghost use Rattle.im_types.specs.Header.{are_ambiguous, number_in_force, place_in_force, place_fault, spells_header};
 ghost use Rattle.im_types.specs.Meaning.{Opens};
 ghost use Rattle.im_disk.specs.Moment.{Counts, Faults};

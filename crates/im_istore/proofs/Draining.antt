@@ -1,5 +1,6 @@
 -- Readers taken off a list one by one.
-use Rattle.std.proofs.Common.{◌≡◌, ℕ, ◌<◌, List, [], ◌∷◌, ◌++◌, None, Some, length, drop, refl, sym, ap, ◌∙◌, length-set, append_assoc}
+use Rattle.std.proofs.Common.{◌≡◌, ℕ, ◌<◌, List, [], ◌∷◌, ◌++◌, None, Some, length, drop, refl, sym, ap, ◌∙◌}
+use Rattle.std.proofs.Common.{length-set, append_assoc}
 use Rattle.std.specs.Prelude.{slice_get}
 use Rattle.std.proofs.lemmas.List.{set-set}
 use Rattle.im_types.specs.declared.operations.Reply.{Reply}
@@ -11,7 +12,8 @@ use Rattle.im_istore.proofs.Cells.{list_at-same, with_list-same}
 abbrev with_lists : Lists → List (List Waiter) → Lists
 with_lists held lists = record { nodes = held.nodes; lists = lists }
 
-front_is : (waiters : List Waiter) (first : Waiter) → Some first ≡ slice_get waiters 0 → waiters ≡ first ∷ drop 1 waiters
+front_is : (waiters : List Waiter) (first : Waiter) → Some first ≡ slice_get waiters 0 → waiters
+    ≡ first ∷ drop 1 waiters
 front_is [] first e = absurd (cc)
 front_is (waiter ∷ waiters) first e = let same : waiter ≡ first = cc in ap (λ w. w ∷ waiters) same
 
@@ -25,15 +27,19 @@ pub record IsOff (arena new : Shown) (a : ℕ) (reader : Waiter) : Type 0 where
   pub front : list_at arena.held a ≡ reader ∷ list_at new.held a
   pub rest : with_list new.held a [] ≡ with_list arena.held a []
 
-pub off : (arena new : Shown) (a : ℕ) (reader : Waiter) → a < length arena.held.lists → Some reader ≡ slice_get (list_at arena.held a) 0
+pub off : (arena new : Shown) (a : ℕ) (reader : Waiter) → a < length arena.held.lists → Some reader
+    ≡ slice_get (list_at arena.held a) 0
     → new.held ≡ with_list arena.held a (drop 1 (list_at arena.held a)) → IsOff arena new a reader
 off arena new a reader inside first e = record {
   count = ap (λ (h : Lists). length h.lists) e ∙ length-set arena.held.lists a (drop 1 (list_at arena.held a));
-  front = front_is (list_at arena.held a) reader first ∙ ap (λ waiters. reader ∷ waiters) (sym (list_at-same arena new a _ e inside));
-  rest = ap (λ h. with_list h a []) e ∙ ap (with_lists arena.held) (set-set arena.held.lists a (drop 1 (list_at arena.held a)) []);
+  front = front_is (list_at arena.held a) reader first
+      ∙ ap (λ waiters. reader ∷ waiters) (sym (list_at-same arena new a _ e inside));
+  rest = ap (λ h. with_list h a []) e
+      ∙ ap (with_lists arena.held) (set-set arena.held.lists a (drop 1 (list_at arena.held a)) []);
 }
 
-pub moved : (before left old : List Waiter) (reader : Waiter) → old ≡ reader ∷ left → (before ++ reader ∷ []) ++ left ≡ before ++ old
+pub moved : (before left old : List Waiter) (reader : Waiter) → old ≡ reader ∷ left → (before ++ reader ∷ []) ++ left
+    ≡ before ++ old
 moved before left old reader e = append_assoc before (reader ∷ []) left ∙ ap (λ waiters. before ++ waiters) (sym e)
 
 -- no reader is left
@@ -53,6 +59,7 @@ resumed_are waiters v replies e =
     (same, e ∙ ap (λ ws. replies_to ws v) (sym same))
 
 -- behind those who were there
-pub behind : (before after waiters : List Waiter) (v : ℕ) (replies : List (Waiter × Reply)) → replies ≡ replies_to waiters v → after ≡ before ++ waiters
+pub behind : (before after waiters : List Waiter) (v : ℕ) (replies : List (Waiter × Reply)) → replies
+    ≡ replies_to waiters v → after ≡ before ++ waiters
     → after ≡ before ++ askers_of replies
 behind before after waiters v replies e put = put ∙ ap (λ ws. before ++ ws) (sym (resumed_are waiters v replies e).0)

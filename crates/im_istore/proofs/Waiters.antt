@@ -11,7 +11,8 @@ use Rattle.im_istore.specs.Joined.{state_of, held_of, cells_of}
 use Rattle.im_istore.specs.Agreement.{has_some, Agree}
 use Rattle.im_istore.proofs.Cells.{held_at-cells}
 
-waiters_of-state : (cell : Cell) (waiters : List Waiter) → is_waiting_cell cell ≡ has_some waiters → waiters_of (state_of cell waiters) ≡ waiters
+waiters_of-state : (cell : Cell) (waiters : List Waiter) → is_waiting_cell cell ≡ has_some waiters
+    → waiters_of (state_of cell waiters) ≡ waiters
 waiters_of-state Empty waiters e = refl
 waiters_of-state Waiting waiters e = refl
 waiters_of-state (Full v) [] e = refl
@@ -19,11 +20,14 @@ waiters_of-state (Full v) (waiter ∷ waiters) e = absurd (cc)
 waiters_of-state (Clashed v) [] e = refl
 waiters_of-state (Clashed v) (waiter ∷ waiters) e = absurd (cc)
 
-waiters_in-held : (slot : Option Slot) (waiters : List Waiter) → is_waiting slot ≡ has_some waiters → waiters_in (held_of slot waiters) ≡ waiters
+waiters_in-held : (slot : Option Slot) (waiters : List Waiter) → is_waiting slot ≡ has_some waiters
+    → waiters_in (held_of slot waiters) ≡ waiters
 waiters_in-held None [] e = refl
 waiters_in-held None (waiter ∷ waiters) e = absurd (cc)
 waiters_in-held (Some slot) waiters e = waiters_of-state slot.cell waiters e
 
 -- where cells and lists agree, those who wait at a cell by the definitions are those on its list
-pub waiters_at-cells : (slots : List (Option Slot)) (arena : Shown) (a : ℕ) → Agree slots arena → waiters_at (cells_of slots arena) a ≡ list_at arena.held a
-waiters_at-cells slots arena a agree = ap waiters_in (held_at-cells slots arena a) ∙ waiters_in-held (slot_at slots a) (list_at arena.held a) (agree.each a)
+pub waiters_at-cells : (slots : List (Option Slot)) (arena : Shown) (a : ℕ) → Agree slots arena
+    → waiters_at (cells_of slots arena) a ≡ list_at arena.held a
+waiters_at-cells slots arena a agree = ap waiters_in (held_at-cells slots arena a)
+    ∙ waiters_in-held (slot_at slots a) (list_at arena.held a) (agree.each a)

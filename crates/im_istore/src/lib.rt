@@ -5,7 +5,8 @@
 //! say what a call does to them by the definitions of `im_types`.
 #![tactic(auto)]
 
-ghost use Rattle.std.specs.Prelude.{◌≡◌, ◌≢◌, ◌<◌, ◌++◌, ◌∷◌, [], List, Option, length, drop, slice_get, slice_set, IsSome, IfNone, ◌+◌, ◌≤◌};
+ghost use Rattle.std.specs.Prelude.{◌≡◌, ◌≢◌, ◌<◌, ◌++◌, ◌∷◌, [], List, Option, length, drop, slice_get, slice_set};
+ghost use Rattle.std.specs.Prelude.{IsSome, IfNone, ◌+◌, ◌≤◌};
 ghost use Rattle.std.specs.Prelude.{ℕ, Err, IfSome, vec_len, vec_capacity};
 ghost use Rattle.im_types.specs.declared.operations.Kind.TheVariants.{I};
 ghost use Rattle.im_types.specs.declared.operations.Op.TheVariants.{Fetch, Store};

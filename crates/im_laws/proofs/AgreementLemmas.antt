@@ -1,5 +1,6 @@
 -- The waiting agreement, after one cell is written, entries are answered, and a block is made or released.
-use Rattle.std.proofs.Common.{◌≡◌, ◌≢◌, ◌⊎◌, inl, inr, ⊎_elim, ℕ, zero, suc, ◌+◌, ◌<◌, ◌≤◌, List, [], ◌∷◌, ◌++◌, length, set, Some, None, Bool, true, false, cond, refl, sym, ap, ◌∙◌, subst, arith}
+use Rattle.std.proofs.Common.{◌≡◌, ◌≢◌, ◌⊎◌, inl, inr, ⊎_elim, ℕ, zero, suc, ◌+◌, ◌<◌, ◌≤◌, List, [], ◌∷◌, ◌++◌}
+use Rattle.std.proofs.Common.{length, set, Some, None, Bool, true, false, cond, refl, sym, ap, ◌∙◌, subst, arith}
 use Rattle.std.specs.Prelude.{Option, ◌==◌, ◌&&◌}
 use Rattle.std.proofs.lemmas.List.{get_or-set_same, get_or-set_other}
 use Rattle.std.proofs.lemmas.Bool.{cases_eq}
@@ -35,7 +36,8 @@ pub same_waiter-self : (who : Waiter) → same_waiter who who ≡ true
 same_waiter-self who = ap (λ b. b && (who.number == who.number)) (test-self who.element) ∙ test-self who.number
 
 -- one more that waits
-pub times-push : (who other : Waiter) (waiters : List Waiter) → times who (waiters ++ other ∷ []) ≡ times who waiters + one_if (same_waiter who other)
+pub times-push : (who other : Waiter) (waiters : List Waiter) → times who (waiters ++ other ∷ [])
+    ≡ times who waiters + one_if (same_waiter who other)
 times-push who other [] = by_test (same_waiter who other)
   where
     by_test : (b : Bool) → cond b 1 0 ≡ 0 + one_if b
@@ -44,7 +46,8 @@ times-push who other [] = by_test (same_waiter who other)
 times-push who other (w ∷ waiters) = by_test (same_waiter who w) (times-push who other waiters)
   where
     by_test : (b : Bool) → times who (waiters ++ other ∷ []) ≡ times who waiters + one_if (same_waiter who other)
-        → cond b (suc (times who (waiters ++ other ∷ []))) (times who (waiters ++ other ∷ [])) ≡ cond b (suc (times who waiters)) (times who waiters) + one_if (same_waiter who other)
+        → cond b (suc (times who (waiters ++ other ∷ []))) (times who (waiters ++ other ∷ []))
+        ≡ cond b (suc (times who waiters)) (times who waiters) + one_if (same_waiter who other)
     by_test true e = omega arith
     by_test false e = e
 
@@ -93,13 +96,15 @@ waits_in-quiet a None kept quiet = refl
 waits_in-quiet a (Some held) kept quiet = waits_for-quiet (awaiting held.block.kind a) kept quiet
 
 -- who waits at a cell waits at no other
-pub waits_in-other : (kind : Kind) (a b : ℕ) (held : Option Held) (kept : Option Kept) → b ≢ a → waits_for (awaiting kind a) kept ≡ true
+pub waits_in-other : (kind : Kind) (a b : ℕ) (held : Option Held) (kept : Option Kept) → b ≢ a
+    → waits_for (awaiting kind a) kept ≡ true
     → waits_in b held kept ≡ false
 waits_in-other kind a b None kept n e = refl
 waits_in-other kind a b (Some held) None n e = refl
 waits_in-other kind a b (Some held) (Some k) n e =
     let same = same_op-awaiting kind a k.op (and_both (same_op (awaiting kind a) k.op) (is_waiting k) e).0 in
-    ap (λ b. b && is_waiting k) (ap (same_op (awaiting held.block.kind b)) same ∙ awaiting_apart kind held.block.kind a b n)
+    ap (λ b. b && is_waiting k)
+    (ap (same_op (awaiting held.block.kind b)) same ∙ awaiting_apart kind held.block.kind a b n)
 
 -- one cell is written, and what is kept changes for some requests
 module _ (cells : List (Option Held)) (kept now : Waiter → Option Kept) (a : ℕ) (held : Held) (new : CellState) where
@@ -108,25 +113,34 @@ module _ (cells : List (Option Held)) (kept now : Waiter → Option Kept) (a : �
 
   pub write-agrees : held_at cells a ≡ Some held → WaitersAgree cells kept
       → ((who : Waiter) → times who (waiters_of new) ≡ one_if (waits_for (awaiting held.block.kind a) (now who)))
-      → ((who : Waiter) (b : ℕ) → b ≢ a → waits_in b (held_at cells b) (now who) ≡ waits_in b (held_at cells b) (kept who))
-      → ((who : Waiter) (k : Kept) → now who ≡ Some k → is_waiting k ≡ true → (kept who ≡ Some k) ⊎ (k.op ≡ awaiting held.block.kind a))
+      → ((who : Waiter) (b : ℕ) → b ≢ a → waits_in b (held_at cells b) (now who)
+      ≡ waits_in b (held_at cells b) (kept who))
+      → ((who : Waiter) (k : Kept) → now who ≡ Some k → is_waiting k ≡ true → (kept who ≡ Some k)
+      ⊎ (k.op ≡ awaiting held.block.kind a))
       → WaitersAgree written now
   write-agrees at agrees here elsewhere known = record {
     listed = λ who b. ⊎_elim
-        (λ h. subst (λ c. times who (waiters_in c) ≡ one_if (waits_in b c (now who))) (sym h.1) (subst (λ k. times who (waiters_of new) ≡ one_if (waits_for (awaiting held.block.kind k) (now who))) (sym h.0) (here who)))
-        (λ h. subst (λ c. times who (waiters_in c) ≡ one_if (waits_in b c (now who))) (sym h.1) (agrees.listed who b ∙ ap one_if (sym (elsewhere who b h.0))))
+        (λ h. subst (λ c. times who (waiters_in c) ≡ one_if (waits_in b c (now who))) (sym h.1)
+        (subst (λ k. times who (waiters_of new) ≡ one_if (waits_for (awaiting held.block.kind k) (now who)))
+        (sym h.0) (here who)))
+        (λ h. subst (λ c. times who (waiters_in c) ≡ one_if (waits_in b c (now who))) (sym h.1)
+        (agrees.listed who b ∙ ap one_if (sym (elsewhere who b h.0))))
         (at_each b);
-    somewhere = λ who k is waiting. ⊎_elim (λ was. moved k (agrees.somewhere who k was waiting)) (λ op. new_one k op waiting) (known who k is waiting);
+    somewhere = λ who k is waiting. ⊎_elim (λ was. moved k (agrees.somewhere who k was waiting))
+        (λ op. new_one k op waiting) (known who k is waiting);
   }
     where
       at_each : (b : ℕ)
-          → (b ≡ a) × (held_at written b ≡ Some (record { block = held.block; state = new })) ⊎ (b ≢ a) × (held_at written b ≡ held_at cells b)
-      at_each b = held_at-set cells a b (Some (record { block = held.block; state = new })) (held_at-within cells a held at)
+          → (b ≡ a) × (held_at written b ≡ Some (record { block = held.block; state = new })) ⊎ (b ≢ a)
+          × (held_at written b ≡ held_at cells b)
+      at_each b = held_at-set cells a b (Some (record { block = held.block; state = new }))
+          (held_at-within cells a held at)
 
       moved : (k : Kept) → waits_in (address_of k.op) (held_at cells (address_of k.op)) (Some k) ≡ true
           → waits_in (address_of k.op) (held_at written (address_of k.op)) (Some k) ≡ true
       moved k e = ⊎_elim
-          (λ h. ap (λ c. waits_in (address_of k.op) c (Some k)) h.1 ∙ ap (λ c. waits_in (address_of k.op) c (Some k)) (sym at ∙ ap (held_at cells) (sym h.0)) ∙ e)
+          (λ h. ap (λ c. waits_in (address_of k.op) c (Some k)) h.1
+          ∙ ap (λ c. waits_in (address_of k.op) c (Some k)) (sym at ∙ ap (held_at cells) (sym h.0)) ∙ e)
           (λ h. ap (λ c. waits_in (address_of k.op) c (Some k)) h.1 ∙ e)
           (at_each (address_of k.op))
 
@@ -134,17 +148,21 @@ module _ (cells : List (Option Held)) (kept now : Waiter → Option Kept) (a : �
           → waits_in (address_of k.op) (held_at written (address_of k.op)) (Some k) ≡ true
       new_one k op waiting =
           let there : address_of k.op ≡ a = ap address_of op ∙ address_of-awaiting held.block.kind a in
-          let same : same_op (awaiting held.block.kind (address_of k.op)) k.op ≡ true = ap (λ b. same_op (awaiting held.block.kind b) k.op) there ∙ ap (same_op (awaiting held.block.kind a)) op ∙ awaiting_self held.block.kind a in
+          let same : same_op (awaiting held.block.kind (address_of k.op)) k.op
+          ≡ true = ap (λ b. same_op (awaiting held.block.kind b) k.op) there
+          ∙ ap (same_op (awaiting held.block.kind a)) op ∙ awaiting_self held.block.kind a in
           ⊎_elim
           (λ h. ap (λ c. waits_in (address_of k.op) c (Some k)) h.1 ∙ ap (λ b. b && is_waiting k) same ∙ waiting)
           (λ h. absurd (h.0 there))
           (at_each (address_of k.op))
 
 -- the list of a cell, by what is kept
-pub listed_at : (cells : List (Option Held)) (kept : Waiter → Option Kept) → WaitersAgree cells kept → (a : ℕ) (held : Held)
+pub listed_at : (cells : List (Option Held)) (kept : Waiter → Option Kept) → WaitersAgree cells kept
+    → (a : ℕ) (held : Held)
     → held_at cells a ≡ Some held
     → (who : Waiter) → times who (waiters_of held.state) ≡ one_if (waits_for (awaiting held.block.kind a) (kept who))
-listed_at cells kept agrees a held at who = subst (λ c. times who (waiters_in c) ≡ one_if (waits_in a c (kept who))) at (agrees.listed who a)
+listed_at cells kept agrees a held at who = subst
+    (λ c. times who (waiters_in c) ≡ one_if (waits_in a c (kept who))) at (agrees.listed who a)
 
 pub no_quiet : IsQuiet None
 no_quiet k e = absurd (cc)
@@ -153,10 +171,12 @@ no_quiet k e = absurd (cc)
 module _ (cells : List (Option Held)) (kept : Waiter → Option Kept) (a : ℕ) (held : Held) (asker : Waiter) where
   -- what is kept then
   abbrev pub with_waiting : Waiter → Option Kept
-  with_waiting who = cond (same_waiter who asker) (Some (record { op = awaiting held.block.kind a; entry = Waiting })) (kept who)
+  with_waiting who = cond (same_waiter who asker)
+      (Some (record { op = awaiting held.block.kind a; entry = Waiting })) (kept who)
 
   pub defer-agrees : held_at cells a ≡ Some held → WaitersAgree cells kept → kept asker ≡ None
-      → WaitersAgree (set cells a (Some (record { block = held.block; state = Empty (waiters_of held.state ++ asker ∷ []) }))) with_waiting
+      → WaitersAgree (set cells a
+      (Some (record { block = held.block; state = Empty (waiters_of held.state ++ asker ∷ []) }))) with_waiting
   defer-agrees at agrees fresh =
       write-agrees cells kept with_waiting a held (Empty (waiters_of held.state ++ asker ∷ [])) at agrees
       (λ who. times-push who asker (waiters_of held.state) ∙ here who (same_waiter who asker) refl)
@@ -170,34 +190,45 @@ module _ (cells : List (Option Held)) (kept : Waiter → Option Kept) (a : ℕ) 
       is_asker who e = ap kept (same_waiter-equal who asker e) ∙ fresh
 
       here : (who : Waiter) (t : Bool) → same_waiter who asker ≡ t
-          → times who (waiters_of held.state) + one_if t ≡ one_if (waits_for (awaiting held.block.kind a) (cond t (Some (record { op = awaiting held.block.kind a; entry = Waiting })) (kept who)))
+          → times who (waiters_of held.state) + one_if t
+          ≡ one_if (waits_for (awaiting held.block.kind a)
+          (cond t (Some (record { op = awaiting held.block.kind a; entry = Waiting })) (kept who)))
       here who true e =
-          let none : times who (waiters_of held.state) ≡ 0 = listed_at cells kept agrees a held at who ∙ ap (λ k. one_if (waits_for (awaiting held.block.kind a) k)) (is_asker who e) in
-          let one : one_if (same_op (awaiting held.block.kind a) (awaiting held.block.kind a) && true) ≡ 1 = ap (λ b. one_if (b && true)) (awaiting_self held.block.kind a) in
+          let none : times who (waiters_of held.state) ≡ 0 = listed_at cells kept agrees a held at who
+          ∙ ap (λ k. one_if (waits_for (awaiting held.block.kind a) k)) (is_asker who e) in
+          let one : one_if (same_op (awaiting held.block.kind a) (awaiting held.block.kind a) && true)
+          ≡ 1 = ap (λ b. one_if (b && true)) (awaiting_self held.block.kind a) in
           omega (arith, none, one)
       here who false e = let was = listed_at cells kept agrees a held at who in omega (arith, was)
 
       elsewhere : (who : Waiter) (b : ℕ) → b ≢ a → (t : Bool) → same_waiter who asker ≡ t
-          → waits_in b (held_at cells b) (cond t (Some (record { op = awaiting held.block.kind a; entry = Waiting })) (kept who)) ≡ waits_in b (held_at cells b) (kept who)
+          → waits_in b (held_at cells b)
+          (cond t (Some (record { op = awaiting held.block.kind a; entry = Waiting })) (kept who))
+          ≡ waits_in b (held_at cells b) (kept who)
       elsewhere who b n true e =
-          waits_in-other held.block.kind a b (held_at cells b) (Some (record { op = awaiting held.block.kind a; entry = Waiting })) n (ap (λ b. b && true) (awaiting_self held.block.kind a))
+          waits_in-other held.block.kind a b (held_at cells b)
+          (Some (record { op = awaiting held.block.kind a; entry = Waiting })) n
+          (ap (λ b. b && true) (awaiting_self held.block.kind a))
           ∙ sym (ap (waits_in b (held_at cells b)) (is_asker who e) ∙ waits_in-quiet b (held_at cells b) None no_quiet)
       elsewhere who b n false e = refl
 
       known : (who : Waiter) (k : Kept) (t : Bool)
           → cond t (Some (record { op = awaiting held.block.kind a; entry = Waiting })) (kept who) ≡ Some k
           → (kept who ≡ Some k) ⊎ (k.op ≡ awaiting held.block.kind a)
-      known who k true is = let same : record { op = awaiting held.block.kind a; entry = Waiting } ≡ k = cc in inr (sym (ap (λ (k : Kept). k.op) same))
+      known who k true is = let same : record { op = awaiting held.block.kind a; entry = Waiting }
+          ≡ k = cc in inr (sym (ap (λ (k : Kept). k.op) same))
       known who k false is = inl is
 
 -- a request is left as it was, or it was and is answered
 module _ (cells : List (Option Held)) (kept now : Waiter → Option Kept) where
-  pub answer-agrees : WaitersAgree cells kept → ((who : Waiter) → (now who ≡ kept who) ⊎ (IsQuiet (now who) × IsQuiet (kept who)))
+  pub answer-agrees : WaitersAgree cells kept
+      → ((who : Waiter) → (now who ≡ kept who) ⊎ (IsQuiet (now who) × IsQuiet (kept who)))
       → WaitersAgree cells now
   answer-agrees agrees change = record {
     listed = λ who a. agrees.listed who a ∙ ap one_if (sym (⊎_elim
         (λ same. ap (waits_in a (held_at cells a)) same)
-        (λ quiet. waits_in-quiet a (held_at cells a) (now who) quiet.0 ∙ sym (waits_in-quiet a (held_at cells a) (kept who) quiet.1))
+        (λ quiet. waits_in-quiet a (held_at cells a) (now who) quiet.0
+        ∙ sym (waits_in-quiet a (held_at cells a) (kept who) quiet.1))
         (change who)));
     somewhere = λ who k is waiting. ⊎_elim
         (λ same. agrees.somewhere who k (sym same ∙ is) waiting)
@@ -212,14 +243,17 @@ module _ (cells : List (Option Held)) (kept now : Waiter → Option Kept) (a : �
   Stays who = (now who ≡ kept who) × (times who (waiters_of new) ≡ times who (waiters_of held.state))
 
   abbrev pub IsAnswered : Waiter → Type 0
-  IsAnswered who = IsQuiet (now who) × (times who (waiters_of new) ≡ 0) × ((b : ℕ) → b ≢ a → waits_in b (held_at cells b) (kept who) ≡ false)
+  IsAnswered who = IsQuiet (now who) × (times who (waiters_of new) ≡ 0)
+      × ((b : ℕ) → b ≢ a → waits_in b (held_at cells b) (kept who) ≡ false)
 
-  pub serve-agrees : held_at cells a ≡ Some held → WaitersAgree cells kept → ((who : Waiter) → Stays who ⊎ IsAnswered who)
+  pub serve-agrees : held_at cells a ≡ Some held → WaitersAgree cells kept
+      → ((who : Waiter) → Stays who ⊎ IsAnswered who)
       → WaitersAgree (set cells a (Some (record { block = held.block; state = new }))) now
   serve-agrees at agrees change =
       write-agrees cells kept now a held new at agrees
       (λ who. ⊎_elim
-      (λ stays. stays.1 ∙ listed_at cells kept agrees a held at who ∙ ap (λ k. one_if (waits_for (awaiting held.block.kind a) k)) (sym stays.0))
+      (λ stays. stays.1 ∙ listed_at cells kept agrees a held at who
+      ∙ ap (λ k. one_if (waits_for (awaiting held.block.kind a) k)) (sym stays.0))
       (λ answered. answered.1 ∙ ap one_if (sym (waits_for-quiet (awaiting held.block.kind a) (now who) answered.0)))
       (change who))
       (λ who b n. ⊎_elim
@@ -240,26 +274,33 @@ waits_for-kept kind a (Some k) e =
     (k, refl, both.1, ap address_of (same_op-awaiting kind a k.op both.0) ∙ address_of-awaiting kind a)
 
 -- nobody's entry waits for a cell in no block
-nobody_waits_for : (cells : List (Option Held)) (kept : Waiter → Option Kept) → WaitersAgree cells kept → (kind : Kind) (a : ℕ)
+nobody_waits_for : (cells : List (Option Held)) (kept : Waiter → Option Kept) → WaitersAgree cells kept
+    → (kind : Kind) (a : ℕ)
     → held_at cells a ≡ None → (who : Waiter) → waits_for (awaiting kind a) (kept who) ≡ false
 nobody_waits_for cells kept agrees kind a none who = ⊎_elim
     (λ e. let w = waits_for-kept kind a (kept who) e in
-    absurd (true_false (sym (agrees.somewhere who w.0 w.1 w.2) ∙ ap (λ c. waits_in (address_of w.0.op) c (Some w.0)) (ap (held_at cells) w.3 ∙ none))))
+    absurd (true_false (sym (agrees.somewhere who w.0 w.1 w.2)
+    ∙ ap (λ c. waits_in (address_of w.0.op) c (Some w.0)) (ap (held_at cells) w.3 ∙ none))))
     (λ e. e)
     (true_or_false (waits_for (awaiting kind a) (kept who)))
 
 -- a new block, where there was none
-pub allocate-agrees : (cells : List (Option Held)) (kept : Waiter → Option Kept) → WaitersAgree cells kept → (base n : ℕ) (block : Block)
+pub allocate-agrees : (cells : List (Option Held)) (kept : Waiter → Option Kept) → WaitersAgree cells kept
+    → (base n : ℕ) (block : Block)
     → ((a : ℕ) → base ≤ a → a < base + n → held_at cells a ≡ None)
     → WaitersAgree (fill cells base n (Some (record { block = block; state = Empty [] }))) kept
 allocate-agrees cells kept agrees base n block free = record {
   listed = λ who a. ⊎_elim
-      (λ same. subst (λ c. times who (waiters_in c) ≡ one_if (waits_in a c (kept who))) (sym same) (agrees.listed who a))
-      (λ h. subst (λ c. times who (waiters_in c) ≡ one_if (waits_in a c (kept who))) (sym h.2) (ap one_if (sym (nobody_waits_for cells kept agrees block.kind a (free a h.0 h.1) who))))
+      (λ same. subst (λ c. times who (waiters_in c) ≡ one_if (waits_in a c (kept who))) (sym same)
+      (agrees.listed who a))
+      (λ h. subst (λ c. times who (waiters_in c) ≡ one_if (waits_in a c (kept who))) (sym h.2)
+      (ap one_if (sym (nobody_waits_for cells kept agrees block.kind a (free a h.0 h.1) who))))
       (get_or-fill cells base n new a);
   somewhere = λ who k is waiting. ⊎_elim
       (λ same. ap (λ c. waits_in (address_of k.op) c (Some k)) same ∙ agrees.somewhere who k is waiting)
-      (λ h. absurd (true_false (sym (agrees.somewhere who k is waiting) ∙ ap (λ c. waits_in (address_of k.op) c (Some k)) (free (address_of k.op) h.0 h.1))))
+      (λ h. absurd (true_false
+      (sym (agrees.somewhere who k is waiting)
+      ∙ ap (λ c. waits_in (address_of k.op) c (Some k)) (free (address_of k.op) h.0 h.1))))
       (get_or-fill cells base n new (address_of k.op));
 }
   where
@@ -272,13 +313,15 @@ pub release-agrees : (cells : List (Option Held)) (kept : Waiter → Option Kept
     → WaitersAgree (fill cells base n None) kept
 release-agrees cells kept agrees base n nobody = record {
   listed = λ who a. ⊎_elim
-      (λ same. subst (λ c. times who (waiters_in c) ≡ one_if (waits_in a c (kept who))) (sym same) (agrees.listed who a))
+      (λ same. subst (λ c. times who (waiters_in c) ≡ one_if (waits_in a c (kept who))) (sym same)
+      (agrees.listed who a))
       (λ h. subst (λ c. times who (waiters_in c) ≡ one_if (waits_in a c (kept who))) (sym h.2) refl)
       (get_or-fill cells base n None a);
   somewhere = λ who k is waiting. ⊎_elim
       (λ same. ap (λ c. waits_in (address_of k.op) c (Some k)) same ∙ agrees.somewhere who k is waiting)
       (λ h. absurd (one_zero (
-      ap one_if (sym (ap (waits_in (address_of k.op) (held_at cells (address_of k.op))) is ∙ agrees.somewhere who k is waiting))
+      ap one_if (sym (ap (waits_in (address_of k.op) (held_at cells (address_of k.op))) is
+      ∙ agrees.somewhere who k is waiting))
       ∙ sym (agrees.listed who (address_of k.op)) ∙ ap (times who) (nobody (address_of k.op) h.0 h.1))))
       (get_or-fill cells base n None (address_of k.op));
 }
@@ -292,13 +335,16 @@ pub reset-agrees : (cells : List (Option Held)) (kept : Waiter → Option Kept) 
     → WaitersAgree (change_each emptied cells base n) kept
 reset-agrees cells kept agrees base n nobody = record {
   listed = λ who a. ⊎_elim
-      (λ same. subst (λ c. times who (waiters_in c) ≡ one_if (waits_in a c (kept who))) (sym same) (agrees.listed who a))
+      (λ same. subst (λ c. times who (waiters_in c) ≡ one_if (waits_in a c (kept who))) (sym same)
+      (agrees.listed who a))
       (λ h. subst (λ c. times who (waiters_in c) ≡ one_if (waits_in a c (kept who))) (sym h.2)
-      (ap (times who) (none_left (held_at cells a)) ∙ sym (ap (times who) (nobody a h.0 h.1)) ∙ agrees.listed who a ∙ ap one_if (sym (same_wait a (held_at cells a) (kept who)))))
+      (ap (times who) (none_left (held_at cells a)) ∙ sym (ap (times who) (nobody a h.0 h.1)) ∙ agrees.listed who a
+      ∙ ap one_if (sym (same_wait a (held_at cells a) (kept who)))))
       (get_or-change_each emptied cells base n a);
   somewhere = λ who k is waiting. ⊎_elim
       (λ same. ap (λ c. waits_in (address_of k.op) c (Some k)) same ∙ agrees.somewhere who k is waiting)
-      (λ h. ap (λ c. waits_in (address_of k.op) c (Some k)) h.2 ∙ same_wait (address_of k.op) (held_at cells (address_of k.op)) (Some k) ∙ agrees.somewhere who k is waiting)
+      (λ h. ap (λ c. waits_in (address_of k.op) c (Some k)) h.2
+      ∙ same_wait (address_of k.op) (held_at cells (address_of k.op)) (Some k) ∙ agrees.somewhere who k is waiting)
       (get_or-change_each emptied cells base n (address_of k.op));
 }
   where

@@ -1,18 +1,21 @@
 -- What an allocation, a release and a reset come to.
-use Rattle.std.proofs.Common.{◌≡◌, ℕ, ◌+◌, ◌<◌, ◌≤◌, List, [], length, take, drop, Some, None, Bool, true, false, cond, refl, sym, ap, ◌∙◌, arith}
+use Rattle.std.proofs.Common.{◌≡◌, ℕ, ◌+◌, ◌<◌, ◌≤◌, List, [], length, take, drop, Some, None, Bool, true, false}
+use Rattle.std.proofs.Common.{cond, refl, sym, ap, ◌∙◌, arith}
 use Rattle.std.specs.Prelude.{Option, ◌==◌, option_map}
 use Rattle.std.specs.List.{list_any}
 use Rattle.std.proofs.lemmas.Bool.Decides.{nat_tests}
 use Rattle.im_types.specs.declared.operations.Op.TheVariants.{Alloc, Release, Reset}
 use Rattle.im_types.specs.declared.operations.Kind.{Kind}
 use Rattle.im_types.specs.declared.operations.Reply.{Reply}
-use Rattle.im_types.specs.declared.operations.Reply.TheVariants.{Base, NoSpace, BadLength, Released, NoBlock, StillWaiting, Cleared}
+use Rattle.im_types.specs.declared.operations.Reply.TheVariants.{Base, NoSpace, BadLength, Released, NoBlock}
+use Rattle.im_types.specs.declared.operations.Reply.TheVariants.{StillWaiting, Cleared}
 use Rattle.im_types.specs.declared.operations.Entry.TheVariants.{Answered}
 use Rattle.im_types.specs.declared.operations.Block.{Block}
 use Rattle.im_types.specs.declared.commands.Request.{Request}
 use Rattle.im_types.specs.Contents.{Held, Contents, held_at, waiters_at, block_at, HasBlocks}
 use Rattle.im_types.specs.Place.{is_free, place, fill, change_each, IsLeastFree}
-use Rattle.im_types.specs.Act.{only_tells, new_cell, allocate, allocate_at, unless_waited_for, emptied, block_with_base, is_waiting_cell}
+use Rattle.im_types.specs.Act.{only_tells, new_cell, allocate, allocate_at, unless_waited_for, emptied}
+use Rattle.im_types.specs.Act.{block_with_base, is_waiting_cell}
 use Rattle.im_types.specs.Step.{Stepped}
 use Rattle.im_laws.specs.Cells.{empty_cell}
 use Rattle.im_laws.specs.Requests.{after_request, IsServed}
@@ -31,11 +34,13 @@ pub record IsMade (cells : List (Option Held)) (kind : Kind) (n base : ℕ) : Ty
   pub placed : place n cells ≡ Some base
   pub made : (allocate cells kind n).cells ≡ fill cells base n (new_cell base n kind)
 
-allocate-base : (cells : List (Option Held)) (kind : Kind) (n base : ℕ) → (allocate cells kind n).entry ≡ Answered (Base base)
+allocate-base : (cells : List (Option Held)) (kind : Kind) (n base : ℕ) → (allocate cells kind n).entry
+    ≡ Answered (Base base)
     → IsMade cells kind n base
 allocate-base cells kind n base = by_test (n == 0) refl
   where
-    by_place : (o : Option ℕ) → place n cells ≡ o → (n == 0) ≡ false → (allocate_at cells kind n o).entry ≡ Answered (Base base)
+    by_place : (o : Option ℕ) → place n cells ≡ o → (n == 0) ≡ false → (allocate_at cells kind n o).entry
+        ≡ Answered (Base base)
         → IsMade cells kind n base
     by_place None p t e = absurd (differ (same_reply NoSpace (Base base) e))
       where
@@ -59,11 +64,13 @@ allocate-base cells kind n base = by_test (n == 0) refl
         differ e = cc
     by_test false t e = by_place (place n cells) refl t e
 
-allocate-no_space : (cells : List (Option Held)) (kind : Kind) (n : ℕ) → (allocate cells kind n).entry ≡ Answered NoSpace → (base : ℕ)
+allocate-no_space : (cells : List (Option Held)) (kind : Kind) (n : ℕ) → (allocate cells kind n).entry
+    ≡ Answered NoSpace → (base : ℕ)
     → is_free cells base n ≡ false
 allocate-no_space cells kind n = by_test (n == 0) refl
   where
-    by_place : (o : Option ℕ) → place n cells ≡ o → (n == 0) ≡ false → (allocate_at cells kind n o).entry ≡ Answered NoSpace → (base : ℕ)
+    by_place : (o : Option ℕ) → place n cells ≡ o → (n == 0) ≡ false → (allocate_at cells kind n o).entry
+        ≡ Answered NoSpace → (base : ℕ)
         → is_free cells base n ≡ false
     by_place None p t e = place-none n cells (grind (arith, nat_tests)) p
     by_place (Some found) p t e = absurd (differ (same_reply (Base found) NoSpace e))
@@ -71,7 +78,8 @@ allocate-no_space cells kind n = by_test (n == 0) refl
         differ : Base found ≡ NoSpace → ⊥
         differ e = cc
 
-    by_test : (b : Bool) → (n == 0) ≡ b → (cond b (only_tells cells BadLength) (allocate_at cells kind n (place n cells))).entry ≡ Answered NoSpace
+    by_test : (b : Bool) → (n == 0) ≡ b
+        → (cond b (only_tells cells BadLength) (allocate_at cells kind n (place n cells))).entry ≡ Answered NoSpace
         → (base : ℕ) → is_free cells base n ≡ false
     by_test true t e = absurd (differ (same_reply BadLength NoSpace e))
       where
@@ -82,7 +90,8 @@ allocate-no_space cells kind n = by_test (n == 0) refl
 -- a new request to allocate
 module _ (m : Contents) (r : Request) (kind : Kind) (n : ℕ) where
   is_made : (base : ℕ) → IsServed m r (Alloc kind n) (Answered (Base base)) → IsMade m.cells kind n base
-  is_made base served = allocate-base m.cells kind n base (served-entry m r (Alloc kind n) (Answered (Base base)) served)
+  is_made base served = allocate-base m.cells kind n base
+      (served-entry m r (Alloc kind n) (Answered (Base base)) served)
 
   pub allocation-least : (base : ℕ) → IsServed m r (Alloc kind n) (Answered (Base base)) → IsLeastFree m.cells n base
   allocation-least base served = place-least n m.cells base (is_made base served).placed
@@ -96,25 +105,31 @@ module _ (m : Contents) (r : Request) (kind : Kind) (n : ℕ) where
       ∙ get_or-fill_in m.cells base n (new_cell base n kind) a lo hi (omega arith)
 
   pub allocation-no_space : (base : ℕ) → IsServed m r (Alloc kind n) (Answered NoSpace) → is_free m.cells base n ≡ false
-  allocation-no_space base served = allocate-no_space m.cells kind n (served-entry m r (Alloc kind n) (Answered NoSpace) served) base
+  allocation-no_space base served = allocate-no_space m.cells kind n
+      (served-entry m r (Alloc kind n) (Answered NoSpace) served) base
 
 -- a block whose cells became these
-pub record IsLeft (cells : List (Option Held)) (a : ℕ) (after : Block → List (Option Held)) (reply : Reply) : Type 0 where
+pub record IsLeft (cells : List (Option Held)) (a : ℕ) (after : Block → List (Option Held))
+    (reply : Reply) : Type 0 where
   pub block : Block
   pub there : block_at cells a ≡ Some block
   pub nobody : list_any is_waiting_cell (take block.length (drop a cells)) ≡ false
   pub left : (unless_waited_for after reply cells a (block_with_base a (held_at cells a))).cells ≡ after block
 
-left-by : (cells : List (Option Held)) (a : ℕ) (after : Block → List (Option Held)) (reply : Reply) → (NoBlock ≡ reply → ⊥) → (StillWaiting ≡ reply → ⊥)
-    → (unless_waited_for after reply cells a (block_with_base a (held_at cells a))).entry ≡ Answered reply → IsLeft cells a after reply
+left-by : (cells : List (Option Held)) (a : ℕ) (after : Block → List (Option Held)) (reply : Reply)
+    → (NoBlock ≡ reply → ⊥) → (StillWaiting ≡ reply → ⊥)
+    → (unless_waited_for after reply cells a (block_with_base a (held_at cells a))).entry ≡ Answered reply
+    → IsLeft cells a after reply
 left-by cells a after reply no_block still_waiting = by_held (held_at cells a) refl
   where
     not_told : (told : Reply) → (told ≡ reply → ⊥) → Answered told ≡ Answered reply → ⊥
     not_told told other e = other (same_reply told reply e)
 
-    by_waiting : (held : Held) → held_at cells a ≡ Some held → block_with_base a (held_at cells a) ≡ Some held.block → (t : Bool)
+    by_waiting : (held : Held) → held_at cells a ≡ Some held → block_with_base a (held_at cells a) ≡ Some held.block
+        → (t : Bool)
         → list_any is_waiting_cell (take held.block.length (drop a cells)) ≡ t
-        → (cond t (only_tells cells StillWaiting) (record { cells = after held.block; entry = Answered reply; resumed = [] })).entry ≡ Answered reply
+        → (cond t (only_tells cells StillWaiting)
+        (record { cells = after held.block; entry = Answered reply; resumed = [] })).entry ≡ Answered reply
         → IsLeft cells a after reply
     by_waiting held at is true t e = absurd (not_told StillWaiting still_waiting e)
     by_waiting held at is false t e = record {
@@ -122,21 +137,27 @@ left-by cells a after reply no_block still_waiting = by_held (held_at cells a) r
       there = ap (option_map (λ (held : Held). held.block)) at;
       nobody = t;
       left = ap (λ o. (unless_waited_for after reply cells a o).cells) is
-          ∙ ap (λ b. (cond b (only_tells cells StillWaiting) (record { cells = after held.block; entry = Answered reply; resumed = [] })).cells) t;
+          ∙ ap (λ b. (cond b (only_tells cells StillWaiting)
+          (record { cells = after held.block; entry = Answered reply; resumed = [] })).cells) t;
     }
 
     by_base : (held : Held) → held_at cells a ≡ Some held → (t : Bool) → (held.block.base == a) ≡ t
-        → (unless_waited_for after reply cells a (cond t (Some held.block) None)).entry ≡ Answered reply → IsLeft cells a after reply
+        → (unless_waited_for after reply cells a (cond t (Some held.block) None)).entry ≡ Answered reply
+        → IsLeft cells a after reply
     by_base held at true t e =
-        by_waiting held at (ap (block_with_base a) at ∙ ap (λ b. cond b (Some held.block) None) t) (list_any is_waiting_cell (take held.block.length (drop a cells))) refl e
+        by_waiting held at (ap (block_with_base a) at ∙ ap (λ b. cond b (Some held.block) None) t)
+        (list_any is_waiting_cell (take held.block.length (drop a cells))) refl e
     by_base held at false t e = absurd (not_told NoBlock no_block e)
 
-    by_held : (o : Option Held) → held_at cells a ≡ o → (unless_waited_for after reply cells a (block_with_base a o)).entry ≡ Answered reply → IsLeft cells a after reply
+    by_held : (o : Option Held) → held_at cells a ≡ o
+        → (unless_waited_for after reply cells a (block_with_base a o)).entry ≡ Answered reply
+        → IsLeft cells a after reply
     by_held None at e = absurd (not_told NoBlock no_block e)
     by_held (Some held) at e = by_base held at (held.block.base == a) refl e
 
 -- a cell of a block whose cells became others
-module _ (cells : List (Option Held)) (a : ℕ) (after : Block → List (Option Held)) (reply : Reply) (blocks : HasBlocks cells) (is_left : IsLeft cells a after reply)
+module _ (cells : List (Option Held)) (a : ℕ) (after : Block → List (Option Held)) (reply : Reply)
+    (blocks : HasBlocks cells) (is_left : IsLeft cells a after reply)
     (b : ℕ) (block : Block) (here : block_at cells b ≡ Some block) (base : block.base ≡ a) where
   same_block : is_left.block ≡ block
   same_block =
@@ -158,7 +179,8 @@ module _ (cells : List (Option Held)) (a : ℕ) (after : Block → List (Option 
   nobody_left = nobody_waits cells a is_left.block.length is_left.nobody b in_range.0 in_range.1
 
 -- a new request to release that is told so, and a cell of the block
-module _ (m : Contents) (r : Request) (a : ℕ) (blocks : HasBlocks m.cells) (served : IsServed m r (Release a) (Answered Released))
+module _ (m : Contents) (r : Request) (a : ℕ) (blocks : HasBlocks m.cells)
+    (served : IsServed m r (Release a) (Answered Released))
     (b : ℕ) (block : Block) (here : block_at m.cells b ≡ Some block) (base : block.base ≡ a) where
   no_block : NoBlock ≡ Released → ⊥
   no_block e = cc
@@ -167,7 +189,8 @@ module _ (m : Contents) (r : Request) (a : ℕ) (blocks : HasBlocks m.cells) (se
   still_waiting e = cc
 
   released : IsLeft m.cells a (λ block. fill m.cells a block.length None) Released
-  released = left-by m.cells a (λ block. fill m.cells a block.length None) Released no_block still_waiting (served-entry m r (Release a) (Answered Released) served)
+  released = left-by m.cells a (λ block. fill m.cells a block.length None) Released no_block still_waiting
+      (served-entry m r (Release a) (Answered Released) served)
 
   pub release-frees : held_at (after_request m r).cells b ≡ None
   release-frees =
@@ -180,7 +203,8 @@ module _ (m : Contents) (r : Request) (a : ℕ) (blocks : HasBlocks m.cells) (se
   release-nobody = nobody_left m.cells a _ Released blocks released b block here base
 
 -- a new request to reset that is told so, and a cell of the block
-module _ (m : Contents) (r : Request) (a : ℕ) (blocks : HasBlocks m.cells) (served : IsServed m r (Reset a) (Answered Cleared))
+module _ (m : Contents) (r : Request) (a : ℕ) (blocks : HasBlocks m.cells)
+    (served : IsServed m r (Reset a) (Answered Cleared))
     (b : ℕ) (block : Block) (here : block_at m.cells b ≡ Some block) (base : block.base ≡ a) where
   none_to_clear : NoBlock ≡ Cleared → ⊥
   none_to_clear e = cc
@@ -189,7 +213,8 @@ module _ (m : Contents) (r : Request) (a : ℕ) (blocks : HasBlocks m.cells) (se
   waited_for e = cc
 
   cleared : IsLeft m.cells a (λ block. change_each emptied m.cells a block.length) Cleared
-  cleared = left-by m.cells a (λ block. change_each emptied m.cells a block.length) Cleared none_to_clear waited_for (served-entry m r (Reset a) (Answered Cleared) served)
+  cleared = left-by m.cells a (λ block. change_each emptied m.cells a block.length) Cleared none_to_clear waited_for
+      (served-entry m r (Reset a) (Answered Cleared) served)
 
   pub reset-empties : held_at (after_request m r).cells b ≡ Some (empty_cell block)
   reset-empties =
@@ -202,7 +227,8 @@ module _ (m : Contents) (r : Request) (a : ℕ) (blocks : HasBlocks m.cells) (se
       by_held : (o : Option Held) → held_at m.cells b ≡ o → emptied (held_at m.cells b) ≡ Some (empty_cell block)
       by_held None at = absurd (some_none block (sym here ∙ ap (option_map (λ (held : Held). held.block)) at))
       by_held (Some held) at =
-          ap emptied at ∙ ap (λ block. Some (empty_cell block)) (some_same held.block block (sym (ap (option_map (λ (held : Held). held.block)) at) ∙ here))
+          ap emptied at ∙ ap (λ block. Some (empty_cell block))
+          (some_same held.block block (sym (ap (option_map (λ (held : Held). held.block)) at) ∙ here))
 
   pub reset-nobody : waiters_at m.cells b ≡ []
   reset-nobody = nobody_left m.cells a _ Cleared blocks cleared b block here base

@@ -1,5 +1,6 @@
 -- A fill, cell by cell.
-use Rattle.std.proofs.Common.{◌≡◌, ℕ, zero, suc, ◌+◌, List, [], ◌∷◌, set, refl, sym, ap, ◌∙◌, add-one, zero-add, suc-add}
+use Rattle.std.proofs.Common.{◌≡◌, ℕ, zero, suc, ◌+◌, List, [], ◌∷◌, set, refl, sym, ap, ◌∙◌, add-one, zero-add}
+use Rattle.std.proofs.Common.{suc-add}
 use Rattle.std.specs.Prelude.{Option}
 use Rattle.im_types.specs.Place.{fill}
 
@@ -9,11 +10,14 @@ module _ {X : Type 0} where
   fill-none (y ∷ xs) zero x = refl
   fill-none (y ∷ xs) (suc base) x = ap (λ ys. y ∷ ys) (fill-none xs base x)
 
-  fill-suc : (xs : List (Option X)) (base i : ℕ) (x : Option X) → set (fill xs base i x) (base + i) x ≡ fill xs base (suc i) x
+  fill-suc : (xs : List (Option X)) (base i : ℕ) (x : Option X) → set (fill xs base i x) (base + i) x
+      ≡ fill xs base (suc i) x
   fill-suc [] base i x = refl
   fill-suc (y ∷ xs) zero zero x = ap (λ ys. x ∷ ys) (fill-none xs zero x)
-  fill-suc (y ∷ xs) zero (suc i) x = rw (zero-add (suc i)) (ap (λ ys. x ∷ ys) (ap (λ k. set (fill xs zero i x) k x) (sym (zero-add i)) ∙ fill-suc xs zero i x))
+  fill-suc (y ∷ xs) zero (suc i) x = rw (zero-add (suc i))
+      (ap (λ ys. x ∷ ys) (ap (λ k. set (fill xs zero i x) k x) (sym (zero-add i)) ∙ fill-suc xs zero i x))
   fill-suc (y ∷ xs) (suc base) i x = rw (suc-add base i) (ap (λ ys. y ∷ ys) (fill-suc xs base i x))
 
-  pub fill-more : (xs : List (Option X)) (base i : ℕ) (x : Option X) → set (fill xs base i x) (base + i) x ≡ fill xs base (i + 1) x
+  pub fill-more : (xs : List (Option X)) (base i : ℕ) (x : Option X) → set (fill xs base i x) (base + i) x
+      ≡ fill xs base (i + 1) x
   fill-more xs base i x = fill-suc xs base i x ∙ ap (λ n. fill xs base n x) (sym (add-one i))

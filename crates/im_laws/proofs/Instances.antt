@@ -1,5 +1,6 @@
 -- Each law says something: memories, commands and traces that meet its premises, computed.
-use Rattle.std.proofs.Common.{◌≡◌, ℕ, ◌+◌, ◌<◌, ◌≤◌, List, [], ◌∷◌, take, Some, None, Ok, Err, true, false, refl, sym, ap, subst, arith}
+use Rattle.std.proofs.Common.{◌≡◌, ℕ, ◌+◌, ◌<◌, ◌≤◌, List, [], ◌∷◌, take, Some, None, Ok, Err, true, false, refl, sym}
+use Rattle.std.proofs.Common.{ap, subst, arith}
 use Rattle.im_types.specs.declared.TheConstants.{WINDOW, LAST}
 use Rattle.im_types.specs.declared.operations.Op.{Op}
 use Rattle.im_types.specs.declared.operations.Op.TheVariants.{Alloc, Release, Fetch, Store, Take, Put}
@@ -45,7 +46,8 @@ request element number op = record { element = element; number = number; op = op
 
 -- memories: that of each trace is one
 pub end_of-memory : (trace : List Line) → IsMemory 16 16 (end_of sixteen_cells trace)
-end_of-memory trace = subst (IsMemory 16 16) (sym (end_of-commands sixteen_cells trace)) (after-memory 16 16 sixteen_cells (commands_of trace) (empty-memory 16 16))
+end_of-memory trace = subst (IsMemory 16 16) (sym (end_of-commands sixteen_cells trace))
+    (after-memory 16 16 sixteen_cells (commands_of trace) (empty-memory 16 16))
 
 waiting-memory : IsMemory 16 16 waiting
 unfolding waiting
@@ -96,7 +98,8 @@ put_is_new : IsNew (end_of sixteen_cells (take 3 three_takers)) (request 4 1 (Pu
 unfolding empty_contents request
 put_is_new = record { accepted = refl; asks = refl }
 
-taker_has_waited : kept_for (end_of sixteen_cells (take 3 three_takers)).windows (waiter 3 1) ≡ Some (record { op = Take 0; entry = Waiting })
+taker_has_waited : kept_for (end_of sixteen_cells (take 3 three_takers)).windows (waiter 3 1)
+    ≡ Some (record { op = Take 0; entry = Waiting })
 unfolding empty_contents
 taker_has_waited = refl
 
@@ -180,6 +183,8 @@ unfolding answered request
 told_again = refl
 
 -- a run with commands that aren't accepted
-one_of_three : accepted sixteen_cells (Confirm 0 1 ∷ Asks (request 0 1 (Alloc I 1)) ∷ Asks (request 0 1 (Alloc I 1)) ∷ []) ≡ Asks (request 0 1 (Alloc I 1)) ∷ []
+one_of_three : accepted sixteen_cells
+    (Confirm 0 1 ∷ Asks (request 0 1 (Alloc I 1)) ∷ Asks (request 0 1 (Alloc I 1)) ∷ [])
+    ≡ Asks (request 0 1 (Alloc I 1)) ∷ []
 unfolding empty_contents request
 one_of_three = refl

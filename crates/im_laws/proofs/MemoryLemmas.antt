@@ -1,5 +1,6 @@
 -- A step keeps a memory a memory.
-use Rattle.std.proofs.Common.{◌≡◌, ℕ, zero, suc, ◌+◌, ◌≤◌, max, List, [], ◌∷◌, length, replicate, Some, None, Ok, Err, refl, sym, ap, ◌∙◌, subst, arith, length-set}
+use Rattle.std.proofs.Common.{◌≡◌, ℕ, zero, suc, ◌+◌, ◌≤◌, max, List, [], ◌∷◌, length, replicate, Some, None, Ok, Err}
+use Rattle.std.proofs.Common.{refl, sym, ap, ◌∙◌, subst, arith, length-set}
 use Rattle.std.proofs.lemmas.List.{length-replicate}
 use Rattle.std.specs.Prelude.{Option, Result, slice_get, option_map}
 use Rattle.im_types.specs.declared.TheConstants.{WINDOW, LAST}
@@ -39,7 +40,8 @@ step-blocks m (Confirm element upto) blocks = by_result (confirm_window upto (sl
 
 pub after-blocks : (m : Contents) (commands : List Command) → HasBlocks m.cells → HasBlocks (after m commands).cells
 after-blocks m [] blocks = blocks
-after-blocks m (command ∷ commands) blocks = after-blocks (step m command).contents commands (step-blocks m command blocks)
+after-blocks m (command ∷ commands) blocks = after-blocks (step m command).contents commands
+    (step-blocks m command blocks)
 
 pub step-cell_count : (m : Contents) (command : Command) → length (step m command).contents.cells ≡ length m.cells
 step-cell_count m (Asks r) = by_judged (judge m.windows r)
@@ -55,9 +57,11 @@ step-cell_count m (Confirm element upto) = by_result (confirm_window upto (slice
     by_result (Ok window) = refl
 
 -- windows
-length-answer_each : (windows : List Window) (replies : List (Waiter × Reply)) → length (answer_each windows replies) ≡ length windows
+length-answer_each : (windows : List Window) (replies : List (Waiter × Reply)) → length (answer_each windows replies)
+    ≡ length windows
 length-answer_each windows [] = refl
-length-answer_each windows (r ∷ replies) = length-answer_each (answer windows r.0 r.1) replies ∙ length-set windows r.0.element _
+length-answer_each windows (r ∷ replies) = length-answer_each (answer windows r.0 r.1) replies
+    ∙ length-set windows r.0.element _
 
 pub step-window_count : (m : Contents) (command : Command) → length (step m command).contents.windows ≡ length m.windows
 step-window_count m (Asks r) = by_judged (judge m.windows r)
@@ -81,22 +85,27 @@ pub record HasWindow (windows : List Window) (element base next : ℕ) : Type 0 
   pub base_is : window.base ≡ base
   pub next_is : window.base + length window.kept ≡ next
 
-pub bounds-window : (windows : List Window) (element base next : ℕ) → bounds windows element ≡ Ok (base, next) → HasWindow windows element base next
+pub bounds-window : (windows : List Window) (element base next : ℕ) → bounds windows element ≡ Ok (base, next)
+    → HasWindow windows element base next
 bounds-window windows element base next e = by_window (slice_get windows element) refl e
   where
-    by_window : (o : Option Window) → slice_get windows element ≡ o → bounds_of o ≡ Ok (base, next) → HasWindow windows element base next
+    by_window : (o : Option Window) → slice_get windows element ≡ o → bounds_of o ≡ Ok (base, next)
+        → HasWindow windows element base next
     by_window None at b = absurd (cc)
-    by_window (Some w) at b = let are = same_bounds w.base (w.base + length w.kept) base next b in record { window = w; there = at; base_is = are.0; next_is = are.1 }
+    by_window (Some w) at b = let are = same_bounds w.base
+        (w.base + length w.kept) base next b in record { window = w; there = at; base_is = are.0; next_is = are.1 }
 
 -- a window is one by its bounds alone
-bounds-IsWindow : (v w : Window) → v.base ≡ w.base → v.base + length v.kept ≡ w.base + length w.kept → IsWindow v → IsWindow w
+bounds-IsWindow : (v w : Window) → v.base ≡ w.base → v.base + length v.kept ≡ w.base + length w.kept → IsWindow v
+    → IsWindow w
 bounds-IsWindow v w base next is =
     let one = is.from_one in
     let few = is.few in
     let last = is.to_last in
     record { from_one = omega arith; few = omega arith; to_last = omega arith }
 
-pub step-windows : (m : Contents) (command : Command) → ((element : ℕ) (w : Window) → slice_get m.windows element ≡ Some w → IsWindow w)
+pub step-windows : (m : Contents) (command : Command)
+    → ((element : ℕ) (w : Window) → slice_get m.windows element ≡ Some w → IsWindow w)
     → (element : ℕ) (w : Window) → slice_get (step m command).contents.windows element ≡ Some w → IsWindow w
 step-windows m command are element w at = by_move (step-moves m command element)
   where
@@ -143,7 +152,8 @@ step-memory cells elements m command is = record {
 pub after-memory : (cells elements : ℕ) (m : Contents) (commands : List Command) → IsMemory cells elements m
     → IsMemory cells elements (after m commands)
 after-memory cells elements m [] is = is
-after-memory cells elements m (command ∷ commands) is = after-memory cells elements (step m command).contents commands (step-memory cells elements m command is)
+after-memory cells elements m (command ∷ commands) is = after-memory cells elements
+    (step m command).contents commands (step-memory cells elements m command is)
 
 only_new : (n element : ℕ) (w : Window) → slice_get (replicate n new_window) element ≡ Some w → new_window ≡ w
 only_new zero element w e = absurd (cc)
@@ -167,4 +177,5 @@ empty-memory cells elements = record {
 }
   where
     no_block : (a : ℕ) (block : Block) → block_at (replicate cells None) a ≡ Some block → ⊥
-    no_block a block is = some_none block (sym is ∙ ap (λ (o : Option Held). option_map (λ (held : Held). held.block) o) (no_cell cells a))
+    no_block a block is = some_none block
+        (sym is ∙ ap (λ (o : Option Held). option_map (λ (held : Held). held.block) o) (no_cell cells a))

@@ -1,5 +1,6 @@
 -- With which refusals a command is met.
-use Rattle.std.proofs.Common.{◌≡◌, ℕ, ◌-◌, ◌≤◌, List, length, take, drop, max, Some, None, Ok, Err, Bool, true, false, cond, subst, arith}
+use Rattle.std.proofs.Common.{◌≡◌, ℕ, ◌-◌, ◌≤◌, List, length, take, drop, max, Some, None, Ok, Err, Bool, true, false}
+use Rattle.std.proofs.Common.{cond, subst, arith}
 use Rattle.std.specs.Prelude.{Option, Result, ◌||◌, slice_get, nat_lt}
 use Rattle.std.specs.List.{list_any}
 use Rattle.im_types.specs.declared.TheConstants.{WINDOW, LAST}
@@ -15,7 +16,8 @@ use Rattle.im_types.specs.declared.commands.Judged.TheVariants.{Fresh, Repeat}
 use Rattle.im_types.specs.declared.refusals.Refusal.{Refusal}
 use Rattle.im_types.specs.declared.refusals.Refusal.TheVariants.{Gap, Forgotten, WindowFull, Mismatch, NotAnswered}
 use Rattle.im_types.specs.Contents.{Window, Contents}
-use Rattle.im_types.specs.Window.{next_number, same_op, judge, judge_window, judge_number, confirm_window, is_waiting, ask, ask_window, ask_number}
+use Rattle.im_types.specs.Window.{next_number, same_op, judge, judge_window, judge_number, confirm_window, is_waiting}
+use Rattle.im_types.specs.Window.{ask, ask_window, ask_number}
 use Rattle.im_types.specs.Step.{step, step_request, step_confirm}
 use Rattle.im_types.specs.Refusals.{number_of}
 
@@ -30,7 +32,8 @@ judge_number-few w r (Some kept) = by_test (same_op kept.op r.op)
     by_test : (b : Bool) → RefusesFew {X = Judged} (cond b (Ok (Repeat kept.entry)) (Err Mismatch))
     by_test true = tt
     by_test false = let h : 4 ≤ 6 = omega arith in h
-judge_number-few w r None = by_tests (nat_lt (next_number w) r.number || nat_lt LAST r.number) (nat_lt (length w.kept) WINDOW)
+judge_number-few w r None = by_tests (nat_lt (next_number w) r.number || nat_lt LAST r.number)
+    (nat_lt (length w.kept) WINDOW)
   where
     by_tests : (far room : Bool) → RefusesFew {X = Judged} (cond far (Err Gap) (cond room (Ok Fresh) (Err WindowFull)))
     by_tests true room = let h : 1 ≤ 6 = omega arith in h
@@ -41,7 +44,8 @@ judge-few : (r : Request) (o : Option Window) → RefusesFew (judge_window r o)
 judge-few r None = let h : 5 ≤ 6 = omega arith in h
 judge-few r (Some w) = by_test (nat_lt r.number w.base)
   where
-    by_test : (b : Bool) → RefusesFew {X = Judged} (cond b (Err Forgotten) (judge_number w r (slice_get w.kept (r.number - w.base))))
+    by_test : (b : Bool) → RefusesFew {X = Judged}
+        (cond b (Err Forgotten) (judge_number w r (slice_get w.kept (r.number - w.base))))
     by_test true = let h : 2 ≤ 6 = omega arith in h
     by_test false = judge_number-few w r (slice_get w.kept (r.number - w.base))
 
@@ -50,7 +54,9 @@ confirm-few upto None = let h : 5 ≤ 6 = omega arith in h
 confirm-few upto (Some w) = by_tests (nat_lt (next_number w) upto) (list_any is_waiting (take (upto - w.base) w.kept))
   where
     by_tests : (far waits : Bool)
-        → RefusesFew {X = Window} (cond far (Err Gap) (cond waits (Err NotAnswered) (Ok (record { base = max w.base upto; kept = drop (upto - w.base) w.kept }))))
+        → RefusesFew {X = Window}
+        (cond far (Err Gap)
+        (cond waits (Err NotAnswered) (Ok (record { base = max w.base upto; kept = drop (upto - w.base) w.kept }))))
     by_tests true waits = let h : 1 ≤ 6 = omega arith in h
     by_tests false true = let h : 6 ≤ 6 = omega arith in h
     by_tests false false = tt
@@ -62,7 +68,8 @@ step-few m (Asks r) = by_judged (judge m.windows r) (judge-few r (slice_get m.wi
     by_judged (Err refusal) h = h
     by_judged (Ok (Repeat entry)) h = tt
     by_judged (Ok Fresh) h = tt
-step-few m (Confirm element upto) = by_result (confirm_window upto (slice_get m.windows element)) (confirm-few upto (slice_get m.windows element))
+step-few m (Confirm element upto) = by_result (confirm_window upto (slice_get m.windows element))
+    (confirm-few upto (slice_get m.windows element))
   where
     by_result : (c : Result Window Refusal) → RefusesFew c → RefusesFew (step_confirm m element c).answer
     by_result (Err refusal) h = h
@@ -77,15 +84,20 @@ ask-few number (Some w) = by_test (nat_lt number w.base) (slice_get w.kept (numb
     by_test false None = let h : 1 ≤ 6 = omega arith in h
     by_test false (Some kept) = tt
 
-err-few : (X : Type 0) (answer : Result X Refusal) (refusal : Refusal) → RefusesFew answer → answer ≡ Err refusal → number_of refusal ≤ 6
+err-few : (X : Type 0) (answer : Result X Refusal) (refusal : Refusal) → RefusesFew answer → answer ≡ Err refusal
+    → number_of refusal ≤ 6
 err-few X (Ok x) refusal few e = absurd (differ e)
   where
     differ : ◌≡◌ {A = Result X Refusal} (Ok x) (Err refusal) → ⊥
     differ e = cc
-err-few X (Err other) refusal few e = let same : other ≡ refusal = cc in subst (λ refusal. number_of refusal ≤ 6) same few
+err-few X (Err other) refusal few e = let same : other
+    ≡ refusal = cc in subst (λ refusal. number_of refusal ≤ 6) same few
 
-pub step-refusals : (m : Contents) (command : Command) (refusal : Refusal) → (step m command).answer ≡ Err refusal → number_of refusal ≤ 6
+pub step-refusals : (m : Contents) (command : Command) (refusal : Refusal) → (step m command).answer ≡ Err refusal
+    → number_of refusal ≤ 6
 step-refusals m command refusal = err-few Outcome (step m command).answer refusal (step-few m command)
 
-pub ask-refusals : (windows : List Window) (who : Waiter) (refusal : Refusal) → ask windows who ≡ Err refusal → number_of refusal ≤ 6
-ask-refusals windows who refusal = err-few Entry (ask windows who) refusal (ask-few who.number (slice_get windows who.element))
+pub ask-refusals : (windows : List Window) (who : Waiter) (refusal : Refusal) → ask windows who ≡ Err refusal
+    → number_of refusal ≤ 6
+ask-refusals windows who refusal = err-few Entry (ask windows who) refusal
+    (ask-few who.number (slice_get windows who.element))

@@ -20,7 +20,8 @@ stays_refused m (Asks r) = by_judged (judge m.windows r)
     by_judged (Ok Fresh) = tt
 stays_refused m (Confirm element upto) = by_result (confirm_window upto (slice_get m.windows element))
   where
-    by_result : (c : Result Window Refusal) → OnErr (step_confirm m element c).answer ((step_confirm m element c).contents ≡ m)
+    by_result : (c : Result Window Refusal)
+        → OnErr (step_confirm m element c).answer ((step_confirm m element c).contents ≡ m)
     by_result (Err refusal) = refl
     by_result (Ok window) = tt
 
@@ -28,5 +29,7 @@ on_err : {T E P Q : Type 0} (r : Result T E) → (P → Q) → OnErr r P → OnE
 on_err (Ok x) f p = tt
 on_err (Err e) f p = f p
 
-pub step-refused : (m next : Contents) (command : Command) (answer : Result Outcome Refusal) → answer ≡ (step m command).answer → next ≡ (step m command).contents → OnErr answer (next ≡ m)
-step-refused m next command answer told is = subst (λ answer. OnErr answer (next ≡ m)) (sym told) (on_err (step m command).answer (λ same. is ∙ same) (stays_refused m command))
+pub step-refused : (m next : Contents) (command : Command) (answer : Result Outcome Refusal) → answer
+    ≡ (step m command).answer → next ≡ (step m command).contents → OnErr answer (next ≡ m)
+step-refused m next command answer told is = subst (λ answer. OnErr answer (next ≡ m)) (sym told)
+    (on_err (step m command).answer (λ same. is ∙ same) (stays_refused m command))

@@ -1,5 +1,6 @@
 -- Who waits behind whom, and who is answered.
-use Rattle.std.proofs.Common.{◌≡◌, ℕ, ◌≤◌, List, [], ◌∷◌, ◌++◌, set, Some, None, Ok, Bool, true, false, cond, refl, sym, ap, ◌∙◌, subst, arith}
+use Rattle.std.proofs.Common.{◌≡◌, ℕ, ◌≤◌, List, [], ◌∷◌, ◌++◌, set, Some, None, Ok, Bool, true, false, cond, refl}
+use Rattle.std.proofs.Common.{sym, ap, ◌∙◌, subst, arith}
 use Rattle.std.proofs.Common.{take, drop}
 use Rattle.std.specs.Prelude.{Option, Result, ◌==◌}
 use Rattle.std.specs.List.{list_any}
@@ -9,7 +10,9 @@ use Rattle.im_types.specs.declared.operations.Op.TheVariants.{Alloc, Release, Re
 use Rattle.im_types.specs.declared.operations.Kind.{Kind}
 use Rattle.im_types.specs.declared.operations.Kind.TheVariants.{I, M}
 use Rattle.im_types.specs.declared.operations.Reply.{Reply}
-use Rattle.im_types.specs.declared.operations.Reply.TheVariants.{Base, NoSpace, BadLength, Value, Stored, Clash, NoCell, WrongKind, Released, NoBlock, StillWaiting, Cleared}
+use Rattle.im_types.specs.declared.operations.Reply.TheVariants.{Base, NoSpace, BadLength, Value, Stored, Clash}
+use Rattle.im_types.specs.declared.operations.Reply.TheVariants.{NoCell, WrongKind, Released, NoBlock, StillWaiting}
+use Rattle.im_types.specs.declared.operations.Reply.TheVariants.{Cleared}
 use Rattle.im_types.specs.declared.operations.Entry.{Entry}
 use Rattle.im_types.specs.declared.operations.Entry.TheVariants.{Waiting, Answered}
 use Rattle.im_types.specs.declared.operations.Waiter.{Waiter}
@@ -20,9 +23,12 @@ use Rattle.im_types.specs.declared.commands.Command.TheVariants.{Request as Asks
 use Rattle.im_types.specs.declared.commands.Outcome.{Outcome}
 use Rattle.im_types.specs.declared.commands.Outcome.TheVariants.{Entry as Tells}
 use Rattle.im_types.specs.declared.refusals.Refusal.{Refusal}
-use Rattle.im_types.specs.Contents.{CellState, Empty, Full, Clashed, Held, Contents, held_at, waiters_of, waiters_in, waiters_at, kept_for}
+use Rattle.im_types.specs.Contents.{CellState, Empty, Full, Clashed, Held, Contents, held_at, waiters_of, waiters_in}
+use Rattle.im_types.specs.Contents.{waiters_at, kept_for}
 use Rattle.im_types.specs.Place.{place, fill, change_each}
-use Rattle.im_types.specs.Act.{Served, only_tells, fetch, store, take_from, put, same_kind, serve_cell, at_cell, allocate, allocate_at, unless_waited_for, emptied, block_with_base, is_waiting_cell, act}
+use Rattle.im_types.specs.Act.{Served, only_tells, fetch, store, take_from, put, same_kind, serve_cell, at_cell}
+use Rattle.im_types.specs.Act.{allocate, allocate_at, unless_waited_for, emptied, block_with_base, is_waiting_cell}
+use Rattle.im_types.specs.Act.{act}
 use Rattle.im_types.specs.Step.{Stepped, asker, serve, step, step_request}
 use Rattle.im_types.specs.Agreement.{times, awaiting, address_of, WaitingAgrees}
 use Rattle.im_laws.specs.Requests.{after_request, IsNew, IsServed}
@@ -35,16 +41,20 @@ use Rattle.im_laws.proofs.WaiterLemmas.{waiting-WaitsAt, WaitsAt-listed}
 use Rattle.im_laws.proofs.AcceptLemmas.{accepted-fresh}
 
 -- a new request is served
-pub new-served : (m : Contents) (r : Request) (op : Op) → IsNew m r op → step m (Asks r) ≡ serve m r (act m.cells (asker r) op)
-new-served m r op n = ap (step_request m r) (accepted-fresh m r n.accepted) ∙ ap (λ op. serve m r (act m.cells (asker r) op)) n.asks
+pub new-served : (m : Contents) (r : Request) (op : Op) → IsNew m r op → step m (Asks r)
+    ≡ serve m r (act m.cells (asker r) op)
+new-served m r op n = ap (step_request m r) (accepted-fresh m r n.accepted)
+    ∙ ap (λ op. serve m r (act m.cells (asker r) op)) n.asks
 
 -- one that is for the kind of its cell, by that cell
-at_cell-served : (kind : Kind) (f : CellState → Served) (cells : List (Option Held)) (a : ℕ) (held : Held) → held_at cells a ≡ Some held
+at_cell-served : (kind : Kind) (f : CellState → Served) (cells : List (Option Held)) (a : ℕ) (held : Held)
+    → held_at cells a ≡ Some held
     → held.block.kind ≡ kind
     → at_cell kind f cells a (held_at cells a) ≡ serve_cell cells a held.block (f held.state)
 at_cell-served kind f cells a held at is =
     ap (at_cell kind f cells a) at
-    ∙ ap (λ b. cond b (serve_cell cells a held.block (f held.state)) (only_tells cells WrongKind)) (ap (same_kind kind) is ∙ same_kind-self kind)
+    ∙ ap (λ b. cond b (serve_cell cells a held.block (f held.state)) (only_tells cells WrongKind))
+    (ap (same_kind kind) is ∙ same_kind-self kind)
 
 -- a fetch waits at an I cell, a take at an M cell
 fetch_kind : (kind : Kind) (a : ℕ) → awaiting kind a ≡ Fetch a → kind ≡ I
@@ -68,16 +78,20 @@ store-answers m r a v reader agrees new is =
     let kind = fetch_kind w.held.block.kind a (ap (λ (k : Kept). k.op) (some_same _ _ (sym w.waits ∙ is))) in
     ap (λ (s : Stepped). kept_for s.contents.windows reader)
     (new-served m r (Store a v) new ∙ ap (serve m r) (at_cell-served I (store v) m.cells a w.held w.there kind))
-    ∙ by_state w.held w.there w.held.state refl (subst (λ o. 1 ≤ times reader (waiters_in o)) w.there (WaitsAt-listed m agrees reader a w))
+    ∙ by_state w.held w.there w.held.state refl
+    (subst (λ o. 1 ≤ times reader (waiters_in o)) w.there (WaitsAt-listed m agrees reader a w))
   where
     n : IsNext m.windows r
     n = judge-fresh m.windows r (accepted-fresh m r new.accepted)
 
-    by_state : (held : Held) → held_at m.cells a ≡ Some held → (s : CellState) → held.state ≡ s → 1 ≤ times reader (waiters_of s)
-        → kept_for (serve m r (serve_cell m.cells a held.block (store v s))).contents.windows reader ≡ with_reply (Fetch a) (Value v)
+    by_state : (held : Held) → held_at m.cells a ≡ Some held → (s : CellState) → held.state ≡ s
+        → 1 ≤ times reader (waiters_of s)
+        → kept_for (serve m r (serve_cell m.cells a held.block (store v s))).contents.windows reader
+        ≡ with_reply (Fetch a) (Value v)
     by_state held at (Empty readers) s some =
         resumed-given m.windows m.cells r n agrees a held at (Full v) readers Stored (Value v)
-        (λ who. let same = ap (λ s. times who (waiters_of s)) s in omega arith) reader (record { op = Fetch a; entry = Waiting }) is some
+        (λ who. let same = ap (λ s. times who (waiters_of s)) s in omega arith) reader
+        (record { op = Fetch a; entry = Waiting }) is some
     by_state held at (Full w) s some = absurd (omega arith)
     by_state held at (Clashed w) s some = absurd (omega arith)
 
@@ -86,17 +100,21 @@ pub record IsHandedOn (m : Contents) (r : Request) (a v : ℕ) (first : Waiter) 
   pub answered : kept_for (after_request m r).windows first ≡ Some (record { op = Take a; entry = Answered (Value v) })
   pub rest : waiters_at (after_request m r).cells a ≡ others
 
-waiters-written : (cells : List (Option Held)) (a : ℕ) (held : Held) (block : Block) (new : CellState) → held_at cells a ≡ Some held
+waiters-written : (cells : List (Option Held)) (a : ℕ) (held : Held) (block : Block) (new : CellState)
+    → held_at cells a ≡ Some held
     → waiters_at (set cells a (Some (record { block = block; state = new }))) a ≡ waiters_of new
-waiters-written cells a held block new at = ap waiters_in (get_or-set_same cells a (Some (record { block = block; state = new })) None (held_at-within cells a held at))
+waiters-written cells a held block new at = ap waiters_in
+    (get_or-set_same cells a (Some (record { block = block; state = new })) None (held_at-within cells a held at))
 
-pub put-hands_on : (m : Contents) (r : Request) (a v : ℕ) (first : Waiter) (others : List Waiter) → WaitingAgrees m → IsNew m r (Put a v)
+pub put-hands_on : (m : Contents) (r : Request) (a v : ℕ) (first : Waiter) (others : List Waiter) → WaitingAgrees m
+    → IsNew m r (Put a v)
     → waiters_at m.cells a ≡ first ∷ others → kept_for m.windows first ≡ Some (record { op = Take a; entry = Waiting })
     → IsHandedOn m r a v first others
 put-hands_on m r a v first others agrees new list is =
     let w = waiting-WaitsAt m agrees first (record { op = Take a; entry = Waiting }) is refl in
     let kind = take_kind w.held.block.kind a (ap (λ (k : Kept). k.op) (some_same _ _ (sym w.waits ∙ is))) in
-    let served = new-served m r (Put a v) new ∙ ap (serve m r) (at_cell-served M (put v) m.cells a w.held w.there kind) in
+    let served = new-served m r (Put a v) new
+    ∙ ap (serve m r) (at_cell-served M (put v) m.cells a w.held w.there kind) in
     let after = by_state w.held w.there w.held.state refl (sym (ap waiters_in w.there) ∙ list) in
     record {
       answered = ap (λ (s : Stepped). kept_for s.contents.windows first) served ∙ after.0;
@@ -106,7 +124,8 @@ put-hands_on m r a v first others agrees new list is =
     n : IsNext m.windows r
     n = judge-fresh m.windows r (accepted-fresh m r new.accepted)
 
-    by_state : (held : Held) → held_at m.cells a ≡ Some held → (s : CellState) → held.state ≡ s → waiters_of s ≡ first ∷ others
+    by_state : (held : Held) → held_at m.cells a ≡ Some held → (s : CellState) → held.state ≡ s → waiters_of s
+        ≡ first ∷ others
         → let now = (serve m r (serve_cell m.cells a held.block (put v s))).contents in
         (kept_for now.windows first ≡ with_reply (Take a) (Value v)) × (waiters_at now.cells a ≡ others)
     by_state held at (Empty []) s list = absurd (cc)
@@ -114,8 +133,10 @@ put-hands_on m r a v first others agrees new list is =
         let same : taker ≡ first = cc in
         let rest : takers ≡ others = cc in (
           resumed-given m.windows m.cells r n agrees a held at (Empty takers) (taker ∷ []) Stored (Value v)
-              (λ who. ap (λ s. times who (waiters_of s)) s ∙ times-first who taker takers) first (record { op = Take a; entry = Waiting }) is
-              (let here : times first (taker ∷ []) ≡ 1 = ap (λ who. times first (who ∷ [])) same ∙ ap (λ b. cond b 1 0) (same_waiter-self first) in omega arith),
+              (λ who. ap (λ s. times who (waiters_of s)) s ∙ times-first who taker takers) first
+              (record { op = Take a; entry = Waiting }) is
+              (let here : times first (taker ∷ []) ≡ 1 = ap (λ who. times first (who ∷ [])) same
+              ∙ ap (λ b. cond b 1 0) (same_waiter-self first) in omega arith),
           waiters-written m.cells a held held.block (Empty takers) at ∙ rest,
         )
     by_state held at (Full w) s list = absurd (cc)
@@ -130,14 +151,17 @@ module _ (cells : List (Option Held)) (who : Waiter) where
   abbrev Defers : (CellState → Served) → Type 0
   Defers f = (s : CellState) → (f s).entry ≡ Waiting → waiters_of (f s).state ≡ waiters_of s ++ who ∷ []
 
-  at_cell-defers : (kind : Kind) (f : CellState → Served) → Defers f → (a : ℕ) → (at_cell kind f cells a (held_at cells a)).entry ≡ Waiting
+  at_cell-defers : (kind : Kind) (f : CellState → Served) → Defers f → (a : ℕ)
+      → (at_cell kind f cells a (held_at cells a)).entry ≡ Waiting
       → waiters_at (at_cell kind f cells a (held_at cells a)).cells a ≡ waiters_at cells a ++ who ∷ []
   at_cell-defers kind f defers a = by_held (held_at cells a) refl
     where
       by_kind : (held : Held) → held_at cells a ≡ Some held → (b : Bool)
           → (cond b (serve_cell cells a held.block (f held.state)) (only_tells cells WrongKind)).entry ≡ Waiting
-          → waiters_at (cond b (serve_cell cells a held.block (f held.state)) (only_tells cells WrongKind)).cells a ≡ waiters_of held.state ++ who ∷ []
-      by_kind held at true waits = waiters-written cells a held held.block (f held.state).state at ∙ defers held.state waits
+          → waiters_at (cond b (serve_cell cells a held.block (f held.state)) (only_tells cells WrongKind)).cells a
+          ≡ waiters_of held.state ++ who ∷ []
+      by_kind held at true waits = waiters-written cells a held held.block (f held.state).state at
+          ∙ defers held.state waits
       by_kind held at false waits = absurd (answered_waits WrongKind waits)
 
       by_held : (o : Option Held) → held_at cells a ≡ o → (at_cell kind f cells a o).entry ≡ Waiting
@@ -173,32 +197,42 @@ module _ (cells : List (Option Held)) (who : Waiter) where
       by_place None waits = answered_waits NoSpace waits
       by_place (Some base) waits = answered_waits (Base base) waits
 
-      by_test : (b : Bool) → (cond b (only_tells cells BadLength) (allocate_at cells kind n (place n cells))).entry ≡ Waiting → ⊥
+      by_test : (b : Bool) → (cond b (only_tells cells BadLength) (allocate_at cells kind n (place n cells))).entry
+          ≡ Waiting → ⊥
       by_test true waits = answered_waits BadLength waits
       by_test false waits = by_place (place n cells) waits
 
-  whole-told : (after : Block → List (Option Held)) (reply : Reply) (a : ℕ) (o : Option Block) → (unless_waited_for after reply cells a o).entry ≡ Waiting → ⊥
+  whole-told : (after : Block → List (Option Held)) (reply : Reply) (a : ℕ) (o : Option Block)
+      → (unless_waited_for after reply cells a o).entry ≡ Waiting → ⊥
   whole-told after reply a None waits = answered_waits NoBlock waits
-  whole-told after reply a (Some block) waits = by_test (list_any is_waiting_cell (take block.length (drop a cells))) waits
+  whole-told after reply a (Some block) waits = by_test
+      (list_any is_waiting_cell (take block.length (drop a cells))) waits
     where
-      by_test : (b : Bool) → (cond b (only_tells cells StillWaiting) (record { cells = after block; entry = Answered reply; resumed = [] })).entry ≡ Waiting → ⊥
+      by_test : (b : Bool)
+          → (cond b (only_tells cells StillWaiting)
+          (record { cells = after block; entry = Answered reply; resumed = [] })).entry ≡ Waiting → ⊥
       by_test true waits = answered_waits StillWaiting waits
       by_test false waits = answered_waits reply waits
 
   act-defers : (op : Op) → (act cells who op).entry ≡ Waiting
       → waiters_at (act cells who op).cells (address_of op) ≡ waiters_at cells (address_of op) ++ who ∷ []
   act-defers (Alloc kind n) waits = absurd (allocate-told kind n waits)
-  act-defers (Release a) waits = absurd (whole-told (λ block. fill cells a block.length None) Released a (block_with_base a (held_at cells a)) waits)
-  act-defers (Reset a) waits = absurd (whole-told (λ block. change_each emptied cells a block.length) Cleared a (block_with_base a (held_at cells a)) waits)
+  act-defers (Release a) waits = absurd
+      (whole-told (λ block. fill cells a block.length None) Released a (block_with_base a (held_at cells a)) waits)
+  act-defers (Reset a) waits = absurd
+      (whole-told (λ block. change_each emptied cells a block.length) Cleared a
+      (block_with_base a (held_at cells a)) waits)
   act-defers (Fetch a) waits = at_cell-defers I (fetch who) fetch-defers a waits
   act-defers (Store a v) waits = at_cell-defers I (store v) (store-defers v) a waits
   act-defers (Take a) waits = at_cell-defers M (take_from who) take-defers a waits
   act-defers (Put a v) waits = at_cell-defers M (put v) (put-defers v) a waits
 
 -- what a new request is told is what its operation comes to
-pub served-entry : (m : Contents) (r : Request) (op : Op) (entry : Entry) → IsServed m r op entry → (act m.cells (asker r) op).entry ≡ entry
+pub served-entry : (m : Contents) (r : Request) (op : Op) (entry : Entry) → IsServed m r op entry
+    → (act m.cells (asker r) op).entry ≡ entry
 served-entry m r op entry served =
-    same_entry (act m.cells (asker r) op).entry entry (sym (ap (λ (s : Stepped). s.answer) (new-served m r op served.is_new)) ∙ served.answered)
+    same_entry (act m.cells (asker r) op).entry entry
+    (sym (ap (λ (s : Stepped). s.answer) (new-served m r op served.is_new)) ∙ served.answered)
   where
     same_entry : (a b : Entry) → ◌≡◌ {A = Result Outcome Refusal} (Ok (Tells a)) (Ok (Tells b)) → a ≡ b
     same_entry a b e = let outcome : Tells a ≡ Tells b = cc in cc

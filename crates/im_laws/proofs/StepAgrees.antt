@@ -1,6 +1,7 @@
 -- Each operation keeps that who waits at a cell is who has a waiting entry.
 use Rattle.std.specs.Prelude.{option_map}
-use Rattle.std.proofs.Common.{◌≡◌, ◌⊎◌, inl, inr, ⊎_elim, ℕ, zero, suc, ◌+◌, ◌<◌, ◌≤◌, List, [], ◌∷◌, ◌++◌, set, take, drop, Some, None, Bool, true, false, cond, refl, sym, ap, ◌∙◌, subst, arith}
+use Rattle.std.proofs.Common.{◌≡◌, ◌⊎◌, inl, inr, ⊎_elim, ℕ, zero, suc, ◌+◌, ◌<◌, ◌≤◌, List, [], ◌∷◌, ◌++◌, set, take}
+use Rattle.std.proofs.Common.{drop, Some, None, Bool, true, false, cond, refl, sym, ap, ◌∙◌, subst, arith}
 use Rattle.std.specs.Prelude.{Option, ◌==◌, map}
 use Rattle.std.specs.List.{list_any}
 use Rattle.im_types.specs.declared.operations.Op.{Op}
@@ -9,24 +10,33 @@ use Rattle.im_types.specs.declared.operations.Kind.{Kind}
 use Rattle.im_types.specs.declared.operations.Kind.TheVariants.{I, M}
 use Rattle.im_types.specs.declared.operations.Block.{Block}
 use Rattle.im_types.specs.declared.operations.Reply.{Reply}
-use Rattle.im_types.specs.declared.operations.Reply.TheVariants.{Base, NoSpace, BadLength, Value, Stored, Clash, NoCell, WrongKind, Released, NoBlock, StillWaiting, Cleared}
+use Rattle.im_types.specs.declared.operations.Reply.TheVariants.{Base, NoSpace, BadLength, Value, Stored, Clash}
+use Rattle.im_types.specs.declared.operations.Reply.TheVariants.{NoCell, WrongKind, Released, NoBlock, StillWaiting}
+use Rattle.im_types.specs.declared.operations.Reply.TheVariants.{Cleared}
 use Rattle.im_types.specs.declared.operations.Entry.{Entry}
 use Rattle.im_types.specs.declared.operations.Entry.TheVariants.{Waiting, Answered}
 use Rattle.im_types.specs.declared.operations.Waiter.{Waiter}
 use Rattle.im_types.specs.declared.operations.Kept.{Kept}
 use Rattle.im_types.specs.declared.commands.Request.{Request}
-use Rattle.im_types.specs.Contents.{CellState, Empty, Full, Clashed, Held, Window, held_at, waiters_of, waiters_in, waiters_at, kept_for}
+use Rattle.im_types.specs.Contents.{CellState, Empty, Full, Clashed, Held, Window, held_at, waiters_of, waiters_in}
+use Rattle.im_types.specs.Contents.{waiters_at, kept_for}
 use Rattle.im_types.specs.Place.{place, fill, change_each}
 use Rattle.im_types.specs.Window.{note, answer_each, is_waiting}
-use Rattle.im_types.specs.Act.{Served, Acted, defers, only_tells, fetch, store, take_from, put, same_kind, serve_cell, at_cell, allocate, allocate_at, unless_waited_for, emptied, block_with_base, has_waiter, is_waiting_cell, act}
+use Rattle.im_types.specs.Act.{Served, Acted, defers, only_tells, fetch, store, take_from, put, same_kind, serve_cell}
+use Rattle.im_types.specs.Act.{at_cell, allocate, allocate_at, unless_waited_for, emptied, block_with_base}
+use Rattle.im_types.specs.Act.{has_waiter, is_waiting_cell, act}
 use Rattle.im_types.specs.Step.{asker}
 use Rattle.im_types.specs.Agreement.{StaysOrIsAnswered, same_waiter, times, awaiting, waits_for, waits_in, WaitersAgree}
 use Rattle.im_laws.proofs.OpLemmas.{same_kind-equal}
 use Rattle.im_laws.proofs.Tests.{true_or_false, zero_or_more, or_left, or_right, some_same, some_none}
 use Rattle.im_laws.proofs.PlaceLemmas.{place-free}
 use Rattle.im_laws.proofs.WindowLemmas.{answered_kept, kept_for-note}
-use Rattle.im_laws.proofs.AgreementLemmas.{IsQuiet, one_if, same_waiter-equal, same_waiter-self, listed_at, no_quiet, with_waiting, defer-agrees, answer-agrees, serve-agrees, waits_for-kept, waits_in-other, waits_in-quiet, allocate-agrees, release-agrees, reset-agrees}
-use Rattle.im_laws.proofs.StepLemmas.{answered_quiet, IsNext, kept_for-next, AreKept, AfterAnswers, answer_each-AfterAnswers}
+use Rattle.im_laws.proofs.AgreementLemmas.{IsQuiet, one_if, same_waiter-equal, same_waiter-self, listed_at, no_quiet}
+use Rattle.im_laws.proofs.AgreementLemmas.{with_waiting, defer-agrees, answer-agrees, serve-agrees, waits_for-kept}
+use Rattle.im_laws.proofs.AgreementLemmas.{waits_in-other, waits_in-quiet, allocate-agrees, release-agrees}
+use Rattle.im_laws.proofs.AgreementLemmas.{reset-agrees}
+use Rattle.im_laws.proofs.StepLemmas.{answered_quiet, IsNext, kept_for-next, AreKept, AfterAnswers}
+use Rattle.im_laws.proofs.StepLemmas.{answer_each-AfterAnswers}
 
 pub one_if-true : (b : Bool) → 1 ≤ one_if b → b ≡ true
 one_if-true true h = refl
@@ -40,7 +50,8 @@ answered_is_quiet : (k : Kept) → is_waiting k ≡ false → IsQuiet (Some k)
 answered_is_quiet k q x e = let same : k ≡ x = cc in sym (ap is_waiting same) ∙ q
 
 -- the first of some
-pub times-first : (who first : Waiter) (others : List Waiter) → times who (first ∷ others) ≡ times who (first ∷ []) + times who others
+pub times-first : (who first : Waiter) (others : List Waiter) → times who (first ∷ others)
+    ≡ times who (first ∷ []) + times who others
 times-first who first others = by_test (same_waiter who first)
   where
     by_test : (b : Bool) → cond b (suc (times who others)) (times who others) ≡ cond b 1 0 + times who others
@@ -58,22 +69,27 @@ no_waiters (Some held) e = by_state held.state e
     by_state (Full v) e = refl
     by_state (Clashed v) e = refl
 
-pub nobody_waits : (cs : List (Option Held)) (base n : ℕ) → list_any is_waiting_cell (take n (drop base cs)) ≡ false → (a : ℕ) → base ≤ a
+pub nobody_waits : (cs : List (Option Held)) (base n : ℕ) → list_any is_waiting_cell (take n (drop base cs)) ≡ false
+    → (a : ℕ) → base ≤ a
     → a < base + n → waiters_at cs a ≡ []
 nobody_waits [] base n e a lo hi = refl
 nobody_waits (c ∷ cs) zero zero e a lo hi = absurd (omega arith)
-nobody_waits (c ∷ cs) zero (suc n) e zero lo hi = no_waiters c (or_left (is_waiting_cell c) (list_any is_waiting_cell (take n cs)) e)
-nobody_waits (c ∷ cs) zero (suc n) e (suc a) lo hi = nobody_waits cs zero n (or_right (is_waiting_cell c) (list_any is_waiting_cell (take n cs)) e) a (omega arith) (omega arith)
+nobody_waits (c ∷ cs) zero (suc n) e zero lo hi = no_waiters c
+    (or_left (is_waiting_cell c) (list_any is_waiting_cell (take n cs)) e)
+nobody_waits (c ∷ cs) zero (suc n) e (suc a) lo hi = nobody_waits cs zero n
+    (or_right (is_waiting_cell c) (list_any is_waiting_cell (take n cs)) e) a (omega arith) (omega arith)
 nobody_waits (c ∷ cs) (suc base) n e zero lo hi = absurd (omega arith)
 nobody_waits (c ∷ cs) (suc base) n e (suc a) lo hi = nobody_waits cs base n e a (omega arith) (omega arith)
 
 -- a new request on a memory in which who waits agrees
-module _ (windows : List Window) (cells : List (Option Held)) (r : Request) (fresh : IsNext windows r) (agrees : WaitersAgree cells (kept_for windows)) where
+module _ (windows : List Window) (cells : List (Option Held)) (r : Request) (fresh : IsNext windows r)
+    (agrees : WaitersAgree cells (kept_for windows)) where
   abbrev before : Waiter → Option Kept
   before = kept_for windows
 
   noted : (entry : Entry) (who : Waiter)
-      → kept_for (note windows r entry) who ≡ cond (same_waiter who (asker r)) (Some (record { op = r.op; entry = entry })) (before who)
+      → kept_for (note windows r entry) who
+      ≡ cond (same_waiter who (asker r)) (Some (record { op = r.op; entry = entry })) (before who)
   noted entry who = kept_for-note windows r entry fresh.window who fresh.there fresh.next
 
   is_new : (who : Waiter) → same_waiter who (asker r) ≡ true → before who ≡ None
@@ -81,10 +97,13 @@ module _ (windows : List Window) (cells : List (Option Held)) (r : Request) (fre
 
   noted_same : (entry : Entry) (who : Waiter) → same_waiter who (asker r) ≡ true
       → kept_for (note windows r entry) who ≡ Some (record { op = r.op; entry = entry })
-  noted_same entry who e = noted entry who ∙ ap (λ b. cond b (Some (record { op = r.op; entry = entry })) (before who)) e
+  noted_same entry who e = noted entry who
+      ∙ ap (λ b. cond b (Some (record { op = r.op; entry = entry })) (before who)) e
 
-  noted_other : (entry : Entry) (who : Waiter) → same_waiter who (asker r) ≡ false → kept_for (note windows r entry) who ≡ before who
-  noted_other entry who e = noted entry who ∙ ap (λ b. cond b (Some (record { op = r.op; entry = entry })) (before who)) e
+  noted_other : (entry : Entry) (who : Waiter) → same_waiter who (asker r) ≡ false
+      → kept_for (note windows r entry) who ≡ before who
+  noted_other entry who e = noted entry who
+      ∙ ap (λ b. cond b (Some (record { op = r.op; entry = entry })) (before who)) e
 
   -- what is kept after an operation
   abbrev pub kept_after : Acted → Waiter → Option Kept
@@ -97,9 +116,11 @@ module _ (windows : List Window) (cells : List (Option Held)) (r : Request) (fre
     pub own : kept_after acted (asker r) ≡ Some (record { op = r.op; entry = acted.entry })
 
   not_new : (who : Waiter) (k : Kept) → before who ≡ Some k → same_waiter who (asker r) ≡ false
-  not_new who k is = ⊎_elim (λ e. absurd (some_none k (sym is ∙ is_new who e))) (λ e. e) (true_or_false (same_waiter who (asker r)))
+  not_new who k is = ⊎_elim (λ e. absurd (some_none k (sym is ∙ is_new who e))) (λ e. e)
+      (true_or_false (same_waiter who (asker r)))
 
-  stays_noted : (entry : Entry) (who : Waiter) (k : Kept) → before who ≡ Some k → StaysOrIsAnswered k (kept_for (note windows r entry) who)
+  stays_noted : (entry : Entry) (who : Waiter) (k : Kept) → before who ≡ Some k
+      → StaysOrIsAnswered k (kept_for (note windows r entry) who)
   stays_noted entry who k is = inl (noted_other entry who (not_new who k is) ∙ is)
 
   -- an answer, and cells in which the same wait
@@ -107,7 +128,11 @@ module _ (windows : List Window) (cells : List (Option Held)) (r : Request) (fre
       → AgreesAfter (record { cells = now; entry = Answered reply; resumed = [] })
   told-agrees now same reply = record {
     agreed = answer-agrees now before (kept_for (note windows r (Answered reply))) same (λ who. ⊎_elim
-        (λ e. inr (subst IsQuiet (sym (noted_same (Answered reply) who e)) (answered_is_quiet _ refl), subst IsQuiet (sym (is_new who e)) no_quiet))
+        (λ e. inr (
+          subst IsQuiet (sym (noted_same (Answered reply) who e)) (answered_is_quiet _ refl),
+          subst IsQuiet
+              (sym (is_new who e)) no_quiet,
+        ))
         (λ e. inl (noted_other (Answered reply) who e))
         (true_or_false (same_waiter who (asker r))));
     keeps = stays_noted (Answered reply);
@@ -116,28 +141,41 @@ module _ (windows : List Window) (cells : List (Option Held)) (r : Request) (fre
 
   module _ (a : ℕ) (held : Held) (at : held_at cells a ≡ Some held) where
     -- the asker waits
-    pub deferred-agrees : r.op ≡ awaiting held.block.kind a → AgreesAfter (serve_cell cells a held.block (defers (asker r) (waiters_of held.state)))
+    pub deferred-agrees : r.op ≡ awaiting held.block.kind a
+        → AgreesAfter (serve_cell cells a held.block (defers (asker r) (waiters_of held.state)))
     deferred-agrees op = record {
-      agreed = answer-agrees (set cells a (Some (record { block = held.block; state = Empty (waiters_of held.state ++ asker r ∷ []) })))
+      agreed = answer-agrees
+          (set cells a (Some (record { block = held.block; state = Empty (waiters_of held.state ++ asker r ∷ []) })))
           (with_waiting cells before a held (asker r)) (kept_for (note windows r Waiting))
           (defer-agrees cells before a held (asker r) at agrees (kept_for-next windows r fresh))
-          (λ who. inl (noted Waiting who ∙ ap (λ (op : Op). cond (same_waiter who (asker r)) (Some (record { op = op; entry = Waiting })) (before who)) op));
+          (λ who. inl (noted Waiting who
+          ∙ ap (λ (op : Op). cond (same_waiter who (asker r)) (Some (record { op = op; entry = Waiting }))
+          (before who)) op));
       keeps = stays_noted Waiting;
       own = noted_same Waiting (asker r) (same_waiter-self (asker r));
     }
 
     -- some who wait are answered, the rest stays
     module _ (new : CellState) (answered : List Waiter) (told given : Reply)
-        (split : (who : Waiter) → times who (waiters_of held.state) ≡ times who answered + times who (waiters_of new)) where
+        (split : (who : Waiter) → times who (waiters_of held.state)
+        ≡ times who answered + times who (waiters_of new)) where
       -- what comes of the cell
       abbrev pub resumed : Acted
-      resumed = record { cells = set cells a (Some (record { block = held.block; state = new })); entry = Answered told; resumed = map (λ w. (w, given)) answered }
+      resumed = record {
+        cells = set cells a
+            (Some (record { block = held.block; state = new }));
+        entry = Answered told;
+        resumed = map
+            (λ w. (w, given)) answered;
+      }
 
-      here : (who : Waiter) → times who (waiters_of held.state) ≡ one_if (waits_for (awaiting held.block.kind a) (before who))
+      here : (who : Waiter) → times who (waiters_of held.state)
+          ≡ one_if (waits_for (awaiting held.block.kind a) (before who))
       here who = listed_at cells before agrees a held at who
 
       waited : (who : Waiter) → 1 ≤ times who answered → waits_for (awaiting held.block.kind a) (before who) ≡ true
-      waited who some = let s = split who in let h = here who in one_if-true (waits_for (awaiting held.block.kind a) (before who)) (omega arith)
+      waited who some = let s = split who in let h = here who in one_if-true
+          (waits_for (awaiting held.block.kind a) (before who)) (omega arith)
 
       are_kept : AreKept (note windows r (Answered told)) answered
       are_kept who some =
@@ -148,15 +186,18 @@ module _ (windows : List Window) (cells : List (Option Held)) (r : Request) (fre
           (true_or_false (same_waiter who (asker r)))
 
       later : (who : Waiter)
-          → AfterAnswers (note windows r (Answered told)) (answer_each (note windows r (Answered told)) (map (λ w. (w, given)) answered)) given answered who
+          → AfterAnswers (note windows r (Answered told))
+          (answer_each (note windows r (Answered told)) (map (λ w. (w, given)) answered)) given answered who
       later who = answer_each-AfterAnswers (note windows r (Answered told)) given answered are_kept who
 
       -- the new request isn't among those that waited, so it keeps what it was told
       nobody_new : (who : Waiter) → same_waiter who (asker r) ≡ true → times who (waiters_of held.state) ≡ 0
       nobody_new who e = here who ∙ ap (λ k. one_if (waits_for (awaiting held.block.kind a) k)) (is_new who e)
 
-      new_stays : (who : Waiter) → same_waiter who (asker r) ≡ true → kept_after resumed who ≡ Some (record { op = r.op; entry = Answered told })
-      new_stays who e = let s = split who in let none = nobody_new who e in (later who).stays (omega arith) ∙ noted_same (Answered told) who e
+      new_stays : (who : Waiter) → same_waiter who (asker r) ≡ true → kept_after resumed who
+          ≡ Some (record { op = r.op; entry = Answered told })
+      new_stays who e = let s = split who in let none = nobody_new who e in (later who).stays (omega arith)
+          ∙ noted_same (Answered told) who e
 
       -- who is answered has the reply
       pub resumed-given : (who : Waiter) (k : Kept) → before who ≡ Some k → 1 ≤ times who answered
@@ -181,7 +222,8 @@ module _ (windows : List Window) (cells : List (Option Held)) (r : Request) (fre
             inr (
               subst IsQuiet (sym (new_stays who e)) (answered_is_quiet _ refl),
               omega arith,
-              λ b n. ap (waits_in b (held_at cells b)) (is_new who e) ∙ waits_in-quiet b (held_at cells b) None no_quiet,
+              λ b n. ap (waits_in b (held_at cells b)) (is_new who e)
+                  ∙ waits_in-quiet b (held_at cells b) None no_quiet,
             ))
             (λ e. ⊎_elim
             (λ none. let s = split who in inl ((later who).stays none ∙ noted_other (Answered told) who e, omega arith))
@@ -202,7 +244,8 @@ module _ (windows : List Window) (cells : List (Option Held)) (r : Request) (fre
 
   -- an operation on one cell: what has to be shown is what comes of each cell of its kind
   by_cell : (kind : Kind) (f : CellState → Served) (a : ℕ)
-      → ((held : Held) → held_at cells a ≡ Some held → same_kind kind held.block.kind ≡ true → AgreesAfter (serve_cell cells a held.block (f held.state)))
+      → ((held : Held) → held_at cells a ≡ Some held → same_kind kind held.block.kind ≡ true
+      → AgreesAfter (serve_cell cells a held.block (f held.state)))
       → AgreesAfter (at_cell kind f cells a (held_at cells a))
   by_cell kind f a served = by_held (held_at cells a) refl
     where
@@ -221,35 +264,52 @@ module _ (windows : List Window) (cells : List (Option Held)) (r : Request) (fre
   fetch-agrees a op held at kind = by_state held.state refl
     where
       by_state : (s : CellState) → held.state ≡ s → AgreesAfter (serve_cell cells a held.block (fetch (asker r) s))
-      by_state (Empty waiters) is = subst (λ s. AgreesAfter (serve_cell cells a held.block (defers (asker r) (waiters_of s)))) is (deferred-agrees a held at (op ∙ ap (λ k. awaiting k a) kind))
-      by_state (Full v) is = resumed-agrees a held at (Full v) [] (Value v) (Value v) (λ who. ap (λ s. times who (waiters_of s)) is)
-      by_state (Clashed v) is = resumed-agrees a held at (Clashed v) [] Clash Clash (λ who. ap (λ s. times who (waiters_of s)) is)
+      by_state (Empty waiters) is = subst
+          (λ s. AgreesAfter (serve_cell cells a held.block (defers (asker r) (waiters_of s)))) is
+          (deferred-agrees a held at (op ∙ ap (λ k. awaiting k a) kind))
+      by_state (Full v) is = resumed-agrees a held at (Full v) [] (Value v) (Value v)
+          (λ who. ap (λ s. times who (waiters_of s)) is)
+      by_state (Clashed v) is = resumed-agrees a held at (Clashed v) [] Clash Clash
+          (λ who. ap (λ s. times who (waiters_of s)) is)
 
   take-agrees : (a : ℕ) → r.op ≡ Take a → (held : Held) → held_at cells a ≡ Some held → M ≡ held.block.kind
       → AgreesAfter (serve_cell cells a held.block (take_from (asker r) held.state))
   take-agrees a op held at kind = by_state held.state refl
     where
       by_state : (s : CellState) → held.state ≡ s → AgreesAfter (serve_cell cells a held.block (take_from (asker r) s))
-      by_state (Empty waiters) is = subst (λ s. AgreesAfter (serve_cell cells a held.block (defers (asker r) (waiters_of s)))) is (deferred-agrees a held at (op ∙ ap (λ k. awaiting k a) kind))
-      by_state (Full v) is = resumed-agrees a held at (Empty []) [] (Value v) (Value v) (λ who. ap (λ s. times who (waiters_of s)) is)
-      by_state (Clashed v) is = resumed-agrees a held at (Clashed v) [] Clash Clash (λ who. ap (λ s. times who (waiters_of s)) is)
+      by_state (Empty waiters) is = subst
+          (λ s. AgreesAfter (serve_cell cells a held.block (defers (asker r) (waiters_of s)))) is
+          (deferred-agrees a held at (op ∙ ap (λ k. awaiting k a) kind))
+      by_state (Full v) is = resumed-agrees a held at (Empty []) [] (Value v) (Value v)
+          (λ who. ap (λ s. times who (waiters_of s)) is)
+      by_state (Clashed v) is = resumed-agrees a held at (Clashed v) [] Clash Clash
+          (λ who. ap (λ s. times who (waiters_of s)) is)
 
-  store-agrees : (a v : ℕ) (held : Held) → held_at cells a ≡ Some held → AgreesAfter (serve_cell cells a held.block (store v held.state))
+  store-agrees : (a v : ℕ) (held : Held) → held_at cells a ≡ Some held
+      → AgreesAfter (serve_cell cells a held.block (store v held.state))
   store-agrees a v held at = by_state held.state refl
     where
       by_state : (s : CellState) → held.state ≡ s → AgreesAfter (serve_cell cells a held.block (store v s))
-      by_state (Empty readers) is = resumed-agrees a held at (Full v) readers Stored (Value v) (λ who. let e = ap (λ s. times who (waiters_of s)) is in omega arith)
-      by_state (Full w) is = resumed-agrees a held at (Clashed w) [] Clash Clash (λ who. ap (λ s. times who (waiters_of s)) is)
-      by_state (Clashed w) is = resumed-agrees a held at (Clashed w) [] Clash Clash (λ who. ap (λ s. times who (waiters_of s)) is)
+      by_state (Empty readers) is = resumed-agrees a held at (Full v) readers Stored (Value v)
+          (λ who. let e = ap (λ s. times who (waiters_of s)) is in omega arith)
+      by_state (Full w) is = resumed-agrees a held at (Clashed w) [] Clash Clash
+          (λ who. ap (λ s. times who (waiters_of s)) is)
+      by_state (Clashed w) is = resumed-agrees a held at (Clashed w) [] Clash Clash
+          (λ who. ap (λ s. times who (waiters_of s)) is)
 
-  put-agrees : (a v : ℕ) (held : Held) → held_at cells a ≡ Some held → AgreesAfter (serve_cell cells a held.block (put v held.state))
+  put-agrees : (a v : ℕ) (held : Held) → held_at cells a ≡ Some held
+      → AgreesAfter (serve_cell cells a held.block (put v held.state))
   put-agrees a v held at = by_state held.state refl
     where
       by_state : (s : CellState) → held.state ≡ s → AgreesAfter (serve_cell cells a held.block (put v s))
-      by_state (Empty []) is = resumed-agrees a held at (Full v) [] Stored Stored (λ who. ap (λ s. times who (waiters_of s)) is)
-      by_state (Empty (taker ∷ takers)) is = resumed-agrees a held at (Empty takers) (taker ∷ []) Stored (Value v) (λ who. ap (λ s. times who (waiters_of s)) is ∙ times-first who taker takers)
-      by_state (Full w) is = resumed-agrees a held at (Clashed w) [] Clash Clash (λ who. ap (λ s. times who (waiters_of s)) is)
-      by_state (Clashed w) is = resumed-agrees a held at (Clashed w) [] Clash Clash (λ who. ap (λ s. times who (waiters_of s)) is)
+      by_state (Empty []) is = resumed-agrees a held at (Full v) [] Stored Stored
+          (λ who. ap (λ s. times who (waiters_of s)) is)
+      by_state (Empty (taker ∷ takers)) is = resumed-agrees a held at (Empty takers) (taker ∷ []) Stored (Value v)
+          (λ who. ap (λ s. times who (waiters_of s)) is ∙ times-first who taker takers)
+      by_state (Full w) is = resumed-agrees a held at (Clashed w) [] Clash Clash
+          (λ who. ap (λ s. times who (waiters_of s)) is)
+      by_state (Clashed w) is = resumed-agrees a held at (Clashed w) [] Clash Clash
+          (λ who. ap (λ s. times who (waiters_of s)) is)
 
   -- blocks
   allocate-agrees_after : (kind : Kind) (n : ℕ) → AgreesAfter (allocate cells kind n)
@@ -257,29 +317,39 @@ module _ (windows : List Window) (cells : List (Option Held)) (r : Request) (fre
     where
       by_place : (o : Option ℕ) → place n cells ≡ o → AgreesAfter (allocate_at cells kind n o)
       by_place None e = told-agrees cells agrees NoSpace
-      by_place (Some base) e = told-agrees _ (allocate-agrees cells before agrees base n (record { base = base; length = n; kind = kind }) (place-free n cells base e)) (Base base)
+      by_place (Some base) e = told-agrees _
+          (allocate-agrees cells before agrees base n (record { base = base; length = n; kind = kind })
+          (place-free n cells base e)) (Base base)
 
-      by_test : (b : Bool) → AgreesAfter (cond b (only_tells cells BadLength) (allocate_at cells kind n (place n cells)))
+      by_test : (b : Bool)
+          → AgreesAfter (cond b (only_tells cells BadLength) (allocate_at cells kind n (place n cells)))
       by_test true = told-agrees cells agrees BadLength
       by_test false = by_place (place n cells) refl
 
   whole-agrees_after : (after : Block → List (Option Held)) (reply : Reply) (a : ℕ)
-      → ((block : Block) → ((b : ℕ) → a ≤ b → b < a + block.length → waiters_at cells b ≡ []) → WaitersAgree (after block) before)
+      → ((block : Block) → ((b : ℕ) → a ≤ b → b < a + block.length → waiters_at cells b ≡ [])
+      → WaitersAgree (after block) before)
       → (o : Option Block) → AgreesAfter (unless_waited_for after reply cells a o)
   whole-agrees_after after reply a left None = told-agrees cells agrees NoBlock
-  whole-agrees_after after reply a left (Some block) = by_test (list_any is_waiting_cell (take block.length (drop a cells))) refl
+  whole-agrees_after after reply a left (Some block) = by_test
+      (list_any is_waiting_cell (take block.length (drop a cells))) refl
     where
       by_test : (b : Bool) → list_any is_waiting_cell (take block.length (drop a cells)) ≡ b
-          → AgreesAfter (cond b (only_tells cells StillWaiting) (record { cells = after block; entry = Answered reply; resumed = [] }))
+          → AgreesAfter (cond b (only_tells cells StillWaiting)
+          (record { cells = after block; entry = Answered reply; resumed = [] }))
       by_test true e = told-agrees cells agrees StillWaiting
       by_test false e = told-agrees _ (left block (nobody_waits cells a block.length e)) reply
 
   -- each operation
   pub act-agrees : (op : Op) → r.op ≡ op → AgreesAfter (act cells (asker r) op)
   act-agrees (Alloc kind n) e = allocate-agrees_after kind n
-  act-agrees (Release a) e = whole-agrees_after (λ block. fill cells a block.length None) Released a (λ block nobody. release-agrees cells before agrees a block.length nobody) (block_with_base a (held_at cells a))
-  act-agrees (Reset a) e = whole-agrees_after (λ block. change_each emptied cells a block.length) Cleared a (λ block nobody. reset-agrees cells before agrees a block.length nobody) (block_with_base a (held_at cells a))
-  act-agrees (Fetch a) e = by_cell I (fetch (asker r)) a (λ held at k. fetch-agrees a e held at (same_kind-equal I held.block.kind k))
+  act-agrees (Release a) e = whole-agrees_after (λ block. fill cells a block.length None) Released a
+      (λ block nobody. release-agrees cells before agrees a block.length nobody) (block_with_base a (held_at cells a))
+  act-agrees (Reset a) e = whole-agrees_after (λ block. change_each emptied cells a block.length) Cleared a
+      (λ block nobody. reset-agrees cells before agrees a block.length nobody) (block_with_base a (held_at cells a))
+  act-agrees (Fetch a) e = by_cell I (fetch (asker r)) a
+      (λ held at k. fetch-agrees a e held at (same_kind-equal I held.block.kind k))
   act-agrees (Store a v) e = by_cell I (store v) a (λ held at k. store-agrees a v held at)
-  act-agrees (Take a) e = by_cell M (take_from (asker r)) a (λ held at k. take-agrees a e held at (same_kind-equal M held.block.kind k))
+  act-agrees (Take a) e = by_cell M (take_from (asker r)) a
+      (λ held at k. take-agrees a e held at (same_kind-equal M held.block.kind k))
   act-agrees (Put a v) e = by_cell M (put v) a (λ held at k. put-agrees a v held at)

@@ -17,10 +17,12 @@ pub waiting_only : (entry : Entry) → is_waiting_entry entry ≡ true → entry
 waiting_only Waiting e = refl
 waiting_only (Answered reply) e = absurd (true_false (sym e))
 
-waits_in-WaitsAt : (m : Contents) (who : Waiter) (a : ℕ) → waits_in a (held_at m.cells a) (kept_for m.windows who) ≡ true → WaitsAt m who a
+waits_in-WaitsAt : (m : Contents) (who : Waiter) (a : ℕ) → waits_in a (held_at m.cells a) (kept_for m.windows who)
+    ≡ true → WaitsAt m who a
 waits_in-WaitsAt m who a e = by_held (held_at m.cells a) refl (kept_for m.windows who) refl e
   where
-    by_held : (o : Option Held) → held_at m.cells a ≡ o → (k : Option Kept) → kept_for m.windows who ≡ k → waits_in a o k ≡ true → WaitsAt m who a
+    by_held : (o : Option Held) → held_at m.cells a ≡ o → (k : Option Kept) → kept_for m.windows who ≡ k
+        → waits_in a o k ≡ true → WaitsAt m who a
     by_held None at k is e = absurd (true_false (sym e))
     by_held (Some held) at None is e = absurd (true_false (sym e))
     by_held (Some held) at (Some k) is e =
@@ -29,17 +31,20 @@ waits_in-WaitsAt m who a e = by_held (held_at m.cells a) refl (kept_for m.window
         let waits = waiting_only k.entry both.1 in
         record { held = held; there = at; waits = is ∙ ap Some (λ i. record { op = op i; entry = waits i }) }
 
-WaitsAt-waits_in : (m : Contents) (who : Waiter) (a : ℕ) → WaitsAt m who a → waits_in a (held_at m.cells a) (kept_for m.windows who) ≡ true
+WaitsAt-waits_in : (m : Contents) (who : Waiter) (a : ℕ) → WaitsAt m who a
+    → waits_in a (held_at m.cells a) (kept_for m.windows who) ≡ true
 WaitsAt-waits_in m who a w =
     ap (λ o. waits_in a o (kept_for m.windows who)) w.there ∙ ap (waits_in a (Some w.held)) w.waits
     ∙ ap (λ b. b && true) (awaiting_self w.held.block.kind a)
 
-pub listed-WaitsAt : (m : Contents) → WaitingAgrees m → (who : Waiter) (a : ℕ) → 1 ≤ times who (waiters_at m.cells a) → WaitsAt m who a
+pub listed-WaitsAt : (m : Contents) → WaitingAgrees m → (who : Waiter) (a : ℕ) → 1 ≤ times who (waiters_at m.cells a)
+    → WaitsAt m who a
 listed-WaitsAt m agrees who a some =
     let listed = agrees.listed who a in
     waits_in-WaitsAt m who a (one_if-true (waits_in a (held_at m.cells a) (kept_for m.windows who)) (omega arith))
 
-pub WaitsAt-listed : (m : Contents) → WaitingAgrees m → (who : Waiter) (a : ℕ) → WaitsAt m who a → 1 ≤ times who (waiters_at m.cells a)
+pub WaitsAt-listed : (m : Contents) → WaitingAgrees m → (who : Waiter) (a : ℕ) → WaitsAt m who a
+    → 1 ≤ times who (waiters_at m.cells a)
 WaitsAt-listed m agrees who a w =
     let listed : times who (waiters_at m.cells a) ≡ 1 = agrees.listed who a ∙ ap one_if (WaitsAt-waits_in m who a w) in
     omega arith
@@ -53,9 +58,12 @@ listed_once m agrees who a =
 pub WaitsAt-one : (m : Contents) (who : Waiter) (a b : ℕ) → WaitsAt m who a → WaitsAt m who b → a ≡ b
 WaitsAt-one m who a b at_a at_b =
     let same = some_same _ _ (sym at_a.waits ∙ at_b.waits) in
-    sym (address_of-awaiting at_a.held.block.kind a) ∙ ap (λ (k : Kept). address_of k.op) same ∙ address_of-awaiting at_b.held.block.kind b
+    sym (address_of-awaiting at_a.held.block.kind a) ∙ ap (λ (k : Kept). address_of k.op) same
+    ∙ address_of-awaiting at_b.held.block.kind b
 
-pub waiting-WaitsAt : (m : Contents) → WaitingAgrees m → (who : Waiter) (k : Kept) → kept_for m.windows who ≡ Some k → is_waiting k ≡ true
+pub waiting-WaitsAt : (m : Contents) → WaitingAgrees m → (who : Waiter) (k : Kept) → kept_for m.windows who ≡ Some k
+    → is_waiting k ≡ true
     → WaitsAt m who (address_of k.op)
 waiting-WaitsAt m agrees who k is waits =
-    waits_in-WaitsAt m who (address_of k.op) (ap (waits_in (address_of k.op) (held_at m.cells (address_of k.op))) is ∙ agrees.somewhere who k is waits)
+    waits_in-WaitsAt m who (address_of k.op)
+    (ap (waits_in (address_of k.op) (held_at m.cells (address_of k.op))) is ∙ agrees.somewhere who k is waits)

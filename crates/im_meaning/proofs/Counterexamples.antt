@@ -1,6 +1,7 @@
 -- No law of images and journals says more than it does: each one with a premise less fails at bytes that are written out here.
 -- And a reading that may stop early, or tell any fault, would give one file two meanings.
-use Rattle.std.proofs.Common.{◌≡◌, ◌⊎◌, inl, inr, ℕ, zero, suc, ◌+◌, ◌-◌, ◌<◌, ◌≤◌, false, List, [], ◌∷◌, ◌++◌, length, take, drop, Option, None, Some, Result, Ok, Err, refl, ap, arith}
+use Rattle.std.proofs.Common.{◌≡◌, ◌⊎◌, inl, inr, ℕ, zero, suc, ◌+◌, ◌-◌, ◌<◌, ◌≤◌, false, List, [], ◌∷◌, ◌++◌}
+use Rattle.std.proofs.Common.{length, take, drop, Option, None, Some, Result, Ok, Err, refl, ap, arith}
 use Rattle.std.specs.Prelude.{◌==◌, nat_lt}
 use Rattle.std.proofs.lemmas.Bool.Decides.{nat_tests}
 use Rattle.im_types.proofs.Tests.{differ}
@@ -54,35 +55,46 @@ many_in None = 99
 many_in (Some end) = length end.commands
 
 -- `tails_may_begin_later`: one command behind the run's end the room is another one, as the slot there is open.
-a_tail_begins_not_behind_the_run : ((r : Ring) (first k : ℕ) (c : List ℕ) (commands : List Command) (room : ℕ) → tail r first c ≡ Some (record { commands = commands; room = room })
+a_tail_begins_not_behind_the_run :
+    ((r : Ring) (first k : ℕ) (c : List ℕ) (commands : List Command) (room : ℕ) → tail r first c
+    ≡ Some (record { commands = commands; room = room })
     → k ≤ length commands + 1 → tail r (first + k) c ≡ Some (record { commands = drop k commands; room = room })) → ⊥
 unfolding tail slot continues read_in command_in sequence_of
-a_tail_begins_not_behind_the_run law = differ 0 1 refl (ap room_in (law two_slots 0 2 one_command (alloc ∷ []) 1 refl (omega arith)))
+a_tail_begins_not_behind_the_run law = differ 0 1 refl
+    (ap room_in (law two_slots 0 2 one_command (alloc ∷ []) 1 refl (omega arith)))
 
 -- `stale_gates_may_be_closed`: where the gate behind the run is opened for the next command, the run is longer.
-not_each_gate_may_be_written : ((r : Ring) (first : ℕ) (c d : List ℕ) (commands : List Command) (room : ℕ) → tail r first c ≡ Some (record { commands = commands; room = room })
+not_each_gate_may_be_written :
+    ((r : Ring) (first : ℕ) (c d : List ℕ) (commands : List Command) (room : ℕ) → tail r first c
+    ≡ Some (record { commands = commands; room = room })
     → ((i : ℕ) → i < length commands → slot r (first + i) d ≡ slot r (first + i) c)
     → tail r first d ≡ Some (record { commands = commands; room = room_of r first (length commands) d })) → ⊥
 unfolding tail slot continues read_in command_in sequence_of
-not_each_gate_may_be_written law = differ 2 1 refl (ap many_in (law two_slots 0 one_command two_commands (alloc ∷ []) 1 refl same))
+not_each_gate_may_be_written law = differ 2 1 refl
+    (ap many_in (law two_slots 0 one_command two_commands (alloc ∷ []) 1 refl same))
   where
     same : (i : ℕ) → i < 1 → slot two_slots (0 + i) two_commands ≡ slot two_slots (0 + i) one_command
     same zero below = refl
     same (suc i) below = absurd (omega (arith, below))
 
 -- `slots_behind_the_room_are_stale`: in the room a closed slot may have the number of a command that is in the run.
-slots_in_the_room_need_not_be_stale : ((r : Ring) (first : ℕ) (c : List ℕ) (commands : List Command) (room : ℕ) → tail r first c ≡ Some (record { commands = commands; room = room })
-    → first + length commands < LAST → (k : ℕ) → k < r.slots - length commands → sequence_of (slot r (first + length commands + k) c) < first) → ⊥
+slots_in_the_room_need_not_be_stale :
+    ((r : Ring) (first : ℕ) (c : List ℕ) (commands : List Command) (room : ℕ) → tail r first c
+    ≡ Some (record { commands = commands; room = room })
+    → first + length commands < LAST → (k : ℕ) → k < r.slots - length commands
+    → sequence_of (slot r (first + length commands + k) c) < first) → ⊥
 unfolding tail slot continues read_in command_in sequence_of
 slots_in_the_room_need_not_be_stale law =
-    reaches 16 16 refl (law two_slots 16 (open_slot 16 ++ closed_slot 16) (alloc ∷ []) 1 refl (omega arith) 0 (omega arith))
+    reaches 16 16 refl (law two_slots 16 (open_slot 16 ++ closed_slot 16) (alloc ∷ []) 1 refl (omega arith) 0
+    (omega arith))
 
 -- ---- readings that give one file two meanings
 
 -- what a journal comes to, if its run may be stopped at any command
 abbrev MayReach : Ring → Contents → List ℕ → Result Reached Refusal → Type 0
 MayReach r m file outcome =
-    (k : ℕ) × (end : Tail) × (tail r 0 file ≡ Some end) × (outcome ≡ reached_after layout_2 0 m (Some (record { commands = take k end.commands; room = end.room })))
+    (k : ℕ) × (end : Tail) × (tail r 0 file ≡ Some end)
+    × (outcome ≡ reached_after layout_2 0 m (Some (record { commands = take k end.commands; room = end.room })))
 
 abbrev count_in : Result Reached Refusal → ℕ
 count_in (Ok reached) = reached.count
@@ -90,12 +102,14 @@ count_in (Err refusal) = 99
 
 -- A run that may be stopped at any command gives a journal of one command two meanings: no command, and one. The right reading is a
 -- function of the journal, `reached_after`, and goes on to the run's end.
-a_run_that_may_stop_early_has_two_meanings : ((r : Ring) (m : Contents) (file : List ℕ) (one other : Result Reached Refusal)
+a_run_that_may_stop_early_has_two_meanings :
+    ((r : Ring) (m : Contents) (file : List ℕ) (one other : Result Reached Refusal)
     → MayReach r m file one → MayReach r m file other → one ≡ other) → ⊥
 unfolding empty_contents tail slot continues read_in command_in sequence_of
 a_run_that_may_stop_early_has_two_meanings law =
     differ 0 1 refl (ap count_in (law two_slots (empty_contents 1 1) one_command _ _
-    (0, record { commands = alloc ∷ []; room = 1 }, refl, refl) (1, record { commands = alloc ∷ []; room = 1 }, refl, refl)))
+    (0, record { commands = alloc ∷ []; room = 1 }, refl, refl)
+    (1, record { commands = alloc ∷ []; room = 1 }, refl, refl)))
 
 the_whole_run_is_read : count_in (reached_after layout_2 0 (empty_contents 1 1) (tail two_slots 0 one_command)) ≡ 1
 unfolding empty_contents tail slot continues read_in command_in sequence_of
@@ -105,13 +119,16 @@ the_whole_run_is_read = refl
 abbrev HasFault : List ℕ → Refusal → Type 0
 HasFault file fault =
     (((length file == image_length layout_2 (header_of file).sizes) ≡ false) × (fault ≡ WrongLength))
-    ⊎ ((is_open_header (header_place 0 file) ≡ false) × (is_open_header (header_place 1 file) ≡ false) × (fault ≡ NoHeader))
+    ⊎ ((is_open_header (header_place 0 file) ≡ false) × (is_open_header (header_place 1 file) ≡ false)
+    × (fault ≡ NoHeader))
 
 -- A reading that tells any fault, and not the first one, gives an empty file two: its length is wrong, and it has no header.
-any_fault_is_two_meanings : ((file : List ℕ) (one other : Refusal) → HasFault file one → HasFault file other → one ≡ other) → ⊥
+any_fault_is_two_meanings :
+    ((file : List ℕ) (one other : Refusal) → HasFault file one → HasFault file other → one ≡ other) → ⊥
 any_fault_is_two_meanings law =
     differ 12 13 refl (ap number_of (law [] WrongLength NoHeader (inl (refl, refl)) (inr (refl, refl, refl))))
 
 -- The right reading tells the first: the length.
-the_first_fault_is_the_length : (outcome : Result Reached Refusal) → Reads layout_2 [] outcome → outcome ≡ Err WrongLength
+the_first_fault_is_the_length : (outcome : Result Reached Refusal) → Reads layout_2 [] outcome → outcome
+    ≡ Err WrongLength
 the_first_fault_is_the_length outcome reads = reads

@@ -1,12 +1,15 @@
 -- What may be written to a file that leaves the image it is.
-use Rattle.std.proofs.Common.{◌≡◌, ◌⊎◌, inl, inr, ⊎_elim, ℕ, zero, suc, ◌+◌, ◌*◌, ◌-◌, ◌<◌, ◌≤◌, ◌==◌, true, false, List, [], ◌∷◌, length, take, drop, slice_range, slice_index, Some, refl, sym, ◌∙◌, ap, subst, arith, length-take, length-drop, get_or-take, get_or-drop}
+use Rattle.std.proofs.Common.{◌≡◌, ◌⊎◌, inl, inr, ⊎_elim, ℕ, zero, suc, ◌+◌, ◌*◌, ◌-◌, ◌<◌, ◌≤◌, ◌==◌, true, false}
+use Rattle.std.proofs.Common.{List, [], ◌∷◌, length, take, drop, slice_range, slice_index, Some, refl, sym, ◌∙◌, ap}
+use Rattle.std.proofs.Common.{subst, arith, length-take, length-drop, get_or-take, get_or-drop}
 use Rattle.std.proofs.lemmas.List.{ext_get_or, take_all}
 use Rattle.byteorder.specs.Endian.{little_number}
 use Rattle.im_types.specs.declared.commands.Command.{Command}
 use Rattle.im_types.specs.Bytes.{open_gate}
 use Rattle.im_types.specs.Contents.{Contents}
 use Rattle.im_types.specs.Layout.{Layout, Sizes, area_at, area_bytes, area_of, journal_at, image_length, ring_of}
-use Rattle.im_types.specs.Header.{Header, header_in, header_place, header_body, is_open_header, generation_in, spells_header}
+use Rattle.im_types.specs.Header.{Header, header_in, header_place, header_body, is_open_header, generation_in}
+use Rattle.im_types.specs.Header.{spells_header}
 use Rattle.im_types.specs.Journal.{tail}
 use Rattle.im_types.specs.Pages.{Shows}
 use Rattle.im_disk.specs.Since.{SameBut}
@@ -14,16 +17,26 @@ use Rattle.im_journal.proofs.Tails.{tail_elsewhere}
 use Rattle.im_formats.proofs.Headers.{header_in-spelled, spells_header-spelled}
 use Rattle.im_meaning.specs.Images.{other, IsBelow, InForce, IsImage, Follows, IsPrepared}
 
-slice_outside : (at n a b : ℕ) (c d : List ℕ) → SameBut at n c d → (b ≤ at) ⊎ (at + n ≤ a) → slice_range d a b ≡ slice_range c a b
+slice_outside : (at n a b : ℕ) (c d : List ℕ) → SameBut at n c d → (b ≤ at) ⊎ (at + n ≤ a) → slice_range d a b
+    ≡ slice_range c a b
 slice_outside at n a b c d but apart = ext_get_or 0 (take (b - a) (drop a d)) (take (b - a) (drop a c))
-    (omega (arith, length-take (b - a) (drop a d), length-take (b - a) (drop a c), length-drop a d, length-drop a c, but.size))
+    (omega (
+      arith,
+      length-take (b - a) (drop a d),
+      length-take (b - a)
+          (drop a c),
+      length-drop a d,
+      length-drop a c,
+      but.size,
+    ))
     (λ i lt. let low : i < b - a = omega (arith, length-take (b - a) (drop a d)) in
     get_or-take (b - a) (drop a d) i 0 low ∙ get_or-drop a d i 0
     ∙ but.same (a + i) (⊎_elim (λ le. inl (omega arith)) (λ ge. inr (omega arith)) apart)
     ∙ sym (get_or-drop a c i 0) ∙ sym (get_or-take (b - a) (drop a c) i 0 low))
 
 -- the header in force stays, where its place does, and the other place is still below it
-kept_in_force : (l : Layout) (h : Header) (c d : List ℕ) → InForce l h c → length d ≡ length c → header_place h.area d ≡ header_place h.area c → IsBelow h.generation (header_place (other h) d) → InForce l h d
+kept_in_force : (l : Layout) (h : Header) (c d : List ℕ) → InForce l h c → length d ≡ length c
+    → header_place h.area d ≡ header_place h.area c → IsBelow h.generation (header_place (other h) d) → InForce l h d
 kept_in_force l h c d it size same below = record {
   number = it.number;
   size = size ∙ it.size;
@@ -34,8 +47,10 @@ kept_in_force l h c d it size same below = record {
 }
 
 -- an image stays one, where its header in force, its area and its journal do
-kept : (l : Layout) (h : Header) (shown : Contents) (commands : List Command) (room : ℕ) (c d : List ℕ) → IsImage l h shown commands room c
-    → InForce l h d → area_of l h.sizes h.area d ≡ area_of l h.sizes h.area c → tail (ring_of l h.sizes) h.count d ≡ tail (ring_of l h.sizes) h.count c
+kept : (l : Layout) (h : Header) (shown : Contents) (commands : List Command) (room : ℕ) (c d : List ℕ)
+    → IsImage l h shown commands room c
+    → InForce l h d → area_of l h.sizes h.area d ≡ area_of l h.sizes h.area c → tail (ring_of l h.sizes) h.count d
+    ≡ tail (ring_of l h.sizes) h.count c
     → IsImage l h shown commands room d
 kept l h shown commands room c d it in_force area journal = record {
   in_force = in_force;
@@ -44,13 +59,15 @@ kept l h shown commands room c d it in_force area journal = record {
 }
 
 -- the two areas lie one behind the other, behind the headers and before the journal
-apart_areas : (bytes area : ℕ) → area ≤ 1 → (at n : ℕ) → 8192 + bytes * (1 - area) ≤ at → at + n ≤ 8192 + bytes * (1 - area) + bytes
+apart_areas : (bytes area : ℕ) → area ≤ 1 → (at n : ℕ) → 8192 + bytes * (1 - area) ≤ at
+    → at + n ≤ 8192 + bytes * (1 - area) + bytes
     → (8192 + bytes * area + bytes ≤ at) ⊎ (at + n ≤ 8192 + bytes * area)
 apart_areas bytes zero le at n from to = inl (omega (arith, from))
 apart_areas bytes (suc zero) le at n from to = inr (omega (arith, to))
 apart_areas bytes (suc (suc k)) le at n from to = absurd (omega (arith, le))
 
-inside_areas : (bytes area : ℕ) → area ≤ 1 → (at n : ℕ) → at + n ≤ 8192 + bytes * (1 - area) + bytes → at + n ≤ 8192 + bytes * 2
+inside_areas : (bytes area : ℕ) → area ≤ 1 → (at n : ℕ) → at + n ≤ 8192 + bytes * (1 - area) + bytes
+    → at + n ≤ 8192 + bytes * 2
 inside_areas bytes zero le at n to = omega (arith, to)
 inside_areas bytes (suc zero) le at n to = omega (arith, to)
 inside_areas bytes (suc (suc k)) le at n to = absurd (omega (arith, le))
@@ -74,22 +91,32 @@ module _ (l : Layout) (h : Header) (shown : Contents) (commands : List Command) 
   headers_stay : 8192 ≤ at → InForce l h d
   headers_stay far =
       let f : InForce l h c = it.in_force in
-      let mine : header_place h.area d ≡ header_place h.area c = slice_outside at n (4096 * h.area) (4096 * h.area + 64) c d but (inl (high h.area at (header_low h.area f.number) far)) in
-      let theirs : header_place (other h) d ≡ header_place (other h) c = slice_outside at n (4096 * (1 - h.area)) (4096 * (1 - h.area) + 64) c d but (inl (high (1 - h.area) at (header_low (1 - h.area) (omega arith)) far)) in
-      kept_in_force l h c d f but.size mine (subst (λ (place : List ℕ). IsBelow h.generation place) (sym theirs) f.below)
+      let mine : header_place h.area d
+      ≡ header_place h.area c = slice_outside at n (4096 * h.area) (4096 * h.area + 64) c d but
+      (inl (high h.area at (header_low h.area f.number) far)) in
+      let theirs : header_place (other h) d
+      ≡ header_place (other h) c = slice_outside at n (4096 * (1 - h.area)) (4096 * (1 - h.area) + 64) c d but
+      (inl (high (1 - h.area) at (header_low (1 - h.area) (omega arith)) far)) in
+      kept_in_force l h c d f but.size mine
+      (subst (λ (place : List ℕ). IsBelow h.generation place) (sym theirs) f.below)
 
-  pub write_in_other_area : 0 < h.sizes.slots → area_at l h.sizes (other h) ≤ at → at + n ≤ area_at l h.sizes (other h) + area_bytes l h.sizes → IsImage l h shown commands room d
+  pub write_in_other_area : 0 < h.sizes.slots → area_at l h.sizes (other h) ≤ at
+      → at + n ≤ area_at l h.sizes (other h) + area_bytes l h.sizes → IsImage l h shown commands room d
   write_in_other_area some from to =
       kept l h shown commands room c d it (headers_stay (omega (arith, from)))
       (slice_outside at n (area_at l h.sizes h.area) (area_at l h.sizes h.area + area_bytes l h.sizes) c d but
       (apart_areas (area_bytes l h.sizes) h.area it.in_force.number at n from to))
-      (tail_elsewhere (ring_of l h.sizes) h.count at n c d some (inl (inside_areas (area_bytes l h.sizes) h.area it.in_force.number at n to)) but)
+      (tail_elsewhere (ring_of l h.sizes) h.count at n c d some
+      (inl (inside_areas (area_bytes l h.sizes) h.area it.in_force.number at n to)) but)
 
   -- what is written in the journal changes the journal alone
-  pub write_in_journal : journal_at l h.sizes ≤ at → (later : List Command) (there : ℕ) → tail (ring_of l h.sizes) h.count d ≡ Some (record { commands = later; room = there })
+  pub write_in_journal : journal_at l h.sizes ≤ at → (later : List Command) (there : ℕ)
+      → tail (ring_of l h.sizes) h.count d ≡ Some (record { commands = later; room = there })
       → IsImage l h shown later there d
   write_in_journal far later there journal =
-      let same : area_of l h.sizes h.area d ≡ area_of l h.sizes h.area c = slice_outside at n (area_at l h.sizes h.area) (area_at l h.sizes h.area + area_bytes l h.sizes) c d but
+      let same : area_of l h.sizes h.area d
+      ≡ area_of l h.sizes h.area c = slice_outside at n (area_at l h.sizes h.area)
+      (area_at l h.sizes h.area + area_bytes l h.sizes) c d but
       (inl (before_journal (area_bytes l h.sizes) h.area it.in_force.number at far)) in
       record {
         in_force = headers_stay (omega (arith, far));
@@ -98,7 +125,8 @@ module _ (l : Layout) (h : Header) (shown : Contents) (commands : List Command) 
       }
 
 -- the bytes of a header place, by those of the file
-inside_place : (p a b : ℕ) (c d : List ℕ) → length d ≡ length c → b ≤ 64 → ((i : ℕ) → a ≤ i → i < b → slice_index d (p + i) ≡ slice_index c (p + i))
+inside_place : (p a b : ℕ) (c d : List ℕ) → length d ≡ length c → b ≤ 64
+    → ((i : ℕ) → a ≤ i → i < b → slice_index d (p + i) ≡ slice_index c (p + i))
     → slice_range (slice_range d p (p + 64)) a b ≡ slice_range (slice_range c p (p + 64)) a b
 inside_place p a b c d size few same =
     let whole : (p + 64) - p ≡ 64 = omega arith in
@@ -117,19 +145,24 @@ inside_place p a b c d size few same =
       length-drop p c,
     ))
     (λ i lt. let low : i < b - a = omega (arith, length-take (b - a) (drop a (take 64 (drop p d)))) in
-    get_or-take (b - a) (drop a (take 64 (drop p d))) i 0 low ∙ get_or-drop a (take 64 (drop p d)) i 0 ∙ get_or-take 64 (drop p d) (a + i) 0 (omega (arith, low, few)) ∙ get_or-drop p d (a + i) 0
+    get_or-take (b - a) (drop a (take 64 (drop p d))) i 0 low ∙ get_or-drop a (take 64 (drop p d)) i 0
+    ∙ get_or-take 64 (drop p d) (a + i) 0 (omega (arith, low, few)) ∙ get_or-drop p d (a + i) 0
     ∙ same (a + i) (omega arith) (omega (arith, low))
-    ∙ sym (get_or-drop p c (a + i) 0) ∙ sym (get_or-take 64 (drop p c) (a + i) 0 (omega (arith, low, few))) ∙ sym (get_or-drop a (take 64 (drop p c)) i 0) ∙ sym (get_or-take (b - a) (drop a (take 64 (drop p c))) i 0 low)))
+    ∙ sym (get_or-drop p c (a + i) 0) ∙ sym (get_or-take 64 (drop p c) (a + i) 0 (omega (arith, low, few)))
+    ∙ sym (get_or-drop a (take 64 (drop p c)) i 0)
+    ∙ sym (get_or-take (b - a) (drop a (take 64 (drop p c))) i 0 low)))
 
 -- the gate of a header
 gate_of : (k : ℕ) (file : List ℕ) → slice_index (header_place k file) 0 ≡ slice_index file (4096 * k)
 gate_of k file =
     let whole : (4096 * k + 64) - 4096 * k ≡ 64 = omega arith in
     subst (λ (n : ℕ). slice_index (take n (drop (4096 * k) file)) 0 ≡ slice_index file (4096 * k)) (sym whole)
-    (get_or-take 64 (drop (4096 * k) file) 0 0 (omega arith) ∙ get_or-drop (4096 * k) file 0 0 ∙ ap (λ (n : ℕ). slice_index file n) (omega arith))
+    (get_or-take 64 (drop (4096 * k) file) 0 0 (omega arith) ∙ get_or-drop (4096 * k) file 0 0
+    ∙ ap (λ (n : ℕ). slice_index file n) (omega arith))
 
 -- the two header places are apart
-apart_places : (area : ℕ) → area ≤ 1 → (at n : ℕ) → 4096 * (1 - area) ≤ at → at + n ≤ 4096 * (1 - area) + 64 → (4096 * area + 64 ≤ at) ⊎ (at + n ≤ 4096 * area)
+apart_places : (area : ℕ) → area ≤ 1 → (at n : ℕ) → 4096 * (1 - area) ≤ at → at + n ≤ 4096 * (1 - area) + 64
+    → (4096 * area + 64 ≤ at) ⊎ (at + n ≤ 4096 * area)
 apart_places zero le at n from to = inl (omega (arith, from))
 apart_places (suc zero) le at n from to = inr (omega (arith, to))
 apart_places (suc (suc k)) le at n from to = absurd (omega (arith, le))
@@ -146,10 +179,12 @@ module _ (l : Layout) (h : Header) (shown : Contents) (commands : List Command) 
   low = low_places h.area it.in_force.number at n to
 
   mine_stays : header_place h.area d ≡ header_place h.area c
-  mine_stays = slice_outside at n (4096 * h.area) (4096 * h.area + 64) c d but (apart_places h.area it.in_force.number at n from to)
+  mine_stays = slice_outside at n (4096 * h.area) (4096 * h.area + 64) c d but
+      (apart_places h.area it.in_force.number at n from to)
 
   area_stays : (k : ℕ) → area_of l h.sizes k d ≡ area_of l h.sizes k c
-  area_stays k = slice_outside at n (area_at l h.sizes k) (area_at l h.sizes k + area_bytes l h.sizes) c d but (inr (omega (arith, low)))
+  area_stays k = slice_outside at n (area_at l h.sizes k) (area_at l h.sizes k + area_bytes l h.sizes) c d but
+      (inr (omega (arith, low)))
 
   tail_stays : (first : ℕ) → tail (ring_of l h.sizes) first d ≡ tail (ring_of l h.sizes) first c
   tail_stays first = tail_elsewhere (ring_of l h.sizes) first at n c d some (inl (omega (arith, low))) but
@@ -157,20 +192,28 @@ module _ (l : Layout) (h : Header) (shown : Contents) (commands : List Command) 
   -- what is written in the other header's place, where that stays below
   pub write_in_other_header : IsBelow h.generation (header_place (other h) d) → IsImage l h shown commands room d
   write_in_other_header below =
-      kept l h shown commands room c d it (kept_in_force l h c d it.in_force but.size mine_stays below) (area_stays h.area) (tail_stays h.count)
+      kept l h shown commands room c d it (kept_in_force l h c d it.in_force but.size mine_stays below)
+      (area_stays h.area) (tail_stays h.count)
 
   -- behind a closed gate anything may be written
-  pub write_behind_closed_gate : 4096 * other h + 1 ≤ at → is_open_header (header_place (other h) c) ≡ false → IsImage l h shown commands room d
+  pub write_behind_closed_gate : 4096 * other h + 1 ≤ at → is_open_header (header_place (other h) c) ≡ false
+      → IsImage l h shown commands room d
   write_behind_closed_gate behind closed = write_in_other_header (inl (
-      ap (λ (b : ℕ). b == open_gate) (gate_of (other h) d ∙ but.same (4096 * other h) (inl (omega (arith, behind))) ∙ sym (gate_of (other h) c)) ∙ closed))
+      ap (λ (b : ℕ). b == open_gate)
+      (gate_of (other h) d ∙ but.same (4096 * other h) (inl (omega (arith, behind))) ∙ sym (gate_of (other h) c))
+      ∙ closed))
 
-  generation_stays : at + n ≤ 4096 * other h + 8 → generation_in (header_place (other h) d) ≡ generation_in (header_place (other h) c)
+  generation_stays : at + n ≤ 4096 * other h + 8 → generation_in (header_place (other h) d)
+      ≡ generation_in (header_place (other h) c)
   generation_stays short = ap (λ (bytes : List ℕ). little_number 8 bytes)
-      (inside_place (4096 * other h) 8 16 c d but.size (omega arith) (λ i low high. but.same (4096 * other h + i) (inr (omega (arith, low, short)))))
+      (inside_place (4096 * other h) 8 16 c d but.size (omega arith)
+      (λ i low high. but.same (4096 * other h + i) (inr (omega (arith, low, short)))))
 
   -- the gate of a header of a lower generation may be anything
-  pub write_lower_gate : at + n ≤ 4096 * other h + 8 → generation_in (header_place (other h) c) < h.generation → IsImage l h shown commands room d
-  write_lower_gate short lower = write_in_other_header (inr (subst (λ (g : ℕ). g < h.generation) (sym (generation_stays short)) lower))
+  pub write_lower_gate : at + n ≤ 4096 * other h + 8 → generation_in (header_place (other h) c) < h.generation
+      → IsImage l h shown commands room d
+  write_lower_gate short lower = write_in_other_header
+      (inr (subst (λ (g : ℕ). g < h.generation) (sym (generation_stays short)) lower))
 
 long_file : (l : Layout) (h : Header) (c : List ℕ) → InForce l h c → 8192 ≤ length c
 long_file l h c it = omega (arith, it.size)
@@ -185,8 +228,10 @@ gate_and_body [] size = absurd (omega (arith, size))
 gate_and_body (gate ∷ body) size = ap (λ (rest : List ℕ). gate ∷ rest) (sym (take_all 63 body (omega (arith, size))))
 
 -- where the next header's gate is all that is written, the old header is in force or the next one is
-module _ (l : Layout) (h next : Header) (shown after : Contents) (commands later : List Command) (room : ℕ) (c d : List ℕ)
-    (it : IsImage l h shown commands room c) (some : 0 < h.sizes.slots) (follows : Follows l h next) (ready : IsPrepared l h next after c) (but : SameBut (4096 * other h) 1 c d)
+module _ (l : Layout) (h next : Header) (shown after : Contents) (commands later : List Command) (room : ℕ)
+    (c d : List ℕ)
+    (it : IsImage l h shown commands room c) (some : 0 < h.sizes.slots) (follows : Follows l h next)
+    (ready : IsPrepared l h next after c) (but : SameBut (4096 * other h) 1 c d)
     (journal : tail (ring_of l h.sizes) next.count c ≡ Some (record { commands = later; room = room })) where
   from_place : 4096 * other h ≤ 4096 * other h
   from_place = omega arith
@@ -195,16 +240,19 @@ module _ (l : Layout) (h next : Header) (shown after : Contents) (commands later
   to_place = omega arith
 
   pub stays_closed : is_open_header (header_place (other h) d) ≡ false → IsImage l h shown commands room d
-  stays_closed closed = write_in_other_header l h shown commands room c d (4096 * other h) 1 it but some from_place to_place (inl closed)
+  stays_closed closed = write_in_other_header l h shown commands room c d
+      (4096 * other h) 1 it but some from_place to_place (inl closed)
 
   body_stays : slice_range (header_place (other h) d) 1 64 ≡ header_body next
-  body_stays = inside_place (4096 * other h) 1 64 c d but.size (omega arith) (λ i low high. but.same (4096 * other h + i) (inr (omega (arith, low)))) ∙ ready.body
+  body_stays = inside_place (4096 * other h) 1 64 c d but.size (omega arith)
+      (λ i low high. but.same (4096 * other h + i) (inr (omega (arith, low)))) ∙ ready.body
 
   other_low : other h ≤ 1
   other_low = omega arith
 
   whole : header_place (other h) d ≡ slice_index (header_place (other h) d) 0 ∷ header_body next
-  whole = gate_and_body (header_place (other h) d) (place_length (other h) d other_low (omega (arith, but.size, long_file l h c it.in_force)))
+  whole = gate_and_body (header_place (other h) d)
+      (place_length (other h) d other_low (omega (arith, but.size, long_file l h c it.in_force)))
       ∙ ap (λ (rest : List ℕ). slice_index (header_place (other h) d) 0 ∷ rest) body_stays
 
   back : other next ≡ h.area
@@ -216,16 +264,21 @@ module _ (l : Layout) (h next : Header) (shown after : Contents) (commands later
   next_in_force : is_open_header (header_place (other h) d) ≡ true → InForce l next d
   next_in_force opened =
       let gate : ℕ = slice_index (header_place (other h) d) 0 in
-      let mine : header_place h.area d ≡ header_place h.area c = mine_stays l h shown commands room c d (4096 * other h) 1 it but some from_place to_place in
+      let mine : header_place h.area d
+      ≡ header_place h.area c = mine_stays l h shown commands room c d
+      (4096 * other h) 1 it but some from_place to_place in
       record {
         number = subst (λ (n : ℕ). n ≤ 1) (sym follows.area) other_low;
         size = but.size ∙ it.in_force.size ∙ ap (λ (s : Sizes). image_length l s) (sym follows.sizes);
         opened = subst (λ (n : ℕ). is_open_header (header_place n d) ≡ true) (sym follows.area) opened;
-        fields = subst (λ (n : ℕ). header_in (header_place n d) ≡ next) (sym follows.area) (ap header_in whole ∙ header_in-spelled gate next follows.fits);
+        fields = subst (λ (n : ℕ). header_in (header_place n d) ≡ next) (sym follows.area)
+            (ap header_in whole ∙ header_in-spelled gate next follows.fits);
         spelled = subst (λ (n : ℕ). spells_header l next.area (header_place n d) ≡ true) (sym follows.area)
-            (ap (λ (place : List ℕ). spells_header l next.area place) whole ∙ spells_header-spelled l next.area gate next follows.fits follows.good);
+            (ap (λ (place : List ℕ). spells_header l next.area place) whole
+            ∙ spells_header-spelled l next.area gate next follows.fits follows.good);
         below = inr (subst (λ (n : ℕ). generation_in (header_place n d) < next.generation) (sym back)
-            (subst (λ (x : Header). x.generation < next.generation) (sym (ap header_in mine ∙ it.in_force.fields)) follows.later));
+            (subst (λ (x : Header). x.generation < next.generation)
+            (sym (ap header_in mine ∙ it.in_force.fields)) follows.later));
       }
 
   pub takes_over : is_open_header (header_place (other h) d) ≡ true → IsImage l next after later room d
@@ -233,7 +286,11 @@ module _ (l : Layout) (h next : Header) (shown after : Contents) (commands later
     in_force = next_in_force opened;
     shows = subst (λ (n : ℕ). Shows l next.sizes (area_of l next.sizes n d) after) (sym follows.area)
         (subst (λ (s : Sizes). Shows l s (area_of l s (other h) d) after) (sym follows.sizes)
-        (subst (λ (bytes : List ℕ). Shows l h.sizes bytes after) (sym (area_stays l h shown commands room c d (4096 * other h) 1 it but some from_place to_place (other h))) ready.shows));
-    journal = subst (λ (s : Sizes). tail (ring_of l s) next.count d ≡ Some (record { commands = later; room = room })) (sym follows.sizes)
-        (tail_stays l h shown commands room c d (4096 * other h) 1 it but some from_place to_place next.count ∙ journal);
+        (subst (λ (bytes : List ℕ). Shows l h.sizes bytes after)
+        (sym (area_stays l h shown commands room c d (4096 * other h) 1 it but some from_place to_place
+        (other h))) ready.shows));
+    journal = subst (λ (s : Sizes). tail (ring_of l s) next.count d
+        ≡ Some (record { commands = later; room = room })) (sym follows.sizes)
+        (tail_stays l h shown commands room c d (4096 * other h) 1 it but some from_place to_place next.count
+        ∙ journal);
   }

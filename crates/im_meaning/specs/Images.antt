@@ -3,7 +3,8 @@ use Rattle.std.specs.Prelude.{◌≡◌, ◌⊎◌, ℕ, ◌+◌, ◌-◌, ◌<�
 use Rattle.im_types.specs.declared.commands.Command.{Command}
 use Rattle.im_types.specs.Contents.{Contents}
 use Rattle.im_types.specs.Layout.{Layout, image_length, area_of, ring_of}
-use Rattle.im_types.specs.Header.{Header, header_in, header_place, header_body, is_open_header, is_header, generation_in, spells_header}
+use Rattle.im_types.specs.Header.{Header, header_in, header_place, header_body, is_open_header, is_header}
+use Rattle.im_types.specs.Header.{generation_in, spells_header}
 use Rattle.im_formats.specs.Fitting.{FitsHeader}
 use Rattle.im_types.specs.Journal.{tail}
 use Rattle.im_types.specs.Pages.{Shows}

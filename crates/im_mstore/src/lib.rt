@@ -5,7 +5,8 @@
 //! Contracts say what a call does to the cells by the definitions of `im_types`.
 #![tactic(auto)]
 
-ghost use Rattle.std.specs.Prelude.{◌≡◌, ◌≢◌, ◌<◌, ◌∷◌, [], ℕ, length, drop, slice_get, slice_set, Err, IsSome, MatchOption};
+ghost use Rattle.std.specs.Prelude.{◌≡◌, ◌≢◌, ◌<◌, ◌∷◌, [], ℕ, length, drop, slice_get, slice_set, Err, IsSome};
+ghost use Rattle.std.specs.Prelude.{MatchOption};
 ghost use Rattle.im_types.specs.declared.operations.Kind.TheVariants.{M};
 ghost use Rattle.im_types.specs.declared.operations.Reply.{Reply};
 ghost use Rattle.im_types.specs.declared.operations.Op.TheVariants.{Take, Put};

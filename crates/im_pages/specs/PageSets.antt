@@ -1,5 +1,6 @@
 -- Sets of pages, one truth value a page, by the page's number. (Own.)
-use Rattle.std.specs.Prelude.{◌≡◌, ℕ, zero, suc, ◌+◌, ◌<◌, ◌≤◌, List, [], ◌∷◌, Bool, true, false, ◌||◌, drop, length, slice_index_or, slice_set}
+use Rattle.std.specs.Prelude.{◌≡◌, ℕ, zero, suc, ◌+◌, ◌<◌, ◌≤◌, List, [], ◌∷◌, Bool, true, false, ◌||◌, drop, length}
+use Rattle.std.specs.Prelude.{slice_index_or, slice_set}
 
 -- whether a page is in a set; a page past its end counts as one that is
 abbrev pub has : List Bool → ℕ → Bool

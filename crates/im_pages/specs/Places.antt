@@ -1,6 +1,7 @@
 -- Which page of an area shows a record, and when two memories' records agree on a page. (Own.)
 use Rattle.std.specs.Prelude.{◌≡◌, ℕ, ◌+◌, ◌*◌, ◌/◌, slice_get}
-use Rattle.im_types.specs.Layout.{layout_in_use, cell_record_bytes, node_record_bytes, session_record_bytes, on_a_page, pages_for}
+use Rattle.im_types.specs.Layout.{layout_in_use, cell_record_bytes, node_record_bytes, session_record_bytes}
+use Rattle.im_types.specs.Layout.{on_a_page, pages_for}
 use Rattle.im_types.specs.Pages.{Records}
 
 -- the page that shows the cell at an address

@@ -1,5 +1,6 @@
 //! Sets of pages.
-ghost use Rattle.std.specs.Prelude.{◌≡◌, ℕ, ◌+◌, ◌-◌, ◌<◌, ◌≤◌, length, replicate, true, false, MatchOption, IfOk, IfErr};
+ghost use Rattle.std.specs.Prelude.{◌≡◌, ℕ, ◌+◌, ◌-◌, ◌<◌, ◌≤◌, length, replicate, true, false, MatchOption, IfOk};
+ghost use Rattle.std.specs.Prelude.{IfErr};
 ghost use Rattle.im_types.specs.Layout as layout;
 ghost use Rattle.im_types.specs.Layout.{layout_in_use, sizes_of};
 ghost use Rattle.im_pages.specs.PageSets.{has, with_page, with_pages, union, size_of, IsWithin, IsNext, HasNoneFrom};

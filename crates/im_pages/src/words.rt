@@ -1,5 +1,6 @@
 //! Bits in words of 64, bit n being bit n % 64 of word n / 64.
-ghost use Rattle.std.specs.Prelude.{◌≡◌, ℕ, ◌*◌, ◌-◌, ◌/◌, ◌<◌, ◌≤◌, ◌^◌, ◌==◌, ◌||◌, length, replicate, slice_index_or, true, MatchOption};
+ghost use Rattle.std.specs.Prelude.{◌≡◌, ℕ, ◌*◌, ◌-◌, ◌/◌, ◌<◌, ◌≤◌, ◌^◌, ◌==◌, ◌||◌, length, replicate};
+ghost use Rattle.std.specs.Prelude.{slice_index_or, true, MatchOption};
 ghost use Rattle.im_pages.specs.Words.{is_set, AreClear, IsFirstSet};
 
 /// Whether a bit is set.

@@ -1,5 +1,6 @@
 -- What an operation comes to on slots and a queue is what it comes to on the cells that they make.
-use Rattle.std.proofs.Common.{◌≡◌, ◌≢◌, ⊎_elim, ℕ, zero, suc, ◌+◌, ◌-◌, ◌<◌, ◌≤◌, List, [], ◌∷◌, length, get_or, set, take, drop, Some, None, Bool, true, false, cond, refl, sym, ap, ◌∙◌, arith}
+use Rattle.std.proofs.Common.{◌≡◌, ◌≢◌, ⊎_elim, ℕ, zero, suc, ◌+◌, ◌-◌, ◌<◌, ◌≤◌, List, [], ◌∷◌, length, get_or, set}
+use Rattle.std.proofs.Common.{take, drop, Some, None, Bool, true, false, cond, refl, sym, ap, ◌∙◌, arith}
 use Rattle.std.specs.Prelude.{Option, ◌==◌, ◌||◌, not, option_map}
 use Rattle.std.specs.List.{list_any}
 use Rattle.std.proofs.lemmas.List.{get_or-set_same, get_or-set_other}
@@ -14,9 +15,12 @@ use Rattle.im_types.specs.declared.operations.Kind.TheVariants.{I, M}
 use Rattle.im_types.specs.contracts.operations.Kind.{the_type as the_kind}
 use Rattle.im_types.specs.declared.operations.Entry.TheVariants.{Answered}
 use Rattle.im_types.specs.declared.operations.Reply.{Reply}
-use Rattle.im_types.specs.declared.operations.Reply.TheVariants.{Base, BadLength, NoCell, WrongKind, NoBlock, StillWaiting, Released, Cleared}
+use Rattle.im_types.specs.declared.operations.Reply.TheVariants.{Base, BadLength, NoCell, WrongKind, NoBlock}
+use Rattle.im_types.specs.declared.operations.Reply.TheVariants.{StillWaiting, Released, Cleared}
 use Rattle.im_types.specs.Contents.{CellState, Held, held_at, HasBlocks}
-use Rattle.im_types.specs.Act.{Served as ServedCell, Acted as ActedCells, at_cell, serve_cell, only_tells, same_kind, allocate, allocate_at, unless_waited_for, release_block, emptied, reset_block, block_with_base, is_waiting_cell}
+use Rattle.im_types.specs.Act.{Served as ServedCell, Acted as ActedCells, at_cell, serve_cell, only_tells, same_kind}
+use Rattle.im_types.specs.Act.{allocate, allocate_at, unless_waited_for, release_block, emptied, reset_block}
+use Rattle.im_types.specs.Act.{block_with_base, is_waiting_cell}
 use Rattle.im_types.specs.Place.{place, fill, change_each}
 use Rattle.im_laws.proofs.Tests.{or_left, or_right}
 use Rattle.im_laws.proofs.PlaceLemmas.{get_or-fill, get_or-change_each, place-free}
@@ -30,15 +34,19 @@ use Rattle.im_plain.specs.Waiting.{waiting_at, without, parked, with_asker, repl
 use Rattle.im_plain.specs.Joined.{state_of, emptied_slot, held_of, joined, is_open_state, is_open, Fits}
 use Rattle.im_laws.specs.Blocks.{IsRefused}
 use Rattle.im_plain.specs.Served.{AreWaiting, HasServed, HasActed, IsUnwaited}
-use Rattle.im_plain.proofs.QueueLemmas.{waiting_at-without, waiting_at-without_other, waiting_at-parked, waiting_at-parked_other}
-use Rattle.im_plain.proofs.JoinedLemmas.{NobodyWaits, held_at-joined, held_at-None, held_at-Some, length-joined, place-joined, joined-fill, joined-emptied, joined-set}
+use Rattle.im_plain.proofs.QueueLemmas.{waiting_at-without, waiting_at-without_other, waiting_at-parked}
+use Rattle.im_plain.proofs.QueueLemmas.{waiting_at-parked_other}
+use Rattle.im_plain.proofs.JoinedLemmas.{NobodyWaits, held_at-joined, held_at-None, held_at-Some, length-joined}
+use Rattle.im_plain.proofs.JoinedLemmas.{place-joined, joined-fill, joined-emptied, joined-set}
 
 -- a test that fails of all fails of each
-none_of : {X : Type 0} (p : X → Bool) (d : X) → p d ≡ false → (xs : List X) (base n : ℕ) → list_any p (take n (drop base xs)) ≡ false → (a : ℕ) → base ≤ a → a < base + n → p (get_or xs a d) ≡ false
+none_of : {X : Type 0} (p : X → Bool) (d : X) → p d ≡ false → (xs : List X) (base n : ℕ)
+    → list_any p (take n (drop base xs)) ≡ false → (a : ℕ) → base ≤ a → a < base + n → p (get_or xs a d) ≡ false
 none_of p d q [] base n e a lo hi = q
 none_of p d q (x ∷ xs) zero zero e a lo hi = absurd (omega arith)
 none_of p d q (x ∷ xs) zero (suc n) e zero lo hi = or_left (p x) (list_any p (take n xs)) e
-none_of p d q (x ∷ xs) zero (suc n) e (suc a) lo hi = none_of p d q xs zero n (or_right (p x) (list_any p (take n xs)) e) a (omega arith) (omega arith)
+none_of p d q (x ∷ xs) zero (suc n) e (suc a) lo hi = none_of p d q xs zero n
+    (or_right (p x) (list_any p (take n xs)) e) a (omega arith) (omega arith)
 none_of p d q (x ∷ xs) (suc base) n e zero lo hi = absurd (omega arith)
 none_of p d q (x ∷ xs) (suc base) n e (suc a) lo hi = none_of p d q xs base n e a (omega arith) (omega arith)
 
@@ -51,7 +59,8 @@ module _ (slots : List (Option Slot)) (queue : List Deferred) (fits : Fits slots
   cells = joined slots queue
 
   -- only an answer is given
-  pub tells-HasActed : (reply : Reply) (was : ActedCells) → was ≡ only_tells cells reply → HasActed slots queue (telling reply) was
+  pub tells-HasActed : (reply : Reply) (was : ActedCells) → was ≡ only_tells cells reply
+      → HasActed slots queue (telling reply) was
   tells-HasActed reply was e = record {
     cells = sym (ap (λ a. a.cells) e);
     fits = fits;
@@ -61,29 +70,40 @@ module _ (slots : List (Option Slot)) (queue : List Deferred) (fits : Fits slots
 
   -- one cell is served
   module _ (kind : Kind) (serve : CellState → ServedCell) (a : ℕ) where
-    pub at_cell-absent : get_or slots a None ≡ None → at_cell kind serve cells a (held_at cells a) ≡ only_tells cells NoCell
+    pub at_cell-absent : get_or slots a None ≡ None → at_cell kind serve cells a (held_at cells a)
+        ≡ only_tells cells NoCell
     at_cell-absent e = ap (at_cell kind serve cells a) (held_at-None slots queue a e)
 
     at_cell-held : (slot : Slot) → get_or slots a None ≡ Some slot → (b : Bool) → same_kind kind slot.block.kind ≡ b
-        → at_cell kind serve cells a (held_at cells a) ≡ cond b (serve_cell cells a slot.block (serve (state_of slot.state (waiting_at a queue)))) (only_tells cells WrongKind)
+        → at_cell kind serve cells a (held_at cells a)
+        ≡ cond b (serve_cell cells a slot.block (serve (state_of slot.state (waiting_at a queue))))
+        (only_tells cells WrongKind)
     at_cell-held slot e b k =
         ap (at_cell kind serve cells a) (held_at-Some slots queue a slot e)
-        ∙ ap (λ b. cond b (serve_cell cells a slot.block (serve (state_of slot.state (waiting_at a queue)))) (only_tells cells WrongKind)) k
+        ∙ ap (λ b. cond b (serve_cell cells a slot.block (serve (state_of slot.state (waiting_at a queue))))
+        (only_tells cells WrongKind)) k
 
-    pub at_cell-other : (slot : Slot) → get_or slots a None ≡ Some slot → same_kind kind slot.block.kind ≡ false → at_cell kind serve cells a (held_at cells a) ≡ only_tells cells WrongKind
+    pub at_cell-other : (slot : Slot) → get_or slots a None ≡ Some slot → same_kind kind slot.block.kind ≡ false
+        → at_cell kind serve cells a (held_at cells a) ≡ only_tells cells WrongKind
     at_cell-other slot e k = at_cell-held slot e false k
 
-    pub at_cell-serves : (slot : Slot) → get_or slots a None ≡ Some slot → same_kind kind slot.block.kind ≡ true → a < length slots
-        → (served : Served) (who : Waiter) → HasServed served who (waiting_at a queue) (serve (state_of slot.state (waiting_at a queue)))
-        → HasActed (set slots a (Some (record { block = slot.block; state = served.state }))) (parked served.entry a who queue)
-        (record { entry = served.entry; address = a; count = served.count; value = served.value }) (at_cell kind serve cells a (held_at cells a))
+    pub at_cell-serves : (slot : Slot) → get_or slots a None ≡ Some slot → same_kind kind slot.block.kind ≡ true
+        → a < length slots
+        → (served : Served) (who : Waiter)
+        → HasServed served who (waiting_at a queue) (serve (state_of slot.state (waiting_at a queue)))
+        → HasActed (set slots a (Some (record { block = slot.block; state = served.state })))
+        (parked served.entry a who queue)
+        (record { entry = served.entry; address = a; count = served.count; value = served.value })
+        (at_cell kind serve cells a (held_at cells a))
     at_cell-serves slot e k within served who has = record {
       cells = joined-set slots queue a new left (record { block = slot.block; state = was.state }) within
-          (ap (λ state. Some (record { block = slot.block; state = state })) (sym has.state ∙ ap (state_of served.state) (sym here))) others
+          (ap (λ state. Some (record { block = slot.block; state = state }))
+          (sym has.state ∙ ap (state_of served.state) (sym here))) others
           ∙ sym (ap (λ (acted : ActedCells). acted.cells) same);
       fits = λ b. ⊎_elim (at_it b) (at_another b) (cases_eq b a);
       told = has.told ∙ sym (ap (λ (acted : ActedCells). acted.entry) same);
-      replies = ap (λ waiters. replies_of (take served.count waiters)) (waiting_at-parked served.entry a who queue) ∙ has.replies ∙ sym (ap (λ (acted : ActedCells). acted.resumed) same);
+      replies = ap (λ waiters. replies_of (take served.count waiters)) (waiting_at-parked served.entry a who queue)
+          ∙ has.replies ∙ sym (ap (λ (acted : ActedCells). acted.resumed) same);
     }
       where
         was : ServedCell
@@ -102,30 +122,41 @@ module _ (slots : List (Option Slot)) (queue : List Deferred) (fits : Fits slots
         same = at_cell-held slot e true k
 
         here : waiting_at a left ≡ drop served.count (with_asker served.entry who (waiting_at a queue))
-        here = waiting_at-without served.count a (parked served.entry a who queue) ∙ ap (drop served.count) (waiting_at-parked served.entry a who queue)
+        here = waiting_at-without served.count a (parked served.entry a who queue)
+            ∙ ap (drop served.count) (waiting_at-parked served.entry a who queue)
 
         others : (b : ℕ) → b ≢ a → waiting_at b left ≡ waiting_at b queue
-        others b n = waiting_at-without_other served.count a b (parked served.entry a who queue) n ∙ waiting_at-parked_other served.entry a b who queue n
+        others b n = waiting_at-without_other served.count a b (parked served.entry a who queue) n
+            ∙ waiting_at-parked_other served.entry a b who queue n
 
         at_it : (b : ℕ) → b ≡ a → is_open (get_or (set slots a (Some new)) b None) ≡ false → waiting_at b left ≡ []
         at_it b e closed =
             ap (λ b. waiting_at b left) e ∙ here
-            ∙ has.quiet (sym (ap (λ b. is_open (get_or (set slots a (Some new)) b None)) e ∙ ap is_open (get_or-set_same slots a (Some new) None within)) ∙ closed)
+            ∙ has.quiet (sym
+            (ap (λ b. is_open (get_or (set slots a (Some new)) b None)) e
+            ∙ ap is_open (get_or-set_same slots a (Some new) None within)) ∙ closed)
 
         at_another : (b : ℕ) → b ≢ a → is_open (get_or (set slots a (Some new)) b None) ≡ false → waiting_at b left ≡ []
-        at_another b n closed = others b n ∙ fits b (sym (ap is_open (get_or-set_other slots a b (Some new) None n)) ∙ closed)
+        at_another b n closed = others b n
+            ∙ fits b (sym (ap is_open (get_or-set_other slots a b (Some new) None n)) ∙ closed)
 
   -- a new block
-  pub allocate-placed : (kind : Kind) (n : ℕ) → n ≢ 0 → (o : Option ℕ) → place n slots ≡ o → allocate cells kind n ≡ allocate_at cells kind n o
+  pub allocate-placed : (kind : Kind) (n : ℕ) → n ≢ 0 → (o : Option ℕ) → place n slots ≡ o → allocate cells kind n
+      ≡ allocate_at cells kind n o
   allocate-placed kind n some o e =
       let t : (n == 0) ≡ false = grind (arith, nat_tests) in
-      ap (λ b. cond b (only_tells cells BadLength) (allocate_at cells kind n (place n cells))) t ∙ ap (allocate_at cells kind n) (place-joined slots queue n ∙ e)
+      ap (λ b. cond b (only_tells cells BadLength) (allocate_at cells kind n (place n cells))) t
+      ∙ ap (allocate_at cells kind n) (place-joined slots queue n ∙ e)
 
   pub allocate-HasActed : (kind : Kind) (n base : ℕ) → n ≢ 0 → place n slots ≡ Some base
-      → HasActed (fill slots base n (Some (record { block = record { base = base; length = n; kind = kind }; state = HasNothing }))) queue (telling (Base base)) (allocate cells kind n)
+      → HasActed (fill slots base n
+      (Some (record { block = record { base = base; length = n; kind = kind }; state = HasNothing }))) queue
+      (telling (Base base)) (allocate cells kind n)
   allocate-HasActed kind n base some e = record {
-    cells = joined-fill slots queue base n new (λ a lo hi. fits a (ap is_open (place-free n slots base e a lo hi))) ∙ sym (ap (λ (acted : ActedCells). acted.cells) same);
-    fits = λ a closed. ⊎_elim (λ old. fits a (ap is_open (sym old) ∙ closed)) (λ h. absurd (true_false (ap is_open (sym h.2) ∙ closed))) (get_or-fill slots base n new a);
+    cells = joined-fill slots queue base n new (λ a lo hi. fits a (ap is_open (place-free n slots base e a lo hi)))
+        ∙ sym (ap (λ (acted : ActedCells). acted.cells) same);
+    fits = λ a closed. ⊎_elim (λ old. fits a (ap is_open (sym old) ∙ closed))
+        (λ h. absurd (true_false (ap is_open (sym h.2) ∙ closed))) (get_or-fill slots base n new a);
     told = sym (ap (λ (acted : ActedCells). acted.entry) same);
     replies = sym (ap (λ (acted : ActedCells). acted.resumed) same);
   }
@@ -138,74 +169,97 @@ module _ (slots : List (Option Slot)) (queue : List Deferred) (fits : Fits slots
 
   -- a block at none of whose cells somebody waits, or why there is none
   pub absent-refused : (a : ℕ) → get_or slots a None ≡ None → IsRefused cells a NoBlock
-  absent-refused a e after reply = ap (λ held. unless_waited_for after reply cells a (block_with_base a held)) (held_at-None slots queue a e)
+  absent-refused a e after reply = ap (λ held. unless_waited_for after reply cells a (block_with_base a held))
+      (held_at-None slots queue a e)
 
-  block_found : (a : ℕ) (slot : Slot) → get_or slots a None ≡ Some slot → (b : Bool) → (slot.block.base == a) ≡ b → block_with_base a (held_at cells a) ≡ cond b (Some slot.block) None
-  block_found a slot e b q = ap (block_with_base a) (held_at-Some slots queue a slot e) ∙ ap (λ b. cond b (Some slot.block) None) q
+  block_found : (a : ℕ) (slot : Slot) → get_or slots a None ≡ Some slot → (b : Bool) → (slot.block.base == a) ≡ b
+      → block_with_base a (held_at cells a) ≡ cond b (Some slot.block) None
+  block_found a slot e b q = ap (block_with_base a) (held_at-Some slots queue a slot e)
+      ∙ ap (λ b. cond b (Some slot.block) None) q
 
-  pub inner-refused : (a : ℕ) (slot : Slot) → get_or slots a None ≡ Some slot → (slot.block.base == a) ≡ false → IsRefused cells a NoBlock
+  pub inner-refused : (a : ℕ) (slot : Slot) → get_or slots a None ≡ Some slot → (slot.block.base == a) ≡ false
+      → IsRefused cells a NoBlock
   inner-refused a slot e q after reply = ap (unless_waited_for after reply cells a) (block_found a slot e false q)
 
   pub waiting-refused : (a : ℕ) (slot : Slot) → get_or slots a None ≡ Some slot → (slot.block.base == a) ≡ true
       → list_any is_waiting_cell (take slot.block.length (drop a cells)) ≡ true → IsRefused cells a StillWaiting
   waiting-refused a slot e q w after reply =
       ap (unless_waited_for after reply cells a) (block_found a slot e true q)
-      ∙ ap (λ b. cond b (only_tells cells StillWaiting) (record { cells = after slot.block; entry = Answered reply; resumed = [] })) w
+      ∙ ap (λ b. cond b (only_tells cells StillWaiting)
+      (record { cells = after slot.block; entry = Answered reply; resumed = [] })) w
 
   pub unwaited : (a : ℕ) (slot : Slot) → get_or slots a None ≡ Some slot → (slot.block.base == a) ≡ true
       → list_any is_waiting_cell (take slot.block.length (drop a cells)) ≡ false → IsUnwaited cells a slot.block.length
   unwaited a slot e q w = record { block = slot.block; found = block_found a slot e true q; long = refl; nobody = w }
 
-  pub refused-HasActed : (a : ℕ) (reply : Reply) → IsRefused cells a reply → (after : Block → List (Option Held)) (meant : Reply)
-      → HasActed slots queue (telling reply) (unless_waited_for after meant cells a (block_with_base a (held_at cells a)))
+  pub refused-HasActed : (a : ℕ) (reply : Reply) → IsRefused cells a reply
+      → (after : Block → List (Option Held)) (meant : Reply)
+      → HasActed slots queue (telling reply)
+      (unless_waited_for after meant cells a (block_with_base a (held_at cells a)))
   refused-HasActed a reply refused after meant = tells-HasActed reply _ (refused after meant)
 
   module _ (a n : ℕ) (is : IsUnwaited cells a n) where
-    by_state : (slot : Slot) (state : State) (waiters : List Waiter) → is_waiting_cell (Some (record { block = slot.block; state = state_of state waiters })) ≡ false
+    by_state : (slot : Slot) (state : State) (waiters : List Waiter)
+        → is_waiting_cell (Some (record { block = slot.block; state = state_of state waiters })) ≡ false
         → (is_open_state state ≡ false → waiters ≡ []) → waiters ≡ []
     by_state slot HasNothing [] e quiet = refl
     by_state slot HasNothing (who ∷ waiters) e quiet = absurd (cc)
     by_state slot (HasValue v) waiters e quiet = quiet refl
     by_state slot (HasClash v) waiters e quiet = quiet refl
 
-    by_slot : (slot : Option Slot) (waiters : List Waiter) → is_waiting_cell (held_of slot waiters) ≡ false → (is_open slot ≡ false → waiters ≡ []) → waiters ≡ []
+    by_slot : (slot : Option Slot) (waiters : List Waiter) → is_waiting_cell (held_of slot waiters) ≡ false
+        → (is_open slot ≡ false → waiters ≡ []) → waiters ≡ []
     by_slot None waiters e quiet = quiet refl
     by_slot (Some slot) waiters e quiet = by_state slot slot.state waiters e quiet
 
     nobody : NobodyWaits queue a n
-    nobody b lo hi = by_slot (get_or slots b None) (waiting_at b queue) (ap is_waiting_cell (sym (held_at-joined slots queue b)) ∙ none_of is_waiting_cell None refl cells a n is.nobody b lo hi) (fits b)
+    nobody b lo hi = by_slot (get_or slots b None) (waiting_at b queue)
+        (ap is_waiting_cell (sym (held_at-joined slots queue b))
+        ∙ none_of is_waiting_cell None refl cells a n is.nobody b lo hi) (fits b)
 
     becomes : (after : Block → List (Option Held)) (reply : Reply)
-        → unless_waited_for after reply cells a (block_with_base a (held_at cells a)) ≡ record { cells = after is.block; entry = Answered reply; resumed = [] }
+        → unless_waited_for after reply cells a (block_with_base a (held_at cells a))
+        ≡ record { cells = after is.block; entry = Answered reply; resumed = [] }
     becomes after reply =
-        let quiet : list_any is_waiting_cell (take is.block.length (drop a cells)) ≡ false = ap (λ n. list_any is_waiting_cell (take n (drop a cells))) is.long ∙ is.nobody in
+        let quiet : list_any is_waiting_cell (take is.block.length (drop a cells))
+        ≡ false = ap (λ n. list_any is_waiting_cell (take n (drop a cells))) is.long ∙ is.nobody in
         ap (unless_waited_for after reply cells a) is.found
-        ∙ ap (λ b. cond b (only_tells cells StillWaiting) (record { cells = after is.block; entry = Answered reply; resumed = [] })) quiet
+        ∙ ap (λ b. cond b (only_tells cells StillWaiting)
+        (record { cells = after is.block; entry = Answered reply; resumed = [] })) quiet
 
-    pub released-HasActed : HasActed (fill slots a n None) queue (telling Released) (release_block cells a (block_with_base a (held_at cells a)))
+    pub released-HasActed : HasActed (fill slots a n None) queue (telling Released)
+        (release_block cells a (block_with_base a (held_at cells a)))
     released-HasActed = record {
-      cells = joined-fill slots queue a n None nobody ∙ ap (λ n. fill cells a n None) (sym is.long) ∙ sym (ap (λ (acted : ActedCells). acted.cells) same);
-      fits = λ b closed. ⊎_elim (λ old. fits b (ap is_open (sym old) ∙ closed)) (λ h. nobody b h.0 h.1) (get_or-fill slots a n None b);
+      cells = joined-fill slots queue a n None nobody ∙ ap (λ n. fill cells a n None) (sym is.long)
+          ∙ sym (ap (λ (acted : ActedCells). acted.cells) same);
+      fits = λ b closed. ⊎_elim (λ old. fits b (ap is_open (sym old) ∙ closed)) (λ h. nobody b h.0 h.1)
+          (get_or-fill slots a n None b);
       told = sym (ap (λ (acted : ActedCells). acted.entry) same);
       replies = sym (ap (λ (acted : ActedCells). acted.resumed) same);
     }
       where
-        same : release_block cells a (block_with_base a (held_at cells a)) ≡ record { cells = fill cells a is.block.length None; entry = Answered Released; resumed = [] }
+        same : release_block cells a (block_with_base a (held_at cells a))
+            ≡ record { cells = fill cells a is.block.length None; entry = Answered Released; resumed = [] }
         same = becomes (λ block. fill cells a block.length None) Released
 
-    pub reset-HasActed : HasActed (change_each emptied_slot slots a n) queue (telling Cleared) (reset_block cells a (block_with_base a (held_at cells a)))
+    pub reset-HasActed : HasActed (change_each emptied_slot slots a n) queue (telling Cleared)
+        (reset_block cells a (block_with_base a (held_at cells a)))
     reset-HasActed = record {
-      cells = joined-emptied slots queue a n nobody ∙ ap (λ n. change_each emptied cells a n) (sym is.long) ∙ sym (ap (λ (acted : ActedCells). acted.cells) same);
-      fits = λ b closed. ⊎_elim (λ old. fits b (ap is_open (sym old) ∙ closed)) (λ h. nobody b h.0 h.1) (get_or-change_each emptied_slot slots a n b);
+      cells = joined-emptied slots queue a n nobody ∙ ap (λ n. change_each emptied cells a n) (sym is.long)
+          ∙ sym (ap (λ (acted : ActedCells). acted.cells) same);
+      fits = λ b closed. ⊎_elim (λ old. fits b (ap is_open (sym old) ∙ closed)) (λ h. nobody b h.0 h.1)
+          (get_or-change_each emptied_slot slots a n b);
       told = sym (ap (λ (acted : ActedCells). acted.entry) same);
       replies = sym (ap (λ (acted : ActedCells). acted.resumed) same);
     }
       where
-        same : reset_block cells a (block_with_base a (held_at cells a)) ≡ record { cells = change_each emptied cells a is.block.length; entry = Answered Cleared; resumed = [] }
+        same : reset_block cells a (block_with_base a (held_at cells a))
+            ≡ record { cells = change_each emptied cells a is.block.length; entry = Answered Cleared; resumed = [] }
         same = becomes (λ block. change_each emptied cells a block.length) Cleared
 
 -- one of these passes the test, or one of the rest
-pub any-step : {X : Type 0} (p : X → Bool) (d : X) → p d ≡ false → (xs : List X) (k m : ℕ) → list_any p (take (suc m) (drop k xs)) ≡ (p (get_or xs k d) || list_any p (take m (drop (suc k) xs)))
+pub any-step : {X : Type 0} (p : X → Bool) (d : X) → p d ≡ false → (xs : List X) (k m : ℕ)
+    → list_any p (take (suc m) (drop k xs)) ≡ (p (get_or xs k d) || list_any p (take m (drop (suc k) xs)))
 any-step p d e [] k m = nothing k m
   where
     none_there : (m : ℕ) → list_any p (take m []) ≡ false
@@ -232,23 +286,34 @@ same_kind-equal M I e = absurd (cc)
 same_kind-equal M M e = refl
 
 -- the test of these goes on at the next cell
-pub waits-step : (cells : List (Option Held)) (base n i : ℕ) → i < n → (b : Bool) → is_waiting_cell (held_at cells (base + i)) ≡ b
-    → list_any is_waiting_cell (take (n - i) (drop (base + i) cells)) ≡ (b || list_any is_waiting_cell (take (n - (i + 1)) (drop (base + (i + 1)) cells)))
+pub waits-step : (cells : List (Option Held)) (base n i : ℕ) → i < n → (b : Bool)
+    → is_waiting_cell (held_at cells (base + i)) ≡ b
+    → list_any is_waiting_cell (take (n - i) (drop (base + i) cells))
+    ≡ (b || list_any is_waiting_cell (take (n - (i + 1)) (drop (base + (i + 1)) cells)))
 waits-step cells base n i h b e =
     let m : n - i ≡ suc (n - (i + 1)) = omega arith in
     let k : suc (base + i) ≡ base + (i + 1) = omega arith in
     ap (λ m. list_any is_waiting_cell (take m (drop (base + i) cells))) m
     ∙ any-step is_waiting_cell None refl cells (base + i) (n - (i + 1))
-    ∙ ap (λ k. is_waiting_cell (get_or cells (base + i) None) || list_any is_waiting_cell (take (n - (i + 1)) (drop k cells))) k
+    ∙ ap (λ k. is_waiting_cell (get_or cells (base + i) None) || list_any is_waiting_cell
+    (take (n - (i + 1)) (drop k cells))) k
     ∙ ap (λ b. b || list_any is_waiting_cell (take (n - (i + 1)) (drop (base + (i + 1)) cells))) e
 
-pub AreWaiting-Fits : (slots : List (Option Slot)) (queue : List Deferred) → Fits slots queue → (a : ℕ) (slot : Slot) → get_or slots a None ≡ Some slot
+pub AreWaiting-Fits : (slots : List (Option Slot)) (queue : List Deferred) → Fits slots queue → (a : ℕ) (slot : Slot)
+    → get_or slots a None ≡ Some slot
     → (count : ℕ) → count ≡ length (waiting_at a queue) → AreWaiting slot.state count (waiting_at a queue)
-AreWaiting-Fits slots queue fits a slot at count e = record { counted = sym e; quiet = λ closed. fits a (ap is_open at ∙ closed) }
+AreWaiting-Fits slots queue fits a slot at count e = record {
+  counted = sym e;
+  quiet = λ closed. fits a
+      (ap is_open at ∙ closed);
+}
 
 -- a block that is released lies below the cell count
-pub released_within : (slots : List (Option Slot)) (queue : List Deferred) → HasBlocks (joined slots queue) → (a : ℕ) (slot : Slot) → get_or slots a None ≡ Some slot → slot.block.base ≡ a → a + slot.block.length ≤ length slots
+pub released_within : (slots : List (Option Slot)) (queue : List Deferred) → HasBlocks (joined slots queue)
+    → (a : ℕ) (slot : Slot) → get_or slots a None ≡ Some slot → slot.block.base ≡ a
+    → a + slot.block.length ≤ length slots
 released_within slots queue blocks a slot at base =
-    let w = blocks.within a slot.block (ap (option_map (λ (held : Held). held.block)) (held_at-Some slots queue a slot at)) in
+    let w = blocks.within a slot.block
+    (ap (option_map (λ (held : Held). held.block)) (held_at-Some slots queue a slot at)) in
     let h = w.2 in
     omega (arith, length-joined slots queue)

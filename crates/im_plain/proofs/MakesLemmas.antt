@@ -1,5 +1,6 @@
 -- Slots, a queue and windows go on making a memory.
-use Rattle.std.proofs.Common.{◌≡◌, ℕ, zero, suc, ◌*◌, ◌≤◌, List, [], ◌∷◌, ◌++◌, length, take, set, replicate, None, Ok, Err, refl, sym, ap, ◌∙◌, subst, arith}
+use Rattle.std.proofs.Common.{◌≡◌, ℕ, zero, suc, ◌*◌, ◌≤◌, List, [], ◌∷◌, ◌++◌, length, take, set, replicate, None}
+use Rattle.std.proofs.Common.{Ok, Err, refl, sym, ap, ◌∙◌, subst, arith}
 use Rattle.std.specs.Prelude.{Option, Result, OnOk, IfErr, slice_get}
 use Rattle.std.proofs.Math.Seq.{take-length}
 use Rattle.std.proofs.lemmas.List.{take-append-le, length-replicate}
@@ -25,7 +26,8 @@ use Rattle.im_laws.proofs.MemoryLemmas.{step-memory, empty-memory}
 
 -- the counts of a memory are those of its slots and windows
 own-IsMemory : (cells elements : ℕ) (slots : List (Option Slot)) (queue : List Deferred) (windows : List Window)
-    → IsMemory cells elements (contents_of slots queue windows) → IsMemory (length slots) (length windows) (contents_of slots queue windows)
+    → IsMemory cells elements (contents_of slots queue windows)
+    → IsMemory (length slots) (length windows) (contents_of slots queue windows)
 own-IsMemory cells elements slots queue windows is = record {
   cell_count = length-joined slots queue;
   window_count = refl;
@@ -34,13 +36,15 @@ own-IsMemory cells elements slots queue windows is = record {
   agrees = is.agrees;
 }
 
-module _ (slots : List (Option Slot)) (queue : List Deferred) (capacity : ℕ) (windows : List Window) (makes : MakesMemory slots queue capacity windows) where
+module _ (slots : List (Option Slot)) (queue : List Deferred) (capacity : ℕ) (windows : List Window)
+    (makes : MakesMemory slots queue capacity windows) where
   abbrev was : Contents
   was = contents_of slots queue windows
 
   -- after a change that keeps the memory one
   pub makes-after : (slots' : List (Option Slot)) (queue' : List Deferred) (capacity' : ℕ) (windows' : List Window)
-      → Fits slots' queue' → IsMemory (length slots) (length windows) (contents_of slots' queue' windows') → capacity ≤ capacity' → MakesMemory slots' queue' capacity' windows'
+      → Fits slots' queue' → IsMemory (length slots) (length windows) (contents_of slots' queue' windows')
+      → capacity ≤ capacity' → MakesMemory slots' queue' capacity' windows'
   makes-after slots' queue' capacity' windows' fits is more =
       let cells = sym (length-joined slots' queue') ∙ is.cell_count in
       let elements = is.window_count in
@@ -56,66 +60,91 @@ module _ (slots : List (Option Slot)) (queue : List Deferred) (capacity : ℕ) (
       }
 
   -- after a new request
-  module _ (r : Request) (acted : Acted) (slots' : List (Option Slot)) (parked' queue' : List Deferred) (windows' : List Window)
-      (has : HasActed slots' parked' acted (act (joined slots queue) (asker r) r.op)) (left : queue' ≡ without acted.count acted.address parked')
-      (answered : windows' ≡ answer_each (note windows r acted.entry) (replies_to (take acted.count (waiting_at acted.address parked')) acted.value)) where
+  module _ (r : Request) (acted : Acted) (slots' : List (Option Slot)) (parked' queue' : List Deferred)
+      (windows' : List Window)
+      (has : HasActed slots' parked' acted (act (joined slots queue) (asker r) r.op))
+      (left : queue' ≡ without acted.count acted.address parked')
+      (answered : windows'
+      ≡ answer_each (note windows r acted.entry)
+      (replies_to (take acted.count (waiting_at acted.address parked')) acted.value)) where
     abbrev done : ActedCells
     done = act (joined slots queue) (asker r) r.op
 
     served-contents : contents_of slots' queue' windows' ≡ (serve was r done).contents
     served-contents =
         let cells = ap (joined slots') left ∙ has.cells in
-        let kept = answered ∙ ap (λ entry. answer_each (note windows r entry) (replies_to (take acted.count (waiting_at acted.address parked')) acted.value)) has.told ∙ ap (answer_each (note windows r done.entry)) has.replies in
+        let kept = answered
+        ∙ ap (λ entry. answer_each (note windows r entry)
+        (replies_to (take acted.count (waiting_at acted.address parked')) acted.value)) has.told
+        ∙ ap (answer_each (note windows r done.entry)) has.replies in
         λ i. record { cells = cells i; windows = kept i }
 
-    pub makes-served : judge windows r ≡ Ok Fresh → (capacity' : ℕ) → capacity ≤ capacity' → MakesMemory slots' queue' capacity' windows'
+    pub makes-served : judge windows r ≡ Ok Fresh → (capacity' : ℕ) → capacity ≤ capacity'
+        → MakesMemory slots' queue' capacity' windows'
     makes-served fresh capacity' more =
         makes-after slots' queue' capacity' windows' (subst (Fits slots') (sym left) has.fits)
-        (subst (IsMemory (length slots) (length windows)) (ap (λ j. (step_request was r j).contents) fresh ∙ sym served-contents) (step-memory (length slots) (length windows) was (Asks r) makes.memory))
+        (subst (IsMemory (length slots) (length windows))
+        (ap (λ j. (step_request was r j).contents) fresh ∙ sym served-contents)
+        (step-memory (length slots) (length windows) was (Asks r) makes.memory))
         more
 
   -- after a confirmation, or one that was refused
   module _ (element upto : ℕ) (result : Result (Unit {0}) Refusal) (windows' : List Window)
-      (ok : OnOk result ((w : Window) × (confirm_window upto (slice_get windows element) ≡ Ok w) × (windows' ≡ set windows element w)))
-      (err : IfErr result (λ refusal. (confirm_window upto (slice_get windows element) ≡ Err refusal) × (windows' ≡ windows))) where
+      (ok : OnOk result ((w : Window) × (confirm_window upto (slice_get windows element) ≡ Ok w)
+      × (windows' ≡ set windows element w)))
+      (err : IfErr result
+      (λ refusal. (confirm_window upto (slice_get windows element) ≡ Err refusal) × (windows' ≡ windows))) where
     confirmed-contents : contents_of slots queue windows' ≡ (step was (Confirm element upto)).contents
     confirmed-contents = by_result result ok err
       where
         by_result : (result : Result (Unit {0}) Refusal)
-            → OnOk result ((w : Window) × (confirm_window upto (slice_get windows element) ≡ Ok w) × (windows' ≡ set windows element w))
-            → IfErr result (λ refusal. (confirm_window upto (slice_get windows element) ≡ Err refusal) × (windows' ≡ windows))
+            → OnOk result
+            ((w : Window) × (confirm_window upto (slice_get windows element) ≡ Ok w)
+            × (windows' ≡ set windows element w))
+            → IfErr result
+            (λ refusal. (confirm_window upto (slice_get windows element) ≡ Err refusal) × (windows' ≡ windows))
             → contents_of slots queue windows' ≡ (step was (Confirm element upto)).contents
-        by_result (Ok u) ok err = ap (contents_of slots queue) ok.2 ∙ sym (ap (λ c. (step_confirm was element c).contents) ok.1)
-        by_result (Err refusal) ok err = ap (contents_of slots queue) err.1 ∙ sym (ap (λ c. (step_confirm was element c).contents) err.0)
+        by_result (Ok u) ok err = ap (contents_of slots queue) ok.2
+            ∙ sym (ap (λ c. (step_confirm was element c).contents) ok.1)
+        by_result (Err refusal) ok err = ap (contents_of slots queue) err.1
+            ∙ sym (ap (λ c. (step_confirm was element c).contents) err.0)
 
     pub makes-confirmed : MakesMemory slots queue capacity windows'
     makes-confirmed =
         makes-after slots queue capacity windows' makes.fits
-        (subst (IsMemory (length slots) (length windows)) (sym confirmed-contents) (step-memory (length slots) (length windows) was (Confirm element upto) makes.memory))
+        (subst (IsMemory (length slots) (length windows)) (sym confirmed-contents)
+        (step-memory (length slots) (length windows) was (Confirm element upto) makes.memory))
         (omega arith)
 
     -- the windows, written back behind a slice of all of them
-    pub confirmed-written : (count : ℕ) (rest : List Window) → length windows ≡ count → take count (windows' ++ rest) ≡ windows'
+    pub confirmed-written : (count : ℕ) (rest : List Window) → length windows ≡ count → take count (windows' ++ rest)
+        ≡ windows'
     confirmed-written count rest all =
-        let same : length windows' ≡ length windows = ap (λ (m : Contents). length m.windows) confirmed-contents ∙ (step-memory (length slots) (length windows) was (Confirm element upto) makes.memory).window_count in
-        take-append-le count windows' rest (omega arith) ∙ ap (λ n. take n windows') (sym all ∙ sym same) ∙ take-length windows'
+        let same : length windows' ≡ length windows = ap (λ (m : Contents). length m.windows) confirmed-contents
+        ∙ (step-memory (length slots) (length windows) was (Confirm element upto) makes.memory).window_count in
+        take-append-le count windows' rest (omega arith) ∙ ap (λ n. take n windows') (sym all ∙ sym same)
+        ∙ take-length windows'
 
 -- nothing in any block, and nobody waits
 joined_from-replicate : (k n : ℕ) → joined_from k (replicate n None) [] ≡ replicate n None
 joined_from-replicate k zero = refl
 joined_from-replicate k (suc n) = ap (λ cells. None ∷ cells) (joined_from-replicate (suc k) n)
 
-pub contents_of-empty : (cells elements : ℕ) → contents_of (replicate cells None) [] (replicate elements new_window) ≡ empty_contents cells elements
+pub contents_of-empty : (cells elements : ℕ) → contents_of (replicate cells None) [] (replicate elements new_window)
+    ≡ empty_contents cells elements
 unfolding empty_contents
-contents_of-empty cells elements = ap (λ (cells : List (Option Held)). let m : Contents = record { cells = cells; windows = replicate elements new_window } in m) (joined_from-replicate 0 cells)
+contents_of-empty cells elements = ap
+    (λ (cells : List (Option Held)). let m : Contents = record { cells = cells; windows = replicate elements new_window } in m) (joined_from-replicate 0 cells)
 
-pub makes-empty : (cells elements capacity : ℕ) → cells ≤ MAX_CELLS → elements ≤ MAX_ELEMENTS → WINDOW * elements ≤ capacity → MakesMemory (replicate cells None) [] capacity (replicate elements new_window)
+pub makes-empty : (cells elements capacity : ℕ) → cells ≤ MAX_CELLS → elements ≤ MAX_ELEMENTS
+    → WINDOW * elements ≤ capacity → MakesMemory (replicate cells None) [] capacity (replicate elements new_window)
 makes-empty cells elements capacity few_cells few_elements room =
     let c = length-replicate cells (none_of Slot) in
     let e = length-replicate elements new_window in
     record {
       fits = λ a closed. refl;
-      memory = own-IsMemory cells elements (replicate cells None) [] (replicate elements new_window) (subst (IsMemory cells elements) (sym (contents_of-empty cells elements)) (empty-memory cells elements));
+      memory = own-IsMemory cells elements (replicate cells None) [] (replicate elements new_window)
+          (subst (IsMemory cells elements) (sym (contents_of-empty cells elements)) (empty-memory cells elements));
       few_cells = omega arith;
       few_elements = omega arith;
       room = omega arith;

@@ -1,5 +1,6 @@
 -- Those that are given a value, one after another.
-use Rattle.std.proofs.Common.{◌≡◌, ℕ, zero, suc, ◌+◌, ◌-◌, ◌<◌, List, [], ◌∷◌, take, drop, Some, None, refl, sym, ap, ◌∙◌, arith}
+use Rattle.std.proofs.Common.{◌≡◌, ℕ, zero, suc, ◌+◌, ◌-◌, ◌<◌, List, [], ◌∷◌, take, drop, Some, None, refl, sym, ap}
+use Rattle.std.proofs.Common.{◌∙◌, arith}
 use Rattle.std.specs.Prelude.{Option, slice_get}
 use Rattle.im_types.specs.declared.operations.Waiter.{Waiter}
 use Rattle.im_types.specs.declared.operations.Reply.TheVariants.{Value}
@@ -14,8 +15,10 @@ abbrev pub answer_first : List Window → ℕ → Option Waiter → List Window
 answer_first windows value None = windows
 answer_first windows value (Some who) = answer windows who (Value value)
 
-first-then : (windows : List Window) (waiters : List Waiter) (k value : ℕ) (first : Option Waiter) → slice_get waiters 0 ≡ first
-    → answer_each (answer_first windows value first) (replies_to (take k (drop 1 waiters)) value) ≡ answer_each windows (replies_to (take (suc k) waiters) value)
+first-then : (windows : List Window) (waiters : List Waiter) (k value : ℕ) (first : Option Waiter)
+    → slice_get waiters 0 ≡ first
+    → answer_each (answer_first windows value first) (replies_to (take k (drop 1 waiters)) value)
+    ≡ answer_each windows (replies_to (take (suc k) waiters) value)
 first-then windows [] k value None e = ap (λ waiters. answer_each windows (replies_to waiters value)) (take-none k)
   where
     take-none : (k : ℕ) → ◌≡◌ {A = List Waiter} (take k []) []
@@ -23,18 +26,24 @@ first-then windows [] k value None e = ap (λ waiters. answer_each windows (repl
     take-none (suc k) = refl
 first-then windows [] k value (Some who) e = absurd (cc)
 first-then windows (w ∷ waiters) k value None e = absurd (cc)
-first-then windows (w ∷ waiters) k value (Some who) e = let same : w ≡ who = cc in sym (ap (λ who. answer_each (answer windows who (Value value)) (replies_to (take k waiters) value)) same)
+first-then windows (w ∷ waiters) k value (Some who) e = let same : w
+    ≡ who = cc in sym (ap
+    (λ who. answer_each (answer windows who (Value value)) (replies_to (take k waiters) value)) same)
 
 module _ (queue now : List Deferred) (a count i : ℕ) (h : i < count) (popped : now ≡ without 1 a queue) where
-  pub answer_each-first : (windows : List Window) (value : ℕ) (first : Option Waiter) → first ≡ slice_get (waiting_at a queue) 0
-      → answer_each (answer_first windows value first) (replies_to (take (count - (i + 1)) (waiting_at a now)) value) ≡ answer_each windows (replies_to (take (count - i) (waiting_at a queue)) value)
+  pub answer_each-first : (windows : List Window) (value : ℕ) (first : Option Waiter) → first
+      ≡ slice_get (waiting_at a queue) 0
+      → answer_each (answer_first windows value first) (replies_to (take (count - (i + 1)) (waiting_at a now)) value)
+      ≡ answer_each windows (replies_to (take (count - i) (waiting_at a queue)) value)
   answer_each-first windows value first e =
       let left : suc (count - (i + 1)) ≡ count - i = omega arith in
-      ap (λ waiters. answer_each (answer_first windows value first) (replies_to (take (count - (i + 1)) waiters) value)) (ap (waiting_at a) popped ∙ waiting_at-without 1 a queue)
+      ap (λ waiters. answer_each (answer_first windows value first)
+      (replies_to (take (count - (i + 1)) waiters) value)) (ap (waiting_at a) popped ∙ waiting_at-without 1 a queue)
       ∙ first-then windows (waiting_at a queue) (count - (i + 1)) value first (sym e)
       ∙ ap (λ n. answer_each windows (replies_to (take n (waiting_at a queue)) value)) left
 
   pub without-first : without (count - (i + 1)) a now ≡ without (count - i) a queue
   without-first =
       let left : suc (count - (i + 1)) ≡ count - i = omega arith in
-      ap (without (count - (i + 1)) a) popped ∙ sym (without-one (count - (i + 1)) a queue) ∙ ap (λ n. without n a queue) left
+      ap (without (count - (i + 1)) a) popped ∙ sym (without-one (count - (i + 1)) a queue)
+      ∙ ap (λ n. without n a queue) left

@@ -1,5 +1,6 @@
 -- Windows by element.
-use Rattle.std.proofs.Common.{◌≡◌, ℕ, zero, suc, ◌<◌, ◌≤◌, List, [], ◌∷◌, length, get_or, set, Some, Ok, Err, refl, ap, ◌∙◌, arith}
+use Rattle.std.proofs.Common.{◌≡◌, ℕ, zero, suc, ◌<◌, ◌≤◌, List, [], ◌∷◌, length, get_or, set, Some, Ok, Err, refl}
+use Rattle.std.proofs.Common.{ap, ◌∙◌, arith}
 use Rattle.std.specs.Prelude.{slice_get, Result, MatchResult, IfErr}
 use Rattle.im_types.specs.declared.refusals.Refusal.{Refusal}
 use Rattle.im_types.specs.Contents.{Window}
@@ -9,7 +10,8 @@ use Rattle.im_types.specs.declared.operations.Reply.{Reply}
 use Rattle.im_types.specs.declared.operations.Entry.TheVariants.{Answered}
 use Rattle.im_types.specs.Window.{answer_at}
 
-pub slice_get-get_or : {X : Type 0} (xs : List X) (i : ℕ) (d : X) → i < length xs → slice_get xs i ≡ Some (get_or xs i d)
+pub slice_get-get_or : {X : Type 0} (xs : List X) (i : ℕ) (d : X) → i < length xs → slice_get xs i
+    ≡ Some (get_or xs i d)
 slice_get-get_or [] i d h = absurd (omega arith)
 slice_get-get_or (x ∷ xs) zero d h = refl
 slice_get-get_or (x ∷ xs) (suc i) d h = slice_get-get_or xs i d (omega arith)
@@ -20,9 +22,13 @@ set-get_or (x ∷ xs) zero d = refl
 set-get_or (x ∷ xs) (suc i) d = ap (λ ys. x ∷ ys) (set-get_or xs i d)
 
 -- a refused confirmation changes nothing
-pub confirm-refused : (windows : List Window) (element upto : ℕ) (d new : Window) → element < length windows → (result : Result (Unit {0}) Refusal)
-    → MatchResult result (λ _. confirm_window upto (Some (get_or windows element d)) ≡ Ok new) (λ refusal. (confirm_window upto (Some (get_or windows element d)) ≡ Err refusal) × (new ≡ get_or windows element d))
-    → IfErr result (λ refusal. (confirm_window upto (slice_get windows element) ≡ Err refusal) × (set windows element new ≡ windows))
+pub confirm-refused : (windows : List Window) (element upto : ℕ) (d new : Window) → element < length windows
+    → (result : Result (Unit {0}) Refusal)
+    → MatchResult result (λ _. confirm_window upto (Some (get_or windows element d)) ≡ Ok new)
+    (λ refusal. (confirm_window upto (Some (get_or windows element d)) ≡ Err refusal)
+    × (new ≡ get_or windows element d))
+    → IfErr result (λ refusal. (confirm_window upto (slice_get windows element) ≡ Err refusal)
+    × (set windows element new ≡ windows))
 confirm-refused windows element upto d new h (Ok u) m = tt
 confirm-refused windows element upto d new h (Err refusal) m = (
   ap (confirm_window upto) (slice_get-get_or windows element d h) ∙ m.0,
@@ -30,12 +36,16 @@ confirm-refused windows element upto d new h (Err refusal) m = (
 )
 
 -- an answered entry, as a write
-pub answer_at-set : (place : ℕ) (reply : Reply) (kept : List Kept) (d : Kept) → answer_at place reply kept ≡ set kept place (record { op = (get_or kept place d).op; entry = Answered reply })
-answer_at-set place reply [] d = elim place as (λ p. answer_at p reply [] ≡ set [] p (record { op = (get_or [] p d).op; entry = Answered reply })) [ zero ↦ refl | suc p ↦ refl ]
+pub answer_at-set : (place : ℕ) (reply : Reply) (kept : List Kept) (d : Kept) → answer_at place reply kept
+    ≡ set kept place (record { op = (get_or kept place d).op; entry = Answered reply })
+answer_at-set place reply [] d = elim place as
+    (λ p. answer_at p reply []
+    ≡ set [] p (record { op = (get_or [] p d).op; entry = Answered reply })) [ zero ↦ refl | suc p ↦ refl ]
 answer_at-set zero reply (k ∷ kept) d = refl
 answer_at-set (suc place) reply (k ∷ kept) d = ap (λ ks. k ∷ ks) (answer_at-set place reply kept d)
 
-pub answer_at-past : (place : ℕ) (reply : Reply) (kept : List Kept) → length kept ≤ place → answer_at place reply kept ≡ kept
+pub answer_at-past : (place : ℕ) (reply : Reply) (kept : List Kept) → length kept ≤ place
+    → answer_at place reply kept ≡ kept
 answer_at-past zero reply [] h = refl
 answer_at-past (suc place) reply [] h = refl
 answer_at-past zero reply (k ∷ kept) h = absurd (omega arith)

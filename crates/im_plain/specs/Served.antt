@@ -7,7 +7,8 @@ use Rattle.im_types.specs.declared.operations.Op.TheVariants.{Alloc, Release, Re
 use Rattle.im_types.specs.declared.operations.Reply.TheVariants.{NoCell}
 use Rattle.im_types.specs.declared.operations.Block.{Block}
 use Rattle.im_types.specs.Contents.{CellState, Held, held_at}
-use Rattle.im_types.specs.Act.{Served as ServedCell, Acted as ActedCells, tells, fetch, store, take_from, put, block_with_base, is_waiting_cell}
+use Rattle.im_types.specs.Act.{Served as ServedCell, Acted as ActedCells, tells, fetch, store, take_from, put}
+use Rattle.im_types.specs.Act.{block_with_base, is_waiting_cell}
 use Rattle.im_plain.specs.declared.cells.State.{State}
 use Rattle.im_plain.specs.declared.cells.Slot.{Slot}
 use Rattle.im_plain.specs.declared.queue.Deferred.{Deferred}

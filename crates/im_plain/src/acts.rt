@@ -1,7 +1,9 @@
 //! What an operation does to the cells.
-ghost use Rattle.std.specs.Prelude.{◌≡◌, ℕ, ◌+◌, ◌<◌, ◌≤◌, IfErr, IfOk, length, List, take, drop, vec_len, vec_capacity};
+ghost use Rattle.std.specs.Prelude.{◌≡◌, ℕ, ◌+◌, ◌<◌, ◌≤◌, IfErr, IfOk, length, List, take, drop, vec_len};
+ghost use Rattle.std.specs.Prelude.{vec_capacity};
 ghost use Rattle.std.specs.List.{list_any};
-ghost use Rattle.im_types.specs.Act.{act, allocate, release_block, reset_block, block_with_base, at_cell, fetch, store, take_from};
+ghost use Rattle.im_types.specs.Act.{act, allocate, release_block, reset_block, block_with_base, at_cell, fetch};
+ghost use Rattle.im_types.specs.Act.{store, take_from};
 ghost use Rattle.im_types.specs.Act.{put, has_waiter, is_waiting_cell};
 ghost use Rattle.im_types.specs.declared.operations.Waiter.{Waiter};
 ghost use Rattle.im_types.specs.Contents.{held_at, HasBlocks};

@@ -1,5 +1,6 @@
 -- The tests of a plan on a memory decide whether it fits.
-use Rattle.std.proofs.Common.{◌≡◌, ℕ, zero, suc, ◌≤◌, List, [], ◌∷◌, Some, None, Bool, true, false, cond, refl, sym, ap, ◌∙◌, subst, arith, IsTrue}
+use Rattle.std.proofs.Common.{◌≡◌, ℕ, zero, suc, ◌≤◌, List, [], ◌∷◌, Some, None, Bool, true, false, cond, refl, sym}
+use Rattle.std.proofs.Common.{ap, ◌∙◌, subst, arith, IsTrue}
 use Rattle.std.specs.Prelude.{Option, ◌↔◌, slice_get, is_some, nat_lt}
 use Rattle.std.proofs.lemmas.Option.{none-some, same_Some}
 use Rattle.std.proofs.lemmas.Bool.Decides.{nat_tests}
@@ -19,10 +20,12 @@ use Rattle.im_planning.specs.Fitting.{number_fits, is_empty, cell_fits, request_
 pub record Fits (m : Contents) (r : Request) : Type 0 where
   pub element : is_some (slice_get m.windows r.element) ≡ true
   pub number : (w : Window) → slice_get m.windows r.element ≡ Some w → (next_number w ≤ r.number) × (r.number ≤ LAST)
-  pub empty : (held : Held) → held_at m.cells (address_of r.op) ≡ Some held → held.block.kind ≡ I → held.state ≡ Empty []
+  pub empty : (held : Held) → held_at m.cells (address_of r.op) ≡ Some held → held.block.kind ≡ I → held.state
+      ≡ Empty []
 
 number-is : (m : Contents) (r : Request) → number_fits r.number (bounds m.windows r.element) ≡ true
-    → (is_some (slice_get m.windows r.element) ≡ true) × ((w : Window) → slice_get m.windows r.element ≡ Some w → (next_number w ≤ r.number) × (r.number ≤ LAST))
+    → (is_some (slice_get m.windows r.element) ≡ true)
+    × ((w : Window) → slice_get m.windows r.element ≡ Some w → (next_number w ≤ r.number) × (r.number ≤ LAST))
 number-is m r e = by_window (slice_get m.windows r.element) e
   where
     by_tests : (w : Window) (t : Bool) → nat_lt r.number (next_number w) ≡ t → (u : Bool) → nat_lt LAST r.number ≡ u
@@ -34,13 +37,17 @@ number-is m r e = by_window (slice_get m.windows r.element) e
     by_window : (o : Option Window) → number_fits r.number (bounds_of o) ≡ true
         → (is_some o ≡ true) × ((w : Window) → o ≡ Some w → (next_number w ≤ r.number) × (r.number ≤ LAST))
     by_window None e = absurd (true_false (sym e))
-    by_window (Some w) e =
-        (refl, λ v same. subst (λ (w : Window). (next_number w ≤ r.number) × (r.number ≤ LAST)) (same_Some w v same) (by_tests w (nat_lt r.number (next_number w)) refl (nat_lt LAST r.number) refl e))
+    by_window (Some w) e = (
+      refl,
+      λ v same. subst (λ (w : Window). (next_number w ≤ r.number) × (r.number ≤ LAST)) (same_Some w v same)
+          (by_tests w (nat_lt r.number (next_number w)) refl (nat_lt LAST r.number) refl e),
+    )
 
 is-number : (m : Contents) (r : Request) → Fits m r → number_fits r.number (bounds m.windows r.element) ≡ true
 is-number m r f = by_window (slice_get m.windows r.element) f.element f.number
   where
-    by_window : (o : Option Window) → is_some o ≡ true → ((w : Window) → o ≡ Some w → (next_number w ≤ r.number) × (r.number ≤ LAST))
+    by_window : (o : Option Window) → is_some o ≡ true
+        → ((w : Window) → o ≡ Some w → (next_number w ≤ r.number) × (r.number ≤ LAST))
         → number_fits r.number (bounds_of o) ≡ true
     by_window None some number = absurd (true_false (sym some))
     by_window (Some w) some number =
@@ -57,14 +64,18 @@ empty-is (Empty (w ∷ ws)) e = absurd (true_false (sym e))
 empty-is (Full v) e = absurd (true_false (sym e))
 empty-is (Clashed v) e = absurd (true_false (sym e))
 
-cell-is : (o : Option Held) → cell_fits o ≡ true → (held : Held) → o ≡ Some held → held.block.kind ≡ I → held.state ≡ Empty []
+cell-is : (o : Option Held) → cell_fits o ≡ true → (held : Held) → o ≡ Some held → held.block.kind ≡ I → held.state
+    ≡ Empty []
 cell-is None e held at kind = absurd (none-some held at)
 cell-is (Some other) e held at kind =
     let same = same_Some other held at in
     subst (λ (h : Held). h.state ≡ Empty []) same
-    (empty-is other.state (sym (ap (λ k. cond (same_kind I k) (is_empty other.state) true) (ap (λ (h : Held). h.block.kind) same ∙ kind)) ∙ e))
+    (empty-is other.state
+    (sym (ap (λ k. cond (same_kind I k) (is_empty other.state) true)
+    (ap (λ (h : Held). h.block.kind) same ∙ kind)) ∙ e))
 
-is-cell : (o : Option Held) → ((held : Held) → o ≡ Some held → held.block.kind ≡ I → held.state ≡ Empty []) → cell_fits o ≡ true
+is-cell : (o : Option Held) → ((held : Held) → o ≡ Some held → held.block.kind ≡ I → held.state ≡ Empty [])
+    → cell_fits o ≡ true
 is-cell None empty = refl
 is-cell (Some held) empty = by_kind held.block.kind refl
   where
@@ -75,14 +86,22 @@ is-cell (Some held) empty = by_kind held.block.kind refl
 request-is : (m : Contents) (r : Request) → request_fits m r ≡ true → Fits m r
 request-is m r e = by_test (number_fits r.number (bounds m.windows r.element)) refl e
   where
-    by_test : (t : Bool) → number_fits r.number (bounds m.windows r.element) ≡ t → cond t (cell_fits (held_at m.cells (address_of r.op))) false ≡ true → Fits m r
-    by_test true t e = let n = number-is m r t in record { element = n.0; number = n.1; empty = cell-is (held_at m.cells (address_of r.op)) e }
+    by_test : (t : Bool) → number_fits r.number (bounds m.windows r.element) ≡ t
+        → cond t (cell_fits (held_at m.cells (address_of r.op))) false ≡ true → Fits m r
+    by_test true t e = let n = number-is m r t in record {
+      element = n.0;
+      number = n.1;
+      empty = cell-is
+          (held_at m.cells (address_of r.op)) e;
+    }
     by_test false t e = absurd (true_false (sym e))
 
 is-request : (m : Contents) (r : Request) → Fits m r → request_fits m r ≡ true
-is-request m r f = ap (λ t. cond t (cell_fits (held_at m.cells (address_of r.op))) false) (is-number m r f) ∙ is-cell (held_at m.cells (address_of r.op)) f.empty
+is-request m r f = ap (λ t. cond t (cell_fits (held_at m.cells (address_of r.op))) false) (is-number m r f)
+    ∙ is-cell (held_at m.cells (address_of r.op)) f.empty
 
-all-is : (m : Contents) (plan : List Request) → all_fit m plan ≡ true → (i : ℕ) (r : Request) → slice_get plan i ≡ Some r → Fits m r
+all-is : (m : Contents) (plan : List Request) → all_fit m plan ≡ true → (i : ℕ) (r : Request) → slice_get plan i
+    ≡ Some r → Fits m r
 all-is m [] e i r at = absurd (none-some r at)
 all-is m (first ∷ plan) e i r at = by_test (request_fits m first) refl e (λ rest. all-is m plan rest) i at
   where
@@ -93,9 +112,11 @@ all-is m (first ∷ plan) e i r at = by_test (request_fits m first) refl e (λ r
     by_test true t e later zero at = subst (Fits m) (same_Some first r at) (request-is m first t)
     by_test true t e later (suc i) at = later e i r at
 
-is-all : (m : Contents) (plan : List Request) → ((i : ℕ) (r : Request) → slice_get plan i ≡ Some r → Fits m r) → all_fit m plan ≡ true
+is-all : (m : Contents) (plan : List Request) → ((i : ℕ) (r : Request) → slice_get plan i ≡ Some r → Fits m r)
+    → all_fit m plan ≡ true
 is-all m [] all = refl
-is-all m (first ∷ plan) all = ap (λ t. cond t (all_fit m plan) false) (is-request m first (all 0 first refl)) ∙ is-all m plan (λ i r at. all (suc i) r at)
+is-all m (first ∷ plan) all = ap (λ t. cond t (all_fit m plan) false) (is-request m first (all 0 first refl))
+    ∙ is-all m plan (λ i r at. all (suc i) r at)
 
 pub plan_fits : (m : Contents) (plan : List Request) → IsTrue (all_fit m plan) ↔ FitsPlan m plan
 plan_fits m plan = (

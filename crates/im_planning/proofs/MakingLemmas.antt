@@ -1,5 +1,6 @@
 -- The index of a plan decides what the plan has, and what makes one.
-use Rattle.std.proofs.Common.{◌≡◌, ⊎_elim, ℕ, zero, suc, List, [], ◌∷◌, Some, None, Bool, true, false, cond, refl, sym, ap, ◌∙◌, arith, IsTrue}
+use Rattle.std.proofs.Common.{◌≡◌, ⊎_elim, ℕ, zero, suc, List, [], ◌∷◌, Some, None, Bool, true, false, cond, refl}
+use Rattle.std.proofs.Common.{sym, ap, ◌∙◌, arith, IsTrue}
 use Rattle.std.specs.Prelude.{Option, ◌↔◌, ◌==◌, ◌&&◌, ◌||◌, slice_get, is_some, drop}
 use Rattle.std.proofs.lemmas.Option.{none-some, same_Some}
 use Rattle.im_types.specs.declared.operations.Op.{Op}
@@ -41,34 +42,43 @@ found key op [] e = absurd (none-some op e)
 found key op (s ∷ plan) e = by_test (has_key key s) refl e (found key op plan)
   where
     by_test : (t : Bool) → has_key key s ≡ t → cond t (Some s.op) (op_under key plan) ≡ Some op
-        → (op_under key plan ≡ Some op → (i : ℕ) × (q : Request) × (slice_get plan i ≡ Some q) × (has_key key q ≡ true) × (q.op ≡ op))
+        → (op_under key plan ≡ Some op → (i : ℕ) × (q : Request) × (slice_get plan i ≡ Some q)
+        × (has_key key q ≡ true) × (q.op ≡ op))
         → (i : ℕ) × (q : Request) × (slice_get (s ∷ plan) i ≡ Some q) × (has_key key q ≡ true) × (q.op ≡ op)
     by_test true t e later = (0, s, refl, t, same_Some s.op op e)
     by_test false t e later = let f = later e in (suc f.0, f.1, f.2, f.3, f.4)
 
 -- what stands there is found, or something before it
-pub some_found : (key : Key) (plan : List Request) (i : ℕ) (s : Request) → slice_get plan i ≡ Some s → has_key key s ≡ true → op_under key plan ≡ None → ⊥
+pub some_found : (key : Key) (plan : List Request) (i : ℕ) (s : Request) → slice_get plan i ≡ Some s → has_key key s
+    ≡ true → op_under key plan ≡ None → ⊥
 some_found key [] i s at own none = none-some s at
-some_found key (q ∷ plan) i s at own none = by_test (has_key key q) refl none i at (λ i at none. some_found key plan i s at own none)
+some_found key (q ∷ plan) i s at own none = by_test (has_key key q) refl none i at
+    (λ i at none. some_found key plan i s at own none)
   where
-    by_test : (t : Bool) → has_key key q ≡ t → cond t (Some q.op) (op_under key plan) ≡ None → (i : ℕ) → slice_get (q ∷ plan) i ≡ Some s
+    by_test : (t : Bool) → has_key key q ≡ t → cond t (Some q.op) (op_under key plan) ≡ None → (i : ℕ)
+        → slice_get (q ∷ plan) i ≡ Some s
         → ((i : ℕ) → slice_get plan i ≡ Some s → op_under key plan ≡ None → ⊥) → ⊥
     by_test true t none i at later = cc
     by_test false t none zero at later = true_false (sym own ∙ ap (has_key key) (sym (same_Some q s at)) ∙ t)
     by_test false t none (suc i) at later = later i at none
 
-pub stored_there : (a : ℕ) (plan : List Request) (i : ℕ) (s : Request) → slice_get plan i ≡ Some s → is_some (stored_by a s.op) ≡ true → is_stored a plan ≡ false → ⊥
+pub stored_there : (a : ℕ) (plan : List Request) (i : ℕ) (s : Request) → slice_get plan i ≡ Some s
+    → is_some (stored_by a s.op) ≡ true → is_stored a plan ≡ false → ⊥
 stored_there a [] i s at e none = none-some s at
 stored_there a (q ∷ plan) zero s at e none =
-    true_false (sym e ∙ ap (λ (r : Request). is_some (stored_by a r.op)) (sym (same_Some q s at)) ∙ or_left (is_some (stored_by a q.op)) (is_stored a plan) none)
-stored_there a (q ∷ plan) (suc i) s at e none = stored_there a plan i s at e (or_right (is_some (stored_by a q.op)) (is_stored a plan) none)
+    true_false (sym e ∙ ap (λ (r : Request). is_some (stored_by a r.op)) (sym (same_Some q s at))
+    ∙ or_left (is_some (stored_by a q.op)) (is_stored a plan) none)
+stored_there a (q ∷ plan) (suc i) s at e none = stored_there a plan i s at e
+    (or_right (is_some (stored_by a q.op)) (is_stored a plan) none)
 
-pub stored_somewhere : (a : ℕ) (plan : List Request) → is_stored a plan ≡ true → (i : ℕ) × (s : Request) × (slice_get plan i ≡ Some s) × (is_some (stored_by a s.op) ≡ true)
+pub stored_somewhere : (a : ℕ) (plan : List Request) → is_stored a plan ≡ true → (i : ℕ) × (s : Request)
+    × (slice_get plan i ≡ Some s) × (is_some (stored_by a s.op) ≡ true)
 stored_somewhere a [] e = absurd (true_false (sym e))
 stored_somewhere a (q ∷ plan) e = by_test (is_some (stored_by a q.op)) refl e (stored_somewhere a plan)
   where
     by_test : (t : Bool) → is_some (stored_by a q.op) ≡ t → (t || is_stored a plan) ≡ true
-        → (is_stored a plan ≡ true → (i : ℕ) × (s : Request) × (slice_get plan i ≡ Some s) × (is_some (stored_by a s.op) ≡ true))
+        → (is_stored a plan ≡ true → (i : ℕ) × (s : Request) × (slice_get plan i ≡ Some s)
+        × (is_some (stored_by a s.op) ≡ true))
         → (i : ℕ) × (s : Request) × (slice_get (q ∷ plan) i ≡ Some s) × (is_some (stored_by a s.op) ≡ true)
     by_test true t e later = (0, q, refl, t)
     by_test false t e later = let s = later e in (suc s.0, s.1, s.2, s.3)
@@ -84,20 +94,24 @@ cons-plan r plan b is = record { planned = planned; numbered = numbered; stored_
     one_number : (s : Request) (j : ℕ) → slice_get plan j ≡ Some s → asker r ≡ asker s → ⊥
     one_number s j at same = some_found (key_of r) plan j s at (same-key r s same) b.own
 
-    numbered : (i j : ℕ) (q s : Request) → slice_get (r ∷ plan) i ≡ Some q → slice_get (r ∷ plan) j ≡ Some s → asker q ≡ asker s → i ≡ j
+    numbered : (i j : ℕ) (q s : Request) → slice_get (r ∷ plan) i ≡ Some q → slice_get (r ∷ plan) j ≡ Some s
+        → asker q ≡ asker s → i ≡ j
     numbered zero zero q s x y same = refl
     numbered zero (suc j) q s x y same = absurd (one_number s j y (ap asker (same_Some r q x) ∙ same))
     numbered (suc i) zero q s x y same = absurd (one_number q i x (ap asker (same_Some r s y) ∙ sym same))
     numbered (suc i) (suc j) q s x y same = ap suc (is.numbered i j q s x y same)
 
-    one_store : (a : ℕ) (s : Request) (j : ℕ) → slice_get plan j ≡ Some s → is_some (stored_by a r.op) ≡ true → is_some (stored_by a s.op) ≡ true → ⊥
+    one_store : (a : ℕ) (s : Request) (j : ℕ) → slice_get plan j ≡ Some s → is_some (stored_by a r.op) ≡ true
+        → is_some (stored_by a s.op) ≡ true → ⊥
     one_store a s j at e f = stored_there a plan j s at f (b.alone a e)
 
     stored_once : (i j a : ℕ) (q s : Request) → slice_get (r ∷ plan) i ≡ Some q → slice_get (r ∷ plan) j ≡ Some s
         → is_some (stored_by a q.op) ≡ true → is_some (stored_by a s.op) ≡ true → i ≡ j
     stored_once zero zero a q s x y e f = refl
-    stored_once zero (suc j) a q s x y e f = absurd (one_store a s j y (ap (λ (r : Request). is_some (stored_by a r.op)) (same_Some r q x) ∙ e) f)
-    stored_once (suc i) zero a q s x y e f = absurd (one_store a q i x (ap (λ (r : Request). is_some (stored_by a r.op)) (same_Some r s y) ∙ f) e)
+    stored_once zero (suc j) a q s x y e f = absurd
+        (one_store a s j y (ap (λ (r : Request). is_some (stored_by a r.op)) (same_Some r q x) ∙ e) f)
+    stored_once (suc i) zero a q s x y e f = absurd
+        (one_store a q i x (ap (λ (r : Request). is_some (stored_by a r.op)) (same_Some r s y) ∙ f) e)
     stored_once (suc i) (suc j) a q s x y e f = ap suc (is.stored_once i j a q s x y e f)
 
 -- what stands behind a plan's first request
@@ -121,20 +135,28 @@ drop-plan (suc i) (r ∷ plan) is = drop-plan i plan (rest-plan r plan is)
 
 -- the first request of a plan begins it
 pub plan-begins : (r : Request) (plan : List Request) → IsPlan (r ∷ plan) → Begins r plan
-plan-begins r plan is = record { planned = is.planned 0 r refl; own = own (op_under (key_of r) plan) refl; alone = alone }
+plan-begins r plan is = record {
+  planned = is.planned 0 r refl;
+  own = own
+      (op_under (key_of r) plan) refl;
+  alone = alone;
+}
   where
     own : (o : Option Op) → op_under (key_of r) plan ≡ o → op_under (key_of r) plan ≡ None
     own None e = e
-    own (Some op) e = let f = found (key_of r) op plan e in absurd (zero_suc f.0 (is.numbered 0 (suc f.0) r f.1 refl f.2 (key-same r f.1 f.3)))
+    own (Some op) e = let f = found (key_of r) op plan e in absurd
+        (zero_suc f.0 (is.numbered 0 (suc f.0) r f.1 refl f.2 (key-same r f.1 f.3)))
 
     alone : (a : ℕ) → is_some (stored_by a r.op) ≡ true → is_stored a plan ≡ false
     alone a e = ⊎_elim
-        (λ stored. let s = stored_somewhere a plan stored in absurd (zero_suc s.0 (is.stored_once 0 (suc s.0) a r s.1 refl s.2 e s.3)))
+        (λ stored. let s = stored_somewhere a plan stored in absurd
+        (zero_suc s.0 (is.stored_once 0 (suc s.0) a r s.1 refl s.2 e s.3)))
         (λ none. none)
         (true_or_false (is_stored a plan))
 
 -- a plan has a request exactly where it is found under its key
-pub in_plan : (r : Request) (plan : List Request) → IsPlan plan → IsTrue (is_op r.op (op_under (key_of r) plan)) ↔ IsInPlan plan r
+pub in_plan : (r : Request) (plan : List Request) → IsPlan plan
+    → IsTrue (is_op r.op (op_under (key_of r) plan)) ↔ IsInPlan plan r
 in_plan r plan is = (λ e. in-plan (op_under (key_of r) plan) refl e, λ h. plan-in (op_under (key_of r) plan) refl h)
   where
     in-plan : (o : Option Op) → op_under (key_of r) plan ≡ o → IsTrue (is_op r.op o) → IsInPlan plan r

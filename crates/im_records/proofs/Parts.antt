@@ -1,5 +1,6 @@
 -- Pieces of an area, and its rest behind a place.
-use Rattle.std.proofs.Common.{◌≡◌, ℕ, suc, ◌+◌, ◌-◌, ◌*◌, ◌/◌, ◌<◌, ◌≤◌, List, length, take, drop, sym, ap, ◌∙◌, subst, arith}
+use Rattle.std.proofs.Common.{◌≡◌, ℕ, suc, ◌+◌, ◌-◌, ◌*◌, ◌/◌, ◌<◌, ◌≤◌, List, length, take, drop, sym, ap, ◌∙◌}
+use Rattle.std.proofs.Common.{subst, arith}
 use Rattle.std.proofs.Math.Nat.{mul-suc, mul-le-mul_left}
 use Rattle.std.proofs.lemmas.List.{length-drop, length-take-le, take_all, take-take, drop-take, drop-drop}
 use Rattle.im_types.specs.Layout.{record_at}
@@ -9,7 +10,8 @@ use Rattle.im_records.specs.Rows.{StandsAt, BeginWith}
 use Rattle.im_records.proofs.Pieces.{record_is, record_behind}
 
 -- a record among the first bytes
-pub record_of_first : (size i n : ℕ) (bytes : List ℕ) → size * i + size ≤ n → record_at size (take n bytes) i ≡ record_at size bytes i
+pub record_of_first : (size i n : ℕ) (bytes : List ℕ) → size * i + size ≤ n → record_at size (take n bytes) i
+    ≡ record_at size bytes i
 record_of_first size i n bytes room =
     record_is size i (take n bytes)
     ∙ ap (λ (k : ℕ). take size (drop (size * i) (take k bytes))) (parted (size * i) size n room)
@@ -24,14 +26,16 @@ record_of_first size i n bytes room =
     enough a b c le = omega arith
 
 -- a record of a piece that begins with a record
-pub record_of_piece : (size m i : ℕ) (piece area : List ℕ) → StandsAt (size * m) piece area → size * i + size ≤ length piece → record_at size piece i ≡ record_at size area (m + i)
+pub record_of_piece : (size m i : ℕ) (piece area : List ℕ) → StandsAt (size * m) piece area
+    → size * i + size ≤ length piece → record_at size piece i ≡ record_at size area (m + i)
 record_of_piece size m i piece area stands room =
     ap (λ (bytes : List ℕ). record_at size bytes i) stands
     ∙ record_of_first size i (length piece) (drop (size * m) area) room
     ∙ record_behind size m i area
 
 -- what is left of a piece behind some bytes
-pub rest_of_piece : (a b c n : ℕ) (piece area : List ℕ) → StandsAt a piece area → a + length piece ≡ n → a + b ≡ c → drop b piece ≡ drop c (take n area)
+pub rest_of_piece : (a b c n : ℕ) (piece area : List ℕ) → StandsAt a piece area → a + length piece ≡ n → a + b ≡ c
+    → drop b piece ≡ drop c (take n area)
 rest_of_piece a b c n piece area stands whole place =
     ap (drop b) (stands ∙ sym (drop-take a (length piece) area) ∙ ap (λ (k : ℕ). drop a (take k area)) whole)
     ∙ drop-drop b a (take n area)
@@ -44,29 +48,40 @@ abbrev are_zeros : List ℕ → Type 0
 are_zeros bytes = bytes ≡ zeros (length bytes)
 
 -- that it is zeros, where the first n bytes of the area are so from there on, and back
-pub zeros_of_piece : (a b c n : ℕ) (piece area : List ℕ) → are_zeros (take (length piece - b) (drop b piece)) → StandsAt a piece area → a + length piece ≡ n → a + b ≡ c → are_zeros (drop c (take n area))
-zeros_of_piece a b c n piece area are stands whole place = subst are_zeros (rest_is b piece ∙ rest_of_piece a b c n piece area stands whole place) are
+pub zeros_of_piece : (a b c n : ℕ) (piece area : List ℕ) → are_zeros (take (length piece - b) (drop b piece))
+    → StandsAt a piece area → a + length piece ≡ n → a + b ≡ c → are_zeros (drop c (take n area))
+zeros_of_piece a b c n piece area are stands whole place = subst are_zeros
+    (rest_is b piece ∙ rest_of_piece a b c n piece area stands whole place) are
 
-pub zeros_in_piece : (a b c n : ℕ) (piece area : List ℕ) → are_zeros (drop c (take n area)) → StandsAt a piece area → a + length piece ≡ n → a + b ≡ c → are_zeros (take (length piece - b) (drop b piece))
-zeros_in_piece a b c n piece area are stands whole place = subst are_zeros (sym (rest_is b piece ∙ rest_of_piece a b c n piece area stands whole place)) are
+pub zeros_in_piece : (a b c n : ℕ) (piece area : List ℕ) → are_zeros (drop c (take n area)) → StandsAt a piece area
+    → a + length piece ≡ n → a + b ≡ c → are_zeros (take (length piece - b) (drop b piece))
+zeros_in_piece a b c n piece area are stands whole place = subst are_zeros
+    (sym (rest_is b piece ∙ rest_of_piece a b c n piece area stands whole place)) are
 
 -- of a rest from place k on: its first bytes, those behind them, and what is left
-pub first_of_rest : (k n : ℕ) (rest area : List ℕ) → n ≤ length rest → rest ≡ drop k area → StandsAt k (take n rest) area
-first_of_rest k n rest area few is = ap (take n) is ∙ ap (λ (m : ℕ). take m (drop k area)) (sym (length-take-le n rest few))
+pub first_of_rest : (k n : ℕ) (rest area : List ℕ) → n ≤ length rest → rest ≡ drop k area
+    → StandsAt k (take n rest) area
+first_of_rest k n rest area few is = ap (take n) is
+    ∙ ap (λ (m : ℕ). take m (drop k area)) (sym (length-take-le n rest few))
 
-pub middle_of_rest : (k n m place : ℕ) (rest area : List ℕ) → rest ≡ drop k area → k + n ≡ place → take m (take (length rest - n) (drop n rest)) ≡ take m (drop place area)
+pub middle_of_rest : (k n m place : ℕ) (rest area : List ℕ) → rest ≡ drop k area → k + n ≡ place
+    → take m (take (length rest - n) (drop n rest)) ≡ take m (drop place area)
 middle_of_rest k n m place rest area is at =
     ap (take m) (rest_is n rest ∙ ap (drop n) is ∙ drop-drop n k area ∙ ap (λ (p : ℕ). drop p area) at)
 
-pub end_of_rest : (k n place : ℕ) (rest area : List ℕ) → rest ≡ drop k area → k + n ≡ place → take (length rest - n) (drop n rest) ≡ drop place area
-end_of_rest k n place rest area is at = rest_is n rest ∙ ap (drop n) is ∙ drop-drop n k area ∙ ap (λ (p : ℕ). drop p area) at
+pub end_of_rest : (k n place : ℕ) (rest area : List ℕ) → rest ≡ drop k area → k + n ≡ place
+    → take (length rest - n) (drop n rest) ≡ drop place area
+end_of_rest k n place rest area is at = rest_is n rest ∙ ap (drop n) is ∙ drop-drop n k area
+    ∙ ap (λ (p : ℕ). drop p area) at
 
 -- a beginning and a row of the first bytes, with zeros behind the records
-module _ {X : Type 0} (size : ℕ) (spelled : X → List ℕ) (Fits : X → Type 0) (none : X) (count n : ℕ) (area : List ℕ) (row : List X) (room : size * count ≤ n) where
+module _ {X : Type 0} (size : ℕ) (spelled : X → List ℕ) (Fits : X → Type 0) (none : X) (count n : ℕ) (area : List ℕ)
+    (row : List X) (room : size * count ≤ n) where
   inside : (i : ℕ) → i < count → size * i + size ≤ n
   inside i lt = omega (arith, room, mul-suc size i, mul-le-mul_left {m = suc i} {n = count} size lt)
 
-  pub row_of_beginning : BeginWith size spelled Fits none count area row → drop (size * count) (take n area) ≡ zeros (length (drop (size * count) (take n area))) → IsRow size spelled Fits none count (take n area) row
+  pub row_of_beginning : BeginWith size spelled Fits none count area row → drop (size * count) (take n area)
+      ≡ zeros (length (drop (size * count) (take n area))) → IsRow size spelled Fits none count (take n area) row
   row_of_beginning begin zero_behind = record {
     many = begin.many;
     each = λ i lt. record_of_first size i n area (inside i lt) ∙ (begin.each i lt).is;
@@ -74,10 +89,15 @@ module _ {X : Type 0} (size : ℕ) (spelled : X → List ℕ) (Fits : X → Type
     rest = zero_behind;
   }
 
-  pub beginning_of_row : IsRow size spelled Fits none count (take n area) row → BeginWith size spelled Fits none count area row
+  pub beginning_of_row : IsRow size spelled Fits none count (take n area) row
+      → BeginWith size spelled Fits none count area row
   beginning_of_row is = record {
     many = is.many;
-    each = λ i lt. record { is = sym (record_of_first size i n area (inside i lt)) ∙ is.each i lt; fits = is.fits i lt };
+    each = λ i lt. record {
+      is = sym (record_of_first size i n area (inside i lt))
+          ∙ is.each i lt;
+      fits = is.fits i lt;
+    };
   }
 
 -- so many cells have room on their pages

@@ -5,7 +5,8 @@ use Rattle.im_types.specs.Records.{FitsPlace}
 use Rattle.im_records.specs.Entries.{FitEntries}
 use Rattle.im_records.proofs.Reading.{none_some, some_inj}
 
-pub fit_set : (entries : List Kept) (place : ℕ) (kept : Kept) → FitEntries entries → FitsPlace (Some kept) → FitEntries (slice_set entries place kept)
+pub fit_set : (entries : List Kept) (place : ℕ) (kept : Kept) → FitEntries entries → FitsPlace (Some kept)
+    → FitEntries (slice_set entries place kept)
 fit_set [] place kept fit fits i k e = fit i k e
 fit_set (x ∷ xs) zero kept fit fits zero k e = subst (λ (y : Kept). FitsPlace (Some y)) (some_inj kept k e) fits
 fit_set (x ∷ xs) zero kept fit fits (suc i) k e = fit (suc i) k e

@@ -1,9 +1,12 @@
 -- The pages of an area, one by one: which record stands at which place of which page. (Own.)
-use Rattle.std.specs.Prelude.{◌≡◌, ℕ, zero, suc, ◌+◌, ◌*◌, ◌<◌, List, [], ◌++◌, length, Option, None, Some, slice_get, slice_index_or}
+use Rattle.std.specs.Prelude.{◌≡◌, ℕ, zero, suc, ◌+◌, ◌*◌, ◌<◌, List, [], ◌++◌, length, Option, None, Some, slice_get}
+use Rattle.std.specs.Prelude.{slice_index_or}
 use Rattle.im_types.specs.declared.TheConstants.{NONE}
 use Rattle.im_types.specs.Contents.{new_window}
 use Rattle.im_types.specs.Bytes.{zeros}
-use Rattle.im_types.specs.Layout.{Sizes, layout_in_use, page_bytes, cell_record_bytes, node_record_bytes, session_record_bytes, on_a_page, cell_pages, node_pages, session_pages, node_count, record_at}
+use Rattle.im_types.specs.Layout.{Sizes, layout_in_use, page_bytes, cell_record_bytes, node_record_bytes}
+use Rattle.im_types.specs.Layout.{session_record_bytes, on_a_page, cell_pages, node_pages, session_pages, node_count}
+use Rattle.im_types.specs.Layout.{record_at}
 use Rattle.im_types.specs.declared.records.CellRecord.TheVariants.{Free as FreeCell}
 use Rattle.im_types.specs.declared.records.NodeRecord.TheVariants.{Free as FreeNode}
 use Rattle.im_types.specs.Records.{cell_bytes, node_bytes, session_bytes, FitsCell, FitsNode, FitsWindow}

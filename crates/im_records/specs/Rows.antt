@@ -2,7 +2,8 @@
 use Rattle.std.specs.Prelude.{◌≡◌, ℕ, ◌<◌, List, length, take, drop, slice_index_or}
 use Rattle.im_types.specs.declared.TheConstants.{NONE}
 use Rattle.im_types.specs.Contents.{Window, new_window}
-use Rattle.im_types.specs.Layout.{Layout, Sizes, node_count, cell_record_bytes, node_record_bytes, session_record_bytes, record_at}
+use Rattle.im_types.specs.Layout.{Layout, Sizes, node_count, cell_record_bytes, node_record_bytes}
+use Rattle.im_types.specs.Layout.{session_record_bytes, record_at}
 use Rattle.im_types.specs.declared.records.CellRecord.{CellRecord}
 use Rattle.im_types.specs.declared.records.CellRecord.TheVariants.{Free as FreeCell}
 use Rattle.im_types.specs.declared.records.NodeRecord.{NodeRecord}

@@ -54,7 +54,8 @@ module _ (K : RattleType) (n : name.Ghosts K.Denot) where
   Books-send = search (sendable, crosses, book_send) depth 40 fits 30000
 
   pub Log-send : IsSend (Log.the_field K n).row
-  Log-send = let b = Books-send in let u = Unclaimed-send in let t = Traced-send in search (sendable, crosses) depth 40 fits 30000
+  Log-send = let b = Books-send in let u = Unclaimed-send in let t = Traced-send in search
+      (sendable, crosses) depth 40 fits 30000
 
   pub Reserve-send : IsSend (Reserve.the_field K n).row
   Reserve-send = search (sendable, crosses, share_send) depth 40 fits 30000
@@ -73,7 +74,8 @@ Served-send = search (sendable, crosses) depth 40
 
 module _ (K : RattleType) (n : name.Ghosts K.Denot) where
   pub Server-send : IsSend (Server.the_field K n).row
-  Server-send = let p = Port-send K n in let s = Served-send in let g = Glances-send K n in search (sendable, crosses) depth 40 fits 30000
+  Server-send = let p = Port-send K n in let s = Served-send in let g = Glances-send K n in search
+      (sendable, crosses) depth 40 fits 30000
 
 pub Servers-send : IsSend Servers.the_field.row
 Servers-send = search (sendable, crosses) depth 40

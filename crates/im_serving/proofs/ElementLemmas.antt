@@ -1,5 +1,6 @@
 -- What becomes of elements that are served all at once. (Own.)
-use Rattle.std.proofs.Common.{◌≡◌, ◌∙◌, ◌⊎◌, inl, inr, Bool, true, false, List, [], ◌∷◌, ◌++◌, arith, refl, sym, ap, subst, length}
+use Rattle.std.proofs.Common.{◌≡◌, ◌∙◌, ◌⊎◌, inl, inr, Bool, true, false, List, [], ◌∷◌, ◌++◌, arith, refl, sym, ap}
+use Rattle.std.proofs.Common.{subst, length}
 use Rattle.std.specs.Prelude.{Result, Ok, Err, OnOk, MatchResult}
 use mathlib.Core.List.{IsPrefix}
 use Rattle.im_types.specs.Contents.{Contents}
@@ -10,66 +11,87 @@ use Rattle.im_serving.specs.Serving.{AreDone, AreGlanced, HasBegun}
 use Rattle.im_serving.specs.Elements.{Deeds, Asked, End, HasServed, IsEnded, AreEnded, IsUnserved, HasStopped, HasSent}
 use Rattle.im_serving.proofs.GlanceLemmas.{prefix_trans, begun_more}
 
-from_none : {T E : Type 0} (r : Result T E) (P : List Intent → Type 0) (Q : Type 0) (before : List Intent) → before ≡ [] → OnOk r (P before → Q) → OnOk r (P [] → Q)
+from_none : {T E : Type 0} (r : Result T E) (P : List Intent → Type 0) (Q : Type 0) (before : List Intent) → before
+    ≡ [] → OnOk r (P before → Q) → OnOk r (P [] → Q)
 from_none (Ok x) P Q before none it = λ p. it (subst P (sym none) p)
 from_none (Err e) P Q before none it = tt
 
 -- a server did what came out of a pipe of which nothing had come before
-pub has_stopped : (m : Contents) (p : Deeds) (d : End) (before : List Intent) (outlet : PipeEnd Intent) → before ≡ [] → d.deeds.element ≡ p.element
+pub has_stopped : (m : Contents) (p : Deeds) (d : End) (before : List Intent) (outlet : PipeEnd Intent) → before ≡ []
+    → d.deeds.element ≡ p.element
     → (AreDone p.entries p.made before → HasBegun d.deeds.entries d.deeds.made outlet.items)
-    → OnOk d.result (AreDone p.entries p.made before → AreDone d.deeds.entries d.deeds.made outlet.items) → OnOk d.result (outlet.ended ≡ true)
-    → (AreGlanced m p.element p.last p.seen p.made → AreGlanced m p.element d.deeds.last d.deeds.seen d.deeds.made) → HasStopped m p d outlet
+    → OnOk d.result (AreDone p.entries p.made before → AreDone d.deeds.entries d.deeds.made outlet.items)
+    → OnOk d.result (outlet.ended ≡ true)
+    → (AreGlanced m p.element p.last p.seen p.made → AreGlanced m p.element d.deeds.last d.deeds.seen d.deeds.made)
+    → HasStopped m p d outlet
 has_stopped m p d before outlet none element begun done ended seen = (
   record {
     element = element;
     begun = λ (start : AreDone p.entries p.made []). begun (subst (AreDone p.entries p.made) (sym none) start);
-    done = from_none d.result (AreDone p.entries p.made) (AreDone d.deeds.entries d.deeds.made outlet.items) before none done;
+    done = from_none d.result (AreDone p.entries p.made)
+        (AreDone d.deeds.entries d.deeds.made outlet.items) before none done;
     seen = seen;
   },
   ended,
 )
 
 -- it was refused, so a beginning is enough
-refused_less : (m : Contents) (p : Deeds) (d e : End) (xs ys : List Intent) → e ≡ record d { result = Err NoMemory } → IsPrefix xs ys → HasServed m p d.deeds d.result xs → HasServed m p e.deeds e.result ys
+refused_less : (m : Contents) (p : Deeds) (d e : End) (xs ys : List Intent) → e ≡ record d { result = Err NoMemory }
+    → IsPrefix xs ys → HasServed m p d.deeds d.result xs → HasServed m p e.deeds e.result ys
 refused_less m p d e xs ys same within it = subst (λ (x : End). HasServed m p x.deeds x.result ys) (sym same) (record {
   element = it.element;
-  begun = λ (start : AreDone p.entries p.made []). begun_more d.deeds.entries d.deeds.made xs ys within (it.begun start);
+  begun = λ (start : AreDone p.entries p.made []). begun_more d.deeds.entries d.deeds.made xs ys within
+      (it.begun start);
   done = tt;
   seen = it.seen;
 })
 
-whole_done : {T E : Type 0} (r : Result T E) (P : List Intent → Type 0) (Q : Type 0) (xs ys : List Intent) (b : Bool) → OnOk r (Q → P xs) → OnOk r (b ≡ true) → (b ≡ true → xs ≡ ys) → OnOk r (Q → P ys)
+whole_done : {T E : Type 0} (r : Result T E) (P : List Intent → Type 0) (Q : Type 0) (xs ys : List Intent) (b : Bool)
+    → OnOk r (Q → P xs) → OnOk r (b ≡ true) → (b ≡ true → xs ≡ ys) → OnOk r (Q → P ys)
 whole_done (Ok x) P Q xs ys b it ended whole = λ q. subst P (whole ended) (it q)
 whole_done (Err e) P Q xs ys b it ended whole = tt
 
 -- its threads have ended
-pub settled : (m : Contents) (p : Deeds) (d e : End) (outlet : PipeEnd Intent) (sent intents : List Intent) (all : Bool) → HasStopped m p d outlet → IsPrefix outlet.items sent
+pub settled : (m : Contents) (p : Deeds) (d e : End) (outlet : PipeEnd Intent) (sent intents : List Intent)
+    (all : Bool) → HasStopped m p d outlet → IsPrefix outlet.items sent
     → (outlet.ended ≡ true → outlet.items ≡ sent) → IsPrefix sent intents → (all ≡ true → sent ≡ intents)
-    → ((all ≡ true) × (e ≡ d)) ⊎ ((all ≡ false) × (e ≡ record d { result = Err NoMemory })) → HasServed m p e.deeds e.result intents
-settled m p d e outlet sent intents all it begins whole within sends (inl (wanted, same)) = subst (λ (x : End). HasServed m p x.deeds x.result intents) (sym same) (record {
-  element = it.0.element;
-  begun = λ (start : AreDone p.entries p.made []). begun_more d.deeds.entries d.deeds.made outlet.items intents (prefix_trans outlet.items sent intents begins within) (it.0.begun start);
-  done = whole_done d.result (AreDone d.deeds.entries d.deeds.made) (AreDone p.entries p.made []) outlet.items intents outlet.ended it.0.done it.1 (λ ended. whole ended ∙ sends wanted);
-  seen = it.0.seen;
-})
+    → ((all ≡ true) × (e ≡ d)) ⊎ ((all ≡ false) × (e ≡ record d { result = Err NoMemory }))
+    → HasServed m p e.deeds e.result intents
+settled m p d e outlet sent intents all it begins whole within sends (inl (wanted, same)) = subst
+    (λ (x : End). HasServed m p x.deeds x.result intents) (sym same) (record {
+      element = it.0.element;
+      begun = λ (start : AreDone p.entries p.made []). begun_more d.deeds.entries d.deeds.made outlet.items intents
+          (prefix_trans outlet.items sent intents begins within) (it.0.begun start);
+      done = whole_done d.result (AreDone d.deeds.entries d.deeds.made)
+          (AreDone p.entries p.made []) outlet.items intents outlet.ended it.0.done it.1
+          (λ ended. whole ended ∙ sends wanted);
+      seen = it.0.seen;
+    })
 settled m p d e outlet sent intents all it begins whole within sends (inr (_, refused)) =
     refused_less m p d e outlet.items intents refused (prefix_trans outlet.items sent intents begins within) it.0
 
 -- nothing was sent
-pub unserved : (m : Contents) (p : Deeds) (d e : End) (outlet : PipeEnd Intent) (sent : List Intent) (all : Bool) → HasStopped m p d outlet → IsPrefix outlet.items sent → sent ≡ [] → all ≡ false
+pub unserved : (m : Contents) (p : Deeds) (d e : End) (outlet : PipeEnd Intent) (sent : List Intent) (all : Bool)
+    → HasStopped m p d outlet → IsPrefix outlet.items sent → sent ≡ [] → all ≡ false
     → ((all ≡ true) × (e ≡ d)) ⊎ ((all ≡ false) × (e ≡ record d { result = Err NoMemory })) → IsUnserved m p e
-unserved m p d e outlet sent all it begins none not (inl (wanted, same)) = let is : false ≡ true = sym not ∙ wanted in absurd (cc)
-unserved m p d e outlet sent all it begins none not (inr (_, refused)) =
-    (refused_less m p d e outlet.items [] refused (subst (IsPrefix outlet.items) none begins) it.0, ap (λ (x : End). x.result) refused)
+unserved m p d e outlet sent all it begins none not (inl (wanted, same)) = let is : false ≡ true = sym not
+    ∙ wanted in absurd (cc)
+unserved m p d e outlet sent all it begins none not (inr (_, refused)) = (
+  refused_less m p d e outlet.items [] refused (subst (IsPrefix outlet.items) none begins) it.0,
+  ap
+      (λ (x : End). x.result) refused,
+)
 
 never : {T E : Type 0} (r : Result T E) (refusal : E) (P : Type 0) → r ≡ Err refusal → OnOk r P
 never {T} {E} r refusal P is = subst (λ (x : Result T E). OnOk x P) (sym is) tt
 
 -- whatever the part asks for
-pub unserved_part : (m : Contents) (p : Deeds) (d : End) (intents : List Intent) → IsUnserved m p d → HasServed m p d.deeds d.result intents
+pub unserved_part : (m : Contents) (p : Deeds) (d : End) (intents : List Intent) → IsUnserved m p d
+    → HasServed m p d.deeds d.result intents
 unserved_part m p d intents it = record {
   element = it.0.element;
-  begun = λ (start : AreDone p.entries p.made []). begun_more d.deeds.entries d.deeds.made [] intents (intents, refl) (it.0.begun start);
+  begun = λ (start : AreDone p.entries p.made []). begun_more d.deeds.entries d.deeds.made [] intents (intents, refl)
+      (it.0.begun start);
   done = never d.result NoMemory _ it.1;
   seen = it.0.seen;
 }
@@ -87,22 +109,27 @@ given_up m p d is = subst (IsUnserved m p) (sym is) (
 )
 
 -- its sender has ended, as a thread or because there was none
-pub sent_by : {H S : Type 0} (r : Result H S) (pipe : PipeId Intent) (intents : List Intent) (into : H → PipeId Intent) (of : H → List Intent) (finished : S → PipeEnd Intent) (all : S → Bool) (sent : S)
+pub sent_by : {H S : Type 0} (r : Result H S) (pipe : PipeId Intent) (intents : List Intent)
+    (into : H → PipeId Intent) (of : H → List Intent) (finished : S → PipeEnd Intent) (all : S → Bool) (sent : S)
     → MatchResult r (λ h. (into h ≡ pipe) × (of h ≡ intents)) (λ s. HasSent pipe intents (finished s) (all s))
-    → MatchResult r (λ h. HasSent (into h) (of h) (finished sent) (all sent)) (λ s. sent ≡ s) → HasSent pipe intents (finished sent) (all sent)
+    → MatchResult r (λ h. HasSent (into h) (of h) (finished sent) (all sent)) (λ s. sent ≡ s)
+    → HasSent pipe intents (finished sent) (all sent)
 sent_by (Ok h) pipe intents into of finished all sent known told =
     (told.0 ∙ known.0, subst (IsPrefix (finished sent).items) known.1 told.1, λ wanted. told.2 wanted ∙ known.1)
-sent_by {H} {S} (Err s) pipe intents into of finished all sent known told = subst (λ (x : S). HasSent pipe intents (finished x) (all x)) (sym told) known
+sent_by {H} {S} (Err s) pipe intents into of finished all sent known told = subst
+    (λ (x : S). HasSent pipe intents (finished x) (all x)) (sym told) known
 
 -- ---- one after another
 
-pub ended_more : (m : Contents) (parts : List Asked) (ends : List End) (p : Asked) (d : End) → AreEnded m parts ends → IsEnded m p d → AreEnded m (parts ++ p ∷ []) (ends ++ d ∷ [])
+pub ended_more : (m : Contents) (parts : List Asked) (ends : List End) (p : Asked) (d : End) → AreEnded m parts ends
+    → IsEnded m p d → AreEnded m (parts ++ p ∷ []) (ends ++ d ∷ [])
 ended_more m [] [] p d all it = (it, tt)
 ended_more m [] (e ∷ ends) p d all it = absurd all
 ended_more m (q ∷ parts) [] p d all it = absurd all
 ended_more m (q ∷ parts) (e ∷ ends) p d all it = (all.0, ended_more m parts ends p d all.1 it)
 
-pub ended_length : (m : Contents) (parts : List Asked) (ends : List End) → AreEnded m parts ends → length ends ≡ length parts
+pub ended_length : (m : Contents) (parts : List Asked) (ends : List End) → AreEnded m parts ends → length ends
+    ≡ length parts
 ended_length m [] [] all = refl
 ended_length m [] (e ∷ ends) all = absurd all
 ended_length m (q ∷ parts) [] all = absurd all

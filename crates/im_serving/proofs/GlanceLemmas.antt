@@ -1,5 +1,6 @@
 -- What an element saw, and what was done for it. (Own.)
-use Rattle.std.proofs.Common.{◌≡◌, ◌∙◌, ℕ, ◌+◌, suc, All, List, [], ◌∷◌, ◌++◌, arith, refl, sym, ap, subst, length, map, length-append}
+use Rattle.std.proofs.Common.{◌≡◌, ◌∙◌, ℕ, ◌+◌, suc, All, List, [], ◌∷◌, ◌++◌, arith, refl, sym, ap, subst, length}
+use Rattle.std.proofs.Common.{map, length-append}
 use Rattle.std.specs.Prelude.{Option, None, Some, Result, Ok, Err, OnOk, OnErr}
 use Rattle.std.proofs.lemmas.List.{append_assoc, append-nil, map-append}
 use Rattle.std.proofs.lemmas.List.Elements.{All-append, All-cons, All-nil}
@@ -27,50 +28,69 @@ prefix_trans xs ys zs p q = (p.0 ++ q.0, sym (append_assoc xs p.0 q.0) ∙ ap (�
 
 -- ---- what was seen
 
-learnt_more : (m : Contents) (element : ℕ) (last : Option ℕ) (xs ys : List Change) → HasLearnt m element last xs → IsPrefix xs ys → HasLearnt m element last ys
+learnt_more : (m : Contents) (element : ℕ) (last : Option ℕ) (xs ys : List Change) → HasLearnt m element last xs
+    → IsPrefix xs ys → HasLearnt m element last ys
 learnt_more m element None xs ys h p = prefix_trans (opening m) xs ys h p
 learnt_more m element (Some number) xs ys h p =
     (h.0, h.1, h.2, h.3, h.4, prefix_trans (shown_by m h.2) xs ys h.5 p)
 
 -- more is seen
-pub glanced_more : (m : Contents) (element : ℕ) (last last' : Option ℕ) (xs ys : List Change) (made made' : List Glanced) → IsPrefix xs ys → made' ≡ made → last' ≡ last
+pub glanced_more : (m : Contents) (element : ℕ) (last last' : Option ℕ) (xs ys : List Change)
+    (made made' : List Glanced) → IsPrefix xs ys → made' ≡ made → last' ≡ last
     → AreGlanced m element last xs made → AreGlanced m element last' ys made'
 glanced_more m element last last' xs ys made made' p same was h =
-    subst (λ l. AreGlanced m element l ys made') (sym was) (learnt_more m element last xs ys h.0 p, subst (All (IsGlanced m element)) (sym same) h.1)
+    subst (λ l. AreGlanced m element l ys made') (sym was)
+    (learnt_more m element last xs ys h.0 p, subst (All (IsGlanced m element)) (sym same) h.1)
 
 -- a request was answered, and what was shown then was learnt
-pub glanced_asked : (m : Contents) (element number : ℕ) (op : Op) (entry : Entry) (last : Option ℕ) (xs ys : List Change) (made made' : List Glanced) (command : Command) (outcome : Outcome) (history : List Line)
+pub glanced_asked : (m : Contents) (element number : ℕ) (op : Op) (entry : Entry) (last : Option ℕ)
+    (xs ys : List Change) (made made' : List Glanced) (command : Command) (outcome : Outcome) (history : List Line)
     → command ≡ Asks (record { element = element; number = number; op = op }) → IsLegal m history
-    → EndsIn history (line_of (Commands command) (Ok outcome)) → outcome ≡ Tells entry → IsPrefix (shown_by m history) ys
+    → EndsIn history (line_of (Commands command) (Ok outcome)) → outcome ≡ Tells entry
+    → IsPrefix (shown_by m history) ys
     → made' ≡ made → AreGlanced m element last xs made → AreGlanced m element (Some number) ys made'
 glanced_asked m element number op entry last xs ys made made' command outcome history asked legal ends tells shown same h =
     let P : Command → Type 0 = λ k. EndsIn history (line_of (Commands k) (Ok outcome)) in
-    let Q : Outcome → Type 0 = λ o. EndsIn history (line_of (Commands (Asks (record { element = element; number = number; op = op }))) (Ok o)) in
-    ((op, entry, history, legal, subst Q tells (subst P asked ends), shown), subst (All (IsGlanced m element)) (sym same) h.1)
+    let Q : Outcome → Type 0 = λ o. EndsIn history
+    (line_of (Commands (Asks (record { element = element; number = number; op = op }))) (Ok o)) in (
+      (op, entry, history, legal, subst Q tells (subst P asked ends), shown),
+      subst (All (IsGlanced m element))
+          (sym same) h.1,
+    )
 
-glanced_read : (m : Contents) (element behind address : ℕ) (last : Option ℕ) (xs ys : List Change) (made made' : List Glanced) → AreGlanced m element last xs made → IsPrefix xs ys
+glanced_read : (m : Contents) (element behind address : ℕ) (last : Option ℕ) (xs ys : List Change)
+    (made made' : List Glanced) → AreGlanced m element last xs made → IsPrefix xs ys
     → made' ≡ made ++ record { behind = behind; after = last; address = address; value = value_after address None ys } ∷ []
     → AreGlanced m element last ys made'
 glanced_read m element behind address last xs ys made made' h p is =
     let learnt = learnt_more m element last xs ys h.0 p in
-    let g : Glanced = record { behind = behind; after = last; address = address; value = value_after address None ys } in
-    (learnt, subst (All (IsGlanced m element)) (sym is) (All-append (IsGlanced m element) made (g ∷ []) h.1 (All-cons (IsGlanced m element) g [] (ys, learnt, refl) (All-nil (IsGlanced m element)))))
+    let g : Glanced = record { behind = behind; after = last; address = address; value = value_after address None ys } in (
+      learnt,
+      subst (All (IsGlanced m element)) (sym is)
+          (All-append (IsGlanced m element) made (g ∷ []) h.1
+          (All-cons (IsGlanced m element) g [] (ys, learnt, refl) (All-nil (IsGlanced m element)))),
+    )
 
 -- a glance was made, or refused
-pub glanced_by : {T E : Type 0} (r : Result T E) (m : Contents) (element behind address : ℕ) (last last' : Option ℕ) (xs ys : List Change) (made made' : List Glanced) → OnOk r (IsPrefix xs ys)
+pub glanced_by : {T E : Type 0} (r : Result T E) (m : Contents) (element behind address : ℕ) (last last' : Option ℕ)
+    (xs ys : List Change) (made made' : List Glanced) → OnOk r (IsPrefix xs ys)
     → OnOk r (made' ≡ made ++ record { behind = behind; after = last; address = address; value = value_after address None ys } ∷ []) → last' ≡ last
     → OnErr r ((made' ≡ made) × (ys ≡ xs)) → AreGlanced m element last xs made → AreGlanced m element last' ys made'
 glanced_by (Ok x) m element behind address last last' xs ys made made' p is was same h =
-    subst (λ l. AreGlanced m element l ys made') (sym was) (glanced_read m element behind address last xs ys made made' h p is)
+    subst (λ l. AreGlanced m element l ys made') (sym was)
+    (glanced_read m element behind address last xs ys made made' h p is)
 glanced_by (Err e) m element behind address last last' xs ys made made' p is was same h =
     glanced_more m element last last' xs ys made made' ([], append-nil xs ∙ sym same.1) same.0 was h
 
 -- one thing after another, by a port that stays its element's
-pub glanced_then : (m : Contents) (element port : ℕ) (l0 l1 l2 : Option ℕ) (xs0 xs1 xs2 : List Change) (made0 made1 made2 : List Glanced) → port ≡ element
-    → (AreGlanced m element l0 xs0 made0 → AreGlanced m element l1 xs1 made1) → (AreGlanced m port l1 xs1 made1 → AreGlanced m port l2 xs2 made2)
+pub glanced_then : (m : Contents) (element port : ℕ) (l0 l1 l2 : Option ℕ) (xs0 xs1 xs2 : List Change)
+    (made0 made1 made2 : List Glanced) → port ≡ element
+    → (AreGlanced m element l0 xs0 made0 → AreGlanced m element l1 xs1 made1)
+    → (AreGlanced m port l1 xs1 made1 → AreGlanced m port l2 xs2 made2)
     → AreGlanced m element l0 xs0 made0 → AreGlanced m element l2 xs2 made2
 glanced_then m element port l0 l1 l2 xs0 xs1 xs2 made0 made1 made2 same first second h =
-    subst (λ k. AreGlanced m k l2 xs2 made2) same (second (subst (λ k. AreGlanced m k l1 xs1 made1) (sym same) (first h)))
+    subst (λ k. AreGlanced m k l2 xs2 made2) same
+    (second (subst (λ k. AreGlanced m k l1 xs1 made1) (sym same) (first h)))
 
 -- ---- what was done
 
@@ -89,7 +109,8 @@ sites_same n [] op = refl
 sites_same n (Request first ∷ xs) op = sites_same (suc n) xs op
 sites_same n (Glance a ∷ xs) op = ap (λ l. (n, a) ∷ l) (sites_same n xs op)
 
-sites_more : (n k : ℕ) (xs : List Intent) (address : ℕ) → k ≡ n + requests xs → sites n (xs ++ Glance address ∷ []) ≡ sites n xs ++ (k, address) ∷ []
+sites_more : (n k : ℕ) (xs : List Intent) (address : ℕ) → k ≡ n + requests xs → sites n (xs ++ Glance address ∷ [])
+    ≡ sites n xs ++ (k, address) ∷ []
 sites_more n k [] address is = let same : n ≡ k = omega (arith, is) in ap (λ i. (i, address) ∷ []) same
 sites_more n k (Request op ∷ xs) address is = sites_more (suc n) k xs address (omega (arith, is))
 sites_more n k (Glance a ∷ xs) address is = ap (λ l. (n, a) ∷ l) (sites_more n k xs address is)
@@ -102,38 +123,49 @@ more_counted : (a b c n : ℕ) → a ≡ b + 1 → b ≡ c → n ≡ suc c → a
 more_counted a b c n e f g = omega (arith, e, f, g)
 
 -- a request more
-pub done_request : {T E : Type 0} (r : Result T E) (entries entries' : List Entry) (made made' : List Glanced) (op : Op) (intent : Intent) → intent ≡ Request op → OnOk r (length entries' ≡ length entries + 1) → made' ≡ made
+pub done_request : {T E : Type 0} (r : Result T E) (entries entries' : List Entry) (made made' : List Glanced)
+    (op : Op) (intent : Intent) → intent ≡ Request op → OnOk r (length entries' ≡ length entries + 1) → made' ≡ made
     → OnOk r ((intents : List Intent) → AreDone entries made intents → AreDone entries' made' (intents ++ intent ∷ []))
-done_request r entries entries' made made' op intent is more same = on_ok r (λ counted intents d. subst (λ (i : Intent). AreDone entries' made' (intents ++ i ∷ [])) (sym is) (record {
-  count = more_counted _ _ _ _ counted d.count (requests_more intents op);
-  places = ap (map (λ (g : Glanced). (g.behind, g.address))) same ∙ d.places ∙ sym (sites_same 0 intents op);
-})) more
+done_request r entries entries' made made' op intent is more same = on_ok r
+    (λ counted intents d. subst (λ (i : Intent). AreDone entries' made' (intents ++ i ∷ [])) (sym is) (record {
+      count = more_counted _ _ _ _ counted d.count (requests_more intents op);
+      places = ap (map (λ (g : Glanced). (g.behind, g.address))) same ∙ d.places ∙ sym (sites_same 0 intents op);
+    })) more
 
 behind_all : (n k m : ℕ) → n ≡ k → k ≡ m → n ≡ 0 + m
 behind_all n k m e f = omega (arith, e, f)
 
 -- a glance more
-pub done_glance : {T E : Type 0} (r : Result T E) (entries : List Entry) (made made' : List Glanced) (behind address : ℕ) (after value : Option ℕ) (intent : Intent) → intent ≡ Glance address → behind ≡ length entries
+pub done_glance : {T E : Type 0} (r : Result T E) (entries : List Entry) (made made' : List Glanced)
+    (behind address : ℕ) (after value : Option ℕ) (intent : Intent) → intent ≡ Glance address → behind ≡ length entries
     → OnOk r (made' ≡ made ++ record { behind = behind; after = after; address = address; value = value } ∷ [])
     → OnOk r ((intents : List Intent) → AreDone entries made intents → AreDone entries made' (intents ++ intent ∷ []))
-done_glance r entries made made' behind address after value intent asks at more = on_ok r (λ is intents d. subst (λ (i : Intent). AreDone entries made' (intents ++ i ∷ [])) (sym asks) (record {
-  count = d.count ∙ sym (requests_same intents address);
-  places = ap (map (λ (g : Glanced). (g.behind, g.address))) is ∙ map-append (λ (g : Glanced). (g.behind, g.address)) made _
-      ∙ ap (λ l. l ++ (behind, address) ∷ []) d.places ∙ sym (sites_more 0 behind intents address (behind_all _ _ _ at d.count));
-})) more
+done_glance r entries made made' behind address after value intent asks at more = on_ok r
+    (λ is intents d. subst (λ (i : Intent). AreDone entries made' (intents ++ i ∷ [])) (sym asks) (record {
+      count = d.count ∙ sym (requests_same intents address);
+      places = ap (map (λ (g : Glanced). (g.behind, g.address))) is
+          ∙ map-append (λ (g : Glanced). (g.behind, g.address)) made _
+          ∙ ap (λ l. l ++ (behind, address) ∷ []) d.places
+          ∙ sym (sites_more 0 behind intents address (behind_all _ _ _ at d.count));
+    })) more
 
 -- one thing after another
-pub done_then : (e0 e1 e2 : List Entry) (g0 g1 g2 : List Glanced) (xs0 xs1 xs2 : List Intent) (intent : Intent) → (AreDone e0 g0 xs0 → AreDone e1 g1 xs1)
-    → ((before : List Intent) → AreDone e1 g1 before → AreDone e2 g2 (before ++ intent ∷ [])) → xs2 ≡ xs1 ++ intent ∷ [] → AreDone e0 g0 xs0 → AreDone e2 g2 xs2
+pub done_then : (e0 e1 e2 : List Entry) (g0 g1 g2 : List Glanced) (xs0 xs1 xs2 : List Intent) (intent : Intent)
+    → (AreDone e0 g0 xs0 → AreDone e1 g1 xs1)
+    → ((before : List Intent) → AreDone e1 g1 before → AreDone e2 g2 (before ++ intent ∷ [])) → xs2
+    ≡ xs1 ++ intent ∷ [] → AreDone e0 g0 xs0 → AreDone e2 g2 xs2
 done_then e0 e1 e2 g0 g1 g2 xs0 xs1 xs2 intent first second is d = subst (AreDone e2 g2) (sym is) (second xs1 (first d))
 
 one_more : (a b k n l m : ℕ) → a ≡ b + 1 → b + k ≡ n + l → m ≡ l + 1 → a + k ≡ n + m
 one_more a b k n l m e f g = omega (arith, e, f, g)
 
 -- and so one more was received
-pub counted_then : (a b k n : ℕ) (xs ys : List Intent) (intent : Intent) → a ≡ b + 1 → b + k ≡ n + length xs → ys ≡ xs ++ intent ∷ [] → a + k ≡ n + length ys
-counted_then a b k n xs ys intent e f is = one_more a b k n (length xs) (length ys) e f (ap length is ∙ length-append xs (intent ∷ []))
+pub counted_then : (a b k n : ℕ) (xs ys : List Intent) (intent : Intent) → a ≡ b + 1 → b + k ≡ n + length xs → ys
+    ≡ xs ++ intent ∷ [] → a + k ≡ n + length ys
+counted_then a b k n xs ys intent e f is = one_more a b k n (length xs) (length ys) e f
+    (ap length is ∙ length-append xs (intent ∷ []))
 
 -- a beginning of more
-pub begun_more : (e : List Entry) (g : List Glanced) (xs ys : List Intent) → IsPrefix xs ys → HasBegun e g xs → HasBegun e g ys
+pub begun_more : (e : List Entry) (g : List Glanced) (xs ys : List Intent) → IsPrefix xs ys → HasBegun e g xs
+    → HasBegun e g ys
 begun_more e g xs ys within it = (it.0, prefix_trans it.0 xs ys it.1 within, it.2)

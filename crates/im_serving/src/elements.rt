@@ -1,5 +1,6 @@
 //! All elements at once: for each one thread that sends and one that serves, beside the thread that keeps checkpoints.
-ghost use Rattle.std.specs.Prelude.{◌≡◌, ◌⊎◌, ◌≤◌, [], Err, false, true, IfOk, IfErr, MatchResult, length, vec_capacity};
+ghost use Rattle.std.specs.Prelude.{◌≡◌, ◌⊎◌, ◌≤◌, [], Err, false, true, IfOk, IfErr, MatchResult, length};
+ghost use Rattle.std.specs.Prelude.{vec_capacity};
 ghost use mathlib.Core.List.{IsPrefix};
 ghost use Rattle.im_types.specs.declared.refusals.Refusal.TheVariants.{NoMemory};
 ghost use Rattle.im_pipes.specs.Ends.{AreNewEnds};

@@ -1,11 +1,20 @@
 -- An entry on one level, and what it shows.
 use Rattle.std.specs.Prelude.{◌≡◌, refl, Option, None, Some}
 use Rattle.im_types.specs.declared.operations.Reply.{Reply}
-use Rattle.im_types.specs.declared.operations.Reply.TheVariants.{Base, NoSpace, BadLength, Value, Stored, Clash, NoCell, WrongKind, Released, NoBlock, StillWaiting, Cleared}
+use Rattle.im_types.specs.declared.operations.Reply.TheVariants.{Base, NoSpace, BadLength, Value, Stored, Clash}
+use Rattle.im_types.specs.declared.operations.Reply.TheVariants.{NoCell, WrongKind, Released, NoBlock, StillWaiting}
+use Rattle.im_types.specs.declared.operations.Reply.TheVariants.{Cleared}
 use Rattle.im_types.specs.declared.operations.Entry.{Entry}
 use Rattle.im_types.specs.declared.operations.Entry.TheVariants.{Waiting, Answered}
 use Rattle.im_sessions.specs.declared.place.Held.{Held}
-use Rattle.im_sessions.specs.declared.place.Held.TheVariants.{Waiting as HeldWaiting, Base as HeldBase, NoSpace as HeldNoSpace, BadLength as HeldBadLength, Value as HeldValue, Stored as HeldStored, Clash as HeldClash, NoCell as HeldNoCell, WrongKind as HeldWrongKind, Released as HeldReleased, NoBlock as HeldNoBlock, StillWaiting as HeldStillWaiting, Cleared as HeldCleared}
+use Rattle.im_sessions.specs.declared.place.Held.TheVariants.{Waiting as HeldWaiting, Base as HeldBase}
+use Rattle.im_sessions.specs.declared.place.Held.TheVariants.{NoSpace as HeldNoSpace, BadLength as HeldBadLength}
+use Rattle.im_sessions.specs.declared.place.Held.TheVariants.{Value as HeldValue, Stored as HeldStored}
+use Rattle.im_sessions.specs.declared.place.Held.TheVariants.{Clash as HeldClash, NoCell as HeldNoCell}
+use Rattle.im_sessions.specs.declared.place.Held.TheVariants.{WrongKind as HeldWrongKind, Released as HeldReleased}
+use Rattle.im_sessions.specs.declared.place.Held.TheVariants.{NoBlock as HeldNoBlock}
+use Rattle.im_sessions.specs.declared.place.Held.TheVariants.{StillWaiting as HeldStillWaiting}
+use Rattle.im_sessions.specs.declared.place.Held.TheVariants.{Cleared as HeldCleared}
 
 -- an answer as it is held
 abbrev pub held_by : Reply → Held

@@ -7,7 +7,9 @@ use Rattle.im_types.specs.declared.operations.Op.TheVariants.{Alloc, Release, Re
 use Rattle.im_types.specs.declared.operations.Kind.{Kind}
 use Rattle.im_types.specs.declared.operations.Kind.TheVariants.{I, M}
 use Rattle.im_types.specs.declared.operations.Reply.{Reply}
-use Rattle.im_types.specs.declared.operations.Reply.TheVariants.{Base, NoSpace, BadLength, Value, Stored, Clash, NoCell, WrongKind, Released, NoBlock, StillWaiting, Cleared}
+use Rattle.im_types.specs.declared.operations.Reply.TheVariants.{Base, NoSpace, BadLength, Value, Stored, Clash}
+use Rattle.im_types.specs.declared.operations.Reply.TheVariants.{NoCell, WrongKind, Released, NoBlock, StillWaiting}
+use Rattle.im_types.specs.declared.operations.Reply.TheVariants.{Cleared}
 use Rattle.im_types.specs.declared.operations.Entry.{Entry}
 use Rattle.im_types.specs.declared.operations.Entry.TheVariants.{Waiting, Answered}
 use Rattle.im_types.specs.Agreement.{address_of}

@@ -1,6 +1,7 @@
 -- What a memory contains: cells with presence states, and a window of kept replies for each element.
 -- (Presence states and deferred requests: Arvind, Nikhil, Pingali, TOPLAS 11(4), 1989. Windows: own.)
-use Rattle.std.specs.Prelude.{ℕ, List, [], Option, None, Some, slice_get, slice_index_or, option_and_then, ◌-◌, nat_lt, if◌then◌else◌, replicate, ◌≡◌, ◌+◌, ◌<◌, ◌≤◌, length, option_map}
+use Rattle.std.specs.Prelude.{ℕ, List, [], Option, None, Some, slice_get, slice_index_or, option_and_then, ◌-◌}
+use Rattle.std.specs.Prelude.{nat_lt, if◌then◌else◌, replicate, ◌≡◌, ◌+◌, ◌<◌, ◌≤◌, length, option_map}
 use Rattle.im_types.specs.declared.operations.Kind.{Kind}
 use Rattle.im_types.specs.declared.operations.Kind.TheVariants.{I, M}
 use Rattle.im_types.specs.declared.operations.Waiter.{Waiter}

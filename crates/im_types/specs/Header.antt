@@ -1,5 +1,6 @@
 -- The headers of an image, and which of them is in force. (Own.)
-use Rattle.std.specs.Prelude.{ℕ, ◌+◌, List, ◌∷◌, ◌++◌, length, Bool, ◌&&◌, ◌||◌, ◌==◌, nat_lt, nat_le, not, Option, None, Some, is_none, if◌then◌else◌, slice_index, slice_range}
+use Rattle.std.specs.Prelude.{ℕ, ◌+◌, List, ◌∷◌, ◌++◌, length, Bool, ◌&&◌, ◌||◌, ◌==◌, nat_lt, nat_le, not, Option}
+use Rattle.std.specs.Prelude.{None, Some, is_none, if◌then◌else◌, slice_index, slice_range}
 use Rattle.byteorder.specs.Endian.{little_bytes}
 use Rattle.im_types.specs.declared.TheConstants.{LAST}
 use Rattle.im_types.specs.declared.refusals.Refusal.{Refusal}

@@ -1,6 +1,8 @@
 -- Laws over whole histories of requests. They count, and know no states of cells. (Own; what they say of one cell:
 -- Arvind, Nikhil, Pingali, TOPLAS 11(4), 1989, and Barth, Nikhil, Arvind, 1991.)
-use Rattle.std.specs.Prelude.{◌≡◌, ℕ, ◌+◌, ◌<◌, ◌≤◌, List, [], ◌∷◌, ◌++◌, length, Bool, false, ◌||◌, ◌&&◌, Option, None, Some, slice_get, nat_lt, ◌==◌, if◌then◌else◌, filter_map, count_by, is_some, option_map, IfSome}
+use Rattle.std.specs.Prelude.{◌≡◌, ℕ, ◌+◌, ◌<◌, ◌≤◌, List, [], ◌∷◌, ◌++◌, length, Bool, false, ◌||◌, ◌&&◌, Option}
+use Rattle.std.specs.Prelude.{None, Some, slice_get, nat_lt, ◌==◌, if◌then◌else◌, filter_map, count_by, is_some}
+use Rattle.std.specs.Prelude.{option_map, IfSome}
 use Rattle.std.specs.List.{AllByRecursion}
 use Rattle.im_types.specs.declared.operations.Op.{Op}
 use Rattle.im_types.specs.declared.operations.Op.TheVariants.{Alloc, Release, Reset, Fetch, Store, Take, Put}

@@ -1,5 +1,7 @@
 -- The journal: a ring of slots, the run of commands in it, and the room behind the run. (Own.)
-use Rattle.std.specs.Prelude.{◌≡◌, ℕ, zero, suc, ◌+◌, ◌*◌, ◌-◌, ◌%◌, List, [], ◌∷◌, take, drop, length, Bool, true, false, ◌&&◌, ◌==◌, nat_lt, nat_le, Option, None, Some, option_map, option_and_then, if◌then◌else◌}
+use Rattle.std.specs.Prelude.{◌≡◌, ℕ, zero, suc, ◌+◌, ◌*◌, ◌-◌, ◌%◌, List, [], ◌∷◌, take, drop, length, Bool, true}
+use Rattle.std.specs.Prelude.{false, ◌&&◌, ◌==◌, nat_lt, nat_le, Option, None, Some, option_map, option_and_then}
+use Rattle.std.specs.Prelude.{if◌then◌else◌}
 use Rattle.im_types.specs.declared.TheConstants.{LAST, MAX_GROUP}
 use Rattle.im_types.specs.declared.commands.Command.{Command}
 use Rattle.im_types.specs.Slot.{is_open, sequence_of, group_of, read_in}

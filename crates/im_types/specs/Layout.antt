@@ -1,5 +1,6 @@
 -- Where things stand in an image. (Own.)
-use Rattle.std.specs.Prelude.{ℕ, ◌+◌, ◌*◌, ◌/◌, ◌-◌, List, take, drop, Bool, true, false, ◌&&◌, nat_le, ◌==◌, if◌then◌else◌, slice_range}
+use Rattle.std.specs.Prelude.{ℕ, ◌+◌, ◌*◌, ◌/◌, ◌-◌, List, take, drop, Bool, true, false, ◌&&◌, nat_le, ◌==◌}
+use Rattle.std.specs.Prelude.{if◌then◌else◌, slice_range}
 use Rattle.im_types.specs.declared.TheConstants.{MAX_ELEMENTS, MIN_SLOTS, MAX_SLOTS}
 use Rattle.im_types.specs.declared.layout.Version.{Version}
 use Rattle.im_types.specs.declared.layout.Version.TheVariants.{One, Two}

@@ -3,7 +3,8 @@
 use Rattle.std.specs.Prelude.{[], ◌∷◌, Option, option_map}
 use Rattle.im_types.specs.Contents.{CellState, Empty, Full, Clashed, Held}
 use Rattle.im_types.specs.declared.cells.Cell.{Cell}
-use Rattle.im_types.specs.declared.cells.Cell.TheVariants.{Empty as IsEmpty, Waiting as IsWaiting, Full as IsFull, Clashed as IsClashed}
+use Rattle.im_types.specs.declared.cells.Cell.TheVariants.{Empty as IsEmpty, Waiting as IsWaiting, Full as IsFull}
+use Rattle.im_types.specs.declared.cells.Cell.TheVariants.{Clashed as IsClashed}
 
 -- the presence tag of a state
 abbrev pub presence_of : CellState → Cell

@@ -1,5 +1,6 @@
 -- A command in a journal slot of 64 bytes: a gate, and behind it the command's fields. (Own.)
-use Rattle.std.specs.Prelude.{ℕ, ◌<◌, ◌^◌, List, ◌∷◌, ◌++◌, drop, Bool, ◌==◌, Option, None, Some, if◌then◌else◌, slice_index, option_and_then}
+use Rattle.std.specs.Prelude.{ℕ, ◌<◌, ◌^◌, List, ◌∷◌, ◌++◌, drop, Bool, ◌==◌, Option, None, Some, if◌then◌else◌}
+use Rattle.std.specs.Prelude.{slice_index, option_and_then}
 use Rattle.byteorder.specs.Endian.{little_bytes}
 use Rattle.im_types.specs.declared.operations.Op.{Op}
 use Rattle.im_types.specs.declared.operations.Op.TheVariants.{Alloc, Release, Reset, Fetch, Store, Take, Put}

@@ -1,5 +1,7 @@
 -- Windows: which request is new, which is known, which is refused; and what is kept. (Own.)
-use Rattle.std.specs.Prelude.{ℕ, ◌+◌, ◌-◌, max, zero, suc, List, [], ◌∷◌, ◌++◌, drop, take, length, Bool, true, false, ◌&&◌, ◌||◌, Option, None, Some, Result, Ok, Err, slice_get, slice_set, slice_index_or, nat_lt, ◌==◌, if◌then◌else◌}
+use Rattle.std.specs.Prelude.{ℕ, ◌+◌, ◌-◌, max, zero, suc, List, [], ◌∷◌, ◌++◌, drop, take, length, Bool, true, false}
+use Rattle.std.specs.Prelude.{◌&&◌, ◌||◌, Option, None, Some, Result, Ok, Err, slice_get, slice_set, slice_index_or}
+use Rattle.std.specs.Prelude.{nat_lt, ◌==◌, if◌then◌else◌}
 use Rattle.std.specs.List.{list_any}
 use Rattle.im_types.specs.declared.TheConstants.{WINDOW, LAST}
 use Rattle.im_types.specs.declared.operations.Op.{Op}
@@ -13,7 +15,8 @@ use Rattle.im_types.specs.declared.commands.Request.{Request}
 use Rattle.im_types.specs.declared.commands.Judged.{Judged}
 use Rattle.im_types.specs.declared.commands.Judged.TheVariants.{Fresh, Repeat}
 use Rattle.im_types.specs.declared.refusals.Refusal.{Refusal}
-use Rattle.im_types.specs.declared.refusals.Refusal.TheVariants.{Gap, Forgotten, WindowFull, Mismatch, NoElement, NotAnswered}
+use Rattle.im_types.specs.declared.refusals.Refusal.TheVariants.{Gap, Forgotten, WindowFull, Mismatch, NoElement}
+use Rattle.im_types.specs.declared.refusals.Refusal.TheVariants.{NotAnswered}
 use Rattle.im_types.specs.Contents.{Window, new_window}
 use Rattle.im_types.specs.Act.{same_kind}
 

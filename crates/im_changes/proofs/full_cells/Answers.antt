@@ -9,4 +9,6 @@ use Rattle.im_changes.proofs.full_cells.Goals as goal
 pub returns-clause-below : goal.returns-clause-below
 returns-clause-below c =
     let m = c.args.memory.now.contents in
-    subst (λ (xs : List Change). AllByRecursion (λ change. is_below (length m.cells) change ≡ true) xs) (sym (fills-all m c.loop-a.changes.items c.loop-a.a (omega (arith, c.cells-a-end.ensures.count)) c.loop-a.invariant)) (opening-below m)
+    subst (λ (xs : List Change). AllByRecursion (λ change. is_below (length m.cells) change ≡ true) xs)
+    (sym (fills-all m c.loop-a.changes.items c.loop-a.a
+    (omega (arith, c.cells-a-end.ensures.count)) c.loop-a.invariant)) (opening-below m)

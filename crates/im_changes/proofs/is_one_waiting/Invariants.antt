@@ -3,4 +3,5 @@ use Rattle.im_changes.proofs.CellLemmas.{waits_in}
 use Rattle.im_changes.proofs.is_one_waiting.Given as goal
 
 abbrev pub invariant-loop-i : goal.invariant-loop-i
-invariant-loop-i l = waits_in l.memory.contents.cells (l.base + l.i) (l.count - l.i) ≡ waits_in l.memory.contents.cells l.base l.count
+invariant-loop-i l = waits_in l.memory.contents.cells (l.base + l.i) (l.count - l.i)
+    ≡ waits_in l.memory.contents.cells l.base l.count

@@ -20,5 +20,6 @@ loop-reader-preserved c =
 pub returns-clause-cells : goal.returns-clause-cells
 returns-clause-cells c = λ slots but.
     cells-list c.args.arena.now c.next_reader.new.arena c.args.a []
-    (ap (λ (x : Shown). x.held) c.in_default.ensures.none ∙ emptied c.loop-reader.arena c.args.a (no_front _ c.in_default.ensures.first) ∙ c.loop-reader.invariant.rest)
+    (ap (λ (x : Shown). x.held) c.in_default.ensures.none
+    ∙ emptied c.loop-reader.arena c.args.a (no_front _ c.in_default.ensures.first) ∙ c.loop-reader.invariant.rest)
     slots but

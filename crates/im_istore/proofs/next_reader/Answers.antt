@@ -27,4 +27,5 @@ pub returns-clause-whole : goal.returns-clause-whole
 returns-clause-whole c = λ slots but.
     let new = AgreeBut-list c.args.arena.now c.pop_front.new.self c.args.a _ c.pop_front.ensures.rest slots but in
     whole_if c.pop_front.result _ (λ none. Agree-drained slots c.pop_front.new.self c.args.a new
-    (ap (λ (x : Shown). list_at x.held c.args.a) (if_none _ _ c.pop_front.ensures.none none) ∙ no_first _ (sym none ∙ c.pop_front.ensures.first)))
+    (ap (λ (x : Shown). list_at x.held c.args.a) (if_none _ _ c.pop_front.ensures.none none)
+    ∙ no_first _ (sym none ∙ c.pop_front.ensures.first)))

@@ -4,4 +4,5 @@ use Rattle.im_journal.proofs.Tails.{boundaries_elsewhere}
 use Rattle.im_meaning.proofs.boundaries_are_of_the_journal.Goals as goal
 
 pub returns : goal.returns
-returns c = λ l h file written at n but some low. boundaries_elsewhere (ring_of l h.sizes) h.count at n file written some (inl low) but
+returns c = λ l h file written at n but some low. boundaries_elsewhere
+    (ring_of l h.sizes) h.count at n file written some (inl low) but

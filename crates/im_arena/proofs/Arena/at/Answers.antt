@@ -1,14 +1,17 @@
 use Rattle.std.proofs.Common.{◌≡◌, arith, sym, ap, ◌∙◌, Some}
 use Rattle.im_arena.specs.Chain.{place_from}
 use Rattle.im_arena.specs.Table.{next_of, waiter_of}
-use Rattle.im_arena.proofs.Views.{inside-held, list_at-read, at_end, not_end, place-read, step-read, past-read, slice_get-along, waiter-read}
+use Rattle.im_arena.proofs.Views.{inside-held, list_at-read, at_end, not_end, place-read, step-read, past-read}
+use Rattle.im_arena.proofs.Views.{slice_get-along, waiter-read}
 use Rattle.im_arena.proofs.Arena.at.Goals as goal
 
 pub returns-then-node : goal.returns-then-node
 returns-then-node c =
     let inside = inside-held _ _ _ _ c.self.invariant _ (rw (← c.self.view_is) at c.requires) in
     let end = at_end _ _ _ _ c.self.invariant _ c.index.result.now inside c.index.ensures c.loop-step._step c.loop-step.invariant.before (sym c.loop-step.invariant.node ∙ c.if-node.true) in
-    rw (← c.self.view_is) (sym (past-read _ _ _ _ c.self.invariant _ c.index.result.now inside c.index.ensures c.args.place (omega arith)))
+    rw (← c.self.view_is)
+    (sym (past-read _ _ _ _ c.self.invariant _ c.index.result.now inside c.index.ensures c.args.place
+    (omega arith)))
 
 pub index-requires-in-loop-step : goal.index-requires-in-loop-step
 index-requires-in-loop-step c =
@@ -29,7 +32,9 @@ pub returns-then-node-2 : goal.returns-then-node-2
 returns-then-node-2 c =
     let inside = inside-held _ _ _ _ c.self.invariant _ (rw (← c.self.view_is) at c.requires) in
     let end = at_end _ _ _ _ c.self.invariant _ c.index.result.now inside c.index.ensures c.loop-step._step c.loop-step.invariant.before (sym c.loop-step.invariant.node ∙ c.if-node-2.true) in
-    rw (← c.self.view_is) (sym (past-read _ _ _ _ c.self.invariant _ c.index.result.now inside c.index.ensures c.args.place (omega arith)))
+    rw (← c.self.view_is)
+    (sym (past-read _ _ _ _ c.self.invariant _ c.index.result.now inside c.index.ensures c.args.place
+    (omega arith)))
 
 pub index-requires-2 : goal.index-requires-2
 index-requires-2 c =
@@ -47,5 +52,8 @@ returns c =
     let at : c.loop-step.node ≡ place_from (next_of c.self.inside.nodes.items) c.index.result.now.first c.args.place =
     is ∙ ap (place_from (next_of c.self.inside.nodes.items) c.index.result.now.first) done in
     rw (← c.self.view_is, list_at-read _ _ _ _ c.self.invariant _ c.index.result.now inside c.index.ensures)
-    (sym (slice_get-along (waiter_of c.self.inside.nodes.items) (next_of c.self.inside.nodes.items) c.index.result.now.first _ c.args.place (omega arith)
-    ∙ ap Some (ap (waiter_of c.self.inside.nodes.items) (sym at) ∙ sym (waiter-read c.self.inside.nodes.items c.loop-step.node c.index-2.result.now (omega arith) c.index-2.ensures) ∙ sym c.waiter.ensures)))
+    (sym (slice_get-along (waiter_of c.self.inside.nodes.items)
+    (next_of c.self.inside.nodes.items) c.index.result.now.first _ c.args.place (omega arith)
+    ∙ ap Some (ap (waiter_of c.self.inside.nodes.items) (sym at)
+    ∙ sym (waiter-read c.self.inside.nodes.items c.loop-step.node c.index-2.result.now
+    (omega arith) c.index-2.ensures) ∙ sym c.waiter.ensures)))

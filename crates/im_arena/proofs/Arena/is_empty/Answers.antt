@@ -8,6 +8,7 @@ pub returns : goal.returns
 returns c =
     let inside = inside-held _ _ _ _ c.self.invariant _ (rw (← c.self.view_is) at c.requires) in
     rw (← c.self.view_is) (
-      λ none. none-first _ _ _ _ c.self.invariant _ c.index.result.now inside c.index.ensures (grind (arith, nat_tests)),
+      λ none. none-first _ _ _ _ c.self.invariant _ c.index.result.now inside c.index.ensures
+          (grind (arith, nat_tests)),
       λ empty. let none = first-none _ _ _ _ c.self.invariant _ c.index.result.now inside c.index.ensures empty in eq-eqb _ _ (omega arith),
     )

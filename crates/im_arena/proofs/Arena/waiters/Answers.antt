@@ -15,4 +15,6 @@ from-requires c =
 
 pub returns : goal.returns
 returns c =
-    rw (← c.self.view_is, c.from.ensures, c.deref.ensures.value) (ap (waiters_from c.self.inside.nodes.items) (omega arith) ∙ sym (list_at-read _ _ _ _ c.self.invariant _ c.index.result.now (omega arith) c.index.ensures))
+    rw (← c.self.view_is, c.from.ensures, c.deref.ensures.value)
+    (ap (waiters_from c.self.inside.nodes.items) (omega arith)
+    ∙ sym (list_at-read _ _ _ _ c.self.invariant _ c.index.result.now (omega arith) c.index.ensures))

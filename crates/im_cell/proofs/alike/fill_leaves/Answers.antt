@@ -1,4 +1,5 @@
-use Rattle.std.proofs.Common.{◌≡◌, ℕ, ◌+◌, ◌-◌, ◌*◌, ◌/◌, length, map, replicate, take, drop, inl, inr, ap, sym, ◌∙◌, subst, arith}
+use Rattle.std.proofs.Common.{◌≡◌, ℕ, ◌+◌, ◌-◌, ◌*◌, ◌/◌, length, map, replicate, take, drop, inl, inr, ap, sym, ◌∙◌}
+use Rattle.std.proofs.Common.{subst, arith}
 use Rattle.std.specs.Prelude.{max}
 use Rattle.std.proofs.lemmas.Bool.{cases_eq}
 use Rattle.std.proofs.lemmas.List.{length-map}
@@ -45,18 +46,31 @@ returns-clause-leaves c =
     let before = seen c.args.same.now (slots_of c.args.records.now) in
     let cells = map mark (seen c.fill_seen.new.same (slots_of c.fill_seen.new.records)) in
     let is : cells ≡ fill (map mark before) c.args.base c.args.n (mark x) =
-    ap (map mark) (c.fill_seen.ensures ∙ ap (λ s. fill s c.args.base c.args.n x) (c.write_out_around-2.ensures.seen ∙ c.write_out_around.ensures.seen)) ∙ marks-fill before c.args.base c.args.n x in
-    let long : length (map mark before) ≡ length c.args.records.now = length-map before mark ∙ length-seen c.args.same.now (slots_of c.args.records.now) ∙ length-map c.args.records.now slot_of in
+    ap (map mark) (c.fill_seen.ensures
+    ∙ ap (λ s. fill s c.args.base c.args.n x)
+    (c.write_out_around-2.ensures.seen ∙ c.write_out_around.ensures.seen))
+    ∙ marks-fill before c.args.base c.args.n x in
+    let long : length (map mark before) ≡ length c.args.records.now = length-map before mark
+    ∙ length-seen c.args.same.now (slots_of c.args.records.now) ∙ length-map c.args.records.now slot_of in
     subst (HasLeaves PART new) (sym is)
-    (HasLeaves-filled c.args.nodes.now new (map mark before) c.args.base c.args.n (mark x) c.requires.leaves c.requires.some c.put_leaves.auto.nodes
+    (HasLeaves-filled c.args.nodes.now new (map mark before) c.args.base c.args.n
+    (mark x) c.requires.leaves c.requires.some c.put_leaves.auto.nodes
     (λ j low high. subst (λ ys. IsLeaf PART new ys j) is (elim (cases_eq j first) [
-      | inl here ↦ IsLeaf-of PART c.args.nodes.now new cells (part_at PART cells first) j c.sum_up_seen-low.result c.put_leaves.auto.nodes
-          (ap (λ k. node_at new (leaves_of c.args.nodes.now + k)) here ∙ c.put_leaves.ensures.first) (ap (part_at PART cells) (sym here)) c.sum_up_seen-low.ensures
+      | inl here ↦ IsLeaf-of PART c.args.nodes.now new cells
+          (part_at PART cells first) j c.sum_up_seen-low.result c.put_leaves.auto.nodes
+          (ap (λ k. node_at new (leaves_of c.args.nodes.now + k)) here ∙ c.put_leaves.ensures.first)
+          (ap (part_at PART cells) (sym here)) c.sum_up_seen-low.ensures
       | inr past ↦ elim (cases_eq j last) [
-        | inl there ↦ IsLeaf-of PART c.args.nodes.now new cells (part_at PART cells last) j c.sum_up_seen-high.result c.put_leaves.auto.nodes
-            (ap (λ k. node_at new (leaves_of c.args.nodes.now + k)) there ∙ c.put_leaves.ensures.last) (ap (part_at PART cells) (sym there)) c.sum_up_seen-high.ensures
-        | inr between ↦ IsLeaf-of PART c.args.nodes.now new cells (map mark (replicate PART x)) j c.sum_up_same.result c.put_leaves.auto.nodes (c.put_leaves.ensures.between j (omega arith) (omega arith))
-            (sym (ap (λ ys. part_at PART ys j) is ∙ part-within PART (map mark before) c.args.base c.args.n x j (omega arith) (omega arith) (omega (arith, long, c.requires.inside)))) c.sum_up_same.ensures
+        | inl there ↦ IsLeaf-of PART c.args.nodes.now new cells
+            (part_at PART cells last) j c.sum_up_seen-high.result c.put_leaves.auto.nodes
+            (ap (λ k. node_at new (leaves_of c.args.nodes.now + k)) there ∙ c.put_leaves.ensures.last)
+            (ap (part_at PART cells) (sym there)) c.sum_up_seen-high.ensures
+        | inr between ↦ IsLeaf-of PART c.args.nodes.now new cells
+            (map mark (replicate PART x)) j c.sum_up_same.result c.put_leaves.auto.nodes
+            (c.put_leaves.ensures.between j (omega arith) (omega arith))
+            (sym (ap (λ ys. part_at PART ys j) is
+            ∙ part-within PART (map mark before) c.args.base c.args.n x j (omega arith) (omega arith)
+            (omega (arith, long, c.requires.inside)))) c.sum_up_same.ensures
       ]
     ])) c.put_leaves.ensures.others)
 
@@ -68,10 +82,16 @@ returns-clause-sum c =
     let before = seen c.args.same.now (slots_of c.args.records.now) in
     let cells = map mark (seen c.fill_seen.new.same (slots_of c.fill_seen.new.records)) in
     let is : cells ≡ fill (map mark before) c.args.base c.args.n (mark x) =
-    ap (map mark) (c.fill_seen.ensures ∙ ap (λ s. fill s c.args.base c.args.n x) (c.write_out_around-2.ensures.seen ∙ c.write_out_around.ensures.seen)) ∙ marks-fill before c.args.base c.args.n x in
-    let long : length (map mark before) ≡ length c.args.records.now = length-map before mark ∙ length-seen c.args.same.now (slots_of c.args.records.now) ∙ length-map c.args.records.now slot_of in
+    ap (map mark) (c.fill_seen.ensures
+    ∙ ap (λ s. fill s c.args.base c.args.n x)
+    (c.write_out_around-2.ensures.seen ∙ c.write_out_around.ensures.seen))
+    ∙ marks-fill before c.args.base c.args.n x in
+    let long : length (map mark before) ≡ length c.args.records.now = length-map before mark
+    ∙ length-seen c.args.same.now (slots_of c.args.records.now) ∙ length-map c.args.records.now slot_of in
     let upto : c.max.result ≡ to = omega (arith, c.max.ensures) in
     c.sum_around.ensures cells (returns-clause-leaves c)
-    (ap (λ k. take ((k - (first + 1)) * PART) (drop ((first + 1) * PART) cells)) upto ∙ ap (λ xs. take ((to - (first + 1)) * PART) (drop ((first + 1) * PART) xs)) is
-    ∙ same-within (map mark before) c.args.base c.args.n x (first + 1) to (omega arith) (omega arith) (λ some. omega arith) (omega (arith, long, c.requires.inside))
+    (ap (λ k. take ((k - (first + 1)) * PART) (drop ((first + 1) * PART) cells)) upto
+    ∙ ap (λ xs. take ((to - (first + 1)) * PART) (drop ((first + 1) * PART) xs)) is
+    ∙ same-within (map mark before) c.args.base c.args.n x (first + 1) to (omega arith) (omega arith)
+    (λ some. omega arith) (omega (arith, long, c.requires.inside))
     ∙ ap (λ k. map mark (replicate ((k - (first + 1)) * PART) x)) (sym upto))

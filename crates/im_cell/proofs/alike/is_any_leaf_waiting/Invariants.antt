@@ -7,4 +7,5 @@ use Rattle.im_cell.specs.Chunks.{seen}
 use Rattle.im_cell.proofs.alike.is_any_leaf_waiting.Given as goal
 
 abbrev pub invariant-loop-leaf : goal.invariant-loop-leaf
-invariant-loop-leaf l = list_any is_waiting (take (l.leaf * PART - l.from * PART) (drop (l.from * PART) (seen l.same (slots_of l.records)))) ≡ false
+invariant-loop-leaf l = list_any is_waiting
+    (take (l.leaf * PART - l.from * PART) (drop (l.from * PART) (seen l.same (slots_of l.records)))) ≡ false

@@ -15,8 +15,10 @@ returns-then-is_same c =
     let same = c.args.same.now in
     let first : ℕ = c.args.from / PART * PART in
     let flag = sym c.is_same.ensures ∙ c.if-is_same.true in
-    c.is_waiting.ensures ∙ ap is_waiting (slot-there records first _ (omega (arith, c.requires.order, c.requires.inside)))
-    ∙ any-alike is_waiting c.args.from (c.args.to - c.args.from) (seen same slots) (slot_at slots first) (omega (arith, c.requires.order, c.if-from-to.false))
+    c.is_waiting.ensures ∙ ap is_waiting
+    (slot-there records first _ (omega (arith, c.requires.order, c.requires.inside)))
+    ∙ any-alike is_waiting c.args.from (c.args.to - c.args.from) (seen same slots) (slot_at slots first)
+    (omega (arith, c.requires.order, c.if-from-to.false))
     (omega (arith, c.requires.order, c.requires.inside, length-seen same slots, length-map records slot_of))
     (λ k low high.
     let near : k / PART ≡ c.args.from / PART = omega (arith, c.requires.leaf, c.requires.order) in
@@ -30,6 +32,10 @@ returns-else-is_same c =
     let same = c.args.same.now in
     let flag = sym c.is_same.ensures ∙ c.if-is_same.false in
     c.is_any_waiting.ensures
-    ∙ ap (list_any is_waiting) (sym (take-map slot_of (c.args.to - c.args.from) (drop c.args.from records)) ∙ ap (take (c.args.to - c.args.from)) (sym (drop-map slot_of c.args.from records))
-    ∙ within-own same slots c.args.from (c.args.to - c.args.from) (omega (arith, c.requires.order, c.requires.inside, length-map records slot_of))
-    (λ k low high. ap (same_at same) (let e : k / PART ≡ c.args.from / PART = omega (arith, c.requires.leaf, c.requires.order) in e) ∙ flag))
+    ∙ ap (list_any is_waiting)
+    (sym (take-map slot_of (c.args.to - c.args.from) (drop c.args.from records))
+    ∙ ap (take (c.args.to - c.args.from)) (sym (drop-map slot_of c.args.from records))
+    ∙ within-own same slots c.args.from (c.args.to - c.args.from)
+    (omega (arith, c.requires.order, c.requires.inside, length-map records slot_of))
+    (λ k low high. ap (same_at same)
+    (let e : k / PART ≡ c.args.from / PART = omega (arith, c.requires.leaf, c.requires.order) in e) ∙ flag))

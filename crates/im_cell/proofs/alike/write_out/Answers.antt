@@ -10,5 +10,6 @@ pub returns-clause-seen : goal.returns-clause-seen
 returns-clause-seen c =
     let records = c.args.records.now in
     ap (seen (set c.args.same.now c.args.leaf false)) c.fill.ensures
-    ∙ seen-written c.args.same.now (slots_of records) c.args.leaf _ _ (sym c.is_same.ensures ∙ c.if-not-is_same.false) (slot-there records (c.args.leaf * PART) _ c.requires)
+    ∙ seen-written c.args.same.now (slots_of records) c.args.leaf _ _
+    (sym c.is_same.ensures ∙ c.if-not-is_same.false) (slot-there records (c.args.leaf * PART) _ c.requires)
     (omega (arith, c.min-count.ensures, length-map records slot_of))

@@ -12,21 +12,37 @@ pub write_out_for-now-requires-clause-there : goal.write_out_for-now-requires-cl
 write_out_for-now-requires-clause-there c =
     let same = c.write_out_whole.new.same in
     let records = c.write_out_whole.new.records in
-    let held : IsSome (slot_at (seen same (slots_of records)) c.args.at) = subst (λ s. IsSome (slot_at s c.args.at)) (sym c.write_out_whole.ensures.seen) c.requires.held in
-    omega (arith, held-inside (seen same (slots_of records)) c.args.at held, length-seen same (slots_of records), length-map records slot_of)
+    let held : IsSome (slot_at (seen same (slots_of records)) c.args.at) = subst (λ s. IsSome (slot_at s c.args.at))
+    (sym c.write_out_whole.ensures.seen) c.requires.held in
+    omega (
+      arith,
+      held-inside (seen same (slots_of records)) c.args.at held,
+      length-seen same
+          (slots_of records),
+      length-map records slot_of,
+    )
 
 pub bounds-records-at : goal.bounds-records-at
 bounds-records-at c =
     let same = c.write_out_for-now.new.same in
     let records = c.write_out_for-now.new.records in
-    let held : IsSome (slot_at (seen same (slots_of records)) c.args.at) = subst (λ s. IsSome (slot_at s c.args.at)) (sym (c.write_out_for-now.ensures.seen ∙ c.write_out_whole.ensures.seen)) c.requires.held in
-    omega (arith, held-inside (seen same (slots_of records)) c.args.at held, length-seen same (slots_of records), length-map records slot_of)
+    let held : IsSome (slot_at (seen same (slots_of records)) c.args.at) = subst (λ s. IsSome (slot_at s c.args.at))
+    (sym (c.write_out_for-now.ensures.seen ∙ c.write_out_whole.ensures.seen)) c.requires.held in
+    omega (
+      arith,
+      held-inside (seen same (slots_of records)) c.args.at held,
+      length-seen same
+          (slots_of records),
+      length-map records slot_of,
+    )
 
 pub returns-clause-kept : goal.returns-clause-kept
 returns-clause-kept c =
     let k = c.write_out_for-now.ensures.kept in
-    let held : IsSome (slot_at (seen c.write_out_for-now.new.same (slots_of c.write_out_for-now.new.records)) c.args.at) =
-    subst (λ s. IsSome (slot_at s c.args.at)) (sym (c.write_out_for-now.ensures.seen ∙ c.write_out_whole.ensures.seen)) c.requires.held in
+    let held : IsSome (slot_at
+    (seen c.write_out_for-now.new.same (slots_of c.write_out_for-now.new.records)) c.args.at) =
+    subst (λ s. IsSome (slot_at s c.args.at))
+    (sym (c.write_out_for-now.ensures.seen ∙ c.write_out_whole.ensures.seen)) c.requires.held in
     IsKept-set c.write_out_for-now.result c.write_out_for-now.new.same c.write_out_for-now.new.records c.write_out_for-now.new.nodes c.args.at c.args.new k.few k.room k.leaves k.joined c.write_out_for-now.ensures.own held
     c.requires.some k.plain
 

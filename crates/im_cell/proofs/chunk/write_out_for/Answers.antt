@@ -13,7 +13,8 @@ pub returns-then-alone-clause-kept : goal.returns-then-alone-clause-kept
 returns-then-alone-clause-kept c = record {
   few = omega (arith, c.requires.kept.few, c.write_out.auto.records);
   room = omega (arith, c.requires.kept.room, c.write_out.auto.records, c.write_out.auto.same);
-  leaves = subst (λ s. HasLeaves PART c.args.nodes.now (map mark s)) (sym c.write_out.ensures.seen) c.requires.kept.leaves;
+  leaves = subst (λ s. HasLeaves PART c.args.nodes.now (map mark s))
+      (sym c.write_out.ensures.seen) c.requires.kept.leaves;
   joined = λ e. absurd (leaves_not_each e);
   plain = λ e. absurd (leaves_not_each e);
 }
@@ -27,7 +28,9 @@ pub returns-clause-kept : goal.returns-clause-kept
 returns-clause-kept c = record {
   few = omega (arith, c.requires.kept.few, c.write_out_all.auto.records);
   room = omega (arith, c.requires.kept.room, c.write_out_all.auto.records, c.write_out_all.auto.same);
-  leaves = HasLeaves-above PART c.args.nodes.now c.join_all.new.nodes _ (subst (λ s. HasLeaves PART c.args.nodes.now (map mark s)) (sym c.write_out_all.ensures.seen) c.requires.kept.leaves) c.join_all.auto.nodes
+  leaves = HasLeaves-above PART c.args.nodes.now c.join_all.new.nodes _
+      (subst (λ s. HasLeaves PART c.args.nodes.now (map mark s))
+      (sym c.write_out_all.ensures.seen) c.requires.kept.leaves) c.join_all.auto.nodes
       c.join_all.ensures.leaves;
   joined = λ e. c.join_all.ensures.inner;
   plain = λ e. c.write_out_all.ensures.own;

@@ -12,12 +12,14 @@ use Rattle.im_cell.proofs.chunks.fill_between.Goals as goal
 pub loop-at-init : goal.loop-at-init
 loop-at-init c = record {
   sizes = c.requires.sizes;
-  cells = fill-none (cells_in c.args.chunks.now) (c.args.from * CHUNK) (slot_of c.args.kept) ∙ ap (λ n. fill (cells_in c.args.chunks.now) (c.args.from * CHUNK) n (slot_of c.args.kept)) (omega arith);
+  cells = fill-none (cells_in c.args.chunks.now) (c.args.from * CHUNK) (slot_of c.args.kept)
+      ∙ ap (λ n. fill (cells_in c.args.chunks.now) (c.args.from * CHUNK) n (slot_of c.args.kept)) (omega arith);
   others = λ j out. refl;
 }
 
 pub bounds-chunks-at : goal.bounds-chunks-at
-bounds-chunks-at c = chunk-there c.loop-at.chunks (length (cells_in c.args.chunks.now)) c.loop-at.invariant.sizes c.loop-at.at (omega (arith, c.requires.inside))
+bounds-chunks-at c = chunk-there c.loop-at.chunks
+    (length (cells_in c.args.chunks.now)) c.loop-at.invariant.sizes c.loop-at.at (omega (arith, c.requires.inside))
 
 pub loop-at-preserved : goal.loop-at-preserved
 loop-at-preserved c =
@@ -33,10 +35,13 @@ loop-at-preserved c =
     let is : c.fill_whole.new.self ≡ fill chunk 0 CHUNK x =
     c.fill_whole.ensures ∙ ap (λ n. replicate n x) (ap length read ∙ full) ∙ sym (fill-whole chunk CHUNK x full) in
     record {
-      sizes = AreChunksOf-set c.loop-at.chunks total at c.fill_whole.new.self (ap length c.fill_whole.ensures ∙ length-replicate _ x ∙ ap length read) c.loop-at.invariant.sizes;
+      sizes = AreChunksOf-set c.loop-at.chunks total at c.fill_whole.new.self
+          (ap length c.fill_whole.ensures ∙ length-replicate _ x ∙ ap length read) c.loop-at.invariant.sizes;
       cells = ap (λ new. cells_in (set c.loop-at.chunks at new)) is
           ∙ sym (fill-cells c.loop-at.chunks total c.loop-at.invariant.sizes at 0 CHUNK x (omega arith))
           ∙ ap (λ cells. fill cells (at * CHUNK + 0) CHUNK x) c.loop-at.invariant.cells
-          ∙ fill-on all (c.args.from * CHUNK) (at * CHUNK - c.args.from * CHUNK) CHUNK x (at * CHUNK + 0) ((at + 1) * CHUNK - c.args.from * CHUNK) (omega arith) (omega arith);
-      others = λ j out. get_or-set_other c.loop-at.chunks at j c.fill_whole.new.self [] (λ e. out (omega arith) (omega arith)) ∙ c.loop-at.invariant.others j (λ from upto. out from (omega arith));
+          ∙ fill-on all (c.args.from * CHUNK) (at * CHUNK - c.args.from * CHUNK) CHUNK x (at * CHUNK + 0)
+          ((at + 1) * CHUNK - c.args.from * CHUNK) (omega arith) (omega arith);
+      others = λ j out. get_or-set_other c.loop-at.chunks at j c.fill_whole.new.self []
+          (λ e. out (omega arith) (omega arith)) ∙ c.loop-at.invariant.others j (λ from upto. out from (omega arith));
     }

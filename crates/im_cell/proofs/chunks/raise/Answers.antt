@@ -17,5 +17,8 @@ returns c =
     let half : leaves_of c.renew.new.nodes ≡ leaves_of c.args.nodes.now = ap (λ k. k / 2) c.renew.auto.nodes in
     let total : ℕ = length (cells_in c.args.chunks.now) in
     let within = chunks-inside c.args.chunks.now total c.requires.sizes in
-    IsTree-raised c.renew.new.nodes c.args.chunks.now total g.height c.requires.sizes (half ∙ g.power) (omega (arith, c.renew.auto.nodes, half, g.even)) (omega (arith, half, g.enough)) c.requires.few (omega (arith, half, g.few, c.requires.small)) c.renew.ensures.inner
-    (λ j less. subst (λ l. Summarises (node_at c.renew.new.nodes (l + j)) (map mark (chunk_at c.args.chunks.now j))) (sym half) (c.renew.ensures.leaves j (omega arith) (omega arith)))
+    IsTree-raised c.renew.new.nodes c.args.chunks.now total g.height c.requires.sizes (half ∙ g.power)
+    (omega (arith, c.renew.auto.nodes, half, g.even)) (omega (arith, half, g.enough)) c.requires.few
+    (omega (arith, half, g.few, c.requires.small)) c.renew.ensures.inner
+    (λ j less. subst (λ l. Summarises (node_at c.renew.new.nodes (l + j)) (map mark (chunk_at c.args.chunks.now j)))
+    (sym half) (c.renew.ensures.leaves j (omega arith) (omega arith)))

@@ -1,4 +1,5 @@
-use Rattle.std.proofs.Common.{◌∙◌, ◌/◌, ◌%◌, ◌<◌, ℕ, List, [], length, set, None, inl, inr, sym, ap, subst, arith, length-set}
+use Rattle.std.proofs.Common.{◌∙◌, ◌/◌, ◌%◌, ◌<◌, ℕ, List, [], length, set, None, inl, inr, sym, ap, subst, arith}
+use Rattle.std.proofs.Common.{length-set}
 use Rattle.std.specs.Prelude.{Option, IsSome}
 use Rattle.std.proofs.lemmas.Bool.{cases_lt}
 use Rattle.std.proofs.lemmas.List.{get_or_default, get_or_past}
@@ -22,27 +23,39 @@ inside slots a held = elim (cases_lt a (length slots)) [
 pub bounds-chunks-a : goal.bounds-chunks-a
 bounds-chunks-a c =
     let less = inside (cells_in c.args.chunks.now) c.args.a c.requires.held in
-    chunk-there c.args.chunks.now (length (cells_in c.args.chunks.now)) c.requires.sizes (c.args.a / CHUNK) (omega arith)
+    chunk-there c.args.chunks.now (length (cells_in c.args.chunks.now)) c.requires.sizes (c.args.a / CHUNK)
+    (omega arith)
 
 pub set_cell-requires : goal.set_cell-requires
 set_cell-requires c =
     let less = inside (cells_in c.args.chunks.now) c.args.a c.requires.held in
-    let there = chunk-there c.args.chunks.now (length (cells_in c.args.chunks.now)) c.requires.sizes (c.args.a / CHUNK) (omega arith) in
-    subst (λ chunk. IsSome (slot_at chunk (c.args.a % CHUNK))) (sym (get_or_default c.args.chunks.now (c.args.a / CHUNK) c.index-chunks-a.result [] there))
-    (subst IsSome (get_or-cells c.args.chunks.now (length (cells_in c.args.chunks.now)) c.requires.sizes c.args.a None) c.requires.held)
+    let there = chunk-there c.args.chunks.now (length (cells_in c.args.chunks.now)) c.requires.sizes
+    (c.args.a / CHUNK) (omega arith) in
+    subst (λ chunk. IsSome (slot_at chunk (c.args.a % CHUNK)))
+    (sym (get_or_default c.args.chunks.now (c.args.a / CHUNK) c.index-chunks-a.result [] there))
+    (subst IsSome (get_or-cells c.args.chunks.now
+    (length (cells_in c.args.chunks.now)) c.requires.sizes c.args.a None) c.requires.held)
 
 pub returns-clause-sizes : goal.returns-clause-sizes
 returns-clause-sizes c =
     let less = inside (cells_in c.args.chunks.now) c.args.a c.requires.held in
-    let there = chunk-there c.args.chunks.now (length (cells_in c.args.chunks.now)) c.requires.sizes (c.args.a / CHUNK) (omega arith) in
+    let there = chunk-there c.args.chunks.now (length (cells_in c.args.chunks.now)) c.requires.sizes
+    (c.args.a / CHUNK) (omega arith) in
     AreChunksOf-set c.args.chunks.now (length (cells_in c.args.chunks.now)) (c.args.a / CHUNK) c.set_cell.new.self
-    (ap length c.set_cell.ensures ∙ length-set _ (c.args.a % CHUNK) _ ∙ ap length (get_or_default c.args.chunks.now (c.args.a / CHUNK) c.index-chunks-a.result [] there)) c.requires.sizes
+    (ap length c.set_cell.ensures ∙ length-set _ (c.args.a % CHUNK) _
+    ∙ ap length (get_or_default c.args.chunks.now
+    (c.args.a / CHUNK) c.index-chunks-a.result [] there)) c.requires.sizes
 
 pub returns-clause-cells : goal.returns-clause-cells
 returns-clause-cells c =
     let less = inside (cells_in c.args.chunks.now) c.args.a c.requires.held in
-    let there = chunk-there c.args.chunks.now (length (cells_in c.args.chunks.now)) c.requires.sizes (c.args.a / CHUNK) (omega arith) in
+    let there = chunk-there c.args.chunks.now (length (cells_in c.args.chunks.now)) c.requires.sizes
+    (c.args.a / CHUNK) (omega arith) in
     ap (λ chunk. cells_in (set c.args.chunks.now (c.args.a / CHUNK) chunk))
-    (c.set_cell.ensures ∙ ap (λ chunk. set chunk (c.args.a % CHUNK) (with_cell c.args.cell (slot_at chunk (c.args.a % CHUNK)))) (get_or_default c.args.chunks.now (c.args.a / CHUNK) c.index-chunks-a.result [] there)
-    ∙ ap (λ slot. set (chunk_at c.args.chunks.now (c.args.a / CHUNK)) (c.args.a % CHUNK) (with_cell c.args.cell slot)) (sym (get_or-cells c.args.chunks.now (length (cells_in c.args.chunks.now)) c.requires.sizes c.args.a None)))
+    (c.set_cell.ensures ∙ ap
+    (λ chunk. set chunk (c.args.a % CHUNK) (with_cell c.args.cell (slot_at chunk (c.args.a % CHUNK))))
+    (get_or_default c.args.chunks.now (c.args.a / CHUNK) c.index-chunks-a.result [] there)
+    ∙ ap (λ slot. set (chunk_at c.args.chunks.now (c.args.a / CHUNK)) (c.args.a % CHUNK)
+    (with_cell c.args.cell slot))
+    (sym (get_or-cells c.args.chunks.now (length (cells_in c.args.chunks.now)) c.requires.sizes c.args.a None)))
     ∙ sym (set-cells c.args.chunks.now (length (cells_in c.args.chunks.now)) c.requires.sizes c.args.a _ less)

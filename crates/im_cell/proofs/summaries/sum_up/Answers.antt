@@ -11,4 +11,5 @@ pub returns : goal.returns
 returns c = Summarises-runs c.args.records.now c.loop-record.run c.loop-record.longest c.loop-record.record-index _ c.loop-record-test.false c.free_first-front.ensures c.back_in.ensures refl c.loop-record.invariant
 
 pub returns-then-front-records : goal.returns-then-front-records
-returns-then-front-records c = Summarises-all c.args.records.now c.free_first-front.result c.free_first-front.ensures (omega arith)
+returns-then-front-records c = Summarises-all c.args.records.now c.free_first-front.result c.free_first-front.ensures
+    (omega arith)

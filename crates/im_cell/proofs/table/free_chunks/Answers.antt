@@ -14,11 +14,20 @@ loop-at-preserved c =
     let chunk : List (Option Slot) = c.in_ok-free.field-0 in
     let n : ℕ = min c.args.cells (at * CHUNK) in
     let m : ℕ = min c.args.cells ((at + 1) * CHUNK) in
-    let long : length chunk ≡ c.min-own.result = ap length c.in_ok-free.ensures ∙ length-replicate c.min-own.result None in
+    let long : length chunk ≡ c.min-own.result = ap length c.in_ok-free.ensures
+    ∙ length-replicate c.min-own.result None in
     record {
       sizes = subst (λ cs. AreChunksOf cs m) (sym c.push_reserved.ensures.items)
-          (AreChunksOf-push chunks chunk n at m c.loop-at.invariant.sizes c.loop-at.invariant.count (omega arith) (omega arith) (omega arith));
-      count = omega (arith, ap length c.push_reserved.ensures.items, length-append chunks (chunk ∷ []), c.loop-at.invariant.count);
-      free = ap cells_in c.push_reserved.ensures.items ∙ free-next chunks n c.min-own.result m chunk c.loop-at.invariant.free c.in_ok-free.ensures (omega arith);
+          (AreChunksOf-push chunks chunk n at m c.loop-at.invariant.sizes c.loop-at.invariant.count (omega arith)
+          (omega arith) (omega arith));
+      count = omega (
+        arith,
+        ap length c.push_reserved.ensures.items,
+        length-append chunks
+            (chunk ∷ []),
+        c.loop-at.invariant.count,
+      );
+      free = ap cells_in c.push_reserved.ensures.items
+          ∙ free-next chunks n c.min-own.result m chunk c.loop-at.invariant.free c.in_ok-free.ensures (omega arith);
       room = c.push_reserved.ensures.capacity ∙ c.loop-at.invariant.room;
     }

@@ -1,11 +1,13 @@
 use Rattle.std.proofs.Common.{◌+◌, ◌-◌, ◌/◌, ap, sym, ◌∙◌, Some, arith}
 use Rattle.im_cell.specs.declared.summaries.Summary.{Summary}
 use Rattle.im_cell.specs.Summaries.{back_of, leaves_of}
-use Rattle.im_cell.proofs.Descent.{root-sum, Reaches-root, Reaches-left, Reaches-right, Reaches-fits, Reaches-fits-across, Reaches-leaf, place-across}
+use Rattle.im_cell.proofs.Descent.{root-sum, Reaches-root, Reaches-left, Reaches-right, Reaches-fits}
+use Rattle.im_cell.proofs.Descent.{Reaches-fits-across, Reaches-leaf, place-across}
 use Rattle.im_cell.proofs.tree.descend.Goals as goal
 
 pub loop-k-init : goal.loop-k-init
-loop-k-init c = λ cells t room. Reaches-root c.args.width c.args.nodes.now cells t c.args.n c.requires.some (omega (arith, (root-sum c.args.width c.args.nodes.now cells t).most))
+loop-k-init c = λ cells t room. Reaches-root c.args.width c.args.nodes.now cells t c.args.n c.requires.some
+    (omega (arith, (root-sum c.args.width c.args.nodes.now cells t).most))
 
 pub loop-k-preserved-then-left-n : goal.loop-k-preserved-then-left-n
 loop-k-preserved-then-left-n c = λ cells t room.
@@ -48,4 +50,6 @@ loop-k-preserved c = λ cells t room.
     Reaches-right c.args.width c.args.nodes.now cells t c.args.n c.requires.some c.loop-k.k c.loop-k.base c.loop-k.cells (c.loop-k.invariant cells t room) c.loop-k-test.true (omega arith) (omega arith)
 
 pub returns : goal.returns
-returns c = λ cells t room. Reaches-leaf c.args.width (leaves_of c.args.nodes.now) cells c.args.n c.loop-k.k c.loop-k.base c.loop-k.cells (c.loop-k.invariant cells t room) c.loop-k-test.false
+returns c = λ cells t room. Reaches-leaf c.args.width
+    (leaves_of c.args.nodes.now) cells c.args.n c.loop-k.k c.loop-k.base c.loop-k.cells
+    (c.loop-k.invariant cells t room) c.loop-k-test.false

@@ -11,8 +11,11 @@ returns c =
     let records = c.args.records.now in
     let base = c.args.base in
     let n = c.args.n in
-    let count : length (take (base + n - base) (drop base records)) ≡ n = omega (arith, length-take (base + n - base) (drop base records), length-drop base records) in
+    let count : length (take (base + n - base) (drop base records))
+    ≡ n = omega (arith, length-take (base + n - base) (drop base records), length-drop base records) in
     let zs = replicate n c.args.kept in
-    ap slots_of (put_mid-paste base (base + n - base) records c.fill_all.new.records zs n (c.fill_all.ensures ∙ ap (λ k. replicate k c.args.kept) count) (omega arith) (sym (length-replicate n c.args.kept))
+    ap slots_of (put_mid-paste base (base + n - base) records c.fill_all.new.records zs n
+    (c.fill_all.ensures ∙ ap (λ k. replicate k c.args.kept) count) (omega arith)
+    (sym (length-replicate n c.args.kept))
     ∙ paste_all records base zs n (sym (length-replicate n c.args.kept)))
     ∙ fill-pieces slot_of records base n (base + n) c.args.kept refl c.requires

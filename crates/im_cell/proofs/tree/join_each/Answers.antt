@@ -14,10 +14,12 @@ loop-k-preserved c = record {
         ∙ ap (λ j. joined (node_at old (2 * j)) (node_at old (2 * j + 1))) (sym e)
         ∙ ap (λ l. joined l (node_at old (2 * i + 1))) (sym (beside (2 * i) (λ d. omega arith)))
         ∙ ap (λ r. joined (node_at new (2 * i)) r) (sym (beside (2 * i + 1) (λ d. omega arith)))
-    | inr ne ↦ joined-kept old new i (beside i ne) (beside (2 * i) (λ d. omega (arith, c.requires.row))) (beside (2 * i + 1) (λ d. omega (arith, c.requires.row)))
+    | inr ne ↦ joined-kept old new i (beside i ne) (beside (2 * i) (λ d. omega (arith, c.requires.row)))
+        (beside (2 * i + 1) (λ d. omega (arith, c.requires.row)))
         (c.loop-k.invariant.joined i low (omega arith))
   ];
-  others = λ i out. beside i (λ e. out (omega arith) (omega arith)) ∙ c.loop-k.invariant.others i (λ low high. out low (omega arith));
+  others = λ i out. beside i (λ e. out (omega arith) (omega arith))
+      ∙ c.loop-k.invariant.others i (λ low high. out low (omega arith));
 }
   where
     k : ℕ
@@ -33,7 +35,9 @@ loop-k-preserved c = record {
     beside i ne = ap (λ nodes. node_at nodes i) c.join_below.ensures ∙ get_or-set_other old k i _ no_cells ne
 
     here : node_at new k ≡ joined (node_at old (2 * k)) (node_at old (2 * k + 1))
-    here = ap (λ nodes. node_at nodes k) c.join_below.ensures ∙ get_or-set_same old k _ no_cells (omega (arith, c.requires.inside))
+    here = ap (λ nodes. node_at nodes k) c.join_below.ensures
+        ∙ get_or-set_same old k _ no_cells (omega (arith, c.requires.inside))
 
 pub returns-clause-others : goal.returns-clause-others
-returns-clause-others c = λ k out. c.loop-k.invariant.others k (λ low high. out low (let upto = c.loop-k.invariant.within (omega arith) in omega arith))
+returns-clause-others c = λ k out. c.loop-k.invariant.others k
+    (λ low high. out low (let upto = c.loop-k.invariant.within (omega arith) in omega arith))

@@ -10,7 +10,8 @@ pub join_around-requires-clause-between : goal.join_around-requires-clause-betwe
 join_around-requires-clause-between c = λ k from upto.
     let left = c.loop-low.invariant.between (2 * k) (omega arith) (omega arith) in
     let right = c.loop-low.invariant.between (2 * k + 1) (omega arith) (omega arith) in
-    ap (λ l. joined l (node_at c.loop-low.nodes (2 * k + 1))) left ∙ ap (joined c.loop-low.same) right ∙ sym c.join-same.ensures
+    ap (λ l. joined l (node_at c.loop-low.nodes (2 * k + 1))) left ∙ ap (joined c.loop-low.same) right
+    ∙ sym c.join-same.ensures
 
 pub loop-low-preserved : goal.loop-low-preserved
 loop-low-preserved c = record {

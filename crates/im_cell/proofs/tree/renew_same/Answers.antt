@@ -7,11 +7,15 @@ use Rattle.im_cell.proofs.tree.renew_same.Goals as goal
 
 pub renew_above_same-requires-clause-between : goal.renew_above_same-requires-clause-between
 renew_above_same-requires-clause-between c = λ k from upto. elim (cases_eq k (leaves + c.args.first)) [
-  | inl e ↦ ap (node_at new) e ∙ c.put_leaves.ensures.first ∙ c.first_same-from.ensures.same (omega (arith, c.first_same-from.ensures.from))
+  | inl e ↦ ap (node_at new) e ∙ c.put_leaves.ensures.first
+      ∙ c.first_same-from.ensures.same (omega (arith, c.first_same-from.ensures.from))
   | inr past ↦ elim (cases_eq k (leaves + c.args.last)) [
-    | inl e ↦ ap (node_at new) e ∙ c.put_leaves.ensures.last ∙ c.behind_same.ensures.same (omega (arith, c.behind_same.ensures.upto))
-    | inr below ↦ ap (node_at new) (let e : k ≡ leaves + (k - leaves) = omega (arith, c.first_same-from.ensures.from) in e)
-        ∙ c.put_leaves.ensures.between (k - leaves) (omega (arith, c.first_same-from.ensures.from)) (omega (arith, c.behind_same.ensures.upto, c.first_same-from.ensures.from, c.first_same-from.ensures.upto, c.requires.order))
+    | inl e ↦ ap (node_at new) e ∙ c.put_leaves.ensures.last
+        ∙ c.behind_same.ensures.same (omega (arith, c.behind_same.ensures.upto))
+    | inr below ↦ ap (node_at new)
+        (let e : k ≡ leaves + (k - leaves) = omega (arith, c.first_same-from.ensures.from) in e)
+        ∙ c.put_leaves.ensures.between (k - leaves) (omega (arith, c.first_same-from.ensures.from))
+        (omega (arith, c.behind_same.ensures.upto, c.first_same-from.ensures.from, c.first_same-from.ensures.upto, c.requires.order))
   ]
 ]
   where
@@ -24,7 +28,8 @@ renew_above_same-requires-clause-between c = λ k from upto. elim (cases_eq k (l
 pub renew_above_same-requires-clause-inner : goal.renew_above_same-requires-clause-inner
 renew_above_same-requires-clause-inner c = λ k some less out.
     joined-kept old new k (c.put_leaves.ensures.above k (omega (arith, c.put_leaves.auto.nodes)))
-    (beside (2 * k) (λ low high. out (omega arith) (omega arith))) (beside (2 * k + 1) (λ low high. out (omega arith) (omega arith)))
+    (beside (2 * k) (λ low high. out (omega arith) (omega arith)))
+    (beside (2 * k + 1) (λ low high. out (omega arith) (omega arith)))
     (c.requires.inner k some (omega (arith, c.put_leaves.auto.nodes)))
   where
     old : List Summary
@@ -41,5 +46,6 @@ renew_above_same-requires-clause-inner c = λ k some less out.
       | inl above ↦ c.put_leaves.ensures.above i above
       | inr leaf ↦
           let e : i ≡ leaves + (i - leaves) = omega arith in
-          ap (node_at new) e ∙ c.put_leaves.ensures.others (i - leaves) (λ low high. out (omega arith) (omega arith)) ∙ ap (node_at old) (sym e)
+          ap (node_at new) e ∙ c.put_leaves.ensures.others (i - leaves) (λ low high. out (omega arith) (omega arith))
+          ∙ ap (node_at old) (sym e)
     ]

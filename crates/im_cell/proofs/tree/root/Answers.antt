@@ -8,4 +8,5 @@ pub node-requires : goal.node-requires
 node-requires c = root-inside PART c.args.nodes.now c.requires.0 c.requires.1
 
 pub returns : goal.returns
-returns c = λ cells tree. subst (λ s. Summarises s cells) (sym c.node.ensures) (root-sum PART c.args.nodes.now cells tree)
+returns c = λ cells tree. subst (λ s. Summarises s cells) (sym c.node.ensures)
+    (root-sum PART c.args.nodes.now cells tree)

@@ -7,7 +7,9 @@ pub returns-then-not-is_block_at : goal.returns-then-not-is_block_at
 returns-then-not-is_block_at c = λ lists. (
   λ e. absurd (true≢false (sym e)),
   λ blocks.
-      c.if-not-is_block_at.ensures.1 (begins_block c.args.cells.now lists c.loop-at.at c.in-Some.block blocks c.loop-at.invariant.below (sym c.block_in.ensures ∙ c.in-Some.is)),
+      c.if-not-is_block_at.ensures.1
+      (begins_block c.args.cells.now lists c.loop-at.at c.in-Some.block blocks c.loop-at.invariant.below
+      (sym c.block_in.ensures ∙ c.in-Some.is)),
 )
 
 pub loop-at-preserved : goal.loop-at-preserved
@@ -17,4 +19,8 @@ loop-at-preserved c = record {
 }
 
 pub returns : goal.returns
-returns c = λ lists. (λ _. blocks_of_all c.args.cells.now lists c.loop-at.at (omega arith) c.loop-at.invariant.below, λ _. refl)
+returns c = λ lists. (
+  λ _. blocks_of_all c.args.cells.now lists c.loop-at.at
+      (omega arith) c.loop-at.invariant.below,
+  λ _. refl,
+)

@@ -7,4 +7,5 @@ use Rattle.im_contents.proofs.waiting.are_marked.Given as goal
 
 abbrev pub invariant-loop-element : goal.invariant-loop-element
 invariant-loop-element l =
-    (element : ℕ) (w : Window) → element < l.element → slice_get l.windows element ≡ Some w → ListMarked w.kept (WINDOW * element) l.marks
+    (element : ℕ) (w : Window) → element < l.element → slice_get l.windows element ≡ Some w
+    → ListMarked w.kept (WINDOW * element) l.marks

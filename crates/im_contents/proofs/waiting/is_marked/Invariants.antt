@@ -6,4 +6,5 @@ use Rattle.im_contents.proofs.waiting.is_marked.Given as goal
 
 abbrev pub invariant-loop-past : goal.invariant-loop-past
 invariant-loop-past l =
-    (i : ℕ) (k : Kept) → i < l.past → slice_get l.kept i ≡ Some k → is_waiting k ≡ true → slice_index_or l.marks (l.first + i) false ≡ true
+    (i : ℕ) (k : Kept) → i < l.past → slice_get l.kept i ≡ Some k → is_waiting k ≡ true
+    → slice_index_or l.marks (l.first + i) false ≡ true

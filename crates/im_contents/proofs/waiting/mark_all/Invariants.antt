@@ -7,4 +7,5 @@ use Rattle.im_contents.proofs.waiting.mark_all.Given as goal
 abbrev pub invariant-loop-address : goal.invariant-loop-address
 invariant-loop-address l =
     mark_all (kept_for l.windows) (place_in l.windows) 0 l.initial.marks (cells_shown l.cells l.lists)
-    ≡ mark_all (kept_for l.windows) (place_in l.windows) l.address l.marks (drop l.address (cells_shown l.cells l.lists))
+    ≡ mark_all (kept_for l.windows) (place_in l.windows) l.address l.marks
+    (drop l.address (cells_shown l.cells l.lists))

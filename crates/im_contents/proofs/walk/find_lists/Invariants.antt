@@ -7,5 +7,6 @@ abbrev pub invariant-loop-cell : goal.invariant-loop-cell
 invariant-loop-cell l = record {
   size : length l.marks ≡ length l.nodes;
   rise : Rise 0 l.ends.items (length l.waiters.items);
-  walked : walk_all l.nodes l.cells (replicate (length l.nodes) false) ≡ after_lists (cut l.waiters.items 0 l.ends.items) (walk_all l.nodes (drop l.cell l.cells) l.marks);
+  walked : walk_all l.nodes l.cells (replicate (length l.nodes) false)
+      ≡ after_lists (cut l.waiters.items 0 l.ends.items) (walk_all l.nodes (drop l.cell l.cells) l.marks);
 }

@@ -3,4 +3,5 @@ use Rattle.im_image.proofs.Restored.{ListsPut}
 use Rattle.im_image.proofs.area.put_lists.Given as goal
 
 abbrev pub invariant-loop-cell : goal.invariant-loop-cell
-invariant-loop-cell l = (l.restoring.cells ≡ l.initial.restoring.cells) × (l.restoring.windows ≡ l.initial.restoring.windows) × ListsPut l.lists l.restoring.lists l.cell
+invariant-loop-cell l = (l.restoring.cells ≡ l.initial.restoring.cells)
+    × (l.restoring.windows ≡ l.initial.restoring.windows) × ListsPut l.lists l.restoring.lists l.cell

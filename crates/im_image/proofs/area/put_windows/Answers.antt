@@ -8,4 +8,5 @@ returns c =
     let windows = c.args.windows.now in
     let end : c.loop-element.element ≡ length windows = omega (arith, c.requires.count) in
     parts-same c.loop-element.restoring _ c.loop-element.invariant.0 c.loop-element.invariant.1
-    (begun-all new_window windows c.loop-element.restoring.windows (subst (λ i. Begun new_window windows c.loop-element.restoring.windows i) end c.loop-element.invariant.2))
+    (begun-all new_window windows c.loop-element.restoring.windows
+    (subst (λ i. Begun new_window windows c.loop-element.restoring.windows i) end c.loop-element.invariant.2))

@@ -4,4 +4,5 @@ use Rattle.im_image.proofs.Restored.{Begun}
 use Rattle.im_image.proofs.area.put_windows.Given as goal
 
 abbrev pub invariant-loop-element : goal.invariant-loop-element
-invariant-loop-element l = (l.restoring.cells ≡ l.initial.restoring.cells) × (l.restoring.lists ≡ l.initial.restoring.lists) × Begun new_window l.windows l.restoring.windows l.element
+invariant-loop-element l = (l.restoring.cells ≡ l.initial.restoring.cells)
+    × (l.restoring.lists ≡ l.initial.restoring.lists) × Begun new_window l.windows l.restoring.windows l.element

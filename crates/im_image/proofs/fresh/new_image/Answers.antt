@@ -8,4 +8,5 @@ use Rattle.im_image.proofs.fresh.new_image.Goals as goal
 pub returns-in-Ok-clause-image : goal.returns-in-Ok-clause-image
 returns-in-Ok-clause-image c =
     c.in-Ok.ensures
-    ∙ ap (λ (first : List ℕ). first ++ zeros (2 * 4096 - 64) ++ new_area (sizes_of c.args.limits) ++ zeros (area_bytes layout_in_use (sizes_of c.args.limits) + 64 * c.args.limits.slots)) c.new_header.ensures
+    ∙ ap (λ (first : List ℕ). first ++ zeros (2 * 4096 - 64) ++ new_area (sizes_of c.args.limits) ++ zeros
+    (area_bytes layout_in_use (sizes_of c.args.limits) + 64 * c.args.limits.slots)) c.new_header.ensures

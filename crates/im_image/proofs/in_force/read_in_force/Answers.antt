@@ -9,5 +9,8 @@ returns-then-is_second-clause-only c =
 
 pub returns-else-is_second-clause-only : goal.returns-else-is_second-clause-only
 returns-else-is_second-clause-only c =
-    let is = place_spells c.args.zero.now c.args.one.now c.is_second.result false c.is_second.ensures c.if-is_second.false in
-    (λ some. is ∙ c.read-else-is_second.ensures.only.0 some, λ spelled. c.read-else-is_second.ensures.only.1 (sym is ∙ spelled))
+    let is = place_spells c.args.zero.now c.args.one.now c.is_second.result false c.is_second.ensures c.if-is_second.false in (
+      λ some. is ∙ c.read-else-is_second.ensures.only.0 some,
+      λ spelled. c.read-else-is_second.ensures.only.1
+          (sym is ∙ spelled),
+    )

@@ -4,9 +4,11 @@ use Rattle.im_image.proofs.in_force.read_old_header.Goals as goal
 pub returns-in-Ok-Some-clause-good : goal.returns-in-Ok-Some-clause-good
 returns-in-Ok-Some-clause-good g c =
     let is = rw c.in-Ok-Some.field-0-is at c.in-Ok-Some.ensures.found in
-    good_old c.old_header_of.result c.in-Ok-Some.beginning (g.D.Disk.now c.args.disk.now).bytes is c.old_header_of.ensures.good
+    good_old c.old_header_of.result c.in-Ok-Some.beginning
+    (g.D.Disk.now c.args.disk.now).bytes is c.old_header_of.ensures.good
 
 pub returns-in-Ok-Some-clause-fault : goal.returns-in-Ok-Some-clause-fault
 returns-in-Ok-Some-clause-fault g c =
     let is = rw c.in-Ok-Some.field-0-is at c.in-Ok-Some.ensures.found in
-    fault_of_old c.old_header_of.result c.in-Ok-Some.beginning (g.D.Disk.now c.args.disk.now).bytes is c.old_header_of.ensures.fault
+    fault_of_old c.old_header_of.result c.in-Ok-Some.beginning
+    (g.D.Disk.now c.args.disk.now).bytes is c.old_header_of.ensures.fault

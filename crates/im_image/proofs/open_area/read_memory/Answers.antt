@@ -15,7 +15,8 @@ read_records-requires g c =
     let header = seen c.args.header.now in
     let long : g.D.Disk.honest c.args.disk.now → length file ≡ image_length l header.sizes = λ h.
     let sound = c.requires.sound h in
-    let named : layout_in file ≡ l = sym (c.layout-version.ensures ∙ ap (λ (x : Header). layout_named x.version) sound.is) in
+    let named : layout_in file
+    ≡ l = sym (c.layout-version.ensures ∙ ap (λ (x : Header). layout_named x.version) sound.is) in
     length_by l header file (rw named at sound.good) sound.is in
     record { area = record { number = c.requires.area; long = long } }
 
@@ -27,8 +28,10 @@ returns-in-Ok-clause-bad g c = λ e h m shown.
     let l = layout_of c.layout-version.result in
     let s = sizes_of header.limits in
     let named : layout_in file ≡ l = sym (c.layout-version.ensures ∙ ap (λ (x : Header). layout_named x.version) is) in
-    shows-none c.layout-version.result s (area_of l s header.area file) c.in-Ok.records header.limits.in_range (c.in-Ok.ensures.found h) (c.show.ensures.bad e) m
-    (shown-in l (seen header) file (area_of l s header.area file) m is refl (subst (λ (l : Layout). IsShown l file m) named shown))
+    shows-none c.layout-version.result s (area_of l s header.area file) c.in-Ok.records header.limits.in_range
+    (c.in-Ok.ensures.found h) (c.show.ensures.bad e) m
+    (shown-in l (seen header) file (area_of l s header.area file) m is refl
+    (subst (λ (l : Layout). IsShown l file m) named shown))
 
 pub returns-in-Err-clause-bad : goal.returns-in-Err-clause-bad
 returns-in-Err-clause-bad g c = λ e h m shown.
@@ -38,5 +41,6 @@ returns-in-Err-clause-bad g c = λ e h m shown.
     let l = layout_of c.layout-version.result in
     let s = sizes_of header.limits in
     let named : layout_in file ≡ l = sym (c.layout-version.ensures ∙ ap (λ (x : Header). layout_named x.version) is) in
-    let shows = shown-in l (seen header) file (area_of l s header.area file) m is refl (subst (λ (l : Layout). IsShown l file m) named shown) in
+    let shows = shown-in l (seen header) file (area_of l s header.area file) m is refl
+    (subst (λ (l : Layout). IsShown l file m) named shown) in
     c.in-Err.ensures.bad (refused-same c.in-Err.refusal _ e) h shows.records shows.spelled

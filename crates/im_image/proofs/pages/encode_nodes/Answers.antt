@@ -9,5 +9,7 @@ use Rattle.im_image.proofs.pages.encode_nodes.Goals as goal
 pub returns : goal.returns
 returns c =
     let end : c.loop-place.place ≡ 256 = omega arith in
-    spelled-all 16 256 node_bytes (FitsNode (node_count layout_in_use (sizes_of c.args.limits))) (FreeNode NONE) c.args.records.now.nodes c.args.i c.loop-place.page c.loop-place.invariant.0
-    (subst (λ n. Spelled 16 256 node_bytes (FitsNode (node_count layout_in_use (sizes_of c.args.limits))) (FreeNode NONE) c.args.records.now.nodes c.args.i c.loop-place.page n) end c.loop-place.invariant.1)
+    spelled-all 16 256 node_bytes (FitsNode (node_count layout_in_use (sizes_of c.args.limits)))
+    (FreeNode NONE) c.args.records.now.nodes c.args.i c.loop-place.page c.loop-place.invariant.0
+    (subst (λ n. Spelled 16 256 node_bytes (FitsNode (node_count layout_in_use (sizes_of c.args.limits)))
+    (FreeNode NONE) c.args.records.now.nodes c.args.i c.loop-place.page n) end c.loop-place.invariant.1)

@@ -7,4 +7,6 @@ use Rattle.im_image.proofs.Encoding.{Spelled}
 use Rattle.im_image.proofs.pages.encode_nodes.Given as goal
 
 abbrev pub invariant-loop-place : goal.invariant-loop-place
-invariant-loop-place l = (length l.page ≡ 4096) × Spelled 16 256 node_bytes (FitsNode (node_count layout_in_use (sizes_of l.limits))) (FreeNode NONE) l.records.nodes l.i l.page l.place
+invariant-loop-place l = (length l.page ≡ 4096)
+    × Spelled 16 256 node_bytes (FitsNode (node_count layout_in_use (sizes_of l.limits)))
+    (FreeNode NONE) l.records.nodes l.i l.page l.place

@@ -6,4 +6,6 @@ use Rattle.im_image.proofs.Encoding.{Spelled}
 use Rattle.im_image.proofs.pages.encode_sessions.Given as goal
 
 abbrev pub invariant-loop-place : goal.invariant-loop-place
-invariant-loop-place l = (length l.page ≡ 4096) × Spelled 4096 1 (session_bytes layout_in_use) (FitsWindow layout_in_use) new_window l.records.windows l.i l.page l.place
+invariant-loop-place l = (length l.page ≡ 4096)
+    × Spelled 4096 1 (session_bytes layout_in_use)
+    (FitsWindow layout_in_use) new_window l.records.windows l.i l.page l.place

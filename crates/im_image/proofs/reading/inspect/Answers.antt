@@ -9,5 +9,7 @@ returns-in-Ok-clause-means g c = λ h.
     let i = c.in-Ok.image in
     let r = c.report_of.result in
     let told : Reached = record { contents = r.memory.contents; count = r.header.count + r.run; room = r.room } in
-    reads-same (g.D.Disk.now c.args.disk.now).bytes (record { contents = i.memory.contents; count = i.journal.count; room = i.journal.room }) told
-    (sym (ap (λ (m : MemoryState). m.contents) c.report_of.ensures.memory)) (sym c.report_of.ensures.count) (sym c.report_of.ensures.room) (c.in-Ok.ensures.means h)
+    reads-same (g.D.Disk.now c.args.disk.now).bytes
+    (record { contents = i.memory.contents; count = i.journal.count; room = i.journal.room }) told
+    (sym (ap (λ (m : MemoryState). m.contents) c.report_of.ensures.memory)) (sym c.report_of.ensures.count)
+    (sym c.report_of.ensures.room) (c.in-Ok.ensures.means h)

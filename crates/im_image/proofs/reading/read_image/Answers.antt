@@ -11,32 +11,48 @@ use Rattle.im_image.proofs.reading.read_image.Goals as goal
 
 pub read_behind-requires-clause-sound : goal.read_behind-requires-clause-sound
 read_behind-requires-clause-sound g c = λ h.
-    subst (λ (m : Moment). HasHeader (seen c.in-Ok.header) m.bytes) (sym (c.read_header.ensures.reads h).now) (record { good = c.in-Ok.ensures.good h; is = c.in-Ok.ensures.found h })
+    subst (λ (m : Moment). HasHeader (seen c.in-Ok.header) m.bytes) (sym (c.read_header.ensures.reads h).now)
+    (record { good = c.in-Ok.ensures.good h; is = c.in-Ok.ensures.found h })
 
 pub returns-in-Ok-clause-header : goal.returns-in-Ok-clause-header
 returns-in-Ok-clause-header g c =
-    read-ok c.read_behind.result IsImageOf (λ i. seen i.header ≡ header_of (g.D.Disk.now c.args.disk.now).bytes) (g.D.Disk.now c.args.disk.now) (g.D.Disk.now c.read_header.new.disk) (g.D.Disk.honest c.read_behind.new.disk)
-    (λ h. (c.read_header.ensures.reads (c.read_behind.ensures.honest h)).now) (λ i it. it.header) c.read_behind.ensures.means
+    read-ok c.read_behind.result IsImageOf (λ i. seen i.header ≡ header_of (g.D.Disk.now c.args.disk.now).bytes)
+    (g.D.Disk.now c.args.disk.now) (g.D.Disk.now c.read_header.new.disk) (g.D.Disk.honest c.read_behind.new.disk)
+    (λ h. (c.read_header.ensures.reads (c.read_behind.ensures.honest h)).now)
+    (λ i it. it.header) c.read_behind.ensures.means
 
 pub returns-in-Ok-clause-holds : goal.returns-in-Ok-clause-holds
 returns-in-Ok-clause-holds g c =
-    read-ok c.read_behind.result IsImageOf (λ i. Holds i.journal (g.D.Disk.now c.args.disk.now).bytes) (g.D.Disk.now c.args.disk.now) (g.D.Disk.now c.read_header.new.disk) (g.D.Disk.honest c.read_behind.new.disk)
-    (λ h. (c.read_header.ensures.reads (c.read_behind.ensures.honest h)).now) (λ i it. it.holds) c.read_behind.ensures.means
+    read-ok c.read_behind.result IsImageOf (λ i. Holds i.journal (g.D.Disk.now c.args.disk.now).bytes)
+    (g.D.Disk.now c.args.disk.now) (g.D.Disk.now c.read_header.new.disk) (g.D.Disk.honest c.read_behind.new.disk)
+    (λ h. (c.read_header.ensures.reads (c.read_behind.ensures.honest h)).now)
+    (λ i it. it.holds) c.read_behind.ensures.means
 
 pub returns-in-Ok-clause-means : goal.returns-in-Ok-clause-means
 returns-in-Ok-clause-means g c =
-    read-ok c.read_behind.result IsImageOf (λ i. Reads (layout_in (g.D.Disk.now c.args.disk.now).bytes) (g.D.Disk.now c.args.disk.now).bytes (Ok (reached i))) (g.D.Disk.now c.args.disk.now) (g.D.Disk.now c.read_header.new.disk) (g.D.Disk.honest c.read_behind.new.disk)
-    (λ h. (c.read_header.ensures.reads (c.read_behind.ensures.honest h)).now) (λ i it. it.means) c.read_behind.ensures.means
+    read-ok c.read_behind.result IsImageOf
+    (λ i. Reads (layout_in (g.D.Disk.now c.args.disk.now).bytes) (g.D.Disk.now c.args.disk.now).bytes
+    (Ok (reached i))) (g.D.Disk.now c.args.disk.now) (g.D.Disk.now c.read_header.new.disk)
+    (g.D.Disk.honest c.read_behind.new.disk)
+    (λ h. (c.read_header.ensures.reads (c.read_behind.ensures.honest h)).now)
+    (λ i it. it.means) c.read_behind.ensures.means
 
 pub returns-in-Ok-clause-fault : goal.returns-in-Ok-clause-fault
 returns-in-Ok-clause-fault g c =
-    read-err c.read_behind.result (g.D.Disk.now c.args.disk.now) (g.D.Disk.now c.read_header.new.disk) (g.D.Disk.honest c.read_behind.new.disk) (λ h. (c.read_header.ensures.reads (c.read_behind.ensures.honest h)).now) c.read_behind.ensures.fault
+    read-err c.read_behind.result (g.D.Disk.now c.args.disk.now) (g.D.Disk.now c.read_header.new.disk)
+    (g.D.Disk.honest c.read_behind.new.disk)
+    (λ h. (c.read_header.ensures.reads (c.read_behind.ensures.honest h)).now) c.read_behind.ensures.fault
 
 pub returns-in-Ok-clause-reads : goal.returns-in-Ok-clause-reads
 returns-in-Ok-clause-reads g c = λ h.
-    reads_then (g.D.Disk.now c.args.disk.now) (g.D.Disk.now c.read_header.new.disk) (g.D.Disk.now c.read_behind.new.disk) (g.D.Disk.past c.args.disk.now) (g.D.Disk.past c.read_header.new.disk) (g.D.Disk.past c.read_behind.new.disk)
+    reads_then (g.D.Disk.now c.args.disk.now) (g.D.Disk.now c.read_header.new.disk)
+    (g.D.Disk.now c.read_behind.new.disk) (g.D.Disk.past c.args.disk.now) (g.D.Disk.past c.read_header.new.disk)
+    (g.D.Disk.past c.read_behind.new.disk)
     (c.read_header.ensures.reads (c.read_behind.ensures.honest h)) (c.read_behind.ensures.reads h)
 
 pub returns-in-Err-clause-fault : goal.returns-in-Err-clause-fault
 returns-in-Err-clause-fault g c =
-    ⊎_elim (λ device. inr (inl device)) (λ fault. inr (inr (λ h. reads-fault (layout_in (g.D.Disk.now c.args.disk.now).bytes) (g.D.Disk.now c.args.disk.now).bytes c.in-Err.refusal (fault h)))) c.in-Err.ensures.fault
+    ⊎_elim (λ device. inr (inl device))
+    (λ fault. inr (inr
+    (λ h. reads-fault (layout_in (g.D.Disk.now c.args.disk.now).bytes)
+    (g.D.Disk.now c.args.disk.now).bytes c.in-Err.refusal (fault h)))) c.in-Err.ensures.fault

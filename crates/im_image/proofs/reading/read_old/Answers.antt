@@ -15,33 +15,44 @@ pub read_behind-requires-clause-sound : goal.read_behind-requires-clause-sound
 read_behind-requires-clause-sound g c = λ h.
     let file = (g.D.Disk.now c.args.disk.now).bytes in
     let is = c.in-Ok.ensures.found h in
-    subst (λ (m : Moment). HasHeader (seen c.in-Ok.header) m.bytes) (sym (c.read_old_header.ensures.reads h).now) (record {
-      good = subst (λ (l : Layout). header_fault l file ≡ None) (sym (old_layout (seen c.in-Ok.header) file is c.in-Ok.ensures.old)) (c.in-Ok.ensures.good h);
+    subst (λ (m : Moment). HasHeader (seen c.in-Ok.header) m.bytes) (sym (c.read_old_header.ensures.reads h).now)
+    (record {
+      good = subst (λ (l : Layout). header_fault l file ≡ None)
+          (sym (old_layout (seen c.in-Ok.header) file is c.in-Ok.ensures.old)) (c.in-Ok.ensures.good h);
       is = is;
     })
 
 pub returns-in-Ok-clause-header : goal.returns-in-Ok-clause-header
 returns-in-Ok-clause-header g c =
-    read-ok c.read_behind.result IsImageOf (λ i. seen i.header ≡ header_of (g.D.Disk.now c.args.disk.now).bytes) (g.D.Disk.now c.args.disk.now) (g.D.Disk.now c.read_old_header.new.disk) (g.D.Disk.honest c.read_behind.new.disk)
-    (λ h. (c.read_old_header.ensures.reads (c.read_behind.ensures.honest h)).now) (λ i it. it.header) c.read_behind.ensures.means
+    read-ok c.read_behind.result IsImageOf (λ i. seen i.header ≡ header_of (g.D.Disk.now c.args.disk.now).bytes)
+    (g.D.Disk.now c.args.disk.now) (g.D.Disk.now c.read_old_header.new.disk)
+    (g.D.Disk.honest c.read_behind.new.disk)
+    (λ h. (c.read_old_header.ensures.reads (c.read_behind.ensures.honest h)).now)
+    (λ i it. it.header) c.read_behind.ensures.means
 
 pub returns-in-Ok-clause-old : goal.returns-in-Ok-clause-old
-returns-in-Ok-clause-old g c = old_named_result c.read_behind.result c.in-Ok.header.version c.in-Ok.ensures.old (header_version c.read_behind.result c.in-Ok.header c.read_behind.ensures.same)
+returns-in-Ok-clause-old g c = old_named_result c.read_behind.result c.in-Ok.header.version c.in-Ok.ensures.old
+    (header_version c.read_behind.result c.in-Ok.header c.read_behind.ensures.same)
 
 pub returns-in-Ok-clause-means : goal.returns-in-Ok-clause-means
 returns-in-Ok-clause-means g c =
-    old_means c.read_behind.result (g.D.Disk.now c.args.disk.now) (g.D.Disk.now c.read_old_header.new.disk) (seen c.in-Ok.header) (λ h. (c.read_old_header.ensures.reads (c.read_behind.ensures.honest h)).now)
+    old_means c.read_behind.result (g.D.Disk.now c.args.disk.now) (g.D.Disk.now c.read_old_header.new.disk)
+    (seen c.in-Ok.header) (λ h. (c.read_old_header.ensures.reads (c.read_behind.ensures.honest h)).now)
     c.in-Ok.ensures.old (λ h. c.in-Ok.ensures.found (c.read_behind.ensures.honest h)) c.read_behind.ensures.means
 
 pub returns-in-Ok-clause-fault : goal.returns-in-Ok-clause-fault
 returns-in-Ok-clause-fault g c =
-    old_fault c.read_behind.result (g.D.Disk.now c.args.disk.now) (g.D.Disk.now c.read_old_header.new.disk) (seen c.in-Ok.header) (λ h. (c.read_old_header.ensures.reads (c.read_behind.ensures.honest h)).now)
+    old_fault c.read_behind.result (g.D.Disk.now c.args.disk.now) (g.D.Disk.now c.read_old_header.new.disk)
+    (seen c.in-Ok.header) (λ h. (c.read_old_header.ensures.reads (c.read_behind.ensures.honest h)).now)
     c.in-Ok.ensures.old (λ h. c.in-Ok.ensures.found (c.read_behind.ensures.honest h)) c.read_behind.ensures.fault
 
 pub returns-in-Ok-clause-reads : goal.returns-in-Ok-clause-reads
 returns-in-Ok-clause-reads g c = λ h.
-    reads_then (g.D.Disk.now c.args.disk.now) (g.D.Disk.now c.read_old_header.new.disk) (g.D.Disk.now c.read_behind.new.disk) (g.D.Disk.past c.args.disk.now) (g.D.Disk.past c.read_old_header.new.disk) (g.D.Disk.past c.read_behind.new.disk)
+    reads_then (g.D.Disk.now c.args.disk.now) (g.D.Disk.now c.read_old_header.new.disk)
+    (g.D.Disk.now c.read_behind.new.disk) (g.D.Disk.past c.args.disk.now)
+    (g.D.Disk.past c.read_old_header.new.disk) (g.D.Disk.past c.read_behind.new.disk)
     (c.read_old_header.ensures.reads (c.read_behind.ensures.honest h)) (c.read_behind.ensures.reads h)
 
 pub returns-in-Err-clause-fault : goal.returns-in-Err-clause-fault
-returns-in-Err-clause-fault g c = old_header_fault c.in-Err.refusal (g.D.Disk.now c.args.disk.now).bytes c.in-Err.ensures.fault
+returns-in-Err-clause-fault g c = old_header_fault c.in-Err.refusal
+    (g.D.Disk.now c.args.disk.now).bytes c.in-Err.ensures.fault

@@ -6,4 +6,5 @@ pub returns-clause-step : goal.returns-clause-step
 returns-clause-step c = step-agrees
 
 pub returns-clause-run : goal.returns-clause-run
-returns-clause-run c = λ cells elements commands. after-agrees (empty_contents cells elements) commands (empty-agrees cells elements)
+returns-clause-run c = λ cells elements commands. after-agrees (empty_contents cells elements) commands
+    (empty-agrees cells elements)

@@ -12,4 +12,5 @@ pub returns-clause-run : goal.returns-clause-run
 returns-clause-run c = after-memory
 
 pub returns-clause-reached : goal.returns-clause-reached
-returns-clause-reached c = λ cells elements commands. after-memory cells elements (empty_contents cells elements) commands (empty-memory cells elements)
+returns-clause-reached c = λ cells elements commands. after-memory cells elements
+    (empty_contents cells elements) commands (empty-memory cells elements)

@@ -1,8 +1,10 @@
-use Rattle.im_laws.proofs.AcceptLemmas.{acceptance-refused, refused-acceptance, acceptance-changes, changes-acceptance, acceptance-leaves, leaves-acceptance}
+use Rattle.im_laws.proofs.AcceptLemmas.{acceptance-refused, refused-acceptance, acceptance-changes}
+use Rattle.im_laws.proofs.AcceptLemmas.{changes-acceptance, acceptance-leaves, leaves-acceptance}
 use Rattle.im_laws.proofs.steps.acceptance_tells.Goals as goal
 
 pub returns-clause-refused : goal.returns-clause-refused
-returns-clause-refused c = λ m command refusal. (acceptance-refused m command refusal, refused-acceptance m command refusal)
+returns-clause-refused c = λ m command refusal.
+    (acceptance-refused m command refusal, refused-acceptance m command refusal)
 
 pub returns-clause-changes : goal.returns-clause-changes
 returns-clause-changes c = λ m command. (acceptance-changes m command, changes-acceptance m command)

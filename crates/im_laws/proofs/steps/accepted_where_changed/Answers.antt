@@ -1,4 +1,5 @@
-use Rattle.im_laws.proofs.AcceptLemmas.{accepted-changes, changed-accepted, unaccepted-leaves, left-unaccepted, accepted-ok}
+use Rattle.im_laws.proofs.AcceptLemmas.{accepted-changes, changed-accepted, unaccepted-leaves, left-unaccepted}
+use Rattle.im_laws.proofs.AcceptLemmas.{accepted-ok}
 use Rattle.im_laws.proofs.steps.accepted_where_changed.Goals as goal
 
 pub returns-clause-accepted : goal.returns-clause-accepted

@@ -5,4 +5,5 @@ pub returns-clause-end : goal.returns-clause-end
 returns-clause-end c = end_of-append
 
 pub returns-clause-legal : goal.returns-clause-legal
-returns-clause-legal c = λ m earlier later. (IsLegal-split m earlier later, λ both. IsLegal-append m earlier later both.0 both.1)
+returns-clause-legal c = λ m earlier later.
+    (IsLegal-split m earlier later, λ both. IsLegal-append m earlier later both.0 both.1)

@@ -4,7 +4,8 @@ use Rattle.im_laws.proofs.JudgeLemmas.{bounds-kept, ask-gap, ask-no_element}
 use Rattle.im_laws.proofs.windows.entries_are_kept_within_bounds.Goals as goal
 
 pub returns-clause-below : goal.returns-clause-below
-returns-clause-below c = λ windows who base next are below. ask-forgotten windows who (bounds-forgotten windows who base next are below)
+returns-clause-below c = λ windows who base next are below. ask-forgotten windows who
+    (bounds-forgotten windows who base next are below)
 
 pub returns-clause-within : goal.returns-clause-within
 returns-clause-within c = bounds-kept

@@ -6,8 +6,10 @@ use Rattle.im_plain.proofs.acts.allocate.Goals as goal
 pub returns-in_default : goal.returns-in_default
 returns-in_default c =
     rw c.tells-in_default.ensures (tells-HasActed c.args.slots.now c.args.queue.now c.requires.fits NoSpace _
-    (allocate-placed c.args.slots.now c.args.queue.now c.requires.fits c.args.kind c.args.n c.if-n-eq0.false None (sym c.place.ensures ∙ c.in_default.is)))
+    (allocate-placed c.args.slots.now c.args.queue.now c.requires.fits c.args.kind c.args.n c.if-n-eq0.false None
+    (sym c.place.ensures ∙ c.in_default.is)))
 
 pub returns : goal.returns
 returns c =
-    rw (c.tells-2.ensures, c.fill.ensures) (allocate-HasActed c.args.slots.now c.args.queue.now c.requires.fits c.args.kind c.args.n c.in-Some.base c.if-n-eq0.false (sym c.place.ensures ∙ c.in-Some.is))
+    rw (c.tells-2.ensures, c.fill.ensures)
+    (allocate-HasActed c.args.slots.now c.args.queue.now c.requires.fits c.args.kind c.args.n c.in-Some.base c.if-n-eq0.false (sym c.place.ensures ∙ c.in-Some.is))

@@ -5,8 +5,11 @@ use Rattle.im_plain.proofs.acts.any_waits.Goals as goal
 
 pub returns-then-is_waiting : goal.returns-then-is_waiting
 returns-then-is_waiting c =
-    sym (c.loop-i.invariant ∙ waits-step (joined c.args.slots.now c.args.queue.now) c.args.base c.args.n c.loop-i.i (omega arith) true (sym c.is_waiting.ensures ∙ c.if-is_waiting.true))
+    sym (c.loop-i.invariant
+    ∙ waits-step (joined c.args.slots.now c.args.queue.now) c.args.base c.args.n c.loop-i.i (omega arith) true
+    (sym c.is_waiting.ensures ∙ c.if-is_waiting.true))
 
 pub loop-i-preserved : goal.loop-i-preserved
 loop-i-preserved c =
-    c.loop-i.invariant ∙ waits-step (joined c.args.slots.now c.args.queue.now) c.args.base c.args.n c.loop-i.i (omega arith) false (sym c.is_waiting.ensures ∙ c.if-is_waiting.false)
+    c.loop-i.invariant ∙ waits-step (joined c.args.slots.now c.args.queue.now) c.args.base c.args.n c.loop-i.i
+    (omega arith) false (sym c.is_waiting.ensures ∙ c.if-is_waiting.false)

@@ -6,4 +6,5 @@ use Rattle.im_plain.proofs.acts.any_waits.Given as goal
 
 abbrev pub invariant-loop-i : goal.invariant-loop-i
 invariant-loop-i l =
-    list_any is_waiting_cell (take l.n (drop l.base (joined l.slots l.queue))) ≡ list_any is_waiting_cell (take (l.n - l.i) (drop (l.base + l.i) (joined l.slots l.queue)))
+    list_any is_waiting_cell (take l.n (drop l.base (joined l.slots l.queue)))
+    ≡ list_any is_waiting_cell (take (l.n - l.i) (drop (l.base + l.i) (joined l.slots l.queue)))

@@ -7,8 +7,10 @@ use Rattle.im_plain.proofs.cells.fill.Goals.{then-at-slots, else-at-slots}
 pub loop-i-preserved : goal.loop-i-preserved
 loop-i-preserved c =
     elim c.if-at-slots.branch [
-      | then-at-slots w ↦ w.slots-is ∙ ap (λ xs. set xs (c.args.base + c.loop-i.i) c.args.slot) c.loop-i.invariant ∙ fill-more c.args.slots.now c.args.base c.loop-i.i c.args.slot
-      | else-at-slots w ↦ w.slots-is ∙ c.loop-i.invariant ∙ fill-past c.args.slots.now c.args.base c.loop-i.i c.args.slot (omega arith)
+      | then-at-slots w ↦ w.slots-is ∙ ap (λ xs. set xs (c.args.base + c.loop-i.i) c.args.slot) c.loop-i.invariant
+          ∙ fill-more c.args.slots.now c.args.base c.loop-i.i c.args.slot
+      | else-at-slots w ↦ w.slots-is ∙ c.loop-i.invariant
+          ∙ fill-past c.args.slots.now c.args.base c.loop-i.i c.args.slot (omega arith)
     ]
 
 pub loop-i-init : goal.loop-i-init

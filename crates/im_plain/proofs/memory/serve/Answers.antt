@@ -17,5 +17,7 @@ returns-clause-memory c =
     let parked = c.act-acted.new.queue.items in
     makes-served c.args.slots.now queue.items queue.cap c.args.windows.now c.requires.memory c.args.request.now acted c.act-acted.new.slots parked c.resume.new.queue.items c.resume.new.windows
     c.act-acted.ensures.acted c.resume.ensures.queue
-    (c.resume.ensures.windows ∙ ap (λ windows. answer_each windows (replies_to (take acted.count (waiting_at acted.address parked)) acted.value)) c.note.ensures)
+    (c.resume.ensures.windows
+    ∙ ap (λ windows. answer_each windows
+    (replies_to (take acted.count (waiting_at acted.address parked)) acted.value)) c.note.ensures)
     c.requires.fresh c.resume.new.queue.cap (omega arith)

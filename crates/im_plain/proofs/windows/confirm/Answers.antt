@@ -4,4 +4,5 @@ use Rattle.im_plain.proofs.windows.confirm.Goals as goal
 
 pub returns-clause-err : goal.returns-clause-err
 returns-clause-err c =
-    confirm-refused c.args.windows.now c.args.element c.args.upto c.index-windows-at.result c.confirm.new.self (omega arith) c.confirm.result c.confirm.ensures
+    confirm-refused c.args.windows.now c.args.element c.args.upto c.index-windows-at.result c.confirm.new.self
+    (omega arith) c.confirm.result c.confirm.ensures

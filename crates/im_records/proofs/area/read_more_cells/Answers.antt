@@ -13,4 +13,5 @@ returns-clause-bad c = λ e area r stands spells.
     let n = node_count (layout_of c.args.version) s in
     c.push_cells.ensures.bad e area r.cells stands
     (subst (λ (nodes : ℕ). BeginWithCells s.cells s.cells nodes area r.cells) (sym c.node_count-nodes.ensures)
-    (beginning_of_row 32 cell_bytes (FitsCell s.cells n) (FreeCell 0 NONE) s.cells (page_bytes * cell_pages s) area r.cells (cells_fit s.cells) spells.cells))
+    (beginning_of_row 32 cell_bytes (FitsCell s.cells n) (FreeCell 0 NONE) s.cells
+    (page_bytes * cell_pages s) area r.cells (cells_fit s.cells) spells.cells))

@@ -10,5 +10,7 @@ returns-in_default c = no_node c.args.bytes.now c.in_default.ensures.cases
 
 pub returns : goal.returns
 returns c =
-    c.node_if.ensures ∙ ap (λ bytes. if same_bytes bytes (node_bytes c.node_in.result) then Some c.node_in.result else None) c.in-Some.ensures.cases.same
+    c.node_if.ensures ∙ ap
+    (λ bytes. if same_bytes bytes
+    (node_bytes c.node_in.result) then Some c.node_in.result else None) c.in-Some.ensures.cases.same
     ∙ sym (node_by c.args.bytes.now c.node_in.result (c.node_in.ensures ∙ ap node_in c.in-Some.ensures.cases.same))

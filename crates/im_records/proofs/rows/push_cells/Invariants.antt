@@ -5,5 +5,7 @@ use Rattle.im_records.proofs.rows.push_cells.Given as goal
 abbrev pub invariant-loop-i : goal.invariant-loop-i
 invariant-loop-i l = record {
   many : length l.row ≡ length l.initial.row + l.i;
-  begin : (area : List ℕ) → StandsAt (32 * length l.initial.row) l.piece area → BeginWithCells (length l.initial.row) l.cells l.nodes area l.initial.row → BeginWithCells (length l.initial.row + l.i) l.cells l.nodes area l.row;
+  begin : (area : List ℕ) → StandsAt (32 * length l.initial.row) l.piece area
+      → BeginWithCells (length l.initial.row) l.cells l.nodes area l.initial.row
+      → BeginWithCells (length l.initial.row + l.i) l.cells l.nodes area l.row;
 }

@@ -8,4 +8,6 @@ use Rattle.im_records.proofs.session.spell_in.Given as goal
 
 -- the head, the places so far, and zeros
 abbrev pub invariant-loop-place : goal.invariant-loop-place
-invariant-loop-place l = l.bytes ≡ (little_bytes 8 l.window.base ++ length l.window.kept ∷ zeros 23) ++ places_from (layout_of l.version).window l.window 0 (replicate l.place 0) ++ zeros (behind_head - 32 * l.place)
+invariant-loop-place l = l.bytes
+    ≡ (little_bytes 8 l.window.base ++ length l.window.kept ∷ zeros 23) ++ places_from
+    (layout_of l.version).window l.window 0 (replicate l.place 0) ++ zeros (behind_head - 32 * l.place)

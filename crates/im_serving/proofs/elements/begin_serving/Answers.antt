@@ -7,8 +7,11 @@ use Rattle.im_serving.proofs.ElementLemmas.{unserved}
 use Rattle.im_serving.proofs.elements.begin_serving.Goals as goal
 
 pub spawn_with-requires-send-F : goal.spawn_with-requires-send-F
-spawn_with-requires-send-F g c κs within = let controller = Controller-row-sync (param 1 g.row.D) (param 2 g.row.K) g.D.Disk g.K.Name c.type_bounds.send-D in let server = Server-row-send (param 2 g.row.K) g.K.Name in
-    let r = c.type_bounds.sync-R in let gate = c.type_bounds.sync-G in let o = Outlet-row-send in search (sendable, crosses) depth 40
+spawn_with-requires-send-F g c κs within = let controller = Controller-row-sync (param 1 g.row.D)
+    (param 2 g.row.K) g.D.Disk g.K.Name c.type_bounds.send-D in let server = Server-row-send
+    (param 2 g.row.K) g.K.Name in
+    let r = c.type_bounds.sync-R in let gate = c.type_bounds.sync-G in let o = Outlet-row-send in search
+    (sendable, crosses) depth 40
 
 pub returns-in-Err-clause-err : goal.returns-in-Err-clause-err
 returns-in-Err-clause-err g c =

@@ -5,4 +5,6 @@ use Rattle.im_serving.proofs.elements.end_all.Given as goal
 
 abbrev pub invariant-loop-running : goal.invariant-loop-running
 invariant-loop-running g l =
-    ((before : List Asked) × ((before ++ l.running-iterator.rest.items ≡ l.fn.all.items) × AreEnded g.K.Name.memory before l.done.items)) × (vec_capacity l.done ≡ vec_capacity l.fn.done)
+    ((before : List Asked)
+    × ((before ++ l.running-iterator.rest.items ≡ l.fn.all.items)
+    × AreEnded g.K.Name.memory before l.done.items)) × (vec_capacity l.done ≡ vec_capacity l.fn.done)

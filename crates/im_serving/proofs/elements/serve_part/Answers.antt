@@ -10,5 +10,7 @@ returns-clause-stopped g c =
     let was = c.server.inside in
     let start : Deeds = record { element = was.port.element; entries = was.served.entries.items; last = was.glances.last; seen = was.glances.glance; made = was.glances.made.items } in
     let left : Deeds = record { element = new.port.element; entries = new.served.entries.items; last = new.glances.last; seen = new.glances.glance; made = new.glances.made.items } in
-    subst (λ (p : Deeds). HasStopped g.K.Name.memory p (record { deeds = left; result = c.serve_element-done.result }) new.outlet) c.server.view_is
-    (has_stopped g.K.Name.memory start (record { deeds = left; result = c.serve_element-done.result }) c.args.outlet.items new.outlet c.requires.empty said.element said.begun said.done said.ended said.seen)
+    subst (λ (p : Deeds). HasStopped g.K.Name.memory p
+    (record { deeds = left; result = c.serve_element-done.result }) new.outlet) c.server.view_is
+    (has_stopped g.K.Name.memory start
+    (record { deeds = left; result = c.serve_element-done.result }) c.args.outlet.items new.outlet c.requires.empty said.element said.begun said.done said.ended said.seen)

@@ -9,7 +9,8 @@ invariant_of-self c = walk-behind _ _ c.self.invariant c.if-self.false
 pub returns-clause-steps : goal.returns-clause-steps
 returns-clause-steps c =
     sym c.self.view_is ∙ first-left _ _ c.self.invariant c.if-self.false
-    ∙ ap (λ w. w ∷ waiters_from c.self.inside.nodes.now (next_of c.self.inside.nodes.now c.self.inside.at)) (sym c.waiter.ensures)
+    ∙ ap (λ w. w ∷ waiters_from c.self.inside.nodes.now (next_of c.self.inside.nodes.now c.self.inside.at))
+    (sym c.waiter.ensures)
 
 pub returns-clause-goes : goal.returns-clause-goes
 returns-clause-goes c =

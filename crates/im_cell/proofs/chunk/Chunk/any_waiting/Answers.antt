@@ -18,6 +18,8 @@ returns-then-to-from-clause-found c =
 pub returns-clause-found : goal.returns-clause-found
 returns-clause-found c =
     c.look_for_waiting.ensures.found
-    ∙ narrowed c.args.self.now c.args.base c.args.n c.self.inside.waits.from c.self.inside.waits.to (λ k e. c.self.invariant.waiting k (ap (λ s. is_waiting (slot_at s k)) c.self.view_is ∙ e))
-    c.max-from.result c.min-to.result (omega (arith, c.max-from.ensures)) (omega (arith, c.if-to-from.false)) (omega (arith, c.min-to.ensures))
+    ∙ narrowed c.args.self.now c.args.base c.args.n c.self.inside.waits.from c.self.inside.waits.to
+    (λ k e. c.self.invariant.waiting k (ap (λ s. is_waiting (slot_at s k)) c.self.view_is ∙ e))
+    c.max-from.result c.min-to.result (omega (arith, c.max-from.ensures)) (omega (arith, c.if-to-from.false))
+    (omega (arith, c.min-to.ensures))
     (λ k low high from upto. (omega (arith, c.max-from.ensures), omega (arith, c.min-to.ensures)))

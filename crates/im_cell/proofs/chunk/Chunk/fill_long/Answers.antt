@@ -19,4 +19,5 @@ invariant_of-self c =
       with_items_is was.nodes done.new.nodes (omega (arith, done.auto.nodes, c.as_mut_slice-3.ensures.len)),
     )
     (IsChunk-filled was.kept was.same.items was.records.items was.nodes.items was.sum Leaves done.new.same done.new.records done.new.nodes done.result was.waits c.with-self-inside.result c.args.base c.args.n c.args.new c.is_waiting.result
-    c.self.invariant done.ensures.kept (λ e. done.ensures.sum) c.with-self-inside.ensures.kept c.is_waiting.ensures c.with-self-inside.ensures.new slots)
+    c.self.invariant done.ensures.kept
+    (λ e. done.ensures.sum) c.with-self-inside.ensures.kept c.is_waiting.ensures c.with-self-inside.ensures.new slots)

@@ -9,4 +9,6 @@ invariant_of-self c =
     (λ e k low high. c.with-self-inside.ensures.new e k low (omega (arith, c.self.inside.records.ok)))
 
 pub returns : goal.returns
-returns c = ap (λ n. replicate n (slot_of c.args.new)) (sym (length-slots_in c.self.inside.kept c.self.inside.same.items c.self.inside.records.items) ∙ ap length c.self.view_is)
+returns c = ap (λ n. replicate n (slot_of c.args.new))
+    (sym (length-slots_in c.self.inside.kept c.self.inside.same.items c.self.inside.records.items)
+    ∙ ap length c.self.view_is)

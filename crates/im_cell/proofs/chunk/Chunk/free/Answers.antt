@@ -20,15 +20,22 @@ invariant_of-result c =
     let records = c.in_ok-records.records.items in
     let flags : same ≡ replicate (CHUNK / PART) false = search rules in
     let cells : records ≡ replicate c.args.cells (Free 0 NONE) = search rules in
-    rw (with_items_is c.in_ok-nodes.nodes c.raise.new.nodes (omega (arith, c.raise.auto.nodes, c.as_mut_slice.ensures.len))) (record {
-      cells = IsKept-plain (CHUNK / PART) same records c.raise.new.nodes flags (omega (arith, c.requires, c.in_ok-records.ensures.len)) (omega (arith, c.requires, c.in_ok-records.ensures.len))
+    rw (with_items_is c.in_ok-nodes.nodes c.raise.new.nodes
+    (omega (arith, c.raise.auto.nodes, c.as_mut_slice.ensures.len))) (record {
+      cells = IsKept-plain (CHUNK / PART) same records c.raise.new.nodes flags
+          (omega (arith, c.requires, c.in_ok-records.ensures.len))
+          (omega (arith, c.requires, c.in_ok-records.ensures.len))
           (subst (λ rs. IsTree PART c.raise.new.nodes (marks_of rs)) c.as_slice.ensures.value c.raise.ensures);
       sums = λ e. absurd (each_not_leaves e);
       waiting = λ k e.
-          let slots : seen same (slots_of records) ≡ replicate c.args.cells (slot_of (Free 0 NONE)) = seen-of-plain (CHUNK / PART) same (slots_of records) flags ∙ ap slots_of cells ∙ slots-same c.args.cells (Free 0 NONE) in
+          let slots : seen same (slots_of records)
+          ≡ replicate c.args.cells (slot_of (Free 0 NONE)) = seen-of-plain (CHUNK / PART) same
+          (slots_of records) flags ∙ ap slots_of cells ∙ slots-same c.args.cells (Free 0 NONE) in
           absurd (none-at (seen same (slots_of records)) 0 (k + 1) k
-          (ap (λ xs. list_any is_waiting (take (k + 1) (drop 0 xs))) slots ∙ none-take is_waiting (k + 1) (drop 0 (replicate c.args.cells (slot_of (Free 0 NONE))))
-          (none-drop is_waiting 0 (replicate c.args.cells (slot_of (Free 0 NONE))) (none-same is_waiting c.args.cells (slot_of (Free 0 NONE)) refl))) (omega arith) (omega arith) e);
+          (ap (λ xs. list_any is_waiting (take (k + 1) (drop 0 xs))) slots
+          ∙ none-take is_waiting (k + 1) (drop 0 (replicate c.args.cells (slot_of (Free 0 NONE))))
+          (none-drop is_waiting 0 (replicate c.args.cells (slot_of (Free 0 NONE)))
+          (none-same is_waiting c.args.cells (slot_of (Free 0 NONE)) refl))) (omega arith) (omega arith) e);
     })
 
 pub returns : goal.returns
@@ -37,4 +44,5 @@ returns c =
     let records = c.in_ok-records.records.items in
     let flags : same ≡ replicate (CHUNK / PART) false = search rules in
     let cells : records ≡ replicate c.args.cells (Free 0 NONE) = search rules in
-    seen-of-plain (CHUNK / PART) same (slots_of records) flags ∙ ap slots_of cells ∙ slots-same c.args.cells (Free 0 NONE)
+    seen-of-plain (CHUNK / PART) same (slots_of records) flags ∙ ap slots_of cells
+    ∙ slots-same c.args.cells (Free 0 NONE)

@@ -16,5 +16,7 @@ invariant_of-self c =
     record {
       cells = c.self.invariant.cells;
       sums = c.self.invariant.sums;
-      waiting = λ k e. c.without-self-inside.ensures k (c.self.invariant.waiting k e) (λ nobody low high. none-at all c.args.from (c.args.to - c.args.from) k (sym found ∙ nobody) low (omega (arith, c.requires.order)) e);
+      waiting = λ k e. c.without-self-inside.ensures k (c.self.invariant.waiting k e)
+          (λ nobody low high. none-at all c.args.from (c.args.to - c.args.from) k (sym found ∙ nobody) low
+          (omega (arith, c.requires.order)) e);
     }

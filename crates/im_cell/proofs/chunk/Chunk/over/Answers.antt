@@ -10,14 +10,24 @@ use Rattle.im_cell.proofs.Seen.{length-seen}
 use Rattle.im_cell.proofs.chunk.Chunk.over.Goals as goal
 
 pub invariant_of-result : goal.invariant_of-result
-invariant_of-result c = rw (with_items_is c.piece.inside.nodes c.raise.new.nodes (omega (arith, c.raise.auto.nodes, c.as_mut_slice.ensures.len))) (record {
-  cells = IsKept-plain (CHUNK / PART) c.piece.inside.same.items c.piece.inside.records.items c.raise.new.nodes c.piece.invariant.0 (omega (arith, c.requires, ap length c.piece.view_is)) (omega (arith, c.requires, ap length c.piece.view_is))
-      (subst (λ rs. IsTree PART c.raise.new.nodes (marks_of rs)) c.as_slice.ensures.value c.raise.ensures);
-  sums = λ e. absurd (each_not_leaves e);
-  waiting = λ k e.
-      let inside = waiting-inside (seen c.piece.inside.same.items (slots_of c.piece.inside.records.items)) k e in
-      c.with-waits.ensures.new refl k (omega arith) (omega (arith, c.piece.inside.records.ok, length-seen c.piece.inside.same.items (slots_of c.piece.inside.records.items), length-map c.piece.inside.records.items slot_of));
-})
+invariant_of-result c = rw
+    (with_items_is c.piece.inside.nodes c.raise.new.nodes
+    (omega (arith, c.raise.auto.nodes, c.as_mut_slice.ensures.len))) (record {
+      cells = IsKept-plain (CHUNK / PART) c.piece.inside.same.items c.piece.inside.records.items c.raise.new.nodes c.piece.invariant.0 (omega (arith, c.requires, ap length c.piece.view_is)) (omega (arith, c.requires, ap length c.piece.view_is))
+          (subst (λ rs. IsTree PART c.raise.new.nodes (marks_of rs)) c.as_slice.ensures.value c.raise.ensures);
+      sums = λ e. absurd (each_not_leaves e);
+      waiting = λ k e.
+          let inside = waiting-inside (seen c.piece.inside.same.items (slots_of c.piece.inside.records.items)) k e in
+          c.with-waits.ensures.new refl k (omega arith)
+          (omega (
+            arith,
+            c.piece.inside.records.ok,
+            length-seen c.piece.inside.same.items
+                (slots_of c.piece.inside.records.items),
+            length-map c.piece.inside.records.items slot_of,
+          ));
+    })
 
 pub returns : goal.returns
-returns c = seen-of-plain (CHUNK / PART) c.piece.inside.same.items (slots_of c.piece.inside.records.items) c.piece.invariant.0 ∙ ap slots_of c.piece.view_is
+returns c = seen-of-plain (CHUNK / PART) c.piece.inside.same.items
+    (slots_of c.piece.inside.records.items) c.piece.invariant.0 ∙ ap slots_of c.piece.view_is

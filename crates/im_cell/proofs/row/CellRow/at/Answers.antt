@@ -13,7 +13,8 @@ index-requires c =
     let long = length-cells c.self.inside.pieces.items c.self.inside.cells c.self.invariant in
     let shown = length-map (cells_in c.self.inside.pieces.items) record_shown ∙ long in
     let view = ap length c.self.view_is in
-    let there = chunk-there c.self.inside.pieces.items c.self.inside.cells c.self.invariant (c.args.a / CHUNK) (omega (arith, c.requires)) in
+    let there = chunk-there c.self.inside.pieces.items c.self.inside.cells c.self.invariant (c.args.a / CHUNK)
+    (omega (arith, c.requires)) in
     omega (arith, there)
 
 pub at-requires : goal.at-requires
@@ -21,8 +22,10 @@ at-requires c =
     let long = length-cells c.self.inside.pieces.items c.self.inside.cells c.self.invariant in
     let shown = length-map (cells_in c.self.inside.pieces.items) record_shown ∙ long in
     let view = ap length c.self.view_is in
-    let there = chunk-there c.self.inside.pieces.items c.self.inside.cells c.self.invariant (c.args.a / CHUNK) (omega (arith, c.requires)) in
-    let read = ap length (c.index.ensures ∙ get_or_default c.self.inside.pieces.items (c.args.a / CHUNK) c.index.result.now [] there) in
+    let there = chunk-there c.self.inside.pieces.items c.self.inside.cells c.self.invariant (c.args.a / CHUNK)
+    (omega (arith, c.requires)) in
+    let read = ap length (c.index.ensures
+    ∙ get_or_default c.self.inside.pieces.items (c.args.a / CHUNK) c.index.result.now [] there) in
     let size = c.self.invariant (c.args.a / CHUNK) in
     omega (arith, c.requires)
 
@@ -31,7 +34,10 @@ returns c =
     let long = length-cells c.self.inside.pieces.items c.self.inside.cells c.self.invariant in
     let shown = length-map (cells_in c.self.inside.pieces.items) record_shown ∙ long in
     let view = ap length c.self.view_is in
-    let there = chunk-there c.self.inside.pieces.items c.self.inside.cells c.self.invariant (c.args.a / CHUNK) (omega (arith, c.requires)) in
-    let read = c.index.ensures ∙ get_or_default c.self.inside.pieces.items (c.args.a / CHUNK) c.index.result.now [] there in
-    c.at.ensures ∙ shown-in-chunk c.self.inside.pieces.items c.self.inside.cells c.self.invariant c.args.a _ read (omega (arith, c.requires))
+    let there = chunk-there c.self.inside.pieces.items c.self.inside.cells c.self.invariant (c.args.a / CHUNK)
+    (omega (arith, c.requires)) in
+    let read = c.index.ensures
+    ∙ get_or_default c.self.inside.pieces.items (c.args.a / CHUNK) c.index.result.now [] there in
+    c.at.ensures ∙ shown-in-chunk c.self.inside.pieces.items c.self.inside.cells c.self.invariant c.args.a _ read
+    (omega (arith, c.requires))
     ∙ ap (λ row. get_or row c.args.a (FreeCell 0 NONE)) c.self.view_is

@@ -7,4 +7,5 @@ use Rattle.im_cell.proofs.row.CellRow.len.Goals as goal
 
 pub returns : goal.returns
 returns c =
-    sym (length-cells c.self.inside.pieces.items c.self.inside.cells c.self.invariant) ∙ sym (length-map (cells_in c.self.inside.pieces.items) record_shown) ∙ ap length c.self.view_is
+    sym (length-cells c.self.inside.pieces.items c.self.inside.cells c.self.invariant)
+    ∙ sym (length-map (cells_in c.self.inside.pieces.items) record_shown) ∙ ap length c.self.view_is

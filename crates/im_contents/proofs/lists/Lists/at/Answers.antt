@@ -5,17 +5,20 @@ use Rattle.im_contents.proofs.lists.Lists.at.Goals as goal
 
 pub start_of-start-requires : goal.start_of-start-requires
 start_of-start-requires c =
-    let count : length c.args.self.now ≡ length c.self.inside.ends.items = ap length (sym c.self.view_is) ∙ length-cut c.self.inside.waiters.items 0 c.self.inside.ends.items in
+    let count : length c.args.self.now ≡ length c.self.inside.ends.items = ap length (sym c.self.view_is)
+    ∙ length-cut c.self.inside.waiters.items 0 c.self.inside.ends.items in
     let same : length c.deref.result.now ≡ length c.self.inside.ends.items = ap length c.deref.ensures.value in
     omega (arith, c.requires)
 
 pub index-end-requires : goal.index-end-requires
 index-end-requires c =
-    let count : length c.args.self.now ≡ length c.self.inside.ends.items = ap length (sym c.self.view_is) ∙ length-cut c.self.inside.waiters.items 0 c.self.inside.ends.items in
+    let count : length c.args.self.now ≡ length c.self.inside.ends.items = ap length (sym c.self.view_is)
+    ∙ length-cut c.self.inside.waiters.items 0 c.self.inside.ends.items in
     omega (arith, c.requires)
 
 -- where the list stands
-place : (c : goal.After-deref-2) → Stands c.self.inside.waiters.items c.args.self.now c.args.cell c.start_of-start.result c.index-end.result.now
+place : (c : goal.After-deref-2)
+    → Stands c.self.inside.waiters.items c.args.self.now c.args.cell c.start_of-start.result c.index-end.result.now
 place c = stands_at c.self.inside.waiters.items c.self.inside.ends.items c.args.self.now c.args.cell c.start_of-start.result c.index-end.result.now
     c.self.view_is c.self.invariant c.requires c.deref.result.now c.deref.ensures.value c.start_of-start.ensures c.index-end.result.now c.index-end.ensures
 
@@ -42,4 +45,5 @@ pub returns : goal.returns
 returns c =
     let s = stands_at c.self.inside.waiters.items c.self.inside.ends.items c.args.self.now c.args.cell c.start_of-start.result c.index-end.result.now
     c.self.view_is c.self.invariant c.requires c.deref.result.now c.deref.ensures.value c.start_of-start.ensures c.index-end.result.now c.index-end.ensures in
-    ap (λ (l : List Waiter). take (c.index-end.result.now - c.start_of-start.result) (drop c.start_of-start.result l)) c.deref-2.ensures.value ∙ s.list
+    ap (λ (l : List Waiter). take (c.index-end.result.now - c.start_of-start.result)
+    (drop c.start_of-start.result l)) c.deref-2.ensures.value ∙ s.list

@@ -9,5 +9,6 @@ pub returns : goal.returns
 returns c =
     let i = c.self.inside in
     let all : sum_by length (c.args.self.now) ≡ i.waiters.len =
-    ap (λ (ls : List (List Waiter)). sum_by length ls) (sym c.self.view_is) ∙ omega (arith, sum-cut i.waiters.items 0 i.ends.items c.self.invariant) in
+    ap (λ (ls : List (List Waiter)). sum_by length ls) (sym c.self.view_is)
+    ∙ omega (arith, sum-cut i.waiters.items 0 i.ends.items c.self.invariant) in
     c.is_empty.ensures ∙ ap (λ (n : ℕ). n == 0) (sym all)

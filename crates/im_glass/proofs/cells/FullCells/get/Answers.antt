@@ -1,12 +1,15 @@
-use Rattle.std.proofs.Common.{rules, ◌≡◌, ◌∙◌, ◌<◌, ◌≤◌, ap, sym, length, get_or, ℕ, List, Option, Bool, true, false, Some, None, arith}
+use Rattle.std.proofs.Common.{rules, ◌≡◌, ◌∙◌, ◌<◌, ◌≤◌, ap, sym, length, get_or, ℕ, List, Option, Bool, true, false}
+use Rattle.std.proofs.Common.{Some, None, arith}
 use Rattle.im_glass.specs.Cells.{cell_of}
 use Rattle.im_glass.proofs.CellLemmas.{cells_get, cells_past}
 use Rattle.im_glass.proofs.cells.FullCells.get.Goals as goal
 
 pub returns-then-a-len : goal.returns-then-a-len
 returns-then-a-len c =
-    let past : length c.self.inside.full.items ≤ c.args.a = omega (arith, c.if-a-len.true, c.len.ensures, c.self.inside.full.ok.0) in
-    cells_past c.self.inside.full.items c.self.inside.values.items c.args.a past ∙ ap (λ (cells : List (Option ℕ)). get_or cells c.args.a None) c.self.view_is
+    let past : length c.self.inside.full.items ≤ c.args.a = omega
+    (arith, c.if-a-len.true, c.len.ensures, c.self.inside.full.ok.0) in
+    cells_past c.self.inside.full.items c.self.inside.values.items c.args.a past
+    ∙ ap (λ (cells : List (Option ℕ)). get_or cells c.args.a None) c.self.view_is
 
 pub returns-then-index : goal.returns-then-index
 returns-then-index c =

@@ -20,9 +20,11 @@ invariant_of-result g c =
     let book : now.seen.book ≡ g.J.PaneName.book = ap (λ s. s.book) seen ∙ c.seen.ensures.book in
     rw (same.0, same.1, same.2, c.spare_readers.ensures.known) (
       subst (λ (all : List Ahead). GoesOn (length now.cells) g.J.PaneName.book now.seen.log all) (sym none) tt,
-      c.named-book.ensures ∙ sym log ∙ sym (append-nil now.seen.log) ∙ ap (λ (all : List Ahead). now.seen.log ++ changes_ahead all) (sym none),
+      c.named-book.ensures ∙ sym log ∙ sym (append-nil now.seen.log)
+          ∙ ap (λ (all : List Ahead). now.seen.log ++ changes_ahead all) (sym none),
       book,
       new-kept (state_of now) c.seen.result c.args.cells empty c.in-Ok.ensures.state,
       c.in-Ok.ensures.known,
-      subst (λ (b : Book). AllByRecursion (λ (a : Book). a ≡ b) c.in-Ok-spare_readers.spare.items) book c.in-Ok-spare_readers.ensures.book,
+      subst (λ (b : Book). AllByRecursion
+          (λ (a : Book). a ≡ b) c.in-Ok-spare_readers.spare.items) book c.in-Ok-spare_readers.ensures.book,
     )

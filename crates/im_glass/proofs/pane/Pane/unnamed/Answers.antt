@@ -18,5 +18,6 @@ invariant_of-result g c =
       i.2 ∙ sym c.unnamed.ensures.book,
       i.3,
       i.4,
-      subst (λ (book : Book). AllByRecursion (λ (b : Book). b ≡ book) c.self.inside.spare.items) (sym c.unnamed.ensures.book) i.5,
+      subst (λ (book : Book). AllByRecursion (λ (b : Book). b ≡ book) c.self.inside.spare.items)
+          (sym c.unnamed.ensures.book) i.5,
     )

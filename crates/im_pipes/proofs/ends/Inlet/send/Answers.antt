@@ -14,8 +14,11 @@ invariant_of-self g c =
 pub returns-clause-contents : goal.returns-clause-contents
 returns-clause-contents g c =
     elim c.match-put.branch [
-      | in-Ok w ↦ rw w.result-is ((sent_item _ _ c.args.item c.self.invariant.1 w.in-Ok.ensures.sent).0 ∙ ap (λ (e : PipeEnd g.row.T.Denot). e.items ++ c.args.item ∷ []) c.self.view_is)
-      | in-Err w ↦ rw w.result-is (rw w.in-Err.ensures.sent.1 (ap (λ (e : PipeEnd g.row.T.Denot). e.items) c.self.view_is))
+      | in-Ok w ↦ rw w.result-is
+          ((sent_item _ _ c.args.item c.self.invariant.1 w.in-Ok.ensures.sent).0
+          ∙ ap (λ (e : PipeEnd g.row.T.Denot). e.items ++ c.args.item ∷ []) c.self.view_is)
+      | in-Err w ↦ rw w.result-is
+          (rw w.in-Err.ensures.sent.1 (ap (λ (e : PipeEnd g.row.T.Denot). e.items) c.self.view_is))
     ]
 
 pub returns-clause-refused : goal.returns-clause-refused

@@ -10,7 +10,8 @@ pub absorb-requires-clause-rule : goal.absorb-requires-clause-rule
 absorb-requires-clause-rule g c = merges _ _ _ _ (search rules) (search rules)
 
 pub learn_as-requires-clause-rule : goal.learn_as-requires-clause-rule
-learn_as-requires-clause-rule g c = learns _ _ (ap (λ (l : Log g.row.T.Denot). l.sends) c.absorb.ensures.rule) (ap (λ (l : Log g.row.T.Denot). l.receives) c.absorb.ensures.rule)
+learn_as-requires-clause-rule g c = learns _ _ (ap (λ (l : Log g.row.T.Denot). l.sends) c.absorb.ensures.rule)
+    (ap (λ (l : Log g.row.T.Denot). l.receives) c.absorb.ensures.rule)
 
 pub returns-clause-begins : goal.returns-clause-begins
 returns-clause-begins g c =
@@ -19,7 +20,8 @@ returns-clause-begins g c =
     let sent = ap (λ (e : PipeEnd g.row.T.Denot). e.items) c.finished.view_is in (
       items_of (held ++ l.0),
       ap (λ (xs : List g.row.T.Denot). xs ++ items_of (held ++ l.0)) (sym received)
-          ∙ (sym (begins_items (view c.finished.inside.pass) w (view c.absorb.new.pass) c.self.inside.ended (items_of (handed_of w.received held)) held l.0 c.self.invariant.1 c.absorb.ensures.rule l.1) ∙ sent),
+          ∙ (sym (begins_items (view c.finished.inside.pass) w (view c.absorb.new.pass) c.self.inside.ended
+          (items_of (handed_of w.received held)) held l.0 c.self.invariant.1 c.absorb.ensures.rule l.1) ∙ sent),
     )
 
 pub returns-clause-whole : goal.returns-clause-whole

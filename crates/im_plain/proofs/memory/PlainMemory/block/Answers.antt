@@ -7,11 +7,16 @@ use Rattle.im_plain.proofs.memory.PlainMemory.block.Goals as goal
 pub returns-in-Some : goal.returns-in-Some
 returns-in-Some c =
     let m = c.self.inside in
-    let at = sym (ap (λ slots. get_or slots c.args.a None) c.as_slice.ensures.value) ∙ sym c.slot_at.ensures.value ∙ c.in-Some.is in
-    sym (ap (option_map (λ (held : Held). held.block)) (held_at-Some m.slots.items m.queue.items c.args.a c.in-Some.slot at)) ∙ ap (λ (m : Contents). block_at m.cells c.args.a) c.self.view_is
+    let at = sym (ap (λ slots. get_or slots c.args.a None) c.as_slice.ensures.value) ∙ sym c.slot_at.ensures.value
+    ∙ c.in-Some.is in
+    sym (ap (option_map (λ (held : Held). held.block))
+    (held_at-Some m.slots.items m.queue.items c.args.a c.in-Some.slot at))
+    ∙ ap (λ (m : Contents). block_at m.cells c.args.a) c.self.view_is
 
 pub returns-in-None : goal.returns-in-None
 returns-in-None c =
     let m = c.self.inside in
-    let at = sym (ap (λ slots. get_or slots c.args.a None) c.as_slice.ensures.value) ∙ sym c.slot_at.ensures.value ∙ c.in-None.is in
-    sym (ap (option_map (λ (held : Held). held.block)) (held_at-None m.slots.items m.queue.items c.args.a at)) ∙ ap (λ (m : Contents). block_at m.cells c.args.a) c.self.view_is
+    let at = sym (ap (λ slots. get_or slots c.args.a None) c.as_slice.ensures.value) ∙ sym c.slot_at.ensures.value
+    ∙ c.in-None.is in
+    sym (ap (option_map (λ (held : Held). held.block)) (held_at-None m.slots.items m.queue.items c.args.a at))
+    ∙ ap (λ (m : Contents). block_at m.cells c.args.a) c.self.view_is

@@ -7,8 +7,11 @@ invariant_of-result c =
     let limits = c.args.limits in
     let few_cells = limits.in_range.few_cells in
     let few_elements = limits.in_range.few_elements in
-    rw (c.in_ok-slots.ensures, c.in_ok-windows.ensures, c.in_ok-queue.ensures.items) (makes-empty limits.cells limits.elements c.in_ok-queue.queue.cap (omega arith) (omega arith) (omega (arith, c.in_ok-queue.ensures.capacity)))
+    rw (c.in_ok-slots.ensures, c.in_ok-windows.ensures, c.in_ok-queue.ensures.items)
+    (makes-empty limits.cells limits.elements c.in_ok-queue.queue.cap (omega arith) (omega arith)
+    (omega (arith, c.in_ok-queue.ensures.capacity)))
 
 pub returns : goal.returns
 returns c =
-    rw (c.in_ok-slots.ensures, c.in_ok-windows.ensures, c.in_ok-queue.ensures.items) (contents_of-empty c.args.limits.cells c.args.limits.elements)
+    rw (c.in_ok-slots.ensures, c.in_ok-windows.ensures, c.in_ok-queue.ensures.items)
+    (contents_of-empty c.args.limits.cells c.args.limits.elements)

@@ -9,5 +9,6 @@ pub returns : goal.returns
 returns c =
     let m = c.self.inside in
     c.nth_at.ensures ∙ ap (λ queue. slice_get (waiting_at c.args.a queue) c.args.place) c.as_slice.ensures.value
-    ∙ sym (ap (λ waiters. slice_get waiters c.args.place) (waiters_at-joined m.slots.items m.queue.items c.self.invariant.fits c.args.a))
+    ∙ sym (ap (λ waiters. slice_get waiters c.args.place)
+    (waiters_at-joined m.slots.items m.queue.items c.self.invariant.fits c.args.a))
     ∙ ap (λ (m : Contents). slice_get (waiters_at m.cells c.args.a) c.args.place) c.self.view_is

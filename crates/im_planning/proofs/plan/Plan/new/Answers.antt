@@ -12,7 +12,8 @@ use Rattle.im_planning.proofs.MakingLemmas.{cons-plan, drop-plan, plan-begins}
 use Rattle.im_planning.proofs.plan.Plan.new.Goals as goal
 
 -- one request more
-one_more : (xs : List Request) (at : ℕ) (x : Request) → at ≤ length xs → 0 < at → x ≡ slice_index_or xs (at - 1) x → drop (at - 1) xs ≡ x ∷ drop at xs
+one_more : (xs : List Request) (at : ℕ) (x : Request) → at ≤ length xs → 0 < at → x ≡ slice_index_or xs (at - 1) x
+    → drop (at - 1) xs ≡ x ∷ drop at xs
 one_more xs at x within more is =
     let lt : at - 1 < length xs = omega arith in
     let back : at - 1 + 1 ≡ at = omega arith in
@@ -31,6 +32,7 @@ loop-at-preserved c =
     let b = c.in_default.ensures.begins (drop c.loop-at.at c.args.requests.items) c.loop-at.invariant.follows in
     record {
       within = omega arith;
-      plan = subst IsPlan (sym more) (cons-plan c.index.result.now (drop c.loop-at.at c.args.requests.items) b.0 c.loop-at.invariant.plan);
+      plan = subst IsPlan (sym more)
+          (cons-plan c.index.result.now (drop c.loop-at.at c.args.requests.items) b.0 c.loop-at.invariant.plan);
       follows = subst (Follows (get key_cmp c.add.new.under) (contains nat_cmp c.add.new.stored)) (sym more) b.1;
     }

@@ -6,4 +6,8 @@ use Rattle.im_records.proofs.SessionLemmas.{fit_copies}
 use Rattle.im_records.proofs.window.WindowRecord.new.Goals as goal
 
 pub invariant_of-result : goal.invariant_of-result
-invariant_of-result c = record { few = omega arith; fit = fit_copies WINDOW (record { op = Release 0; entry = Waiting }) (record { address = omega arith; value = omega arith }, tt) }
+invariant_of-result c = record {
+  few = omega arith;
+  fit = fit_copies WINDOW
+      (record { op = Release 0; entry = Waiting }) (record { address = omega arith; value = omega arith }, tt);
+}

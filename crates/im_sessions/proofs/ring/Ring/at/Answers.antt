@@ -5,4 +5,5 @@ use Rattle.im_sessions.proofs.ring.Ring.at.Goals as goal
 pub returns : goal.returns
 returns c =
     let r = c.self.inside in
-    slice_get-window r.places r.base r.count c.args.number c.place_of.result _ _ (search rules) c.self.view_is (omega arith) c.requires.from_base c.requires.below_next
+    slice_get-window r.places r.base r.count c.args.number c.place_of.result _ _ (search rules) c.self.view_is
+    (omega arith) c.requires.from_base c.requires.below_next

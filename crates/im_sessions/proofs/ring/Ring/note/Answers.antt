@@ -11,7 +11,8 @@ invariant_of-self c =
 pub returns-clause-noted : goal.returns-clause-noted
 returns-clause-noted c =
     let r = c.self.inside in
-    rw c.new.ensures (window_of-note r.places r.base r.count c.place_of.result c.args.op c.args.entry c.args.self.now (search rules) c.self.view_is (omega arith) c.requires.room)
+    rw c.new.ensures (window_of-note r.places r.base r.count c.place_of.result c.args.op c.args.entry c.args.self.now
+    (search rules) c.self.view_is (omega arith) c.requires.room)
 
 pub returns-clause-bounds : goal.returns-clause-bounds
 returns-clause-bounds c = IsWindow-window_of _ _ _ (invariant_of-self c)
