@@ -95,16 +95,13 @@ def sync_folder(path):
         os.close(folder)
 
 
-class SyncFailed(OSError):
-    """What was written may be lost, whatever the next sync says: the image isn't opened again before its file system is
-    mounted anew, or the machine restarted."""
-
-
 def sync(file):
+    """Puts all that was written on the disk. Where that fails any of it may be lost, whatever the next sync says."""
     try:
         os.fsync(file)
     except OSError as error:
-        raise SyncFailed(*error.args) from error
+        rule = "a sync failed: mount the file system anew, or restart, before the image is opened again"
+        raise OSError(error.errno, rule) from error
 
 
 class Held(contextlib.AbstractContextManager):

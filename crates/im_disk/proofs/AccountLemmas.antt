@@ -1,5 +1,5 @@
 -- A sync or a write that failed has an outcome that the contract of disks allows.
-use Rattle.std.proofs.Common.{◌≡◌, ◌⊎◌, ◌<◌, ◌≤◌, inl, inr, ⊎_elim, ℕ, suc, zero, ◌+◌, nat_lt, nat_le, Bool, true, false, ◌&&◌, ◌||◌, ◌==◌, if◌then◌else◌, List, [], ◌∷◌, length, get_or, refl, ◌∙◌, ap, subst, arith}
+use Rattle.std.proofs.Common.{◌≡◌, ◌<◌, ◌≤◌, inl, inr, ⊎_elim, ℕ, suc, zero, ◌+◌, nat_lt, nat_le, Bool, true, false, ◌&&◌, ◌||◌, ◌==◌, if◌then◌else◌, List, [], ◌∷◌, length, get_or, refl, ◌∙◌, ap, subst, arith}
 use Rattle.std.proofs.lemmas.Bool.{both_ways, eqb-true, le-ltb, lt-leb, and_parts, and_left, and_right, or_cases}
 use Rattle.im_disk.specs.Moment.{Moment, Outside, Shaken, Torn, overlaid}
 use Rattle.im_disk.specs.Account.{is_inside, are_same_outside, shaken_by, torn_by}

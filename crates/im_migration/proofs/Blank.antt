@@ -1,8 +1,8 @@
 -- What the calls of a migration leave of a file in which no header is open.
 use Rattle.std.proofs.Common.{◌⊎◌, inl, inr, ⊎_elim, ℕ, ◌+◌, ◌<◌, ◌≤◌, List, length, sym, ◌∙◌, subst, arith}
-use Rattle.im_disk.specs.Moment.{Moment, Left, Torn, Shaken, MayTick}
-use Rattle.im_disk.specs.Since.{Leaves, LeavesNow, LeavesOnly, ReadsOnly, SameBut}
-use Rattle.im_disk.proofs.SinceLemmas.{left_torn, left_sync, leaves_start, leaves_step, leaves_then}
+use Rattle.im_disk.specs.Moment.{Moment, Left, Torn, MayTick}
+use Rattle.im_disk.specs.Since.{Leaves, LeavesOnly, SameBut}
+use Rattle.im_disk.proofs.SinceLemmas.{left_torn, leaves_start, leaves_step, leaves_then}
 use Rattle.im_migration.specs.Migration.{IsBlank}
 use Rattle.im_migration.specs.Laying.{IsBeside, StaysBlank}
 

@@ -1,4 +1,5 @@
 mod Blank
+mod Cleared
 mod Laid
 mod Opened
 mod Parts

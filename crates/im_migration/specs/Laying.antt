@@ -14,6 +14,14 @@ use Rattle.im_migration.specs.Migration.{IsBlank, IsLaidDown, moved_header}
 abbrev pub IsBeside : ℕ → ℕ → Type 0
 IsBeside at n = ((1 ≤ at) × (at + n ≤ 4096)) ⊎ (4097 ≤ at)
 
+-- each byte of the first so many of a file that is no gate of a header is zero
+abbrev pub IsCleared : ℕ → List ℕ → Type 0
+IsCleared n file = (i : ℕ) → 1 ≤ i → i < n → i ≢ 4096 → slice_index file i ≡ 0
+
+-- the same of so many pages of a file that has so many bytes
+abbrev pub AreCleared : ℕ → ℕ → List ℕ → Type 0
+AreCleared pages size file = (i : ℕ) → 1 ≤ i → i < 4096 * pages → i < size → i ≢ 4096 → slice_index file i ≡ 0
+
 -- where no header was open, none is in any file left
 abbrev pub StaysBlank : {D : Type 0} → (D → Moment) → (D → List Moment) → D → D → Type 0
 StaysBlank now past old new = LeavesNow (now old) IsBlank → LeavesOnly now past old new IsBlank

@@ -1,5 +1,5 @@
 //! How a memory is laid down as a new image: what stands behind the closed gate of its header, and then the gate.
-ghost use Rattle.std.specs.Prelude.{◌≡◌, ◌⊎◌, ◌+◌, ◌*◌, ◌≤◌, ℕ, length, OnOk};
+ghost use Rattle.std.specs.Prelude.{◌≡◌, ◌⊎◌, ◌+◌, ◌*◌, ◌<◌, ◌≤◌, ℕ, length, OnOk};
 ghost use Rattle.im_types.specs.declared.TheConstants.{LAST};
 ghost use Rattle.im_types.specs.Header.{header_body};
 ghost use Rattle.im_types.specs.Layout as layout;
@@ -10,14 +10,14 @@ ghost use Rattle.im_disk.specs.Since.{LeavesNow, LeavesOnly};
 ghost use Rattle.im_image.specs.Headers.{seen};
 ghost use Rattle.im_image.specs.Reading.{HasSizes};
 ghost use Rattle.im_migration.specs.Migration.{IsBlank, IsLaidDown, moved_header};
-ghost use Rattle.im_migration.specs.Laying.{IsBeside, IsLaid, StaysBlank};
+ghost use Rattle.im_migration.specs.Laying.{AreCleared, IsBeside, IsCleared, IsLaid, StaysBlank};
 
 use crate::follower::Follower;
 use im_disk::{DeviceFault, Disk, open_gate};
 use im_image::{Header, encode_page};
 use im_memory::Memory;
 use im_types::Limits;
-use im_types::layout::{CLOSED, PAGE, SLOT, area_at, area_pages, journal_at};
+use im_types::layout::{CLOSED, PAGE, SLOT, area_at, area_pages, image_length, journal_at};
 
 // Writes where no gate of a header is.
 fn write_beside<N: Disk>(new: &mut N, at: usize, bytes: &[u8]) -> Result<(), DeviceFault>
@@ -38,6 +38,60 @@ fn tell<F: Follower>(follower: &F, limits: Limits, pages: usize, slots: usize) {
     follower.writes((pages as u64).saturating_add(slots as u64), all);
 }
 
+// Where the bytes of a page begin and end, without the gate of a header, in a file of this length.
+fn piece(page: usize, whole: usize) -> (usize, usize)
+    requires inside { 4096 * page < whole }
+    requires long { 8192 ≤ whole }
+    ensures order { (result.0 ≤ result.1) × (result.1 ≤ result.0 + 4096) × (result.1 ≤ whole) }
+    ensures beside { ((1 ≤ result.0) × (result.1 ≤ 4096)) ⊎ (4097 ≤ result.0) }
+    ensures from { (result.0 ≤ 4096 * page + 1) × (2 ≤ page → result.0 ≡ 4096 * page) }
+    ensures all { (result.1 ≡ 4096 * (page + 1)) ⊎ (result.1 ≡ whole) }
+{
+    let at = PAGE * page;
+    let from = if page < 2 { at + 1 } else { at };
+    let end = if whole - at < PAGE { whole } else { at + PAGE };
+    (from, end)
+}
+
+// Writes zeros over a page of the file, but for the gate of a header.
+fn clear_page<N: Disk>(new: &mut N, page: usize, whole: usize) -> Result<(), DeviceFault>
+    requires inside { 4096 * page < whole }
+    requires long { 8192 ≤ whole }
+    requires size { N.honest new.old → length (N.now new.old).bytes ≡ whole }
+    ensures cleared { OnOk result (N.honest new.new → AreCleared page whole (N.now new.old).bytes
+        → AreCleared (page + 1) whole (N.now new.new).bytes) }
+    ensures size { OnOk result (N.honest new.new → length (N.now new.new).bytes ≡ whole) }
+    ensures blank { N.honest new.new → StaysBlank N.now N.past new.old new.new }
+    ensures honest { N.honest new.new → N.honest new.old }
+    ensures failures { Counts result (N.failures new.old) (N.failures new.new) }
+{
+    let (from, end) = piece(page, whole);
+    let zeros = [0; PAGE];
+    write_beside(new, from, &zeros[..end - from])
+}
+
+// Writes zeros over the whole file but the gates of the two headers, so that no byte of it has still to find its place on
+// the disk.
+fn clear<N: Disk>(new: &mut N, limits: Limits) -> Result<(), DeviceFault>
+    requires size { N.honest new.old
+        → length (N.now new.old).bytes ≡ layout.image_length layout_in_use (sizes_of limits) }
+    ensures cleared { OnOk result (N.honest new.new
+        → IsCleared (layout.image_length layout_in_use (sizes_of limits)) (N.now new.new).bytes) }
+    ensures size { OnOk result (N.honest new.new
+        → length (N.now new.new).bytes ≡ layout.image_length layout_in_use (sizes_of limits)) }
+    ensures blank { N.honest new.new → StaysBlank N.now N.past new.old new.new }
+    ensures honest { N.honest new.new → N.honest new.old }
+    ensures failures { Counts result (N.failures new.old) (N.failures new.new) }
+{
+    let whole = image_length(limits);
+    let mut page = 0;
+    while page * PAGE < whole {
+        clear_page(new, page, whole)?; // No header is open, whatever a stop leaves of the page.
+        page += 1;
+    }
+    Ok(())
+}
+
 // Writes the pages of a memory into the first area.
 fn write_pages<N: Disk, F: Follower>(
     new: &mut N,
@@ -48,6 +102,8 @@ fn write_pages<N: Disk, F: Follower>(
     requires sizes { HasSizes (sizes_of limits) memory.now.contents }
     requires size { N.honest new.old
         → length (N.now new.old).bytes ≡ layout.image_length layout_in_use (sizes_of limits) }
+    requires cleared { N.honest new.old
+        → IsCleared (layout.image_length layout_in_use (sizes_of limits)) (N.now new.old).bytes }
     ensures laid { OnOk result (N.honest new.new
         → IsLaid (sizes_of limits) memory.now.records (layout.area_pages layout_in_use (sizes_of limits)) 0
         (N.now new.new).bytes) }
@@ -128,7 +184,8 @@ pub(crate) fn lay_down<N: Disk, F: Follower>(
     ensures failures { Counts result (N.failures new.old) (N.failures new.new) }
 {
     let _records = memory.records();
-    write_pages(new, memory, header.limits, follower)?; // A stop in it leaves no header open, and so in the next two.
+    clear(new, header.limits)?; // A stop in it leaves no header open, and so in the next three.
+    write_pages(new, memory, header.limits, follower)?;
     close_slots(new, header.limits, follower)?;
     write_header(new, header)?;
     // A stop leaves the gate closed, or open over what is on the disk then. Once this is done it is open for good.

@@ -63,12 +63,58 @@ remove image_story = so
 
 # Only a regular file is opened
 folder image_story = so
-open image_story = refused 8 Device
-open image_story to read = refused 8 Device
-create image_story 4 = refused 8 Device
-open /dev/null = refused 8 Device
-open /dev/null to read = refused 8 Device
-create /dev/null 4 = refused 8 Device
-open /dev/full = refused 8 Device
-create /dev/full 4 = refused 8 Device
+open image_story = no regular file
+open image_story to read = no regular file
+create image_story 4 = no regular file
+open /dev/null = no regular file
+open /dev/null to read = no regular file
+create /dev/null 4 = no regular file
+open /dev/full = no regular file
+create /dev/full 4 = no regular file
+remove image_story = so
+
+# A new file is made only where nothing has that name
+folder image_story = so
+create new image_story/image 4 = open
+file read 0 4 = 00 00 00 00
+create new image_story/image 8 = exists
+file length = 4
+file close = closed
+put image_story/other abcd = so
+create new image_story/other 4 = exists
+create new image_story 4 = exists
+create new /dev/null 4 = exists
+create new no_folder/image 4 = refused 8 Device
+open image_story/other = open
+file read 0 4 = 61 62 63 64
+-- The name of another file isn't taken away.
+file gone image_story/image = exists
+open image_story/other = open
+file gone image_story/other = gone
+open image_story/other = refused 8 Device
+create new image_story/other 2 = open
+file close = closed
+remove image_story = so
+
+# What failed first is told
+folder image_story = so
+create image_story/image 4 = open
+file failure = none
+put image_story/image ab = so
+file read 0 4 = fault
+file failure = read
+file length = fault
+file failure = read
+file close = closed
+open image_story/image = open
+file failure = none
+put image_story/image abc = so
+file length = fault
+file failure = length
+file write 0 07 = fault
+file failure = length
+file close = closed
+open image_story/image to read = open
+file write 0 07 = fault
+file failure = write
 remove image_story = so

@@ -4,15 +4,18 @@
 //! folder NAME, remove NAME       an empty folder, also where there was one; away with it and all that is in it
 //! put PATH TEXT..                a file with this text, by other hands
 //! create PATH N                  makes a file of so many zero bytes, and opens it
+//! create new PATH N              the same where nothing has that name
 //! open PATH, open PATH to read   opens a file
 //! file read AT N, file write AT BYTE.., file sync, file length, file close
+//! file failure                   what is told to have failed first
+//! file gone PATH                 takes the file's name away, and closes it
 //! ```
 ghost use Rattle.std.specs.Prelude.{◌≡◌, ◌+◌, ◌≤◌, true, length};
 
 use crate::bytes::{add_bytes, hex_bytes};
 use crate::disks::add_passed;
 use anyhow::{Result, anyhow};
-use im_disk::{Disk, FileDisk, OpenFault, Unknown};
+use im_disk::{Disk, Failure, FileDisk, OpenFault, Unknown};
 use im_story::{add_refusal, place};
 use im_types::Refusal;
 use std::alloc::{AllocError, Global};
@@ -66,6 +69,16 @@ impl Opened {
         add_passed(said, self.disk.sync())
     }
 
+    fn failure(&self, said: &mut String) -> Result<(), AllocError> {
+        said.push_str(match self.disk.failure() {
+            None => "none",
+            Some(Failure::Length) => "length",
+            Some(Failure::Read(_)) => "read",
+            Some(Failure::Write(_)) => "write",
+            Some(Failure::Sync(_)) => "sync",
+        })
+    }
+
     fn len(&mut self, said: &mut String) -> Result<(), AllocError> {
         match self.disk.len() {
             Ok(length) => write!(said, "{length}"),
@@ -98,7 +111,22 @@ impl Files {
                 said.push_str("open")?;
             }
             Err(OpenFault::InUse) => said.push_str("in use")?,
-            Err(OpenFault::Device) => add_refusal(said, Refusal::from(OpenFault::Device))?,
+            Err(OpenFault::Exists) => said.push_str("exists")?,
+            Err(OpenFault::NotFile) => said.push_str("no regular file")?,
+            Err(fault) => add_refusal(said, Refusal::from(fault))?,
+        }
+        Ok(())
+    }
+
+    // Takes the name of the file that is open away.
+    fn remove(&mut self, rt: &HostRuntime, path: &str, said: &mut String) -> Result<()> {
+        match self.open.take() {
+            Some(opened) => match opened.disk.remove(rt, path) {
+                Ok(()) => said.push_str("gone")?,
+                Err(OpenFault::Exists) => said.push_str("exists")?,
+                Err(fault) => add_refusal(said, Refusal::from(fault))?,
+            },
+            None => return Err(anyhow!("no file is open")),
         }
         Ok(())
     }
@@ -158,6 +186,7 @@ fn tell_of_file(
         }
         ["sync"] => file.sync(said)?,
         ["length"] => file.len(said)?,
+        ["failure"] => file.failure(said)?,
         _ => return Ok(false),
     }
     Ok(true)
@@ -175,6 +204,10 @@ pub fn tell_of_files(
             let made = FileDisk::create(rt, path, place(len)?, Unknown);
             files.take(made, said)?;
         }
+        ["create", "new", path, len] => {
+            let made = FileDisk::create_new(rt, path, place(len)?, Unknown);
+            files.take(made, said)?;
+        }
         ["open", path] => files.take(FileDisk::open(rt, path, Unknown), said)?,
         ["open", path, "to", "read"] => {
             files.take(FileDisk::open_to_read(rt, path, Unknown), said)?
@@ -183,6 +216,7 @@ pub fn tell_of_files(
             files.open = None;
             said.push_str("closed")?;
         }
+        ["file", "gone", path] => files.remove(rt, path, said)?,
         ["file", rest @ ..] => return tell_of_file(rt.alloc(), files.opened()?, rest, said),
         _ => return tell_of_folders(rt, words, said),
     }

@@ -14,7 +14,7 @@ length for old = 450560
 migrate = migrated 3
 -- The headers, the area and the journal are read. A sync and two gates; 52 pages, 256 slots, the header, a sync, its gate,
 -- a sync.
-calls = 4 and 315
+calls = 4 and 425
 old as marked = yes
 new means old = yes
 tell new = 12 lines
@@ -114,7 +114,7 @@ old image 1 1 16 = 33792 bytes
 old write 23 40 = 40
 new file 33792 = 33792 bytes
 migrate = migrated 4611686018427387904
-calls = 4 and 26
+calls = 4 and 35
 new means old = yes
 new open = count 4611686018427387904 room 0
 

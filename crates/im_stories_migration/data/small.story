@@ -12,18 +12,18 @@ old write 16480 04 = 04
 old write 17408 01 00 00 00 00 00 00 00 01 = 010000000000000001
 old write 17472 04 = 04
 new file 41984 = 41984 bytes
-in each stop lost = 27 refused 13 NoHeader then migrated 3
-in each stop kept = 26 refused 13 NoHeader then migrated 3, 1 count 3 room 16 then refused 22 NotBlank
-in each stop a5 = 25 refused 13 NoHeader then migrated 3, 2 count 3 room 16 then refused 22 NotBlank
-in each stop 00 = 27 refused 13 NoHeader then migrated 3
+in each stop lost = 38 refused 13 NoHeader then migrated 3
+in each stop kept = 37 refused 13 NoHeader then migrated 3, 1 count 3 room 16 then refused 22 NotBlank
+in each stop a5 = 36 refused 13 NoHeader then migrated 3, 2 count 3 room 16 then refused 22 NotBlank
+in each stop 00 = 38 refused 13 NoHeader then migrated 3
 -- One failing call, and the same file or a crash behind it.
-in each once = 26 refused 13 NoHeader then migrated 3, 1 count 3 room 16 then refused 22 NotBlank
-in each once lost = 27 refused 13 NoHeader then migrated 3
-in each scar:a5 = 25 refused 13 NoHeader then migrated 3, 2 count 3 room 16 then refused 22 NotBlank
-in each scar:00 = 26 refused 13 NoHeader then migrated 3, 1 count 3 room 16 then refused 22 NotBlank
-in each scar:a5 lost = 27 refused 13 NoHeader then migrated 3
-in each scar:a5 kept = 25 refused 13 NoHeader then migrated 3, 2 count 3 room 16 then refused 22 NotBlank
-in each scar:5a a5 = 25 refused 13 NoHeader then migrated 3, 2 count 3 room 16 then refused 22 NotBlank
+in each once = 37 refused 13 NoHeader then migrated 3, 1 count 3 room 16 then refused 22 NotBlank
+in each once lost = 38 refused 13 NoHeader then migrated 3
+in each scar:a5 = 36 refused 13 NoHeader then migrated 3, 2 count 3 room 16 then refused 22 NotBlank
+in each scar:00 = 37 refused 13 NoHeader then migrated 3, 1 count 3 room 16 then refused 22 NotBlank
+in each scar:a5 lost = 38 refused 13 NoHeader then migrated 3
+in each scar:a5 kept = 36 refused 13 NoHeader then migrated 3, 2 count 3 room 16 then refused 22 NotBlank
+in each scar:5a a5 = 36 refused 13 NoHeader then migrated 3, 2 count 3 room 16 then refused 22 NotBlank
 -- A call of the old file that fails leaves the new one as it was.
 in each stop of old = 4 refused 13 NoHeader then migrated 3
 in each once of old lost = 4 refused 13 NoHeader then migrated 3
@@ -42,9 +42,9 @@ old write 16480 04 = 04
 old write 17408 01 00 00 00 00 00 00 00 01 = 010000000000000001
 old write 17472 04 = 04
 new file 41984 of 5a = 41984 bytes
-in each stop lost = 27 refused 13 NoHeader then migrated 3
-in each stop kept = 26 refused 13 NoHeader then migrated 3, 1 count 3 room 16 then refused 22 NotBlank
-in each stop a5 = 25 refused 13 NoHeader then migrated 3, 2 count 3 room 16 then refused 22 NotBlank
+in each stop lost = 38 refused 13 NoHeader then migrated 3
+in each stop kept = 37 refused 13 NoHeader then migrated 3, 1 count 3 room 16 then refused 22 NotBlank
+in each stop a5 = 36 refused 13 NoHeader then migrated 3, 2 count 3 room 16 then refused 22 NotBlank
 
 # A stop of the whole migration is one answer, and the new file is begun again
 old image 4096 16 256 = 327680 bytes

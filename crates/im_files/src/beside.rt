@@ -1,0 +1,141 @@
+//! The note beside a file, as a file of its own.
+ghost use Rattle.std.specs.Prelude.{◌≡◌, List, ℕ, IfOk, string_bytes};
+ghost use Rattle.im_files.specs.Notes.{is_earlier, note_of};
+
+use crate::{Notes, Sight};
+use std::alloc::{AllocError, Global};
+use std::fs::{self, File, OpenOptions};
+use std::io::{self, ErrorKind};
+use std::os::unix::fs::FileExt;
+use std::rt::Files;
+
+// Where the system names this run of the machine.
+const BOOT: &str = "/proc/sys/kernel/random/boot_id";
+
+// 36 characters and a line feed.
+const NAME: usize = 37;
+
+/// The path of the note of a file that is no link: that of the file and `.unsynced`.
+pub fn note_name(alloc: Global, path: &str) -> Result<String, AllocError>
+    ensures name { IfOk result (λ name. string_bytes name ≡ note_of path.now) }
+{
+    let mut name = String::from_str(alloc, path)?;
+    name.push_str(".unsynced")?;
+    Ok(name)
+}
+
+/// The path of the note of the file at the path. Where that is a link, the note stands beside the link's target, if that
+/// can be found.
+pub fn note_path<R: Files<File = File> + AllocGlobal>(
+    rt: &R,
+    path: &str,
+) -> Result<String, AllocError>
+    ensures name { IfOk result (λ name. (file : List ℕ) × (string_bytes name ≡ note_of file)) }
+{
+    let is_link = match fs::symlink_metadata(rt, path) {
+        Ok(data) => data.is_symlink(),
+        Err(_) => false,
+    };
+    if is_link {
+        if let Ok(target) = fs::canonicalize(rt, path) {
+            return note_name(rt.alloc(), target.as_path().as_str());
+        }
+    }
+    note_name(rt.alloc(), path)
+}
+
+// Whether a note with these bytes was left in another run of the machine than the one that has this name.
+fn is_of_earlier(note: &[u8], boot: &[u8]) -> bool
+    ensures { result ≡ is_earlier note.now boot.now }
+{
+    note.len() == NAME && boot.len() == NAME && note != boot
+}
+
+// The first bytes of a file, and how many they are.
+fn read_short<R: Files<File = File>>(rt: &R, path: &str, buf: &mut [u8]) -> io::Result<usize> {
+    File::open(rt, path)?.read_at(buf, 0)
+}
+
+// What the note at this path says. One that can't be read stands.
+fn sight_of<R: Files<File = File>>(rt: &R, note: &str) -> Sight {
+    match fs::symlink_metadata(rt, note) {
+        Err(error) if error.kind() == ErrorKind::NotFound => return Sight::Absent,
+        Ok(data) if data.is_file() => {}
+        _ => return Sight::Standing,
+    }
+    let mut was = [0; 64];
+    let mut is = [0; 64];
+    let (Ok(m), Ok(n)) = (
+        read_short(rt, note, &mut was),
+        read_short(rt, BOOT, &mut is),
+    ) else {
+        return Sight::Standing;
+    };
+    match (was.get(..m), is.get(..n)) {
+        (Some(was), Some(is)) if is_of_earlier(was, is) => Sight::Earlier,
+        _ => Sight::Standing,
+    }
+}
+
+// Writes the name of this run of the machine into a new file. It needn't be on the disk: it says nothing to the next run.
+fn write_note<R: Files<File = File>>(rt: &R, note: &str) -> io::Result<()> {
+    let mut boot = [0; NAME];
+    if read_short(rt, BOOT, &mut boot)? != NAME {
+        return Err(ErrorKind::InvalidData.into());
+    }
+    let _ = fs::remove_file(rt, note);
+    let file = OpenOptions::new()
+        .write(true)
+        .create_new(true)
+        .open(rt, note)?;
+    match file.write_all_at(&boot, 0) {
+        Ok(()) => Ok(()),
+        Err(error) => {
+            let _ = fs::remove_file(rt, note);
+            Err(error)
+        }
+    }
+}
+
+/// The note of one file, as it was seen when this was made.
+#[derive(Drop)]
+pub struct FileNotes {
+    note: String,
+    sight: Sight,
+}
+
+impl FileNotes {
+    /// Looks at the note beside the file at the path, or beside the link's target where that is a link.
+    pub fn beside<R: Files<File = File> + AllocGlobal>(
+        rt: &R,
+        path: &str,
+    ) -> Result<FileNotes, AllocError> {
+        let note = note_path(rt, path)?;
+        let sight = sight_of(rt, note.as_str());
+        Ok(FileNotes { note, sight })
+    }
+}
+
+impl Notes for FileNotes {
+    ghost sight = { λ notes. notes.sight };
+
+    fn look(&self) -> Sight {
+        self.sight
+    }
+
+    fn leave<R: Files<File = File>>(&mut self, rt: &R) -> Result<(), ErrorKind> {
+        match write_note(rt, self.note.as_str()) {
+            Ok(()) => {
+                self.sight = Sight::Standing;
+                Ok(())
+            }
+            Err(error) => Err(error.kind()),
+        }
+    }
+
+    fn take_away<R: Files<File = File>>(&mut self, rt: &R) {
+        if fs::remove_file(rt, self.note.as_str()).is_ok() {
+            self.sight = Sight::Absent;
+        }
+    }
+}
