@@ -93,7 +93,7 @@ told_is watch m n (Some asks.Room) answer (room, is) = subst (λ (x : Answer). t
 told_is watch m n (Some asks.Turn) answer (done, is) = subst (λ (x : Answer). told_with x [] ≡ watch_text watch m x) (sym is) refl
 told_is watch m n (Some asks.Count) answer is = subst (λ (x : Answer). told_with x [] ≡ watch_text watch m x) (sym is) refl
 told_is watch m n (Some asks.Quit) answer none = absurd none
-told_is watch m n None answer (number, (expected, is)) = subst (λ (x : Answer). told_with x [] ≡ watch_text watch m x) (sym is) refl
+told_is watch m n None answer (number, (fault, is)) = subst (λ (x : Answer). told_with x [] ≡ watch_text watch m x) (sym is) refl
 
 pub wrong_tells : (watch : Bool) (m : Contents) (n : ℕ) (answer : Answer) → Answers m n None answer → [] ≡ watch_text watch m answer
-wrong_tells watch m n answer (number, (expected, is)) = subst (λ (x : Answer). [] ≡ watch_text watch m x) (sym is) refl
+wrong_tells watch m n answer (number, (fault, is)) = subst (λ (x : Answer). [] ≡ watch_text watch m x) (sym is) refl

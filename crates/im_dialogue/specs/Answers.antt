@@ -10,8 +10,6 @@ use Rattle.im_checkpoint.specs.declared.checkpoint.TurnDone.{TurnDone}
 use Rattle.im_checkpoint.specs.declared.checkpoint.TurnDone.TheVariants.{Idle, Began, Page, Synced, InForce, Swept}
 use Rattle.im_text.specs.Texts.{line_feed}
 use Rattle.im_text.specs.Printing.{told_line, refused_line}
-use Rattle.im_dialogue.specs.declared.answers.Expected.{Expected}
-use Rattle.im_dialogue.specs.declared.answers.Expected.TheVariants as expected
 use Rattle.im_dialogue.specs.declared.answers.Answer.{Answer}
 use Rattle.im_dialogue.specs.declared.answers.Answer.TheVariants.{Served, Kept, Window, Room, Turned, Count, Wrong}
 
@@ -54,16 +52,12 @@ turn_text Synced = codes "turn synced"
 turn_text InForce = codes "turn inforce"
 turn_text Swept = codes "turn swept"
 
--- what a line was expected to be
-abbrev pub expected_text : Expected → List ℕ
-expected_text expected.Line = codes "E.N and a request, collect E.N, confirm E UPTO, window E, room, turn, count or quit"
-expected_text expected.Request = codes "E.N with alloc i|m LENGTH, release A, reset A, fetch A, store A VALUE, take A or put A VALUE"
-expected_text expected.Collect = codes "collect E.N"
-expected_text expected.Confirm = codes "confirm E UPTO"
-expected_text expected.Window = codes "window E"
-expected_text expected.Alone = codes "the word alone"
+-- error LINE: WORDS
+abbrev pub wrong_line : ℕ → List ℕ → List ℕ
+wrong_line number words = codes "error " ++ decimal number ++ codes ": " ++ words ++ line_feed
 
--- the line of an answer, with this name where it is a refusal
+-- the line of an answer, with this name where it is a refusal, and with these words where the line that was asked isn't in the
+-- grammar
 abbrev pub answer_text : List ℕ → Answer → List ℕ
 answer_text name (Served command outcome) = served_line name command outcome
 answer_text name (Kept who answer) = kept_line who.element who.number name answer
@@ -71,4 +65,4 @@ answer_text name (Window element answer) = window_line element name answer
 answer_text name (Room room) = codes "room " ++ decimal room ++ line_feed
 answer_text name (Turned done) = turn_text done ++ line_feed
 answer_text name (Count count) = codes "count " ++ decimal count ++ line_feed
-answer_text name (Wrong number wanted) = codes "error " ++ decimal number ++ codes ": " ++ expected_text wanted ++ line_feed
+answer_text name (Wrong number fault) = wrong_line number name

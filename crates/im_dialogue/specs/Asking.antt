@@ -1,13 +1,12 @@
 -- What a line of a dialogue asks, by its bytes. (Own.)
 use Rattle.std.specs.Prelude.{ℕ, ◌==◌, List, [], ◌∷◌, Option, Some, None, if◌then◌else◌, codes}
-use Rattle.std.specs.Char.{is_ascii}
-use Rattle.std.specs.List.{list_all, slice_split}
+use Rattle.std.specs.List.{slice_split}
 use Rattle.std.specs.Option.{option_map, option_and_then, option_or}
 use Rattle.std.specs.Str.{bytes_eq}
 use Rattle.im_types.specs.declared.operations.Op.{Op}
 use Rattle.im_types.specs.declared.operations.Waiter.{Waiter}
 use Rattle.im_types.specs.declared.commands.Command.TheVariants.{Request as Asks, Confirm}
-use Rattle.im_script.specs.Grammar.{number_up_to, words_of}
+use Rattle.im_script.specs.Grammar.{is_line, number_up_to, words_of}
 use Rattle.im_script.specs.Lines.{action_of}
 use Rattle.im_script.specs.Places.{op_of}
 use Rattle.im_dialogue.specs.declared.asking.Asked.{Asked}
@@ -67,6 +66,6 @@ asked_in (word ∷ first ∷ second ∷ []) = option_or (asked_by_three word fir
 asked_in (word ∷ first ∷ second ∷ third ∷ []) = request_by word (first ∷ second ∷ third ∷ [])
 asked_in _ = None
 
--- what a line asks, which has to be ASCII; none where it isn't in the grammar
+-- what a line asks, which has to be ASCII and not too long; none where it isn't in the grammar
 abbrev pub asked_of : List ℕ → Option Asked
-asked_of line = if list_all is_ascii line then asked_in (words_of line) else None
+asked_of line = if is_line line then asked_in (words_of line) else None

@@ -18,7 +18,7 @@ use Rattle.im_text.specs.Printing.{Begins}
 use Rattle.im_checkpoint.specs.declared.checkpoint.TurnDone.{TurnDone}
 use Rattle.im_dialogue.specs.declared.asking.Asked.{Asked}
 use Rattle.im_dialogue.specs.declared.asking.Asked.TheVariants as asks
-use Rattle.im_dialogue.specs.declared.answers.Expected.{Expected}
+use Rattle.im_script.specs.declared.faults.LineFault.{LineFault}
 use Rattle.im_dialogue.specs.declared.answers.Answer.{Answer}
 use Rattle.im_dialogue.specs.declared.answers.Answer.TheVariants.{Served, Kept, Window, Room, Turned, Count, Wrong}
 use Rattle.im_dialogue.specs.Asking.{asked_of}
@@ -27,7 +27,8 @@ use Rattle.im_dialogue.specs.Watching.{watch_text}
 
 -- ---- what was said
 
--- a line that was asked, without its line feed; what it was answered; and the name of the refusal, where it was refused
+-- a line that was asked, without its line feed, or the first 4,097 bytes of a longer one; what it was answered; and the name of the
+-- refusal, where it was refused, or the words for where it goes wrong
 pub record Exchange : Type 0 where
   pub line : List ℕ
   pub answer : Answer
@@ -46,7 +47,7 @@ Answers m commands (Some asks.Room) answer = (room : ℕ) × (answer ≡ Room ro
 Answers m commands (Some asks.Turn) answer = (done : TurnDone) × (answer ≡ Turned done)
 Answers m commands (Some asks.Count) answer = answer ≡ Count commands
 Answers m commands (Some asks.Quit) answer = ⊥
-Answers m commands None answer = (number : ℕ) × ((expected : Expected) × (answer ≡ Wrong number expected))
+Answers m commands None answer = (number : ℕ) × ((fault : LineFault) × (answer ≡ Wrong number fault))
 
 -- the command, if this answer says that it was put on the disk
 abbrev pub put_by : Contents → Answer → List Command

@@ -1,31 +1,14 @@
 //! What a line is answered.
-ghost use Rattle.std.specs.Prelude.{◌≡◌, ◌++◌, [], OnOk, string_bytes};
+ghost use Rattle.std.specs.Prelude.{◌≡◌, ◌++◌, OnOk, string_bytes};
 ghost use Rattle.im_text.specs.Printing.{refused_line, told_line};
-ghost use Rattle.im_dialogue.specs.declared.answers.Answer.TheVariants.{Wrong};
-ghost use Rattle.im_dialogue.specs.Answers.{answer_text, confirmed_line, element_refused, expected_text, kept_line};
-ghost use Rattle.im_dialogue.specs.Answers.{request_refused, served_line, turn_text, window_line};
+ghost use Rattle.im_dialogue.specs.Answers.{answer_text, confirmed_line, element_refused, kept_line};
+ghost use Rattle.im_dialogue.specs.Answers.{request_refused, served_line, turn_text, window_line, wrong_line};
 
 use im_checkpoint::TurnDone;
+use im_script::LineFault;
 use im_text::add_entry;
 use im_types::{Command, Entry, Outcome, Refusal, Waiter};
 use std::alloc::AllocError;
-
-/// What a line was expected to be that isn't in the grammar.
-#[derive(Clone, Copy, Debug, PartialEq, Eq)]
-pub enum Expected {
-    /// A line that begins as one may.
-    Line,
-    /// A request behind `E.N`.
-    Request,
-    /// `collect E.N`
-    Collect,
-    /// `confirm E UPTO`
-    Confirm,
-    /// `window E`
-    Window,
-    /// A word with nothing behind it.
-    Alone,
-}
 
 /// What a line of a dialogue is answered.
 #[derive(Clone, Copy, Debug, PartialEq, Eq)]
@@ -42,8 +25,8 @@ pub enum Answer {
     Turned(TurnDone),
     /// To `count`: so many commands were accepted.
     Count(u64),
-    /// To the line with this number, from 1, which isn't in the grammar.
-    Wrong(u64, Expected),
+    /// To the line with this number, from 1, which isn't in the grammar: where it goes wrong.
+    Wrong(u64, LineFault),
 }
 
 impl Answer {
@@ -186,33 +169,15 @@ fn add_turn(out: &mut String, done: TurnDone) -> Result<(), AllocError>
     }
 }
 
-// The words for what was expected.
-fn expected_words(expected: Expected) -> &'static str
-    ensures { result.now ≡ expected_text expected }
+// Adds `error LINE: ` and where it goes wrong.
+fn add_wrong(out: &mut String, number: u64, words: &str) -> Result<(), AllocError>
+    ensures { OnOk result (string_bytes out.new ≡ string_bytes out.old ++ wrong_line number words.now) }
 {
-    match expected {
-        Expected::Line =>
-            "E.N and a request, collect E.N, confirm E UPTO, window E, room, turn, count or quit",
-        Expected::Request =>
-            "E.N with alloc i|m LENGTH, release A, reset A, fetch A, store A VALUE, take A or put A VALUE",
-        Expected::Collect => "collect E.N",
-        Expected::Confirm => "confirm E UPTO",
-        Expected::Window => "window E",
-        Expected::Alone => "the word alone",
-    }
-}
-
-// Adds `error LINE: ` and what was expected.
-fn add_wrong(out: &mut String, number: u64, expected: Expected) -> Result<(), AllocError>
-    ensures { OnOk result (string_bytes out.new
-        ≡ string_bytes out.old ++ answer_text [] (Wrong number expected)) }
-{
-    let words = expected_words(expected);
     write!(out, "error {number}: {words}\n")
 }
 
-/// Adds the line of an answer. The name is that of the refusal, where it is one. At an error a part of the line may be
-/// there.
+/// Adds the line of an answer. The name is that of the refusal, where it is one, and where the line isn't in the grammar
+/// the words for where it goes wrong. At an error a part of the line may be there.
 pub fn add_answer(out: &mut String, answer: Answer, name: &str) -> Result<(), AllocError>
     ensures { OnOk result (string_bytes out.new ≡ string_bytes out.old ++ answer_text name.now answer) }
 {
@@ -226,6 +191,6 @@ pub fn add_answer(out: &mut String, answer: Answer, name: &str) -> Result<(), Al
             out.push_str("\n")
         }
         Answer::Count(count) => write!(out, "count {count}\n"),
-        Answer::Wrong(number, expected) => add_wrong(out, number, expected),
+        Answer::Wrong(number, _) => add_wrong(out, number, name),
     }
 }

@@ -8,7 +8,7 @@ ghost use Rattle.im_script.specs.Grammar.{texts, words_of};
 ghost use Rattle.im_dialogue.specs.Asking.{asked_by_one, asked_by_three, asked_by_two, asked_in, asked_of, element_of};
 ghost use Rattle.im_dialogue.specs.Asking.{number_of, op_in, request_by, waiter_by, waiter_in, waiter_of};
 
-use im_script::{is_plain, read_action, read_number, split_words};
+use im_script::{is_line, read_action, read_number, split_words};
 use im_types::{Command, Op, Request, Waiter};
 use indexmap::IndexSet;
 use std::alloc::{AllocError, Global};
@@ -33,7 +33,7 @@ pub enum Asked {
 }
 
 // An element's number.
-fn read_element(word: &[u8]) -> Option<u16>
+pub(crate) fn read_element(word: &[u8]) -> Option<u16>
     ensures { result ≡ element_of word.now }
 {
     match read_number(word, u16::MAX as u64) {
@@ -70,7 +70,7 @@ fn read_parts(parts: &[&[u8]]) -> Option<Waiter>
 }
 
 // E.N
-fn read_waiter(alloc: Global, word: &[u8]) -> Result<Option<Waiter>, AllocError>
+pub(crate) fn read_waiter(alloc: Global, word: &[u8]) -> Result<Option<Waiter>, AllocError>
     ensures { IfOk result (λ who. who ≡ waiter_of word.now) }
 {
     let parts = split_dots(alloc, word)?;
@@ -86,7 +86,7 @@ fn read_op(alloc: Global, words: &[&[u8]]) -> Option<Op>
 }
 
 // A line of one word.
-fn read_one(word: &[u8]) -> Option<Asked>
+pub(crate) fn read_one(word: &[u8]) -> Option<Asked>
     ensures { result ≡ asked_by_one word.now }
 {
     if word == b"room".as_slice() {
@@ -204,12 +204,12 @@ fn read_words(alloc: Global, words: &[&[u8]]) -> Result<Option<Asked>, AllocErro
     }
 }
 
-/// What a line asks, which has no line feed; `None` where it isn't in the grammar. A growth that `alloc` refused is the
+/// What a line asks, which has no line feed; `None` where it isn't in the grammar, or has more than 4,096 bytes. A growth that `alloc` refused is the
 /// one error, and nothing is left of it.
 pub fn read_asked(alloc: Global, line: &[u8]) -> Result<Option<Asked>, AllocError>
     ensures { IfOk result (λ asked. asked ≡ asked_of line.now) }
 {
-    if !is_plain(line) {
+    if !is_line(line) {
         return Ok(None);
     }
     let words = split_words(alloc, line)?;

@@ -4,13 +4,15 @@
 mod answers;
 mod asking;
 mod dialogue;
+mod explaining;
+mod lines;
 mod resting;
 mod serving;
 mod talk;
 mod together;
 mod watching;
 
-pub use answers::{Answer, Expected, add_answer};
+pub use answers::{Answer, add_answer};
 pub use asking::{Asked, read_asked};
 pub use dialogue::dialogue_on;
 pub use serving::serve_lines;

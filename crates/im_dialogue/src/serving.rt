@@ -6,8 +6,10 @@ ghost use Rattle.im_dialogue.specs.Answers.{answer_text};
 ghost use Rattle.im_dialogue.specs.Asking.{asked_of};
 ghost use Rattle.im_dialogue.specs.Talk.{TalkEnds, TalksOn};
 
-use crate::answers::{Answer, Expected, add_answer};
+use crate::answers::{Answer, add_answer};
 use crate::asking::{Asked, read_asked};
+use crate::explaining::explain;
+use crate::lines::next_line;
 use crate::talk::{answer, make_room, turn_while_quiet, wrong};
 use crate::together::{gather, serve_members};
 use crate::watching::{make_nows, told_with};
@@ -16,14 +18,18 @@ use im_damage::Damage;
 use im_disk::Disk;
 use im_engine::Engine;
 use im_listening::Ear;
+use im_script::LineFault;
 use im_text::{Reason, put_through};
 use im_types::{MAX_GROUP, Request};
 use std::alloc::{AllocError, Global};
 use std::io::{BufRead, Write};
 
-/// The name of the refusal that an answer is, if it is one.
+/// The name of the refusal that an answer is, if it is one, or the words for where a line goes wrong.
 pub(crate) fn name_of(alloc: Global, answer: Answer) -> Result<String, AllocError> {
     let mut name = String::new(alloc);
+    if let Answer::Wrong(_, fault) = answer {
+        write!(name, "{fault}")?;
+    }
     if let Some(refusal) = answer.refusal() {
         write!(name, "{refusal}")?;
     }
@@ -98,34 +104,29 @@ fn serve_asked<D: Disk, W: Write>(
     }
 }
 
-// Whether a line begins with this word.
-fn begins(line: &[u8], word: &[u8]) -> bool {
-    line.starts_with(word)
-}
-
-// What was expected of a line that isn't in the grammar.
-fn expected_of(line: &[u8]) -> Expected {
-    if begins(line, b"collect") {
-        Expected::Collect
-    } else if begins(line, b"confirm") {
-        Expected::Confirm
-    } else if begins(line, b"window") {
-        Expected::Window
-    } else if begins(line, b"room")
-        || begins(line, b"turn")
-        || begins(line, b"count")
-        || begins(line, b"quit")
-    {
-        Expected::Alone
-    } else if line.first().is_some_and(|byte| byte.is_ascii_digit()) {
-        Expected::Request
-    } else {
-        Expected::Line
+// Tells where a line that isn't in the grammar goes wrong. Nothing changes.
+fn refuse_line<D: Disk, W: Write>(
+    alloc: Global,
+    engine: &Engine<D>,
+    number: u64,
+    line: &[u8],
+    fault: LineFault,
+    text: &mut String,
+    out: &mut W,
+) -> Result<(), Reason>
+    requires wrong { asked_of line.now ≡ None }
+    ensures { (watch : Bool) → MatchResult result
+        (λ _. TalksOn watch D.now D.past D.honest engine.now (W.contents out.old) engine.now (W.contents out.new))
+        (λ _. TalkEnds watch D.now D.past D.honest engine.now (W.contents out.old) engine.now (W.contents out.new)) }
+{
+    match say(alloc, text, wrong(engine, number, fault), "", out) {
+        Ok(()) => Ok(()),
+        Err(reason) => Err(reason),
     }
 }
 
-// Tells what was expected of a line that isn't in the grammar. Nothing changes.
-fn refuse_line<D: Disk, W: Write>(
+// Looks where a line that isn't in the grammar goes wrong, and tells it.
+fn explain_line<D: Disk, W: Write>(
     alloc: Global,
     engine: &Engine<D>,
     number: u64,
@@ -138,15 +139,9 @@ fn refuse_line<D: Disk, W: Write>(
         (λ _. TalksOn watch D.now D.past D.honest engine.now (W.contents out.old) engine.now (W.contents out.new))
         (λ _. TalkEnds watch D.now D.past D.honest engine.now (W.contents out.old) engine.now (W.contents out.new)) }
 {
-    match say(
-        alloc,
-        text,
-        wrong(engine, number, expected_of(line)),
-        "",
-        out,
-    ) {
-        Ok(()) => Ok(()),
-        Err(reason) => Err(reason),
+    match explain(alloc, line) {
+        Ok(fault) => refuse_line(alloc, engine, number, line, fault, text, out),
+        Err(_) => Err(Reason::Memory),
     }
 }
 
@@ -167,21 +162,11 @@ fn serve_line<D: Disk, W: Write>(
 {
     match read_asked(alloc, line) {
         Ok(Some(asked)) => serve_asked(alloc, engine, asked, watch, text, nows, out),
-        Ok(None) => match refuse_line(alloc, engine, number, line, text, out) {
+        Ok(None) => match explain_line(alloc, engine, number, line, text, out) {
             Ok(()) => Ok(true),
             Err(reason) => Err(reason),
         },
         Err(_) => Err(Reason::Memory),
-    }
-}
-
-// Reads the next line, without its line feed. None is left at the end, and none of a line that ends without one: what
-// was cut off isn't asked.
-fn next_line<R: BufRead>(input: &mut R, line: &mut Vec<u8>) -> Result<bool, Reason> {
-    line.clear();
-    match input.read_until(b'\n', line) {
-        Ok(_) => Ok(line.pop() == Some(b'\n')),
-        Err(error) => Err(Reason::ScriptFile(error.kind())),
     }
 }
 
@@ -303,7 +288,8 @@ fn serve_rested<D: Disk, R: BufRead + Ear, W: Write>(
 
 /// Serves a dialogue on an engine, until the input ends or `quit` is asked. Each line of the input is answered by one
 /// line, in their order, which is written and put through once what it tells is on the disk. A line that isn't in the
-/// grammar is answered by what was expected, and changes nothing. The end of the input without a line feed is no line.
+/// grammar is answered by where it goes wrong, and changes nothing; one of more than 4,096 bytes is such a line, and no
+/// more of it is kept. The end of the input without a line feed is no line.
 ///
 /// Up to 16 requests of elements that differ, whose lines stand in the reader's buffer one behind the other, are served
 /// as one group, and their answers written together: they are those that the lines would have by themselves. No line

@@ -4,12 +4,13 @@ ghost use Rattle.im_dialogue.specs.declared.asking.Asked.TheVariants.{Collect, C
 ghost use Rattle.im_dialogue.specs.declared.answers.Answer.TheVariants as answer;
 ghost use Rattle.im_dialogue.specs.Talk.{GoesOn, Halts, Says, is_end};
 
-use crate::answers::{Answer, Expected};
+use crate::answers::Answer;
 use crate::asking::Asked;
 use im_checkpoint::TurnDone;
 use im_disk::Disk;
 use im_engine::Engine;
 use im_listening::Ear;
+use im_script::LineFault;
 use im_types::layout::MOST_AREA_PAGES;
 use im_types::{Command, Refusal, Waiter};
 
@@ -164,12 +165,12 @@ fn room<D: Disk>(engine: &Engine<D>) -> Answer
     Answer::Room(engine.room())
 }
 
-/// Answers the line with this number, which isn't in the grammar.
-pub fn wrong<D: Disk>(engine: &Engine<D>, number: u64, expected: Expected) -> Answer
+/// Answers the line with this number, which isn't in the grammar: where it goes wrong.
+pub fn wrong<D: Disk>(engine: &Engine<D>, number: u64, fault: LineFault) -> Answer
     ensures answered { Says D.now D.past D.honest engine.now engine.now None result }
-    ensures answer { result ≡ answer.Wrong number expected }
+    ensures answer { result ≡ answer.Wrong number fault }
 {
-    Answer::Wrong(number, expected)
+    Answer::Wrong(number, fault)
 }
 
 /// Does on an engine what is asked, and answers it; `None` where that is the end of the dialogue. Before a command

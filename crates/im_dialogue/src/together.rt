@@ -12,6 +12,7 @@ ghost use Rattle.im_dialogue.specs.Watching.{AreQuiet, is_quiet};
 
 use crate::answers::{Answer, add_answer};
 use crate::asking::{Asked, read_asked};
+use crate::lines::unread;
 use crate::serving::name_of;
 use crate::talk::make_room;
 use crate::watching::is_quiet;
@@ -148,7 +149,7 @@ pub(crate) fn gather<R: BufRead>(
         },
         Err(error) => match error.kind() {
             ErrorKind::Interrupted => Ok(0), // Reading a line tries again.
-            kind => Err(Reason::ScriptFile(kind)),
+            kind => Err(unread(kind)),
         },
     }
 }

@@ -1,8 +1,10 @@
 -- What a run of element servers prints, and what it leaves on a disk. (Own.)
-use Rattle.std.specs.Prelude.{◌≡◌, ◌⊎◌, ℕ, ◌+◌, ◌≤◌, List, [], ◌++◌, codes, decimal, false, length, Option, None, Some, Result, Ok, Err, slice_get}
+use Rattle.std.specs.Prelude.{◌≡◌, ◌⊎◌, ℕ, ◌+◌, ◌<◌, ◌≤◌, List, [], ◌∷◌, ◌++◌, codes, decimal, false, length, Option, None, Some, Result, Ok, Err, slice_get}
 use Rattle.std.specs.Io.KnownBytes.{Appends}
+use Rattle.im_damage.specs.declared.damage.Damage.TheVariants.{Unknown}
 use Rattle.im_types.specs.declared.operations.Entry.{Entry}
 use Rattle.im_types.specs.declared.refusals.Refusal.{Refusal}
+use Rattle.im_types.specs.declared.refusals.Refusal.TheVariants.{Device, Failed}
 use Rattle.im_types.specs.Contents.{Contents}
 use Rattle.im_types.specs.Trace.{IsLegal, end_of}
 use Rattle.im_types.specs.declared.commands.Command.{Command}
@@ -17,12 +19,29 @@ use Rattle.im_engine.specs.Run.{MeansBeginning, MeansWithOrWithout}
 use Rattle.im_controller.specs.Kept.{Begun, HasKept, accepted_in, begun_in}
 use Rattle.im_serial.specs.Serving.{MeansAtLeast, NotOpened}
 use Rattle.im_text.specs.declared.lines.Lines.{Lines}
+use Rattle.im_text.specs.declared.reasons.Reason.{Reason}
+use Rattle.im_text.specs.declared.reasons.Reason.TheVariants.{Image, Request}
 use Rattle.im_text.specs.declared.replies.Waited.{Waited}
 use Rattle.im_text.specs.Printing.{Begins, IsLast, Prints, PrintsMore, replies, told_line}
 use Rattle.im_text.specs.Texts.{line_feed, texts_below}
+use Rattle.im_run.specs.declared.orders.Order.{Order}
 use Rattle.im_run.specs.declared.run.TheConstants.{STALLED}
 use Rattle.im_run.specs.declared.served.Did.{Did}
 use Rattle.im_run.specs.declared.served.Did.TheVariants.{Sent, Glanced}
+
+-- why a run is refused where a call of the disk failed
+abbrev pub disk_failed : Reason
+disk_failed = Image Device Unknown
+
+-- what the observer is told of a refusal: that a call of the disk failed, where a request came behind one that did
+abbrev pub told_as : Reason → Reason
+told_as (Request element Failed) = disk_failed
+told_as reason = reason
+
+-- each of these orders is of an element that the memory has
+abbrev pub AreThere : Contents → List Order → Type 0
+AreThere m [] = Unit {0}
+AreThere m (order ∷ orders) = (order.element < length m.windows) × AreThere m orders
 
 -- what is kept for a request, or what it was told once it is forgotten
 abbrev pub kept_or : Entry → Result Entry Refusal → Entry

@@ -1,5 +1,6 @@
 //! A script's requests as a plan.
-ghost use Rattle.std.specs.Prelude.{◌≡◌, IfOk, IfErr, IsSome, true};
+ghost use Rattle.std.specs.Prelude.{◌≡◌, ◌≤◌, IfOk, IfErr, IfSome, IsSome, IfNone, length, true};
+ghost use Rattle.im_run.specs.Running.{AreThere};
 
 use crate::orders::Order;
 use im_controller::{Opening, start, start_planned};
@@ -15,7 +16,10 @@ use std::collections::BTreeSet;
 use std::sync::Wait;
 
 // The element of an order that isn't there, if there is one.
-fn missing_element(memory: &Memory, orders: &[Order]) -> Option<u16> {
+fn missing_element(memory: &Memory, orders: &[Order]) -> Option<u16>
+    ensures none { IfNone result (AreThere memory.now.contents orders.now) }
+    ensures some { IfSome result (λ element. length memory.now.contents.windows ≤ element) }
+{
     for order in orders {
         if order.element >= memory.elements() {
             return Some(order.element);
@@ -86,9 +90,6 @@ fn bad_plan(alloc: Global, memory: &Memory, orders: &[Order]) -> Reason {
 
 // The plan that elements' orders are.
 fn plan_of(alloc: Global, memory: &Memory, orders: &[Order]) -> Result<Plan, Reason> {
-    if let Some(element) = missing_element(memory, orders) {
-        return Err(Reason::Request(element, Refusal::NoElement));
-    }
     let Ok(requests) = requests_of(alloc, orders) else {
         return Err(Reason::Memory);
     };
@@ -137,9 +138,9 @@ fn begin_free<D: Disk + Drop, R: Wait>(
     }
 }
 
-/// Makes room for what the elements ask for, before any thread starts. Where it is planned, their requests are a plan:
-/// `NoElement` where one of them isn't there, and then `BadPlan` where a request is no fetch or store, two store to one
-/// address, a cell that one names isn't empty or is waited for, or a number lies past the last one.
+/// Makes room for what the elements ask for, before any thread starts. `NoElement` where one of them isn't there, and then,
+/// where it is planned, `BadPlan` where their requests are no plan: a request is no fetch or store, two store to one address,
+/// a cell that one names isn't empty or is waited for, or a number lies past the last one.
 pub fn begin<D: Disk + Drop, R: Wait>(
     rt: &R,
     alloc: Global,
@@ -149,8 +150,12 @@ pub fn begin<D: Disk + Drop, R: Wait>(
     planned: bool,
 ) -> Result<Opening<D>, (Reason, Engine<D>)>
     ensures found { IfOk result (λ o. (o.engine ≡ engine) × (planned ≡ true → IsSome o.plan)) }
+    ensures there { IfOk result (λ _. AreThere engine.memory orders.now) }
     ensures same { IfErr result (λ e. e.1 ≡ engine) }
 {
+    if let Some(element) = missing_element(engine.memory(), orders) {
+        return Err((Reason::Request(element, Refusal::NoElement), engine));
+    }
     if planned {
         return begin_planned(rt, alloc, engine, orders, room);
     }

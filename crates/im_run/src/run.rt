@@ -3,19 +3,20 @@ ghost use Rattle.std.specs.Prelude.{◌≡◌, ◌⊎◌, ◌≤◌, [], false, 
 ghost use Rattle.im_disk.specs.Since.{LeavesNow};
 ghost use Rattle.im_engine.specs.State.{MeansState};
 ghost use Rattle.im_serial.specs.Serving.{NotOpened};
-ghost use Rattle.im_run.specs.Running.{Closes, EndedOn, Ran, RanOn, RunOn};
+ghost use Rattle.im_run.specs.Running.{Closes, EndedOn, Ran, RanOn, RunOn, disk_failed, told_as};
 
 use crate::orders::{Order, read_orders};
 use crate::planned::begin;
 use crate::served::{Did, Outcome, serve_orders};
 use crate::telling::print_finals;
-use im_disk::{Disk, OpenFault};
+use im_damage::Damage;
+use im_disk::Disk;
 use im_engine::Engine;
 use im_script::Script;
 use im_serial::{Desk, Paper, Server};
 use im_serving::{Gate, Watcher};
-use im_text::{Observer, Reason, diagnose, end, finish};
-use im_types::{Refusal, WINDOW};
+use im_text::{Observer, Progress, Reason, diagnose, end, finish};
+use im_types::{Entry, Refusal, WINDOW};
 use std::alloc::Global;
 use std::io::Write;
 use std::marker::Brand;
@@ -50,14 +51,51 @@ fn is_stalled(done: &Result<(), Reason>) -> bool {
     matches!(done, Err(Reason::Request(_, Refusal::Stalled)))
 }
 
+// That a call of the disk failed.
+fn disk_failed() -> Reason
+    ensures { result ≡ disk_failed }
+{
+    Reason::Image(Refusal::Device, Damage::Unknown)
+}
+
 // What was refused, which is the disk's fault where nothing else was but a wait.
 fn with_disk(done: Result<(), Reason>, failed: bool) -> Result<(), Reason>
     ensures done { IsOk result → IsOk done }
 {
     if failed && (done.is_ok() || is_stalled(&done)) {
-        return Err(Reason::File(OpenFault::Device, None));
+        return Err(disk_failed());
     }
     done
+}
+
+/// Who is told that a call of the disk failed, where a request is refused as it came behind that call.
+#[derive(Drop)]
+struct Behind<'a, N> {
+    observer: &'a mut N,
+}
+
+impl<N: Observer> Observer for Behind<'_, N> {
+    fn answered(&mut self, element: u16, number: u64, entry: Entry) {
+        self.observer.answered(element, number, entry);
+    }
+
+    fn progressed(&mut self, progress: Progress) {
+        self.observer.progressed(progress);
+    }
+
+    fn refused(&mut self, reason: Reason) {
+        self.observer.refused(told_as(reason));
+    }
+}
+
+// What the observer is told of a refusal.
+fn told_as(reason: Reason) -> Reason
+    ensures { result ≡ told_as reason }
+{
+    match reason {
+        Reason::Request(_, Refusal::Failed) => disk_failed(),
+        other => other,
+    }
 }
 
 // What was refused first, if anything was.
@@ -120,7 +158,7 @@ fn close<D: Disk, W: Write, N: Observer>(
         &mut paper.lines,
         &mut paper.line,
         out,
-        observer,
+        &mut Behind { observer },
     );
     (status_of(failed, stalled, status), engine.close())
 }
@@ -217,9 +255,10 @@ fn run_engine<
 ///
 /// The status is 0; or 3, with `refused 19 Stalled`, where servers that wait for each other are all that was refused;
 /// or 1: the image is refused at opening; a block of the setup can't be made, or a place lies past the last address
-/// (`BadScript`), and then no element's request is served; `NoMemory`; a call of the disk failed; a write of the output
-/// failed; or a server was refused something else than `Stalled`: the least such element's refusal is printed, and the
-/// others went on. The observer is told why.
+/// (`BadScript`), or an element isn't there (`NoElement`), and then no element's request is served; `NoMemory`; a call of
+/// the disk failed; a write of the output failed; or a server was refused something else than `Stalled`: the least such
+/// element's refusal is printed, and the others went on. The observer is told why; where that refusal is `Failed`, as its
+/// request came behind a call of the disk that failed, for another element or for a checkpoint, that call is told of.
 ///
 /// Where the image isn't opened, a crash leaves nothing that it couldn't leave before. From the opening on, a crash at
 /// any moment leaves the memory after a beginning of the accepted commands that were put on the image, those of the setup

@@ -3,7 +3,7 @@
 
 use anyhow::Result;
 use crossbeam_channel::{Receiver, bounded};
-use im_listening::{Ear, Listener};
+use im_listening::{Ear, Listener, Patient};
 use std::io::{self, ErrorKind, Print, Read};
 use std::sync::Wait;
 use std::thread::{Threads, yield_now};
@@ -44,6 +44,36 @@ impl Read for Broken {
         }
         self.is_told = true;
         Err(io::Error::from(ErrorKind::InvalidData))
+    }
+}
+
+// What a reader that doesn't wait is asked, and gives: nothing yet, an interruption, a byte, or its end.
+const STEPS: &[u8] = b"..!a.b!!.c$d";
+
+// Gives these, one at each read; behind its end too, as a terminal does.
+#[derive(Drop)]
+struct Hasty {
+    steps: &'static [u8],
+}
+
+impl Read for Hasty {
+    fn read(&mut self, buf: &mut [u8]) -> io::Result<usize> {
+        let Some(first) = buf.first_mut() else {
+            return Ok(0);
+        };
+        let Some((step, later)) = self.steps.split_first() else {
+            return Ok(0);
+        };
+        self.steps = later;
+        match *step {
+            b'.' => Err(io::Error::from(ErrorKind::WouldBlock)),
+            b'!' => Err(io::Error::from(ErrorKind::Interrupted)),
+            b'$' => Ok(0),
+            byte => {
+                *first = byte;
+                Ok(1)
+            }
+        }
     }
 }
 
@@ -123,6 +153,48 @@ fn tell_fault<R: AllocGlobal + Print + Threads + Wait + Copy + Drop + Send + 'st
     Ok(())
 }
 
+// Reads so many times, and tells what came: a byte, or the end.
+fn tell_reads<R: Print, I: Read>(rt: &R, input: &mut I, times: usize) -> Result<()> {
+    let mut part = [0u8; 1];
+    print!(rt; "it gives")?;
+    for _time in 0..times {
+        if input.read(&mut part)? == 0 {
+            print!(rt; " its end")?;
+        } else {
+            print!(rt; " {}", part[0])?;
+        }
+    }
+    println!(rt; "")?;
+    Ok(())
+}
+
+// A reader that doesn't wait is waited for, and one that is at its end isn't read again.
+fn tell_waiting<R: AllocGlobal + Print + Threads + Wait + Copy + Drop + Send + 'static>(
+    rt: &R,
+) -> Result<()> {
+    let mut patient = Patient::new(*rt, Hasty { steps: STEPS });
+    tell_reads(rt, &mut patient, 5)?;
+    let mut listener = Listener::new(*rt, Hasty { steps: STEPS });
+    tell_reads(rt, &mut listener, 6)?;
+    let mut listener = Listener::new(*rt, Hasty { steps: STEPS });
+    listener.begin(rt.alloc());
+    let _quiet = listener.is_quiet();
+    tell_reads(rt, &mut listener, 6)
+}
+
+// The end is given again where a thread heard it, and nothing is quiet then: no read would wait.
+fn tell_end<R: AllocGlobal + Print + Threads + Wait + Copy + Drop + Send + 'static>(
+    rt: &R,
+) -> Result<()> {
+    let steps = b"$a".as_slice();
+    let mut listener = Listener::new(*rt, Hasty { steps });
+    listener.begin(rt.alloc());
+    wait_for(rt, &mut listener);
+    tell_reads(rt, &mut listener, 3)?;
+    println!(rt; "quiet: {}", listener.is_quiet())?;
+    Ok(())
+}
+
 fn main(rt: HostRuntime) -> Result<()> {
     println!(rt; "# with nobody who listens")?;
     tell_lines(&rt, false)?;
@@ -131,5 +203,9 @@ fn main(rt: HostRuntime) -> Result<()> {
     println!(rt; "# a silence")?;
     tell_silence(&rt)?;
     println!(rt; "# a fault")?;
-    tell_fault(&rt)
+    tell_fault(&rt)?;
+    println!(rt; "# a reader that does not wait")?;
+    tell_waiting(&rt)?;
+    println!(rt; "# an end that is heard")?;
+    tell_end(&rt)
 }

@@ -163,12 +163,67 @@ format 4096 16 256 = formatted
 script 1.1 fetch 0 / 2.1 fetch 0 / mend / 1.2 get 0 / collect 1 / confirm 1 / window / room now / = 8 lines
 talk = 0, 5 calls
 printed = 8 lines
-printed 2 = error 3: E.N and a request, collect E.N, confirm E UPTO, window E, room, turn, count or quit
-printed 3 = error 4: E.N with alloc i|m LENGTH, release A, reset A, fetch A, store A VALUE, take A or put A VALUE
-printed 4 = error 5: collect E.N
-printed 5 = error 6: confirm E UPTO
-printed 6 = error 7: window E
-printed 7 = error 8: the word alone
+printed 2 = error 3: 'mend', where E.N, collect, confirm, window, room, turn, count or quit is expected
+printed 3 = error 4: 'get', where alloc, fetch, store, take, put, release or reset is expected
+printed 4 = error 5: '1', where E.N, with an element's number E from 0 to 65535 and a request's number N, is expected
+printed 5 = error 6: the line ends, where a request's number is expected
+printed 6 = error 7: the line ends, where an element's number from 0 to 65535 is expected
+printed 7 = error 8: 'now', where the end of the line is expected
+
+# The word at fault is named, and what was expected of it
+disk 450560 = 450560 bytes
+format 4096 16 256 = formatted
+script 99999.1 fetch 0 / 1.1 alloc i 1\r / 1.1 alloc i / 1.1 alloc j 1 / 1.1 fetch x / 1.1 store 0 -1 / = 6 lines
+script 1.1 fetch 0 0 / 1.1 / collect 1.x / confirm x 1 / window 65536 / 1.1 fetch é / / # x / = 14 lines
+talk = 0, 0 calls
+printed = 14 lines
+printed 0 = error 1: '99999.1', where E.N, with an element's number E from 0 to 65535 and a request's number N, is expected
+printed 1 = error 2: the line ends in a carriage return: is it a Windows file?
+printed 2 = error 3: the line ends, where a number from 0 to 4294967295 is expected
+printed 3 = error 4: 'j', where i or m is expected
+printed 4 = error 5: 'x', where an address from 0 to 4294967295 is expected
+printed 5 = error 6: '-1', where a number from 0 to 18446744073709551615 is expected
+printed 6 = error 7: '0', where the end of the line is expected
+printed 7 = error 8: the line ends, where alloc, fetch, store, take, put, release or reset is expected
+printed 8 = error 9: '1.x', where E.N, with an element's number E from 0 to 65535 and a request's number N, is expected
+printed 9 = error 10: 'x', where an element's number from 0 to 65535 is expected
+printed 10 = error 11: '65536', where an element's number from 0 to 65535 is expected
+printed 11 = error 12: '\xc3\xa9', where ASCII is expected
+printed 12 = error 13: the line ends, where E.N, collect, confirm, window, room, turn, count or quit is expected
+printed 13 = error 14: '#', where E.N, collect, confirm, window, room, turn, count or quit is expected
+
+# A line may have 4,096 bytes; a longer one is told so, and read on to its line feed
+disk 450560 = 450560 bytes
+format 4096 16 256 = formatted
+script 1.1 fetch 0 / = 1 lines
+numbered 1 to 1024 xxxx = 1 lines
+script / = 2 lines
+numbered 1 to 1024 xxxx = 2 lines
+script x / 2.1 fetch 0 / = 4 lines
+-- Two commands, each by itself.
+talk = 0, 8 calls
+printed = 4 lines
+printed 0 = 1.1 nocell
+printed 1 = error 2: 'xxxxxxxxxxxxxxxxxxxxxxxxxxxxxxxx..', where E.N, collect, confirm, window, room, turn, count or quit is expected
+printed 2 = error 3: the line is too long
+printed 3 = 2.1 nocell
+
+# The same read a byte at a time, with a request that spaces make too long, and a line that goes on to the end of the input
+disk 450560 = 450560 bytes
+format 4096 16 256 = formatted
+numbered 1 to 1022 ~~~~ = 0 lines
+script 1.1~fetch / = 1 lines
+numbered 1 to 1021 ~~~~ = 1 lines
+script ~1.1~fetch~0 / = 2 lines
+numbered 1 to 1021 ~~~~ = 2 lines
+script ~~1.2~fetch~0 / = 3 lines
+numbered 1 to 4096 xxxx = 3 lines
+-- The second line alone is a request: it has 4,096 bytes, and the third one more.
+talk slowly = 0, 4 calls
+printed = 3 lines
+printed 0 = error 1: the line is too long
+printed 1 = 1.1 nocell
+printed 2 = error 3: the line is too long
 
 # What comes behind quit isn't asked
 disk 450560 = 450560 bytes

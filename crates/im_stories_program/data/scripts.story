@@ -202,4 +202,34 @@ fault = line 2: 'q', where i or m is expected
 read fetch 0 / = refused 18 BadScript
 fault = line 1: 'fetch', where setup or element is expected
 read element 1 / # caf\xe9 / = refused 18 BadScript
-fault = line 2: 'caf\xe9', where ASCII is expected
+fault = line 2: 'caf\xe9', where ASCII, in a remark as elsewhere, is expected
+
+# A carriage return, a byte-order mark, and a remark that is no line or no ASCII are named
+read setup\r / = refused 18 BadScript
+fault = line 1: the line ends in a carriage return: is it a Windows file?
+read element 1 / fetch 0~\r / = refused 18 BadScript
+fault = line 2: the line ends in a carriage return: is it a Windows file?
+read \xef\xbb\xbfsetup / = refused 18 BadScript
+fault = line 1: the line begins with a byte-order mark, which is no ASCII: save the file without one
+read # caf\xc3\xa9 / = refused 18 BadScript
+fault = line 1: 'caf\xc3\xa9', where ASCII, in a remark as elsewhere, is expected
+read element 1 / fetch 0 # x / = refused 18 BadScript
+fault = line 2: '#', where the end of the line is expected: a remark needs a line of its own
+read element 1 / fetch #x / = refused 18 BadScript
+fault = line 2: '#x', where an address from 0 to 4294967295 or a name of the setup is expected: a remark needs a line of its own
+-- A remark may end in one: it says nothing.
+read # x\r / = 0 blocks, 0 parts, 0 requests
+
+# A line has 4,096 bytes at most, a remark too
+numbered 1 to 1024 #### = 0 lines
+read / = 0 blocks, 0 parts, 0 requests
+numbered 1 to 1024 #### = 0 lines
+read # / = refused 18 BadScript
+fault = line 1: the line is too long
+script element 1 / = 1 lines
+numbered 1 to 1022 ~~~~ = 1 lines
+read ~fetch~0 / = 0 blocks, 1 parts, 1 requests
+script element 1 / = 1 lines
+numbered 1 to 1022 ~~~~ = 1 lines
+read ~~fetch~0 / = refused 18 BadScript
+fault = line 2: the line is too long

@@ -1,0 +1,5 @@
+use Rattle.im_dialogue.proofs.TalkLemmas.{talk_ends_here}
+use Rattle.im_dialogue.proofs.serving.explain_line.Goals as goal
+
+pub returns-in-Err : goal.returns-in-Err
+returns-in-Err g c = λ watch. talk_ends_here g.D.Disk.now g.D.Disk.past g.D.Disk.honest watch c.args.engine.now (g.W.Write.contents c.args.out.now)

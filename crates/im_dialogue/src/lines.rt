@@ -1,0 +1,99 @@
+//! Lines as they are read, of which no more than a bound is kept.
+ghost use Rattle.std.specs.Prelude.{◌≡◌, ◌≤◌, ◌++◌, length, take, OnOk};
+
+use im_script::MAX_LINE;
+use im_text::Reason;
+use std::alloc::AllocError;
+use std::io::{BufRead, ErrorKind};
+
+/// The most bytes of a line that are kept: one more than it may have, by which a longer one is known.
+pub(crate) const KEPT: usize = MAX_LINE + 1;
+
+// What was read of a line.
+#[derive(Clone, Copy, PartialEq, Eq)]
+enum Part {
+    // Bytes of it, and more may come.
+    More,
+    // Its line feed too.
+    Last,
+    // Nothing: the input is at its end.
+    None,
+}
+
+// Keeps more bytes of a line, as far as its bound.
+#[tactic(auto, using(crate::proofs::LineLemmas::kept_some))]
+fn keep(line: &mut Vec<u8>, part: &[u8]) -> Result<(), AllocError>
+    requires few { length line.old.items ≤ KEPT }
+    ensures kept { OnOk result (line.new.items ≡ take KEPT (line.old.items ++ part.now)) }
+    ensures few { length line.new.items ≤ KEPT }
+{
+    let room = KEPT - line.len();
+    if part.len() <= room {
+        line.extend_from_slice(part)
+    } else {
+        line.extend_from_slice(&part[..room])
+    }
+}
+
+// How many bytes of a text stand before its first line feed: all, where it has none.
+fn line_len(text: &[u8]) -> usize
+    ensures { result ≤ length text.now }
+{
+    match text.iter().position(|byte| *byte == b'\n') {
+        Some(at) => at,
+        None => text.len(),
+    }
+}
+
+/// Why the input of a dialogue can't be read.
+pub(crate) fn unread(kind: ErrorKind) -> Reason {
+    Reason::ScriptFile(kind)
+}
+
+// Reads what there is of a line, up to its line feed.
+fn read_part<R: BufRead>(input: &mut R, line: &mut Vec<u8>) -> Result<Part, Reason>
+    requires few { length line.old.items ≤ KEPT }
+    ensures few { length line.new.items ≤ KEPT }
+{
+    let text = match input.fill_buf() {
+        Ok(text) => text,
+        Err(error) => {
+            return match error.kind() {
+                ErrorKind::Interrupted => Ok(Part::More),
+                kind => Err(unread(kind)),
+            };
+        }
+    };
+    let len = line_len(text);
+    if keep(line, &text[..len]).is_err() {
+        return Err(Reason::Memory);
+    }
+    let is_last = len < text.len();
+    let is_none = text.is_empty();
+    input.consume(if is_last { len + 1 } else { len });
+    Ok(if is_last {
+        Part::Last
+    } else if is_none {
+        Part::None
+    } else {
+        Part::More
+    })
+}
+
+/// Reads the next line, without its line feed. Of one that is longer than [`MAX_LINE`] only the first [`KEPT`] bytes are
+/// kept, and it is read to its line feed. None is left at the end, and none of a line that ends without one: what was cut
+/// off isn't asked.
+pub(crate) fn next_line<R: BufRead>(input: &mut R, line: &mut Vec<u8>) -> Result<bool, Reason>
+    ensures few { length line.new.items ≤ KEPT }
+{
+    line.clear();
+    for _part in 0..u64::MAX {
+        match read_part(input, line) {
+            Ok(Part::More) => {}
+            Ok(Part::Last) => return Ok(true),
+            Ok(Part::None) => return Ok(false),
+            Err(reason) => return Err(reason),
+        }
+    }
+    Ok(false)
+}
