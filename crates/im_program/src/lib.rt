@@ -3,10 +3,12 @@
 #![tactic(auto)]
 
 mod console;
+mod descriptors;
 mod moving;
 mod words;
 mod work;
 
+pub use descriptors::Descriptors;
 pub use moving::{migrate_file, migrate_on};
 pub use words::{DEFAULT_CELLS, DEFAULT_ELEMENTS, DEFAULT_SLOTS, Job, WordFault, Work, read_words};
 pub use work::{

@@ -12,10 +12,11 @@ ghost use Rattle.im_serial.specs.Serving.{ServedFrom};
 ghost use Rattle.im_dialogue.specs.Dialogue.{NotOpened, Talked, TalkedFrom};
 ghost use Rattle.im_run.specs.Running.{RanFrom};
 ghost use Rattle.im_program.specs.Words.{demonstration, task_of, task_of_job};
-ghost use Rattle.im_program.specs.Moving.{MigratedFrom};
+ghost use Rattle.im_program.specs.Moving.{HasMoved};
 ghost use Rattle.im_program.specs.Working.{DoneOn, IsMigration};
 
 use crate::console::{Console, Watch};
+use crate::descriptors::Descriptors;
 use crate::moving::migrate_file;
 use crate::words::{DEFAULT_CELLS, DEFAULT_ELEMENTS, DEFAULT_SLOTS, Job, Work};
 use im_damage::Damage;
@@ -123,6 +124,7 @@ pub(crate) fn refusal_of<R: Files<File = File>, N: Observer>(
 /// That an image is ever made is no clause: none knows what a folder holds.
 pub fn format_file<R: Files<File = File> + AllocGlobal, S: Start, N: Observer>(
     rt: &R,
+    _held: &Descriptors,
     image: &str,
     limits: Limits,
     observer: &mut N,
@@ -224,6 +226,7 @@ fn script_in<'a, N: Observer>(
 /// That an image is ever opened is no clause: none knows what a folder holds.
 pub fn serve_file<R: Files<File = File> + AllocGlobal + Input, S: Start, W: Write, N: Observer>(
     rt: &R,
+    _held: &Descriptors,
     image: &str,
     script: &str,
     out: &mut W,
@@ -272,6 +275,7 @@ pub fn run_file<
     N: Observer,
 >(
     rt: &R,
+    _held: &Descriptors,
     image: &str,
     script: &str,
     planned: bool,
@@ -332,6 +336,7 @@ pub fn talk_file<
     N: Observer,
 >(
     rt: &R,
+    _held: &Descriptors,
     image: &str,
     input: &mut I,
     watch: bool,
@@ -364,6 +369,7 @@ pub fn talk_file<
 /// That an image is ever opened is no clause: none knows what a folder holds.
 pub fn inspect_file<R: Files<File = File> + AllocGlobal, S: Start, W: Write, N: Observer>(
     rt: &R,
+    _held: &Descriptors,
     image: &str,
     out: &mut W,
     observer: &mut N,
@@ -418,6 +424,7 @@ fn demonstrate<W: Write, N: Observer>(
 /// Makes the image that the words ask for. `BadLimits` where a number is out of its range; then no file is made.
 fn format_image<R: Files<File = File> + AllocGlobal, S: Start, N: Observer>(
     rt: &R,
+    held: &Descriptors,
     image: &str,
     cells: u32,
     elements: u32,
@@ -437,7 +444,7 @@ fn format_image<R: Files<File = File> + AllocGlobal, S: Start, N: Observer>(
             return Err(refusal);
         }
     };
-    format_file(rt, image, limits, observer, start)
+    format_file(rt, held, image, limits, observer, start)
 }
 
 /// Does the job. The status, and the disk of the file that was opened for it, if one was.
@@ -449,6 +456,7 @@ fn do_job<
     N: Observer,
 >(
     rt: &R,
+    held: &Descriptors,
     job: &Job,
     input: &mut I,
     out: &mut W,
@@ -471,21 +479,23 @@ fn do_job<
             cells,
             elements,
             slots,
-        } => match format_image(rt, image, cells, elements, slots, observer, start) {
+        } => match format_image(rt, held, image, cells, elements, slots, observer, start) {
             Ok(disk) => Ok((0, Some(disk))),
             Err(refusal) => Err(refusal),
         },
-        Job::Serial { image, script } => match serve_file(rt, image, script, out, observer, start) {
-            Ok((status, disk)) => Ok((status, Some(disk))),
-            Err(refusal) => Err(refusal),
-        },
-        Job::Serve { image, watch } => match talk_file(
-            rt, image, input, watch, out, observer, start,
+        Job::Serial { image, script } => match serve_file(
+            rt, held, image, script, out, observer, start,
         ) {
             Ok((status, disk)) => Ok((status, Some(disk))),
             Err(refusal) => Err(refusal),
         },
-        Job::Inspect { image } => match inspect_file(rt, image, out, observer, start) {
+        Job::Serve { image, watch } => match talk_file(
+            rt, held, image, input, watch, out, observer, start,
+        ) {
+            Ok((status, disk)) => Ok((status, Some(disk))),
+            Err(refusal) => Err(refusal),
+        },
+        Job::Inspect { image } => match inspect_file(rt, held, image, out, observer, start) {
             Ok((status, disk)) => Ok((status, Some(disk))),
             Err(refusal) => Err(refusal),
         },
@@ -511,6 +521,7 @@ pub fn act_alone<
     W: Write,
 >(
     rt: &R,
+    held: &Descriptors,
     job: &Job,
     input: &mut I,
     out: &mut W,
@@ -524,7 +535,7 @@ pub fn act_alone<
     ensures none { IfNone result.1 ((task_of_job job.now ≡ demonstration) ⊎ (result.0 ≡ 1)) }
 {
     let mut console = Console::new(rt, *job, is_watched);
-    match do_job(rt, job, input, out, &mut console, start) {
+    match do_job(rt, held, job, input, out, &mut console, start) {
         Ok(done) => done,
         Err(refusal) => (refuse(rt.alloc(), refusal, out), None),
     }
@@ -537,6 +548,7 @@ fn act_at_once<
     W: Write,
 >(
     rt: &R,
+    held: &Descriptors,
     image: &str,
     script: &str,
     planned: bool,
@@ -552,39 +564,51 @@ fn act_at_once<
 {
     let mut console = Console::of(rt, image, script, is_watched);
     let watch = Watch::new(rt, is_watched);
-    match run_file(rt, image, script, planned, &watch, out, &mut console, start) {
+    match run_file(
+        rt,
+        held,
+        image,
+        script,
+        planned,
+        &watch,
+        out,
+        &mut console,
+        start,
+    ) {
         Ok((status, disk)) => (status, Some(disk)),
         Err(refusal) => (refuse(rt.alloc(), refusal, out), None),
     }
 }
 
-/// Moves an image on to a new file. The status, and the disk of the new file, where it was opened or made.
+/// Moves an image on to a new file. The status, and the disks of the new file and of the old one, where both were opened.
 fn act_on_two<R: Files<File = File> + AllocGlobal + Eprint, S: Start, T: Start, W: Write>(
     rt: &R,
+    held: &Descriptors,
     old: &str,
     new: &str,
     out: &mut W,
     is_watched: bool,
     start: S,
     other: T,
-) -> (u8, Option<FileDisk<S>>)
+) -> (u8, Option<FileDisk<S>>, Option<FileDisk<T>>)
     ensures status { result.0 ≤ 1 }
     ensures moved { IfSome result.1 (λ disk. ⟦<FileDisk<S> as Disk>⟧.honest disk →
-        MigratedFrom ⟦<FileDisk<T> as Disk>⟧.honest ⟦<FileDisk<S> as Disk>⟧.now ⟦<FileDisk<S> as Disk>⟧.past
-        T.first S.first (W.contents out.old) (W.contents out.new) result.0 disk) }
+        HasMoved ⟦<FileDisk<T> as Disk>⟧.honest ⟦<FileDisk<T> as Disk>⟧.now ⟦<FileDisk<T> as Disk>⟧.past
+        ⟦<FileDisk<S> as Disk>⟧.now ⟦<FileDisk<S> as Disk>⟧.past
+        T.first S.first (W.contents out.old) (W.contents out.new) result.0 result.2 disk) }
     ensures none { IfNone result.1 (result.0 ≡ 1) }
 {
     let mut console = Console::of(rt, old, new, is_watched);
-    match migrate_file(rt, old, new, out, &mut console, start, other) {
-        Ok((status, disk)) => (status, Some(disk)),
-        Err(refusal) => (refuse(rt.alloc(), refusal, out), None),
+    match migrate_file(rt, held, old, new, out, &mut console, start, other) {
+        Ok((status, to, from)) => (status, Some(to), Some(from)),
+        Err(refusal) => (refuse(rt.alloc(), refusal, out), None, None),
     }
 }
 
 /// Does the work, and answers the status that the program ends with: that of [`act_alone`], or for a run that of
 /// [`run_file`], 3 where its elements wait for each other, or for a migration that of [`migrate_file`]; and the disk of
-/// the image, where its file was made or opened, of a migration that of the new file. What is printed and refused is what
-/// these three say.
+/// the image, where its file was made or opened; of a migration that of the new file, and that of the old one, where both
+/// were opened. What is printed and refused is what these three say.
 ///
 /// `start` stands for what the image holds when it is opened, of a migration what the new file holds, and `other` for what
 /// the old one does. They are used up, and no code reads them.
@@ -596,30 +620,41 @@ pub fn act<
     W: Write,
 >(
     rt: &R,
+    held: &Descriptors,
     work: &Work,
     input: &mut I,
     out: &mut W,
     is_watched: bool,
     start: S,
     other: T,
-) -> (u8, Option<FileDisk<S>>)
+) -> (u8, Option<FileDisk<S>>, Option<FileDisk<T>>)
     ensures status { (result.0 ≤ 1) ⊎ (result.0 ≡ STALLED) }
     ensures done { IfSome result.1 (λ disk. ⟦<FileDisk<S> as Disk>⟧.honest disk →
         DoneOn ⟦<FileDisk<S> as Disk>⟧.now ⟦<FileDisk<S> as Disk>⟧.past ⟦<FileDisk<S> as Disk>⟧.failures S.first
         (task_of work.now) (W.contents out.old) (W.contents out.new) result.0 disk) }
     ensures moved { IfSome result.1 (λ disk. IsMigration (task_of work.now) → ⟦<FileDisk<S> as Disk>⟧.honest disk →
-        MigratedFrom ⟦<FileDisk<T> as Disk>⟧.honest ⟦<FileDisk<S> as Disk>⟧.now ⟦<FileDisk<S> as Disk>⟧.past
-        T.first S.first (W.contents out.old) (W.contents out.new) result.0 disk) }
+        HasMoved ⟦<FileDisk<T> as Disk>⟧.honest ⟦<FileDisk<T> as Disk>⟧.now ⟦<FileDisk<T> as Disk>⟧.past
+        ⟦<FileDisk<S> as Disk>⟧.now ⟦<FileDisk<S> as Disk>⟧.past
+        T.first S.first (W.contents out.old) (W.contents out.new) result.0 result.2 disk) }
+    ensures other { IfSome result.2 (λ _. IsMigration (task_of work.now)) }
     ensures none { IfNone result.1 ((task_of work.now ≡ demonstration) ⊎ (result.0 ≡ 1)) }
 {
     match work {
-        Work::Alone(job) => act_alone(rt, job, input, out, is_watched, start),
+        Work::Alone(job) => {
+            let (status, disk) = act_alone(rt, held, job, input, out, is_watched, start);
+            (status, disk, None)
+        }
         Work::Run {
             image,
             script,
             planned,
-        } => act_at_once(rt, image, script, *planned, out, is_watched, start),
-        Work::Migrate { old, new } => act_on_two(rt, old, new, out, is_watched, start, other),
+        } => {
+            let (status, disk) = act_at_once(
+                rt, held, image, script, *planned, out, is_watched, start,
+            );
+            (status, disk, None)
+        }
+        Work::Migrate { old, new } => act_on_two(rt, held, old, new, out, is_watched, start, other),
     }
 }
 

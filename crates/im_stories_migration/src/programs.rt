@@ -17,12 +17,22 @@ fn act(desk: &mut Desk, words: &[&str]) -> Result<u8> {
     let mut nothing = b"".as_slice();
     let status = match read_words(alloc, words) {
         Ok(Work::Alone(job)) => {
-            let (status, _) = act_alone(rt, &job, &mut nothing, &mut out, false, Unknown);
+            let (status, _) = act_alone(
+                rt,
+                desk.held,
+                &job,
+                &mut nothing,
+                &mut out,
+                false,
+                Unknown,
+            );
             status
         }
         Ok(Work::Migrate { old, new }) => {
-            match migrate_file(rt, old, new, &mut out, &mut notes, Unknown, Unknown) {
-                Ok((status, _)) => status,
+            match migrate_file(
+                rt, desk.held, old, new, &mut out, &mut notes, Unknown, Unknown,
+            ) {
+                Ok((status, _, _)) => status,
                 Err(refusal) => refuse(alloc, refusal, &mut out),
             }
         }
