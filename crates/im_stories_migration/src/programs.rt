@@ -5,8 +5,14 @@ use crate::disks::disk_of;
 use crate::writers::{Notes, Paper};
 use anyhow::{Result, anyhow};
 use im_disk::{MemDisk, Unknown};
-use im_program::{Work, act_alone, migrate_file, read_words, refuse};
+use im_program::{Terminals, Work, act_alone, migrate_file, read_words, refuse};
 use std::fs;
+
+// Nobody watches, and nobody is asked.
+const NOBODY: Terminals = Terminals {
+    input: false,
+    errors: false,
+};
 
 // Does what a command line asks one thread for. The status.
 fn act(desk: &mut Desk, words: &[&str]) -> Result<u8> {
@@ -23,7 +29,7 @@ fn act(desk: &mut Desk, words: &[&str]) -> Result<u8> {
                 &job,
                 &mut nothing,
                 &mut out,
-                false,
+                NOBODY,
                 Unknown,
             );
             status

@@ -5,9 +5,15 @@ use crate::command_lines::{spelled, texts};
 use crate::writers::{Notes, Paper};
 use anyhow::{Result, anyhow};
 use im_disk::Unknown;
-use im_program::{Work, act_alone, format_file, inspect_file, read_words, serve_file};
+use im_program::{Terminals, Work, act_alone, format_file, inspect_file, read_words, serve_file};
 use im_types::Limits;
 use std::{fs, io};
+
+// Nobody watches, and nobody is asked.
+const NOBODY: Terminals = Terminals {
+    input: false,
+    errors: false,
+};
 
 // Does what a command line asks one thread for, and tells the status.
 fn run(desk: &mut Desk, words: &[&str], said: &mut String) -> Result<()> {
@@ -25,7 +31,7 @@ fn run(desk: &mut Desk, words: &[&str], said: &mut String) -> Result<()> {
         &job,
         &mut nothing,
         &mut out,
-        false,
+        NOBODY,
         Unknown,
     );
     desk.printed.set(out.into_text()?, Notes::new(alloc));
@@ -50,7 +56,9 @@ fn attempt(desk: &mut Desk, words: &[&str], said: &mut String) -> Result<bool> {
         }
         ["inspect", image] => inspect_file(rt, held, image, &mut out, &mut notes, Unknown).is_ok(),
         ["format", image] => match Limits::new(1, 1, 16) {
-            Some(limits) => format_file(rt, held, image, limits, &mut notes, Unknown).is_ok(),
+            Some(limits) => format_file(
+                rt, held, image, limits, false, &mut notes, Unknown,
+            ).is_ok(),
             None => false,
         },
         _ => return Ok(false),
