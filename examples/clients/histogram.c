@@ -1,7 +1,7 @@
 /* A histogram by three elements over `imem serve`, which is killed at random moments and started again. Each element takes
    a counter, adds one and puts it back: a counter that is away is waited for.
 
-   usage: histogram KILLS SEED IMEM IMAGE      IMAGE is new, made by `imem format`
+   usage: histogram KILLS SEED IMEM IMAGE      IMAGE is new, made by `imem format --new`
 
    A line is sent with its number until it is answered: what was done acts once, what wasn't is done then. */
 #define _DEFAULT_SOURCE

@@ -1,7 +1,7 @@
 """A histogram by three elements over `imem serve`, which is killed at random moments and started again. Each element takes
 a counter, adds one and puts it back: a counter that is away is waited for.
 
-usage: histogram.py KILLS SEED IMEM IMAGE      IMAGE is new, made by 'imem format'
+usage: histogram.py KILLS SEED IMEM IMAGE      IMAGE is new, made by 'imem format --new'
 
 The status is 0 where each count comes out exact.
 """

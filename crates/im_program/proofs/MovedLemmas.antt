@@ -4,8 +4,8 @@ use Rattle.std.specs.Prelude.{Option}
 use Rattle.std.specs.Io.KnownBytes.{Appends, Keeps}
 use Rattle.im_types.specs.Bytes.{open_gate, zeros}
 use Rattle.im_disk.specs.Moment.{Moment, Left, LeftSince}
-use Rattle.im_disk.specs.Since.{LeavesNow, LeavesWithin}
-use Rattle.im_disk.proofs.SinceLemmas.{left_settled}
+use Rattle.im_disk.specs.Since.{LeavesNow, LeavesWithin, OnlyReads, ReadsOnly}
+use Rattle.im_disk.proofs.SinceLemmas.{left_settled, reads_then}
 use Rattle.im_migration.specs.Migration.{BlankOrSame, HasCount, IsBlank, MeansSame}
 use Rattle.im_text.proofs.PrintingLemmas.{appends_kept}
 use Rattle.im_program.specs.Moving.{MigratedFrom, TellsCount, migrated_line}
@@ -26,7 +26,15 @@ no_gate n is e = omega (arith, is, e)
 zeros_blank : (n : ℕ) → IsBlank (replicate n 0)
 zeros_blank n = (no_gate (get_or (replicate n 0) 0 0) (zero_at n 0), no_gate (get_or (replicate n 0) 4096 0) (zero_at n 4096))
 
-module _ {D E : Type 0} (honest : E → Type 0) (now : D → Moment) (past : D → List Moment) (first_old first : Moment) (bytes : List ℕ) (len : ℕ) (d0 d : D) (old : E)
+-- what was only read since it was opened, by two runs of calls
+pub read_since : {E : Type 0} (honest : E → Type 0) (now : E → Moment) (past : E → List Moment) (first : Moment) (opened mid old : E) → now opened ≡ first → past opened ≡ [] → (honest mid → OnlyReads now past opened mid)
+    → (honest old → honest mid) → (honest old → OnlyReads now past mid old) → honest old → ReadsOnly first (now old) [] (past old)
+read_since honest now past first opened mid old is none before was after h =
+    subst (λ (m : Moment). ReadsOnly m (now old) [] (past old)) is
+    (subst (λ (p : List Moment). ReadsOnly (now opened) (now old) p (past old)) none
+    (reads_then (now opened) (now mid) (now old) (past opened) (past mid) (past old) (before (was h)) (after h)))
+
+module _ {D E : Type 0} (honest : E → Type 0) (old_now : E → Moment) (old_past : E → List Moment) (now : D → Moment) (past : D → List Moment) (first_old first : Moment) (bytes : List ℕ) (len : ℕ) (d0 d : D) (old : E)
     (begins : (now d0 ≡ first) ⊎ (now d0 ≡ record { bytes = replicate len 0; ranges = [] })) (none : past d0 ≡ []) (same : honest old → bytes ≡ first_old.bytes) where
   was_left : (c : List ℕ) → LeftSince (now d0 ∷ past d0) 0 c → Left (now d0) c
   was_left c left = by_start (subst (λ (p : List Moment). LeftSince (now d0 ∷ p) 0 c) none left)
@@ -47,10 +55,11 @@ module _ {D E : Type 0} (honest : E → Type 0) (now : D → Moment) (past : D �
 
   pub migrated : (was is : Option (List ℕ)) (status : ℕ) → LeavesWithin now past d0 d (BlankOrSame (honest old) bytes)
       → (status ≡ 0 → honest old → LeavesNow (now d) (MeansSame bytes)) → (status ≡ 0 → honest old → TellsCount bytes was is)
-      → MigratedFrom honest now past first_old first was is status d
-  migrated was is status leaves done told = record {
-    old = old;
+      → (honest old → ReadsOnly first_old (old_now old) [] (old_past old))
+      → MigratedFrom honest old_now old_past now past first_old first was is status old d
+  migrated was is status leaves done told reads = record {
     leaves = λ c left. ⊎_elim (λ earlier. by_begin c (was_left c earlier)) (λ here. inr (moved_on c here)) (leaves.each 0 c (omega arith) left);
     done = λ z h c left. subst (λ (b : List ℕ). MeansSame b c) (same h) (done z h c left);
     told = λ z h. subst (λ (b : List ℕ). TellsCount b was is) (same h) (told z h);
+    reads = reads;
   }

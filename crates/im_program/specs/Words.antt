@@ -24,9 +24,9 @@ flag_rule id = record (new_rule id) { long = Some id; action = Some SetTrue }
 abbrev pub path_rule : Text → Rule
 path_rule id = record (new_rule id) { required = true }
 
--- format IMAGE [--cells N] [--elements N] [--slots N]
+-- format IMAGE [--cells N] [--elements N] [--slots N] [--new]
 abbrev pub format_app : App
-format_app = with_rule (with_rule (with_rule (with_rule (new_app (codes "format")) (path_rule (codes "IMAGE"))) (option_rule (codes "cells"))) (option_rule (codes "elements"))) (option_rule (codes "slots"))
+format_app = with_rule (with_rule (with_rule (with_rule (with_rule (new_app (codes "format")) (path_rule (codes "IMAGE"))) (option_rule (codes "cells"))) (option_rule (codes "elements"))) (option_rule (codes "slots"))) (flag_rule (codes "new"))
 
 -- NAME IMAGE SCRIPT
 abbrev pub script_app : Text → App
@@ -65,7 +65,7 @@ imem_app = with_subcommand (with_subcommand (with_subcommand (with_subcommand (w
 -- a Work without where its texts lie in memory
 pub data Task : Type 0 where
   demonstration : Task
-  format : (image : List ℕ) (cells elements slots : ℕ) → Task
+  format : (image : List ℕ) (cells elements slots : ℕ) (is_new : Bool) → Task
   serial : (image script : List ℕ) → Task
   run : (image script : List ℕ) (planned : Bool) → Task
   serve : (image : List ℕ) (watch : Bool) → Task
@@ -75,7 +75,7 @@ pub data Task : Type 0 where
 -- the task that a Job is
 abbrev pub task_of_job : Job → Task
 task_of_job Demonstration = demonstration
-task_of_job (Format image cells elements slots) = format image.now cells elements slots
+task_of_job (Format image cells elements slots is_new) = format image.now cells elements slots is_new
 task_of_job (Serial image script) = serial image.now script.now
 task_of_job (Serve image watch) = serve image.now watch
 task_of_job (Inspect image) = inspect image.now
@@ -101,7 +101,7 @@ is_given rows id = bytes_eq (path_in rows id) (codes "true")
 -- the task of format, where each number that is given is one
 abbrev pub format_task : List Row → Option Task
 format_task rows =
-    option_and_then (λ cells. option_and_then (λ elements. option_map (λ slots. format (path_in rows (codes "IMAGE")) cells elements slots)
+    option_and_then (λ cells. option_and_then (λ elements. option_map (λ slots. format (path_in rows (codes "IMAGE")) cells elements slots (is_given rows (codes "new")))
     (number_in rows (codes "slots") 256)) (number_in rows (codes "elements") 16)) (number_in rows (codes "cells") 4096)
 
 -- the task of serial, by its two paths

@@ -15,7 +15,7 @@ use Rattle.im_program.specs.Words.{Task, demonstration, format, serial, run, ser
 -- as two files are opened for it.
 abbrev pub DoneOn : {D : Type 0} → (D → Moment) → (D → List Moment) → (D → ℕ) → Moment → Task → Option (List ℕ) → Option (List ℕ) → ℕ → D → Type 0
 DoneOn now past failures first demonstration was is status disk = ⊥
-DoneOn now past failures first (format image cells elements slots) was is status disk =
+DoneOn now past failures first (format image cells elements slots is_new) was is status disk =
     (status ≡ 0) × AreLimits cells elements slots × LeavesNow (now disk) (λ file. file ≡ new_image 0xA5 (record { cells = cells; elements = elements; slots = slots }))
 DoneOn now past failures first (serial image script) was is status disk = ServedFrom now past failures first disk was is status
 DoneOn now past failures first (run image script planned) was is status disk = RanFrom now past failures first disk was is status
@@ -26,7 +26,7 @@ DoneOn now past failures first (migrate old new) was is status disk = Unit {0}
 -- the task is a migration
 abbrev pub IsMigration : Task → Type 0
 IsMigration demonstration = ⊥
-IsMigration (format image cells elements slots) = ⊥
+IsMigration (format image cells elements slots is_new) = ⊥
 IsMigration (serial image script) = ⊥
 IsMigration (run image script planned) = ⊥
 IsMigration (serve image watch) = ⊥

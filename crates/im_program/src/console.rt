@@ -5,9 +5,9 @@ use im_disk::OpenFault;
 use im_migration::Follower;
 use im_serving::{Standing, Watcher};
 use im_text::{Observer, Progress, Reason, Waited, make_now};
-use im_types::Entry;
+use im_types::{Entry, Refusal};
 use std::alloc::Global;
-use std::io::Eprint;
+use std::io::{Eprint, ErrorKind};
 
 // How many requests are served between two lines of progress.
 const STRIDE: u64 = 4_096;
@@ -24,6 +24,8 @@ pub struct Console<'a, R> {
     rt: &'a R,
     alloc: Global,
     image: &'a str,
+    // Whether the image is to be made.
+    is_made: bool,
     // The second file: a script, or the new file of a migration.
     script: &'a str,
     is_watched: bool,
@@ -36,6 +38,7 @@ impl<'a, R: Eprint + AllocGlobal> Console<'a, R> {
             rt,
             alloc: rt.alloc(),
             image,
+            is_made: false,
             script,
             is_watched,
         }
@@ -49,7 +52,9 @@ impl<'a, R: Eprint + AllocGlobal> Console<'a, R> {
             Job::Serial { image, script } => (image, script),
             Job::Serve { image, .. } => (image, "-"),
         };
-        Console::of(rt, image, script, is_watched)
+        let mut console = Console::of(rt, image, script, is_watched);
+        console.is_made = matches!(job, Job::Format { .. });
+        console
     }
 
     // Which file the reason speaks of.
@@ -98,6 +103,14 @@ impl<R: Eprint + AllocGlobal> Observer for Console<'_, R> {
             Reason::File(OpenFault::InUse, _) | Reason::NewFile(OpenFault::InUse, _) => {
                 eprintln!(self.rt; "imem: {path} is in use by another program")
             }
+            Reason::File(OpenFault::Device, Some(ErrorKind::AlreadyExists)) => {
+                eprintln!(self.rt;
+                    "imem: {path}: there is a file of that name, and it is left as it is"
+                )
+            }
+            Reason::Image(Refusal::Device, _) if self.is_made => eprintln!(self.rt;
+                "imem: {path}: a call of the system failed, and no image was made: a file that wasn't there before is removed, and what an older one held is lost"
+            ),
             Reason::Output(_) | Reason::Memory => eprintln!(self.rt; "imem: {reason}"),
             _ => eprintln!(self.rt; "imem: {path}: {reason}"),
         };

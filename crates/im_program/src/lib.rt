@@ -3,12 +3,15 @@
 #![tactic(auto)]
 
 mod console;
+mod descriptors;
 mod moving;
+mod overwriting;
 mod words;
 mod work;
 
+pub use descriptors::Descriptors;
 pub use moving::{migrate_file, migrate_on};
 pub use words::{DEFAULT_CELLS, DEFAULT_ELEMENTS, DEFAULT_SLOTS, Job, WordFault, Work, read_words};
 pub use work::{
-    act, act_alone, format_file, inspect_file, refuse, run_file, serve_file, talk_file,
+    Terminals, act, act_alone, format_file, inspect_file, refuse, run_file, serve_file, talk_file,
 };

@@ -9,6 +9,7 @@ ghost use Rattle.im_migration.specs.Migration.{BlankOrSame, HasCount, MeansSame}
 ghost use Rattle.im_text.specs.Printing.{Begins, IsLast};
 ghost use Rattle.im_program.specs.Moving.{MigratedFrom, TellsCount, migrated_line};
 
+use crate::descriptors::Descriptors;
 use crate::work::{kind_of_fault, refusal_of};
 use im_disk::{Disk, FileDisk, OpenFault, Start};
 use im_image::read_header;
@@ -132,13 +133,14 @@ fn new_file<R: Files<File = File>, S: Start>(
     }
 }
 
-/// Moves the image of a file on to a new file, and gives the new file's disk back, with the status and the line of
-/// [`migrate_on`]. The new file is used as it is where there is one at the path; else it is made, with the length that the
-/// image needs. The old file is opened to be read alone.
+/// Moves the image of a file on to a new file, and gives both disks back, the new file's first, with the status and the
+/// line of [`migrate_on`]. The new file is used as it is where there is one at the path; else it is made, with the length
+/// that the image needs. The old file is opened to be read alone.
 ///
 /// Whatever the new file held when it was opened (`S`), and the old one (`T`): as long as both were honest, each file
 /// that a crash may leave of the new one since then is no image, or means what the old file means, but for what the new
-/// one could leave before; and with status 0 each does the latter.
+/// one could leave before; and with status 0 each does the latter. Of the old file nothing is left that it couldn't leave
+/// when it was opened.
 ///
 /// Refused are, with nothing printed and no file changed: `Device` for an old file that can't be opened, and its first
 /// fault, as [`migrate`] finds it; `NoMemory`, where there is no room to read it; `Device` for a new file that can't be
@@ -154,17 +156,19 @@ pub fn migrate_file<
     V: Observer + Follower,
 >(
     rt: &R,
+    _held: &Descriptors,
     old: &str,
     new: &str,
     out: &mut W,
     observer: &mut V,
     start: S,
     other: T,
-) -> Result<(u8, FileDisk<S>), Refusal>
+) -> Result<(u8, FileDisk<S>, FileDisk<T>), Refusal>
     ensures status { IfOk result (λ r. r.0 ≤ 1) }
     ensures moved { IfOk result (λ r. ⟦<FileDisk<S> as Disk>⟧.honest r.1 →
-        MigratedFrom ⟦<FileDisk<T> as Disk>⟧.honest ⟦<FileDisk<S> as Disk>⟧.now ⟦<FileDisk<S> as Disk>⟧.past
-        T.first S.first (W.contents out.old) (W.contents out.new) r.0 r.1) }
+        MigratedFrom ⟦<FileDisk<T> as Disk>⟧.honest ⟦<FileDisk<T> as Disk>⟧.now ⟦<FileDisk<T> as Disk>⟧.past
+        ⟦<FileDisk<S> as Disk>⟧.now ⟦<FileDisk<S> as Disk>⟧.past
+        T.first S.first (W.contents out.old) (W.contents out.new) r.0 r.2 r.1) }
     ensures refused { IfErr result (λ refusal. MayRefuseImage refusal) }
     ensures same { OnErr result (Keeps (W.contents out.old) (W.contents out.new)) }
 {
@@ -183,6 +187,6 @@ pub fn migrate_file<
             return Err(Refusal::from(fault));
         }
     };
-    let (status, disk) = migrate_on(rt.alloc(), &mut from, to, out, observer);
-    Ok((status, disk))
+    let (status, to) = migrate_on(rt.alloc(), &mut from, to, out, observer);
+    Ok((status, to, from))
 }

@@ -1,7 +1,7 @@
 //! The words of the command line.
 ghost use Rattle.std.specs.Prelude.{◌≡◌, [], true, false, Some, IfOk, IfErr, IsOk, IsSome, codes};
 ghost use Rattle.std.specs.Option.{option_map};
-ghost use Rattle.clap.specs.Words.{app_of, fault_of, found_of, kind_of, rows_of, rule_of, subcommand_rows_of, takes};
+ghost use Rattle.clap.specs.Words.{app_of, fault_of, found_of, kind_of, new_app, rows_of, rule_of, subcommand_rows_of, takes};
 ghost use Rattle.clap.specs.declared.builder.command.Command.TheViews.{out-Command};
 ghost use Rattle.im_script.specs.Grammar.{texts};
 ghost use Rattle.im_program.specs.Words.{asked, flag_rule, format_app, format_task, imem_app, inspect_app, inspect_task};
@@ -60,6 +60,8 @@ pub enum Job<'a> {
         elements: u32,
         /// How many journal slots, as given.
         slots: u32,
+        /// Whether a file that is there is refused.
+        is_new: bool,
     },
     /// Serve a script's lines in their order.
     Serial {
@@ -100,7 +102,7 @@ const EXAMPLES: &str =
     "With no subcommand imem serves a short script on an image in memory, and prints its replies.
 
 Example:
-  imem format a.img
+  imem format --new a.img
   imem run a.img fetch.script
   imem inspect a.img
 
@@ -117,13 +119,17 @@ const FORMAT: &str =
     "Make an image: an empty memory of this size, in a new file or over an old one";
 
 const FORMAT_EXAMPLES: &str =
-    "Prints nothing where the image is made. An older file of that name is lost.
+    "Prints nothing where the image is made. With --new a file that is there is refused, and left as it is. Else an
+older file of that name is lost, also where the new image can't be made, as on a full disk: a file that wasn't
+there before is removed again then. Where standard input is a terminal, a file that isn't empty is asked for
+first: the answer y has it made anew, and any other one ends as --new does. A link is followed.
 
 Example: an image of 4,096 cells, 16 elements and 256 journal slots, and a small one
-  imem format a.img
-  imem format small.img --cells 64 --elements 2 --slots 16
+  imem format --new a.img
+  imem format --new small.img --cells 64 --elements 2 --slots 16
 
-Exit status: 0 the image is made; 1 refused, with 'refused N NAME' as the last line; 2 a bad command line.";
+Exit status: 0 the image is made; 1 refused, with 'refused N NAME' as the last line, a number that is out of its
+range too; 2 a bad command line, a number that is none too.";
 
 const SERIAL: &str = "Serve the requests of a script, in their order, and print each reply";
 
@@ -261,14 +267,20 @@ fn path_argument<'a>(alloc: Global, id: &'a str, help: &'a str) -> Arg<'a>
     Arg::new(alloc, id).required(true).help(help)
 }
 
+/// A subcommand that takes nothing yet.
+fn plain_command<'a>(alloc: Global, name: &'a str, about: &'a str, examples: &'a str) -> Command<'a>
+    ensures app { app_of result ≡ new_app name.entry.now }
+    ensures local { (out-Command result).has_globals ≡ false }
+{
+    Command::new(alloc, name).about(about).after_help(examples)
+}
+
 /// The subcommand `format`.
 fn format_command<'a>(alloc: Global) -> Result<Command<'a>, AllocError>
     ensures app { IfOk result (λ c. app_of c ≡ format_app) }
     ensures local { IfOk result (λ c. (out-Command c).has_globals ≡ false) }
 {
-    let empty = Command::new(alloc, "format")
-        .about(FORMAT)
-        .after_help(FORMAT_EXAMPLES);
+    let empty = plain_command(alloc, "format", FORMAT, FORMAT_EXAMPLES);
     let image = path_argument(alloc, "IMAGE", "The file to make");
     let cells = number_option(
         alloc,
@@ -285,11 +297,13 @@ fn format_command<'a>(alloc: Global) -> Result<Command<'a>, AllocError>
         "slots",
         "How many journal slots, 16 to 4,096 [default: 256]",
     );
+    let new = flag_option(alloc, "new", "Refuse a file that is there");
     let one = empty.arg(image)?;
     let two = one.arg(cells)?;
     let three = two.arg(elements)?;
     let four = three.arg(slots)?;
-    Ok(four)
+    let five = four.arg(new)?;
+    Ok(five)
 }
 
 /// A subcommand that takes an image and a script.
@@ -441,11 +455,13 @@ fn format_work<'a>(found: &ArgMatches<'a>) -> Option<Work<'a>>
     let cells = number_or(found, "cells", DEFAULT_CELLS)?;
     let elements = number_or(found, "elements", DEFAULT_ELEMENTS)?;
     let slots = number_or(found, "slots", DEFAULT_SLOTS)?;
+    let is_new = is_given(found, "new");
     Some(Work::Alone(Job::Format {
         image,
         cells,
         elements,
         slots,
+        is_new,
     }))
 }
 

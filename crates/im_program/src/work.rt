@@ -12,11 +12,13 @@ ghost use Rattle.im_serial.specs.Serving.{ServedFrom};
 ghost use Rattle.im_dialogue.specs.Dialogue.{NotOpened, Talked, TalkedFrom};
 ghost use Rattle.im_run.specs.Running.{RanFrom};
 ghost use Rattle.im_program.specs.Words.{demonstration, task_of, task_of_job};
-ghost use Rattle.im_program.specs.Moving.{MigratedFrom};
+ghost use Rattle.im_program.specs.Moving.{HasMoved};
 ghost use Rattle.im_program.specs.Working.{DoneOn, IsMigration};
 
 use crate::console::{Console, Watch};
+use crate::descriptors::Descriptors;
 use crate::moving::migrate_file;
+use crate::overwriting::{MakeFault, make_image, may_be_made, remove_made};
 use crate::words::{DEFAULT_CELLS, DEFAULT_ELEMENTS, DEFAULT_SLOTS, Job, Work};
 use im_damage::Damage;
 use im_dialogue::dialogue_on;
@@ -113,18 +115,40 @@ pub(crate) fn refusal_of<R: Files<File = File>, N: Observer>(
     Refusal::from(fault)
 }
 
-/// Makes an image of a file, and gives its disk back: the file is made, or an older one's bytes are lost. As long as
-/// the file was honest, each file that a crash may leave is the new image, byte for byte.
+// The refusal of an image whose file isn't made. The observer is told why.
+fn unmade<R: Files<File = File>, N: Observer>(
+    rt: &R,
+    image: &str,
+    fault: MakeFault,
+    observer: &mut N,
+) -> Refusal
+    ensures { result ≡ Refusal.Device }
+{
+    let kind = match fault {
+        MakeFault::Open(fault) => return refusal_of(rt, image, fault, observer),
+        MakeFault::System(kind) => kind,
+        MakeFault::Exists => ErrorKind::AlreadyExists,
+    };
+    observer.refused(Reason::File(OpenFault::Device, Some(kind)));
+    Refusal::Device
+}
+
+/// Makes an image of a file, and gives its disk back: the file is made, or an older one's bytes are lost; where a new one
+/// is asked for, a file that is there is refused. As long as the file was honest, each file that a crash may leave is the
+/// new image, byte for byte.
 ///
-/// Refused are, with nothing changed: `Device` where another opening has the file's lock, or where what is at the path
-/// is no regular file. `Device` where another call of the system fails, and what [`Engine::format`] refuses: then the
-/// file may hold no image, and an older one is lost. The observer is told why.
+/// Refused are, with nothing changed: `Device` where another opening has the file's lock, where what is at the path is no
+/// regular file, or where it is there and a new one is asked for. `Device` where another call of the system fails, and
+/// what [`Engine::format`] refuses: then a file that wasn't there before is removed, and the bytes of an older one are
+/// lost. The observer is told why.
 ///
 /// That an image is ever made is no clause: none knows what a folder holds.
 pub fn format_file<R: Files<File = File> + AllocGlobal, S: Start, N: Observer>(
     rt: &R,
+    _held: &Descriptors,
     image: &str,
     limits: Limits,
+    is_new: bool,
     observer: &mut N,
     start: S,
 ) -> Result<FileDisk<S>, Refusal>
@@ -132,13 +156,16 @@ pub fn format_file<R: Files<File = File> + AllocGlobal, S: Start, N: Observer>(
         LeavesNow (⟦<FileDisk<S> as Disk>⟧.now disk) (λ file. file ≡ new_image 0xA5 (sizes_of limits))) }
     ensures refused { IfErr result (λ refusal. (refusal ≡ WrongLength) ⊎ (refusal ≡ NoMemory) ⊎ (refusal ≡ Device)) }
 {
-    let disk = match FileDisk::create(rt, image, image_length(limits), start) {
-        Ok(disk) => disk,
-        Err(fault) => return Err(refusal_of(rt, image, fault, observer)),
+    let (disk, is_made) = match make_image(rt, image, image_length(limits), is_new, start) {
+        Ok(made) => made,
+        Err(fault) => return Err(unmade(rt, image, fault, observer)),
     };
     match Engine::format(rt.alloc(), disk, limits) {
         Ok(engine) => Ok(engine.close()),
-        Err((refusal, _)) => Err(told(refusal, observer)), // The file is made, and holds no image or a torn one.
+        Err((refusal, _)) => {
+            remove_made(rt, image, is_made); // Else the file holds no image or a torn one.
+            Err(told(refusal, observer))
+        }
     }
 }
 
@@ -224,6 +251,7 @@ fn script_in<'a, N: Observer>(
 /// That an image is ever opened is no clause: none knows what a folder holds.
 pub fn serve_file<R: Files<File = File> + AllocGlobal + Input, S: Start, W: Write, N: Observer>(
     rt: &R,
+    _held: &Descriptors,
     image: &str,
     script: &str,
     out: &mut W,
@@ -272,6 +300,7 @@ pub fn run_file<
     N: Observer,
 >(
     rt: &R,
+    _held: &Descriptors,
     image: &str,
     script: &str,
     planned: bool,
@@ -332,6 +361,7 @@ pub fn talk_file<
     N: Observer,
 >(
     rt: &R,
+    _held: &Descriptors,
     image: &str,
     input: &mut I,
     watch: bool,
@@ -364,6 +394,7 @@ pub fn talk_file<
 /// That an image is ever opened is no clause: none knows what a folder holds.
 pub fn inspect_file<R: Files<File = File> + AllocGlobal, S: Start, W: Write, N: Observer>(
     rt: &R,
+    _held: &Descriptors,
     image: &str,
     out: &mut W,
     observer: &mut N,
@@ -418,10 +449,12 @@ fn demonstrate<W: Write, N: Observer>(
 /// Makes the image that the words ask for. `BadLimits` where a number is out of its range; then no file is made.
 fn format_image<R: Files<File = File> + AllocGlobal, S: Start, N: Observer>(
     rt: &R,
+    held: &Descriptors,
     image: &str,
     cells: u32,
     elements: u32,
     slots: u32,
+    is_new: bool,
     observer: &mut N,
     start: S,
 ) -> Result<FileDisk<S>, Refusal>
@@ -437,7 +470,7 @@ fn format_image<R: Files<File = File> + AllocGlobal, S: Start, N: Observer>(
             return Err(refusal);
         }
     };
-    format_file(rt, image, limits, observer, start)
+    format_file(rt, held, image, limits, is_new, observer, start)
 }
 
 /// Does the job. The status, and the disk of the file that was opened for it, if one was.
@@ -449,6 +482,7 @@ fn do_job<
     N: Observer,
 >(
     rt: &R,
+    held: &Descriptors,
     job: &Job,
     input: &mut I,
     out: &mut W,
@@ -471,24 +505,55 @@ fn do_job<
             cells,
             elements,
             slots,
-        } => match format_image(rt, image, cells, elements, slots, observer, start) {
+            is_new,
+        } => match format_image(
+            rt, held, image, cells, elements, slots, is_new, observer, start,
+        ) {
             Ok(disk) => Ok((0, Some(disk))),
             Err(refusal) => Err(refusal),
         },
-        Job::Serial { image, script } => match serve_file(rt, image, script, out, observer, start) {
-            Ok((status, disk)) => Ok((status, Some(disk))),
-            Err(refusal) => Err(refusal),
-        },
-        Job::Serve { image, watch } => match talk_file(
-            rt, image, input, watch, out, observer, start,
+        Job::Serial { image, script } => match serve_file(
+            rt, held, image, script, out, observer, start,
         ) {
             Ok((status, disk)) => Ok((status, Some(disk))),
             Err(refusal) => Err(refusal),
         },
-        Job::Inspect { image } => match inspect_file(rt, image, out, observer, start) {
+        Job::Serve { image, watch } => match talk_file(
+            rt, held, image, input, watch, out, observer, start,
+        ) {
             Ok((status, disk)) => Ok((status, Some(disk))),
             Err(refusal) => Err(refusal),
         },
+        Job::Inspect { image } => match inspect_file(rt, held, image, out, observer, start) {
+            Ok((status, disk)) => Ok((status, Some(disk))),
+            Err(refusal) => Err(refusal),
+        },
+    }
+}
+
+/// Which of the standard streams are terminals.
+#[derive(Clone, Copy, Debug, PartialEq, Eq)]
+pub struct Terminals {
+    /// Standard input: somebody may be asked.
+    pub input: bool,
+    /// Standard error: somebody watches.
+    pub errors: bool,
+}
+
+// Whether the job may be done: nobody is asked, or it is answered so.
+fn may_do<R: Files<File = File> + AllocGlobal + Eprint, I: BufRead>(
+    rt: &R,
+    job: &Job,
+    input: &mut I,
+    may_ask: bool,
+) -> bool {
+    match *job {
+        Job::Format {
+            image,
+            is_new: false,
+            ..
+        } => may_be_made(rt, image, input, may_ask),
+        _ => true,
     }
 }
 
@@ -496,9 +561,10 @@ fn do_job<
 /// or a write of the output failed; and the disk of the image, where its file was made or opened. A dialogue reads
 /// `input`. What it prints goes to `out`, a refusal as its last line `refused N NAME`. Standard error has one line of
 /// reason for a refusal, and a line `K.N now REPLY` for a request that waited when the image was opened and whose entry
-/// is confirmed; and, where `is_watched`, how far a long script has come.
+/// is confirmed; and, where it is a terminal, how far a long script has come. Where standard input is one, a file that
+/// isn't empty is asked for before an image is made of it.
 ///
-/// Refused are: `BadLimits` for an image with a number out of its range, and then no file is made; and what
+/// Refused are: `Device` for a file that isn't to be made anew; `BadLimits` for an image with a number out of its range, and then no file is made; and what
 /// [`format_file`], [`serve_file`], [`talk_file`] and [`inspect_file`] refuse. Where there is a disk, its status and
 /// what was printed are those of the one that was called; where there is none, the status is 1, but for the
 /// demonstration.
@@ -511,10 +577,11 @@ pub fn act_alone<
     W: Write,
 >(
     rt: &R,
+    held: &Descriptors,
     job: &Job,
     input: &mut I,
     out: &mut W,
-    is_watched: bool,
+    terminals: Terminals,
     start: S,
 ) -> (u8, Option<FileDisk<S>>)
     ensures status { result.0 ≤ 1 }
@@ -523,8 +590,12 @@ pub fn act_alone<
         (task_of_job job.now) (W.contents out.old) (W.contents out.new) result.0 disk) }
     ensures none { IfNone result.1 ((task_of_job job.now ≡ demonstration) ⊎ (result.0 ≡ 1)) }
 {
-    let mut console = Console::new(rt, *job, is_watched);
-    match do_job(rt, job, input, out, &mut console, start) {
+    let mut console = Console::new(rt, *job, terminals.errors);
+    if !may_do(rt, job, input, terminals.input) {
+        console.refused(Reason::File(OpenFault::Device, Some(ErrorKind::AlreadyExists)));
+        return (refuse(rt.alloc(), Refusal::Device, out), None);
+    }
+    match do_job(rt, held, job, input, out, &mut console, start) {
         Ok(done) => done,
         Err(refusal) => (refuse(rt.alloc(), refusal, out), None),
     }
@@ -537,11 +608,12 @@ fn act_at_once<
     W: Write,
 >(
     rt: &R,
+    held: &Descriptors,
     image: &str,
     script: &str,
     planned: bool,
     out: &mut W,
-    is_watched: bool,
+    terminals: Terminals,
     start: S,
 ) -> (u8, Option<FileDisk<S>>)
     ensures status { (result.0 ≤ 1) ⊎ (result.0 ≡ STALLED) }
@@ -550,41 +622,53 @@ fn act_at_once<
         S.first disk (W.contents out.old) (W.contents out.new) result.0) }
     ensures none { IfNone result.1 (result.0 ≡ 1) }
 {
-    let mut console = Console::of(rt, image, script, is_watched);
-    let watch = Watch::new(rt, is_watched);
-    match run_file(rt, image, script, planned, &watch, out, &mut console, start) {
+    let mut console = Console::of(rt, image, script, terminals.errors);
+    let watch = Watch::new(rt, terminals.errors);
+    match run_file(
+        rt,
+        held,
+        image,
+        script,
+        planned,
+        &watch,
+        out,
+        &mut console,
+        start,
+    ) {
         Ok((status, disk)) => (status, Some(disk)),
         Err(refusal) => (refuse(rt.alloc(), refusal, out), None),
     }
 }
 
-/// Moves an image on to a new file. The status, and the disk of the new file, where it was opened or made.
+/// Moves an image on to a new file. The status, and the disks of the new file and of the old one, where both were opened.
 fn act_on_two<R: Files<File = File> + AllocGlobal + Eprint, S: Start, T: Start, W: Write>(
     rt: &R,
+    held: &Descriptors,
     old: &str,
     new: &str,
     out: &mut W,
-    is_watched: bool,
+    terminals: Terminals,
     start: S,
     other: T,
-) -> (u8, Option<FileDisk<S>>)
+) -> (u8, Option<FileDisk<S>>, Option<FileDisk<T>>)
     ensures status { result.0 ≤ 1 }
     ensures moved { IfSome result.1 (λ disk. ⟦<FileDisk<S> as Disk>⟧.honest disk →
-        MigratedFrom ⟦<FileDisk<T> as Disk>⟧.honest ⟦<FileDisk<S> as Disk>⟧.now ⟦<FileDisk<S> as Disk>⟧.past
-        T.first S.first (W.contents out.old) (W.contents out.new) result.0 disk) }
+        HasMoved ⟦<FileDisk<T> as Disk>⟧.honest ⟦<FileDisk<T> as Disk>⟧.now ⟦<FileDisk<T> as Disk>⟧.past
+        ⟦<FileDisk<S> as Disk>⟧.now ⟦<FileDisk<S> as Disk>⟧.past
+        T.first S.first (W.contents out.old) (W.contents out.new) result.0 result.2 disk) }
     ensures none { IfNone result.1 (result.0 ≡ 1) }
 {
-    let mut console = Console::of(rt, old, new, is_watched);
-    match migrate_file(rt, old, new, out, &mut console, start, other) {
-        Ok((status, disk)) => (status, Some(disk)),
-        Err(refusal) => (refuse(rt.alloc(), refusal, out), None),
+    let mut console = Console::of(rt, old, new, terminals.errors);
+    match migrate_file(rt, held, old, new, out, &mut console, start, other) {
+        Ok((status, to, from)) => (status, Some(to), Some(from)),
+        Err(refusal) => (refuse(rt.alloc(), refusal, out), None, None),
     }
 }
 
 /// Does the work, and answers the status that the program ends with: that of [`act_alone`], or for a run that of
 /// [`run_file`], 3 where its elements wait for each other, or for a migration that of [`migrate_file`]; and the disk of
-/// the image, where its file was made or opened, of a migration that of the new file. What is printed and refused is what
-/// these three say.
+/// the image, where its file was made or opened; of a migration that of the new file, and that of the old one, where both
+/// were opened. What is printed and refused is what these three say.
 ///
 /// `start` stands for what the image holds when it is opened, of a migration what the new file holds, and `other` for what
 /// the old one does. They are used up, and no code reads them.
@@ -596,30 +680,41 @@ pub fn act<
     W: Write,
 >(
     rt: &R,
+    held: &Descriptors,
     work: &Work,
     input: &mut I,
     out: &mut W,
-    is_watched: bool,
+    terminals: Terminals,
     start: S,
     other: T,
-) -> (u8, Option<FileDisk<S>>)
+) -> (u8, Option<FileDisk<S>>, Option<FileDisk<T>>)
     ensures status { (result.0 ≤ 1) ⊎ (result.0 ≡ STALLED) }
     ensures done { IfSome result.1 (λ disk. ⟦<FileDisk<S> as Disk>⟧.honest disk →
         DoneOn ⟦<FileDisk<S> as Disk>⟧.now ⟦<FileDisk<S> as Disk>⟧.past ⟦<FileDisk<S> as Disk>⟧.failures S.first
         (task_of work.now) (W.contents out.old) (W.contents out.new) result.0 disk) }
     ensures moved { IfSome result.1 (λ disk. IsMigration (task_of work.now) → ⟦<FileDisk<S> as Disk>⟧.honest disk →
-        MigratedFrom ⟦<FileDisk<T> as Disk>⟧.honest ⟦<FileDisk<S> as Disk>⟧.now ⟦<FileDisk<S> as Disk>⟧.past
-        T.first S.first (W.contents out.old) (W.contents out.new) result.0 disk) }
+        HasMoved ⟦<FileDisk<T> as Disk>⟧.honest ⟦<FileDisk<T> as Disk>⟧.now ⟦<FileDisk<T> as Disk>⟧.past
+        ⟦<FileDisk<S> as Disk>⟧.now ⟦<FileDisk<S> as Disk>⟧.past
+        T.first S.first (W.contents out.old) (W.contents out.new) result.0 result.2 disk) }
+    ensures other { IfSome result.2 (λ _. IsMigration (task_of work.now)) }
     ensures none { IfNone result.1 ((task_of work.now ≡ demonstration) ⊎ (result.0 ≡ 1)) }
 {
     match work {
-        Work::Alone(job) => act_alone(rt, job, input, out, is_watched, start),
+        Work::Alone(job) => {
+            let (status, disk) = act_alone(rt, held, job, input, out, terminals, start);
+            (status, disk, None)
+        }
         Work::Run {
             image,
             script,
             planned,
-        } => act_at_once(rt, image, script, *planned, out, is_watched, start),
-        Work::Migrate { old, new } => act_on_two(rt, old, new, out, is_watched, start, other),
+        } => {
+            let (status, disk) = act_at_once(
+                rt, held, image, script, *planned, out, terminals, start,
+            );
+            (status, disk, None)
+        }
+        Work::Migrate { old, new } => act_on_two(rt, held, old, new, out, terminals, start, other),
     }
 }
 

@@ -2,6 +2,7 @@
 
 use anyhow::{Result, anyhow};
 use im_disk::{Disk, MemDisk, Mode};
+use im_program::Descriptors;
 
 /// How the calls of a disk fail in the next migration.
 #[derive(Clone, Copy)]
@@ -17,6 +18,8 @@ pub struct Fuse {
 pub struct Desk<'a> {
     /// The folder's files, and standard output.
     pub rt: &'a HostRuntime,
+    /// What stands in the numbers of the standard streams.
+    pub held: &'a Descriptors,
     /// The old file.
     pub old: Option<MemDisk>,
     /// The new file.
@@ -37,10 +40,11 @@ pub struct Desk<'a> {
 
 impl<'a> Desk<'a> {
     /// Nothing yet.
-    pub fn new(rt: &'a HostRuntime) -> Desk<'a> {
+    pub fn new(rt: &'a HostRuntime, held: &'a Descriptors) -> Desk<'a> {
         let alloc = rt.alloc();
         Desk {
             rt,
+            held,
             old: None,
             new: None,
             old_marked: Vec::new(alloc),

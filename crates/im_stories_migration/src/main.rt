@@ -37,13 +37,14 @@ mod writers;
 
 use crate::desk::Desk;
 use anyhow::{Result, anyhow};
+use im_program::Descriptors;
 use im_story::Scene;
 use std::alloc::Global;
 use std::process::ExitCode;
 
 impl<'a> Scene for Desk<'a> {
     fn begin(&mut self) {
-        *self = Desk::new(self.rt);
+        *self = Desk::new(self.rt, self.held);
     }
 
     fn tell(&mut self, alloc: Global, words: &[&str], said: &mut String) -> Result<()> {
@@ -59,6 +60,9 @@ impl<'a> Scene for Desk<'a> {
 }
 
 fn main(rt: HostRuntime) -> ExitCode {
-    let mut desk = Desk::new(&rt);
+    let Some(held) = Descriptors::hold(&rt, &rt.stdin(), &rt.stdout(), &rt.stderr()) else {
+        return ExitCode::from(1);
+    };
+    let mut desk = Desk::new(&rt, &held);
     ExitCode::from(im_story::walk_files(&rt, &mut desk).unwrap_or(1))
 }

@@ -5,8 +5,14 @@ use crate::disks::disk_of;
 use crate::writers::{Notes, Paper};
 use anyhow::{Result, anyhow};
 use im_disk::{MemDisk, Unknown};
-use im_program::{Work, act_alone, migrate_file, read_words, refuse};
+use im_program::{Terminals, Work, act_alone, migrate_file, read_words, refuse};
 use std::fs;
+
+// Nobody watches, and nobody is asked.
+const NOBODY: Terminals = Terminals {
+    input: false,
+    errors: false,
+};
 
 // Does what a command line asks one thread for. The status.
 fn act(desk: &mut Desk, words: &[&str]) -> Result<u8> {
@@ -17,12 +23,22 @@ fn act(desk: &mut Desk, words: &[&str]) -> Result<u8> {
     let mut nothing = b"".as_slice();
     let status = match read_words(alloc, words) {
         Ok(Work::Alone(job)) => {
-            let (status, _) = act_alone(rt, &job, &mut nothing, &mut out, false, Unknown);
+            let (status, _) = act_alone(
+                rt,
+                desk.held,
+                &job,
+                &mut nothing,
+                &mut out,
+                NOBODY,
+                Unknown,
+            );
             status
         }
         Ok(Work::Migrate { old, new }) => {
-            match migrate_file(rt, old, new, &mut out, &mut notes, Unknown, Unknown) {
-                Ok((status, _)) => status,
+            match migrate_file(
+                rt, desk.held, old, new, &mut out, &mut notes, Unknown, Unknown,
+            ) {
+                Ok((status, _, _)) => status,
                 Err(refusal) => refuse(alloc, refusal, &mut out),
             }
         }

@@ -197,3 +197,14 @@ save bad.script = 17 bytes
 try serial no_such_folder/a.img bad.script = refused
 told 0 = line 2: 'read', where element, alloc, fetch, store, take, put, release or reset is expected
 remove bad.script = removed
+
+# A file that is there is left as it is where a new one is asked for
+run imem format a.img --new --cells 1 --elements 1 --slots 16 = 0
+run imem serial a.img no_such_file = 1
+file a.img = 33792 bytes
+run imem format a.img --new --cells 1 --elements 1 --slots 17 = 1
+printed 0 = refused 8 Device
+file a.img = 33792 bytes
+run imem format a.img --cells 1 --elements 1 --slots 17 = 0
+file a.img = 33856 bytes
+remove a.img = removed

@@ -6,6 +6,8 @@ imem format --slots=16 a.img --elements 65536 = make a.img of 4096 cells, 65536 
 imem format a.img --cells 0 = make a.img of 0 cells, 16 elements, 256 slots
 -- The greatest number, with zeros before it.
 imem format a.img --cells 0004294967295 = make a.img of 4294967295 cells, 16 elements, 256 slots
+imem format a.img --new = make a.img of 4096 cells, 16 elements, 256 slots, where none is
+imem format --new a.img --cells 5 = make a.img of 5 cells, 16 elements, 256 slots, where none is
 imem serial a.img s = serve s on a.img
 imem serial a.img - = serve - on a.img
 imem run a.img s = run s on a.img
@@ -41,6 +43,9 @@ says Usage: imem inspect <IMAGE> = yes
 imem serial a.img s t = status 2
 says 't' = yes
 says Usage: imem serial <IMAGE> <SCRIPT> = yes
+-- Only format makes a file where none is.
+imem serial a.img s --new = status 2
+says --new = yes
 imem serial a.img s --planned = status 2
 says --planned = yes
 imem run a.img s --planned=yes = status 2
@@ -104,6 +109,7 @@ says reset PLACE = yes
 says Exit status: 0 all was served = yes
 imem format --help = status 0
 says Exit status: 0 the image is made = yes
+says a file that is there is refused = yes
 imem migrate --help = status 0
 says imem migrate old.img new.img = yes
 says 14 BadHeader = yes

@@ -19,10 +19,14 @@ fn add_job(said: &mut String, job: &Job) -> Result<(), AllocError> {
             cells,
             elements,
             slots,
-        } => write!(
-            said,
-            "make {image} of {cells} cells, {elements} elements, {slots} slots"
-        ),
+            is_new,
+        } => {
+            let how = if is_new { ", where none is" } else { "" };
+            write!(
+                said,
+                "make {image} of {cells} cells, {elements} elements, {slots} slots{how}"
+            )
+        }
         Job::Serial { image, script } => write!(said, "serve {script} on {image}"),
         Job::Serve { image, watch } => {
             let how = if watch { "watched" } else { "unwatched" };

@@ -5,9 +5,15 @@ use crate::command_lines::{spelled, texts};
 use crate::writers::{Notes, Paper};
 use anyhow::{Result, anyhow};
 use im_disk::Unknown;
-use im_program::{Work, act_alone, format_file, inspect_file, read_words, serve_file};
+use im_program::{Terminals, Work, act_alone, format_file, inspect_file, read_words, serve_file};
 use im_types::Limits;
 use std::{fs, io};
+
+// Nobody watches, and nobody is asked.
+const NOBODY: Terminals = Terminals {
+    input: false,
+    errors: false,
+};
 
 // Does what a command line asks one thread for, and tells the status.
 fn run(desk: &mut Desk, words: &[&str], said: &mut String) -> Result<()> {
@@ -19,7 +25,15 @@ fn run(desk: &mut Desk, words: &[&str], said: &mut String) -> Result<()> {
     };
     let mut out = Paper::new(alloc, usize::MAX);
     let mut nothing = b"".as_slice();
-    let (status, _disk) = act_alone(desk.rt, &job, &mut nothing, &mut out, false, Unknown);
+    let (status, _disk) = act_alone(
+        desk.rt,
+        desk.held,
+        &job,
+        &mut nothing,
+        &mut out,
+        NOBODY,
+        Unknown,
+    );
     desk.printed.set(out.into_text()?, Notes::new(alloc));
     Ok(write!(said, "{status}")?)
 }
@@ -33,15 +47,18 @@ fn set_told(desk: &mut Desk, is_ok: bool, notes: Notes, said: &mut String) -> Re
 // Serves a file's script, or tells of an image, or makes one.
 fn attempt(desk: &mut Desk, words: &[&str], said: &mut String) -> Result<bool> {
     let rt = desk.rt;
+    let held = desk.held;
     let mut out = Paper::new(rt.alloc(), usize::MAX);
     let mut notes = Notes::new(rt.alloc());
     let is_ok = match words {
         ["serial", image, script] => {
-            serve_file(rt, image, script, &mut out, &mut notes, Unknown).is_ok()
+            serve_file(rt, held, image, script, &mut out, &mut notes, Unknown).is_ok()
         }
-        ["inspect", image] => inspect_file(rt, image, &mut out, &mut notes, Unknown).is_ok(),
+        ["inspect", image] => inspect_file(rt, held, image, &mut out, &mut notes, Unknown).is_ok(),
         ["format", image] => match Limits::new(1, 1, 16) {
-            Some(limits) => format_file(rt, image, limits, &mut notes, Unknown).is_ok(),
+            Some(limits) => format_file(
+                rt, held, image, limits, false, &mut notes, Unknown,
+            ).is_ok(),
             None => false,
         },
         _ => return Ok(false),

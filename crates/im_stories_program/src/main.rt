@@ -14,6 +14,7 @@ mod writers;
 
 use anyhow::{Result, anyhow};
 use command_lines::CommandLine;
+use im_program::Descriptors;
 use im_story::{Scene, walk_files};
 use images::Image;
 use printed::Printed;
@@ -25,6 +26,7 @@ use std::process::ExitCode;
 #[derive(Drop)]
 struct Desk<'a> {
     rt: &'a HostRuntime,
+    held: &'a Descriptors,
     scripts: Scripts,
     image: Image,
     printed: Printed,
@@ -32,9 +34,10 @@ struct Desk<'a> {
 }
 
 impl<'a> Desk<'a> {
-    fn new(rt: &'a HostRuntime) -> Desk<'a> {
+    fn new(rt: &'a HostRuntime, held: &'a Descriptors) -> Desk<'a> {
         Desk {
             rt,
+            held,
             scripts: Scripts::new(rt.alloc()),
             image: Image::new(rt.alloc()),
             printed: Printed::new(rt.alloc()),
@@ -45,7 +48,7 @@ impl<'a> Desk<'a> {
 
 impl<'a> Scene for Desk<'a> {
     fn begin(&mut self) {
-        *self = Desk::new(self.rt);
+        *self = Desk::new(self.rt, self.held);
     }
 
     fn tell(&mut self, alloc: Global, words: &[&str], said: &mut String) -> Result<()> {
@@ -65,6 +68,9 @@ impl<'a> Scene for Desk<'a> {
 }
 
 fn main(rt: HostRuntime) -> ExitCode {
-    let mut desk = Desk::new(&rt);
+    let Some(held) = Descriptors::hold(&rt, &rt.stdin(), &rt.stdout(), &rt.stderr()) else {
+        return ExitCode::from(1);
+    };
+    let mut desk = Desk::new(&rt, &held);
     ExitCode::from(walk_files(&rt, &mut desk).unwrap_or(1))
 }

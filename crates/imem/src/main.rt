@@ -5,7 +5,7 @@ ghost use Rattle.std.specs.Prelude.{◌≡◌, ◌≤◌};
 
 use im_disk::Unknown;
 use im_listening::Listener;
-use im_program::{Job, WordFault, Work, act, read_words, refuse};
+use im_program::{Descriptors, Job, Terminals, WordFault, Work, act, read_words, refuse};
 use im_types::Refusal;
 use std::alloc::{AllocError, Global};
 use std::env::{self, Env};
@@ -44,7 +44,7 @@ fn work_on<
         + 'static,
     I: BufRead + Drop + Send + 'static,
     W: Write,
->(rt: &R, work: &Work, out: &mut W, is_watched: bool) -> u8
+>(rt: &R, held: &Descriptors, work: &Work, out: &mut W, terminals: Terminals) -> u8
     ensures { result ≤ 3 }
 {
     let mut listener = Listener::new(*rt, rt.reader());
@@ -53,7 +53,9 @@ fn work_on<
     }
     match BufReader::new(rt.alloc(), listener) {
         Ok(mut input) => {
-            let (status, _disk) = act(rt, work, &mut input, out, is_watched, Unknown, Unknown);
+            let (status, _disk, _old) = act(
+                rt, held, work, &mut input, out, terminals, Unknown, Unknown,
+            );
             status
         }
         Err(_) => refuse(rt.alloc(), Refusal::NoMemory, out),
@@ -76,11 +78,11 @@ fn run<
         + 'static,
     I: BufRead + Drop + Send + 'static,
     W: Write,
->(rt: &R, words: &[&str], out: &mut W, is_watched: bool) -> u8
+>(rt: &R, held: &Descriptors, words: &[&str], out: &mut W, terminals: Terminals) -> u8
     ensures { result ≤ 3 }
 {
     match read_words(rt.alloc(), words) {
-        Ok(work) => work_on(rt, &work, out, is_watched),
+        Ok(work) => work_on(rt, held, &work, out, terminals),
         Err(WordFault::NoMemory) => refuse(rt.alloc(), Refusal::NoMemory, out),
         Err(WordFault::Bad(error)) => {
             let printed = error.print(rt);
@@ -126,7 +128,7 @@ fn start<
         + 'static,
     I: BufRead + Drop + Send + 'static,
     W: Write,
->(rt: &R, out: &mut W, is_watched: bool) -> u8
+>(rt: &R, held: &Descriptors, out: &mut W, terminals: Terminals) -> u8
     ensures { result ≤ 3 }
 {
     let words = match env::args(rt) {
@@ -137,13 +139,20 @@ fn start<
         return refuse(rt.alloc(), Refusal::NoMemory, out);
     };
     match texts(rt.alloc(), words.as_slice()) {
-        Ok(texts) => run(rt, texts.as_slice(), out, is_watched),
+        Ok(texts) => run(rt, held, texts.as_slice(), out, terminals),
         Err(_) => refuse(rt.alloc(), Refusal::NoMemory, out),
     }
 }
 
+// Before a path is opened, so that no file gets the number of a stream that was closed.
 fn main(rt: HostRuntime) -> ExitCode {
+    let Some(held) = Descriptors::hold(&rt, &rt.stdin(), &rt.stdout(), &rt.stderr()) else {
+        return ExitCode::from(1);
+    };
     let mut out = io::writer(&rt);
-    let is_watched = rt.stderr().is_terminal();
-    ExitCode::from(start(&rt, &mut out, is_watched))
+    let terminals = Terminals {
+        input: rt.stdin().is_terminal(),
+        errors: rt.stderr().is_terminal(),
+    };
+    ExitCode::from(start(&rt, &held, &mut out, terminals))
 }
