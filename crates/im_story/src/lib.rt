@@ -23,5 +23,5 @@ mod words;
 pub use files::walk_files;
 pub use old::old_image;
 pub use texts::{add_answer, add_entry, add_outcome, add_refusal, add_reply, add_window};
-pub use walks::{Scene, Walked, walk};
+pub use walks::{Scene, Walked, told, walk};
 pub use words::{address, byte, command, element, name, number, op, place, request};

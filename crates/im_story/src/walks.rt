@@ -59,6 +59,14 @@ impl Walked {
     }
 }
 
+/// Whether the words name a call, of one that they name and that is made: `true`, or why it couldn't be made.
+pub fn told(made: Result<()>) -> Result<bool> {
+    match made {
+        Ok(()) => Ok(true),
+        Err(error) => Err(error),
+    }
+}
+
 // Makes a line's call, and tells in `out` where its answer is another one. Whether it is the line's.
 fn is_so<S: Scene>(alloc: Global, line: &str, scene: &mut S, out: &mut String) -> Result<bool> {
     let Some((call, expected)) = line.split_once(" =") else {
