@@ -1,6 +1,7 @@
-//! Workloads of threads, to count groups and to take times: `im_bench_threads WORKLOAD COUNT` passes COUNT items through
-//! a pipe, or reads or shows as many cells on a pane; `im_bench_threads WORKLOAD COUNT IMAGE` does COUNT stores for one
-//! element or for each of sixteen on the image in a file, whose memory is new. It prints a line with what that came to.
+//! Workloads of threads, to count groups and to take times: `im_bench_threads WORKLOAD COUNT` passes COUNT items
+//! through a pipe, or reads or shows as many cells on a pane; `im_bench_threads WORKLOAD COUNT IMAGE` does COUNT
+//! stores for one element or for each of sixteen on the image in a file, whose memory is new. It prints a line with
+//! what that came to.
 #![tactic(auto)]
 
 mod items;

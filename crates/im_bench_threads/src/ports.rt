@@ -1,4 +1,5 @@
-//! Stores through ports of one controller: by one thread alone, and by sixteen beside the thread that keeps checkpoints.
+//! Stores through ports of one controller: by one thread alone, and by sixteen beside the thread that keeps
+//! checkpoints.
 ghost use Rattle.std.specs.Prelude.{◌≡◌};
 ghost use Rattle.im_controller.specs.Kept.{begun_in};
 

@@ -1,5 +1,5 @@
-//! The stores of elements, each into cells of its own, with a confirmation where the window is full; and the engine alone
-//! that serves them.
+//! The stores of elements, each into cells of its own, with a confirmation where the window is full; and the engine
+//! alone that serves them.
 
 use im_disk::Disk;
 use im_engine::Engine;

@@ -1,7 +1,8 @@
 -- What holds of an image holds of it in a box.
 use Rattle.std.proofs.Common.{◌≡◌, Option, Some, IfSome, Result, Ok, Err, IfOk, sym, subst}
 
-pub in_box : {B V E : Type 0} (r : Result B E) (value : B → V) (i : V) (P : V → Type 0) → IfOk r (λ b. value b ≡ i) → P i → IfOk r (λ b. P (value b))
+pub in_box : {B V E : Type 0} (r : Result B E) (value : B → V) (i : V) (P : V → Type 0) → IfOk r (λ b. value b ≡ i)
+    → P i → IfOk r (λ b. P (value b))
 in_box (Ok b) value i P e p = subst P (sym e) p
 in_box (Err x) value i P e p = tt
 

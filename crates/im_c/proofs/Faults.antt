@@ -7,6 +7,7 @@ use Rattle.im_types.specs.Meaning.{Reads}
 use Rattle.im_c.specs.Telling.{IsFlawOf}
 
 -- what reading an honest disk finds
-pub found_fault : (e x : Refusal) (file : List ℕ) → (e ≡ NoMemory) ⊎ (e ≡ Device) ⊎ (Unit {0} → Reads (layout_in file) file (Err e)) → x ≡ e → IsFlawOf file x
+pub found_fault : (e x : Refusal) (file : List ℕ) → (e ≡ NoMemory) ⊎ (e ≡ Device)
+    ⊎ (Unit {0} → Reads (layout_in file) file (Err e)) → x ≡ e → IsFlawOf file x
 found_fault e x file found is = subst (λ (r : Refusal). IsFlawOf file r) (sym is)
     (⊎_elim (λ none. inl none) (λ other. inr (⊎_elim (λ failed. inl failed) (λ reads. inr (reads tt)) other)) found)

@@ -94,7 +94,8 @@ fn boxed(alloc: Global, image: Image) -> Result<Box<Image>, Refusal>
 fn formatted(alloc: Global, limits: Limits) -> Result<Box<Image>, Refusal>
     ensures empty { IfOk result (λ b. (b.value.engine.memory ≡ empty_contents limits.cells limits.elements)
         × (b.value.engine.count ≡ 0) × (b.value.engine.room ≡ limits.slots)) }
-    ensures carried { IfOk result (λ b. b.value.engine.disk.now ≡ carried (blank (sizes_of limits)) (steps_of b.value)) }
+    ensures carried { IfOk result
+        (λ b. b.value.engine.disk.now ≡ carried (blank (sizes_of limits)) (steps_of b.value)) }
     ensures means { IfOk result (λ b. LeavesNow b.value.engine.disk.now (MeansState b.value.engine)) }
     ensures works { IfOk result (λ b. b.value.lost ≡ false) }
     ensures only { IfErr result IsWant }
@@ -285,10 +286,10 @@ fn copy(bytes: &[u8], buffer: &mut [u8]) -> u8
     0
 }
 
-/// Makes the image of an empty memory of so many cells, 1 to 1,048,576, elements, 1 to 64, and journal slots, 16 to 4,096:
-/// 0, and `next` holds it. Else the number of the refusal, and `next` is as it was: `BadLimits` where a number is out of
-/// its range, `NoMemory`, or `Device` where the list of steps couldn't grow. The caller's file has the length of
-/// [`lt_image_length`].
+/// Makes the image of an empty memory of so many cells, 1 to 1,048,576, elements, 1 to 64, and journal slots, 16 to
+/// 4,096: 0, and `next` holds it. Else the number of the refusal, and `next` is as it was: `BadLimits` where a number
+/// is out of its range, `NoMemory`, or `Device` where the list of steps couldn't grow. The caller's file has the
+/// length of [`lt_image_length`].
 #[unsafe(no_mangle)]
 pub extern "C" fn lt_format(
     alloc: Global,
@@ -334,8 +335,8 @@ pub extern "C" fn lt_image_length(cells: u32, elements: u16, slots: u32) -> u64
 }
 
 /// Opens the image of these bytes, which are those of the caller's file: 0, and `next` holds it. Else the number of the
-/// refusal, and `next` is as it was: the first fault of the bytes, `OldVersion` among them, `NoMemory`, or `Device` where
-/// the list of steps couldn't grow.
+/// refusal, and `next` is as it was: the first fault of the bytes, `OldVersion` among them, `NoMemory`, or `Device`
+/// where the list of steps couldn't grow.
 #[unsafe(no_mangle)]
 pub extern "C" fn lt_open(alloc: Global, bytes: &[u8], next: &mut LtImage) -> u8
     ensures some { result ≡ 0 → IsSome next.new.value }
@@ -492,7 +493,8 @@ pub extern "C" fn lt_step_bytes(
     buffer: &mut [u8],
 ) -> u8
     requires some { IsSome image.value }
-    ensures bytes { Shows image.value next.new.value (λ i. Copies (slice_get (steps_of i) index) buffer.old result buffer.new) }
+    ensures bytes { Shows image.value next.new.value
+        (λ i. Copies (slice_get (steps_of i) index) buffer.old result buffer.new) }
 {
     let held = image.into_box();
     let number = copy_step(held.steps(), index, buffer);

@@ -90,8 +90,8 @@ fn step(memory: &mut Memory, command: &LtCommand) -> LtOutcome
     }
 }
 
-/// Makes a memory of so many cells, 1 to 1,048,576, and elements, 1 to 64, with no block and no entry: 0, and `next` holds
-/// it. Else the number of the refusal, and `next` is as it was: `BadLimits` where a number is out of its range,
+/// Makes a memory of so many cells, 1 to 1,048,576, and elements, 1 to 64, with no block and no entry: 0, and `next`
+/// holds it. Else the number of the refusal, and `next` is as it was: `BadLimits` where a number is out of its range,
 /// `NoMemory`. No later call on it takes memory.
 #[unsafe(no_mangle)]
 pub extern "C" fn lt_memory_new(alloc: Global, cells: u32, elements: u16, next: &mut LtMemory) -> u8

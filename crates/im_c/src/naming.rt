@@ -38,8 +38,8 @@ fn name_of(number: u8) -> &'static str
     }
 }
 
-/// The length of the name of the refusal with this number, and the name at the start of `buffer` where it fits, of which
-/// the rest is as it was. The name of 0, and of a number that is no refusal, has no letter.
+/// The length of the name of the refusal with this number, and the name at the start of `buffer` where it fits, of
+/// which the rest is as it was. The name of 0, and of a number that is no refusal, has no letter.
 #[unsafe(no_mangle)]
 pub extern "C" fn lt_refusal_name(refusal: u8, buffer: &mut [u8]) -> usize
     ensures length { result ≡ length (refusal_name refusal) }

@@ -1,9 +1,11 @@
 -- A page is copied behind the others, or over its copy.
-use Rattle.std.proofs.Common.{replicate, ◌≡◌, ◌≢◌, ⊎_elim, ℕ, zero, suc, ◌+◌, ◌<◌, ◌≤◌, List, [], ◌∷◌, ◌++◌, map, length, set, refl, sym, ap, ◌∙◌, subst, arith, length-set}
+use Rattle.std.proofs.Common.{replicate, ◌≡◌, ◌≢◌, ⊎_elim, ℕ, zero, suc, ◌+◌, ◌<◌, ◌≤◌, List, [], ◌∷◌, ◌++◌, map}
+use Rattle.std.proofs.Common.{length, set, refl, sym, ap, ◌∙◌, subst, arith, length-set}
 use Rattle.im_checkpoint.specs.declared.page_copies.Place.{Place}
 use Rattle.im_checkpoint.specs.declared.page_copies.Place.TheVariants.{Nowhere, At}
 use Rattle.std.proofs.lemmas.Bool.{cases_eq}
-use Rattle.std.proofs.lemmas.List.{length-replicate, get_or-set_same, get_or-set_other, get_or_append_left, get_or_at, get_or-map, length_push, map-set}
+use Rattle.std.proofs.lemmas.List.{length-replicate, get_or-set_same, get_or-set_other, get_or_append_left, get_or_at}
+use Rattle.std.proofs.lemmas.List.{get_or-map, length_push, map-set}
 use Rattle.im_checkpoint.specs.Copied.{blank, copy_at, copy_of, taken, place_of, AreCopies}
 
 -- ---- how many pages have a place
@@ -14,7 +16,8 @@ few (Nowhere ∷ places) = omega (arith, few places)
 few (At place ∷ places) = omega (arith, few places)
 
 -- one that has none leaves room
-pub taken-room : (places : List Place) (i : ℕ) → i < length places → place_of places i ≡ Nowhere → taken places < length places
+pub taken-room : (places : List Place) (i : ℕ) → i < length places → place_of places i ≡ Nowhere
+    → taken places < length places
 taken-room [] i inside none = absurd (omega arith)
 taken-room (Nowhere ∷ places) zero inside none = omega (arith, few places)
 taken-room (At place ∷ places) zero inside none = absurd (some_none place none)
@@ -24,7 +27,8 @@ taken-room (At place ∷ places) zero inside none = absurd (some_none place none
 taken-room (Nowhere ∷ places) (suc i) inside none = omega (arith, taken-room places i (omega arith) none)
 taken-room (At place ∷ places) (suc i) inside none = omega (arith, taken-room places i (omega arith) none)
 
-taken-set : (places : List Place) (i at : ℕ) → i < length places → place_of places i ≡ Nowhere → taken (set places i (At at)) ≡ taken places + 1
+taken-set : (places : List Place) (i at : ℕ) → i < length places → place_of places i ≡ Nowhere
+    → taken (set places i (At at)) ≡ taken places + 1
 taken-set [] i at inside none = absurd (omega arith)
 taken-set (Nowhere ∷ places) zero at inside none = omega arith
 taken-set (At place ∷ places) zero at inside none = absurd (some_none place none)
@@ -36,9 +40,12 @@ taken-set (At place ∷ places) (suc i) at inside none = omega (arith, taken-set
 
 -- ---- what copies there are
 
-pub copy-is : (places : List Place) (pages value : List (List ℕ)) (i : ℕ) (place : Place) → map (copy_at pages) places ≡ value → i < length places → place_of places i ≡ place → copy_at pages place ≡ copy_of value i
+pub copy-is : (places : List Place) (pages value : List (List ℕ)) (i : ℕ) (place : Place)
+    → map (copy_at pages) places ≡ value → i < length places → place_of places i ≡ place → copy_at pages place
+    ≡ copy_of value i
 copy-is places pages value i place view inside here =
-    ap (copy_at pages) (sym here) ∙ sym (get_or-map (copy_at pages) places i Nowhere [] inside) ∙ ap (λ (all : List (List ℕ)). copy_of all i) view
+    ap (copy_at pages) (sym here) ∙ sym (get_or-map (copy_at pages) places i Nowhere [] inside)
+    ∙ ap (λ (all : List (List ℕ)). copy_of all i) view
 
 none-taken : (n : ℕ) → taken (replicate n Nowhere) ≡ 0
 none-taken zero = refl
@@ -60,27 +67,34 @@ no-copies n = record {
     none_some : (n : ℕ) → Nowhere ≡ At n → ⊥
     none_some n e = cc
 
-pub none-kept : (places : List Place) (pages : List (List ℕ)) (capacity n : ℕ) → places ≡ replicate n Nowhere → pages ≡ [] → capacity ≡ n → AreCopies places pages capacity
+pub none-kept : (places : List Place) (pages : List (List ℕ)) (capacity n : ℕ) → places ≡ replicate n Nowhere → pages
+    ≡ [] → capacity ≡ n → AreCopies places pages capacity
 none-kept places pages capacity n blank empty room =
     subst (λ (ps : List Place). AreCopies ps pages capacity) (sym blank)
     (subst (λ (ps : List (List ℕ)). AreCopies (replicate n Nowhere) ps capacity) (sym empty)
     (subst (λ (c : ℕ). AreCopies (replicate n Nowhere) [] c) (sym room) (no-copies n)))
 
 module _ (f g : Place → List ℕ) where
-  same-copies : (places : List Place) → ((j : ℕ) → f (place_of places j) ≡ g (place_of places j)) → map f places ≡ map g places
+  same-copies : (places : List Place) → ((j : ℕ) → f (place_of places j) ≡ g (place_of places j)) → map f places
+      ≡ map g places
   same-copies [] same = refl
-  same-copies (place ∷ places) same = ap (λ page. page ∷ map f places) (same 0) ∙ ap (λ pages. g place ∷ pages) (same-copies places (λ j. same (suc j)))
+  same-copies (place ∷ places) same = ap (λ page. page ∷ map f places) (same 0)
+      ∙ ap (λ pages. g place ∷ pages) (same-copies places (λ j. same (suc j)))
 
-  other-copy : (places : List Place) (i : ℕ) (page : List ℕ) → i < length places → ((j : ℕ) → j ≢ i → f (place_of places j) ≡ g (place_of places j)) → f (place_of places i) ≡ page
+  other-copy : (places : List Place) (i : ℕ) (page : List ℕ) → i < length places
+      → ((j : ℕ) → j ≢ i → f (place_of places j) ≡ g (place_of places j)) → f (place_of places i) ≡ page
       → map f places ≡ set (map g places) i page
   other-copy [] i page inside same is = absurd (omega arith)
   other-copy (place ∷ places) zero page inside same is =
-      ap (λ x. x ∷ map f places) is ∙ ap (λ pages. page ∷ pages) (same-copies places (λ j. same (suc j) (λ e. omega (arith, e))))
+      ap (λ x. x ∷ map f places) is
+      ∙ ap (λ pages. page ∷ pages) (same-copies places (λ j. same (suc j) (λ e. omega (arith, e))))
   other-copy (place ∷ places) (suc i) page inside same is =
       ap (λ x. x ∷ map f places) (same 0 (λ e. omega (arith, e)))
-      ∙ ap (λ pages. g place ∷ pages) (other-copy places i page (omega arith) (λ j other. same (suc j) (λ e. other (omega (arith, e)))) is)
+      ∙ ap (λ pages. g place ∷ pages)
+      (other-copy places i page (omega arith) (λ j other. same (suc j) (λ e. other (omega (arith, e)))) is)
 
-module _ (places : List Place) (pages : List (List ℕ)) (capacity i : ℕ) (page : List ℕ) (it : AreCopies places pages capacity) (inside : i < length places) where
+module _ (places : List Place) (pages : List (List ℕ)) (capacity i : ℕ) (page : List ℕ)
+    (it : AreCopies places pages capacity) (inside : i < length places) where
   some_inj : (m n : ℕ) → At m ≡ At n → m ≡ n
   some_inj m n e = cc
 
@@ -100,7 +114,8 @@ module _ (places : List Place) (pages : List (List ℕ)) (capacity i : ℕ) (pag
         (λ j other. elsewhere j other (place_of places j) refl)
         (ap (copy_at (set pages at page)) here ∙ get_or-set_same pages at page blank (it.within i at here))
       where
-        elsewhere : (j : ℕ) → j ≢ i → (place : Place) → place_of places j ≡ place → copy_at (set pages at page) place ≡ copy_at pages place
+        elsewhere : (j : ℕ) → j ≢ i → (place : Place) → place_of places j ≡ place → copy_at (set pages at page) place
+            ≡ copy_at pages place
         elsewhere j other Nowhere e = refl
         elsewhere j other (At place) e =
             get_or-set_other pages at place page blank (λ same. other (it.apart j i place e (here ∙ ap At (sym same))))
@@ -122,7 +137,8 @@ module _ (places : List Place) (pages : List (List ℕ)) (capacity i : ℕ) (pag
 
     within : (j place : ℕ) → place_of (set places i (At next)) j ≡ At place → place < length pages + 1
     within j place e = ⊎_elim
-        (λ (same : j ≡ i). let is = some_inj next place (sym there ∙ ap (place_of (set places i (At next))) (sym same) ∙ e) in omega (arith, is))
+        (λ (same : j ≡ i). let is = some_inj next place
+        (sym there ∙ ap (place_of (set places i (At next))) (sym same) ∙ e) in omega (arith, is))
         (λ (other : j ≢ i). omega (arith, it.within j place (sym (elsewhere j other) ∙ e)))
         (cases_eq j i)
 
@@ -133,7 +149,8 @@ module _ (places : List Place) (pages : List (List ℕ)) (capacity i : ℕ) (pag
     last : (j place : ℕ) → j ≡ i → place_of (set places i (At next)) j ≡ At place → place ≡ length pages
     last j place same e = sym (some_inj next place (sym there ∙ ap (place_of (set places i (At next))) (sym same) ∙ e))
 
-    apart : (j k place : ℕ) → place_of (set places i (At next)) j ≡ At place → place_of (set places i (At next)) k ≡ At place → j ≡ k
+    apart : (j k place : ℕ) → place_of (set places i (At next)) j ≡ At place → place_of (set places i (At next)) k
+        ≡ At place → j ≡ k
     apart j k place ej ek = ⊎_elim
         (λ (same : j ≡ i). ⊎_elim
         (λ (also : k ≡ i). same ∙ sym also)
@@ -153,13 +170,16 @@ module _ (places : List Place) (pages : List (List ℕ)) (capacity i : ℕ) (pag
       room = omega (arith, it.room, length-set places i (At next), grown);
     }
 
-    pub behind-view : map (copy_at (pages ++ page ∷ [])) (set places i (At next)) ≡ set (map (copy_at pages) places) i page
+    pub behind-view : map (copy_at (pages ++ page ∷ [])) (set places i (At next))
+        ≡ set (map (copy_at pages) places) i page
     behind-view =
         map-set (copy_at (pages ++ page ∷ [])) places i (At next)
         ∙ ap (set (map (copy_at (pages ++ page ∷ [])) places) i) (get_or_at pages page [] blank next refl)
-        ∙ ap (λ (all : List (List ℕ)). set all i page) (same-copies (copy_at (pages ++ page ∷ [])) (copy_at pages) places (λ j. before j (place_of places j) refl))
+        ∙ ap (λ (all : List (List ℕ)). set all i page)
+        (same-copies (copy_at (pages ++ page ∷ [])) (copy_at pages) places (λ j. before j (place_of places j) refl))
       where
-        before : (j : ℕ) (place : Place) → place_of places j ≡ place → copy_at (pages ++ page ∷ []) place ≡ copy_at pages place
+        before : (j : ℕ) (place : Place) → place_of places j ≡ place → copy_at (pages ++ page ∷ []) place
+            ≡ copy_at pages place
         before j Nowhere e = refl
         before j (At place) e = get_or_append_left pages (page ∷ []) blank place (it.within j place e)
 

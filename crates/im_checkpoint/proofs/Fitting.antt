@@ -1,5 +1,6 @@
 -- After a turn the memory and the journal are still those of the checkpoint's image, and a checkpoint has a turn less to go.
-use Rattle.std.proofs.Common.{◌≡◌, ◌⊎◌, inl, inr, ⊎_elim, ℕ, zero, suc, ◌+◌, ◌<◌, ◌≤◌, Bool, true, false, ◌&&◌, nat_lt, List, [], ◌∷◌, length, Result, Ok, Err, IfOk, refl, sym, ◌∙◌, ap, subst, arith}
+use Rattle.std.proofs.Common.{◌≡◌, ◌⊎◌, inl, inr, ⊎_elim, ℕ, zero, suc, ◌+◌, ◌<◌, ◌≤◌, Bool, true, false, ◌&&◌}
+use Rattle.std.proofs.Common.{nat_lt, List, [], ◌∷◌, length, Result, Ok, Err, IfOk, refl, sym, ◌∙◌, ap, subst, arith}
 use Rattle.std.proofs.lemmas.Bool.Decides.{nat_tests}
 use Rattle.im_laws.proofs.Tests.{true_or_false}
 use Rattle.im_types.specs.Contents.{Contents}
@@ -7,7 +8,8 @@ use Rattle.im_types.specs.Header.{Header}
 use Rattle.im_journal.specs.Holding.{JournalState, to_sweep, with_room}
 use Rattle.im_pages.specs.PageSets.{pages_from}
 use Rattle.im_checkpoint.specs.declared.checkpoint.TurnDone.{TurnDone}
-use Rattle.im_checkpoint.specs.Step.{Step, NoCheckpoint, PagesLeft, PagesDone, Synced, CheckpointState, PagedCheckpoint, IsUnderWay, with_left, turns_left}
+use Rattle.im_checkpoint.specs.Step.{Step, NoCheckpoint, PagesLeft, PagesDone, Synced, CheckpointState}
+use Rattle.im_checkpoint.specs.Step.{PagedCheckpoint, IsUnderWay, with_left, turns_left}
 use Rattle.im_checkpoint.specs.Turns.{Turned, Moved, is_due, next_header}
 use Rattle.im_checkpoint.specs.Keeping.{IsBetween, StepFits, Fits, ComesTo}
 
@@ -16,7 +18,8 @@ pub once_more : {T E : Type 0} {P Q : T → Type 0} (r : Result T E) → IfOk r 
 once_more (Ok x) p then = then x p
 once_more (Err e) p then = tt
 
-by_left : (h : Header) (j : JournalState) (count : ℕ) (left : List ℕ) → IsBetween h j count → StepFits h j (with_left count left)
+by_left : (h : Header) (j : JournalState) (count : ℕ) (left : List ℕ) → IsBetween h j count
+    → StepFits h j (with_left count left)
 by_left h j count [] between = between
 by_left h j count (page ∷ left) between = between
 
@@ -54,7 +57,9 @@ room_fits c m j n it = record {
     by_step (PagesDone count) fits = record { from = fits.from; to = fits.to }
     by_step (Synced count) fits = record { from = fits.from; to = fits.to }
 
-module _ (before : PagedCheckpoint) (j : JournalState) (m : Contents) (answer : TurnDone) (after : PagedCheckpoint) (k : JournalState) (turned : Turned before.state j answer after.state k) (moved : Moved before answer after) (fits : Fits before.state m j) where
+module _ (before : PagedCheckpoint) (j : JournalState) (m : Contents) (answer : TurnDone) (after : PagedCheckpoint)
+    (k : JournalState) (turned : Turned before.state j answer after.state k) (moved : Moved before answer after)
+    (fits : Fits before.state m j) where
   abbrev old : CheckpointState
   old = before.state
 
@@ -62,14 +67,16 @@ module _ (before : PagedCheckpoint) (j : JournalState) (m : Contents) (answer : 
   new = after.state
 
   -- of the same header
-  with_step : (s : Step) → StepFits old.header j s → new ≡ record { header = old.header; step = s } → k ≡ j → Fits new m k
-  with_step s step_is is same = subst (λ (x : CheckpointState). Fits x m k) (sym is) (subst (λ (x : JournalState). Fits (record { header = old.header; step = s }) m x) (sym same) (record {
-    cells = fits.cells;
-    elements = fits.elements;
-    ring = fits.ring;
-    first = fits.first;
-    step = step_is;
-  }))
+  with_step : (s : Step) → StepFits old.header j s → new ≡ record { header = old.header; step = s } → k ≡ j
+      → Fits new m k
+  with_step s step_is is same = subst (λ (x : CheckpointState). Fits x m k) (sym is)
+      (subst (λ (x : JournalState). Fits (record { header = old.header; step = s }) m x) (sym same) (record {
+        cells = fits.cells;
+        elements = fits.elements;
+        ring = fits.ring;
+        first = fits.first;
+        step = step_is;
+      }))
 
   -- no checkpoint is under way
   module _ (is : old.step ≡ NoCheckpoint) where
@@ -84,7 +91,9 @@ module _ (before : PagedCheckpoint) (j : JournalState) (m : Contents) (answer : 
 
     comes_swept : 0 < to_sweep j → ComesTo before j m answer after k
     comes_swept some = let row = turned.swept is some in
-        comes (ap (λ (x : JournalState). x.count) row.2) (subst (λ (x : CheckpointState). Fits x m k) (sym row.1) (subst (λ (x : JournalState). Fits old m x) (sym row.2) (room_fits old m j _ fits)))
+        comes (ap (λ (x : JournalState). x.count) row.2)
+        (subst (λ (x : CheckpointState). Fits x m k) (sym row.1)
+        (subst (λ (x : JournalState). Fits old m x) (sym row.2) (room_fits old m j _ fits)))
 
     comes_began : to_sweep j ≡ 0 → is_due old.header j ≡ true → ComesTo before j m answer after k
     comes_began none due =
@@ -92,23 +101,31 @@ module _ (before : PagedCheckpoint) (j : JournalState) (m : Contents) (answer : 
         let began = row.1 in
         let left : List ℕ = pages_from 0 began.changed in
         comes (ap (λ (x : JournalState). x.count) row.2)
-        (with_step (with_left j.count left) (by_left old.header j j.count left (record { from = due_before old.header.count j.count _ due; to = omega arith })) began.state row.2)
+        (with_step (with_left j.count left)
+        (by_left old.header j j.count left
+        (record { from = due_before old.header.count j.count _ due; to = omega arith })) began.state row.2)
 
     comes_idle : to_sweep j ≡ 0 → is_due old.header j ≡ false → ComesTo before j m answer after k
     comes_idle none not = let row = turned.idle is none not in
-        comes (ap (λ (x : JournalState). x.count) row.2) (subst (λ (x : CheckpointState). Fits x m k) (sym row.1) (subst (λ (x : JournalState). Fits old m x) (sym row.2) fits))
+        comes (ap (λ (x : JournalState). x.count) row.2)
+        (subst (λ (x : CheckpointState). Fits x m k) (sym row.1)
+        (subst (λ (x : JournalState). Fits old m x) (sym row.2) fits))
 
     pub comes_rest : ComesTo before j m answer after k
-    comes_rest = ⊎_elim (λ none. ⊎_elim (comes_began none) (comes_idle none) (true_or_false (is_due old.header j))) comes_swept (none_or_some (to_sweep j))
+    comes_rest = ⊎_elim (λ none. ⊎_elim (comes_began none) (comes_idle none)
+        (true_or_false (is_due old.header j))) comes_swept (none_or_some (to_sweep j))
 
   module _ (count : ℕ) where
     pub comes_page : (i : ℕ) (left : List ℕ) → old.step ≡ PagesLeft count (i ∷ left) → ComesTo before j m answer after k
     comes_page i left is = let row = turned.page count i left is in record {
       turned = turned;
       moved = moved;
-      nearer = λ under. ap turns_left is ∙ one_less (length left) (turns_left (with_left count left)) (turns_with count left) ∙ sym (ap (λ (x : CheckpointState). turns_left x.step + 1) row.1);
+      nearer = λ under. ap turns_left is
+          ∙ one_less (length left) (turns_left (with_left count left)) (turns_with count left)
+          ∙ sym (ap (λ (x : CheckpointState). turns_left x.step + 1) row.1);
       count = ap (λ (x : JournalState). x.count) row.2;
-      fits = with_step (with_left count left) (by_left old.header j count left (subst (λ (s : Step). StepFits old.header j s) is fits.step)) row.1 row.2;
+      fits = with_step (with_left count left)
+          (by_left old.header j count left (subst (λ (s : Step). StepFits old.header j s) is fits.step)) row.1 row.2;
     }
 
     pub comes_synced : old.step ≡ PagesDone count → ComesTo before j m answer after k
@@ -126,11 +143,13 @@ module _ (before : PagedCheckpoint) (j : JournalState) (m : Contents) (answer : 
       moved = moved;
       nearer = λ under. ap turns_left is ∙ sym (ap (λ (x : CheckpointState). turns_left x.step + 1) row.1);
       count = ap (λ (x : JournalState). x.count) row.2;
-      fits = subst (λ (x : CheckpointState). Fits x m k) (sym row.1) (subst (λ (x : JournalState). Fits (record { header = next_header old.header count; step = NoCheckpoint }) m x) (sym row.2) (record {
-        cells = fits.cells;
-        elements = fits.elements;
-        ring = fits.ring;
-        first = refl;
-        step = tt;
-      }));
+      fits = subst (λ (x : CheckpointState). Fits x m k) (sym row.1)
+          (subst (λ (x : JournalState). Fits
+          (record { header = next_header old.header count; step = NoCheckpoint }) m x) (sym row.2) (record {
+            cells = fits.cells;
+            elements = fits.elements;
+            ring = fits.ring;
+            first = refl;
+            step = tt;
+          }));
     }

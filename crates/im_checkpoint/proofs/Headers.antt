@@ -1,5 +1,6 @@
 -- The header in force, and the one that follows it.
-use Rattle.std.proofs.Common.{◌≡◌, ◌⊎◌, inl, inr, ℕ, zero, suc, ◌+◌, ◌-◌, ◌*◌, ◌<◌, ◌≤◌, ◌==◌, ◌&&◌, nat_le, Bool, true, List, refl, ◌∙◌, ap, subst, arith}
+use Rattle.std.proofs.Common.{◌≡◌, ◌⊎◌, inl, inr, ℕ, zero, suc, ◌+◌, ◌-◌, ◌*◌, ◌<◌, ◌≤◌, ◌==◌, ◌&&◌, nat_le, Bool}
+use Rattle.std.proofs.Common.{true, List, refl, ◌∙◌, ap, subst, arith}
 use Rattle.std.proofs.lemmas.Bool.Decides.{nat_tests}
 use Rattle.im_types.proofs.Tests.{and_both}
 use Rattle.im_types.specs.declared.TheConstants.{LAST, MAX_CELLS, MAX_ELEMENTS, MIN_SLOTS, MAX_SLOTS}
@@ -53,8 +54,10 @@ pub record IsGood (h : Header) : Type 0 where
 
 pub good : (h : Header) (file : List ℕ) → InForce layout_in_use h file → IsGood h
 good h file it =
-    let spelled : is_header layout_in_use h.area (header_in (header_place h.area file)) ≡ true = (and_both _ _ it.spelled).1 in
-    let is : is_header layout_in_use h.area h ≡ true = subst (λ (x : Header). is_header layout_in_use h.area x ≡ true) it.fields spelled in
+    let spelled : is_header layout_in_use h.area (header_in (header_place h.area file))
+    ≡ true = (and_both _ _ it.spelled).1 in
+    let is : is_header layout_in_use h.area h
+    ≡ true = subst (λ (x : Header). is_header layout_in_use h.area x ≡ true) it.fields spelled in
     let e = and_both _ (are_sizes layout_in_use h.sizes) is in
     let d = and_both _ (nat_le h.count LAST) e.0 in
     let c = and_both _ (nat_le h.generation LAST) d.0 in
@@ -71,7 +74,8 @@ good h file it =
     }
 
 -- the next header may take the place of the one in force
-pub follows : (h : Header) (count : ℕ) → IsGood h → h.generation < LAST → count ≤ LAST → Follows layout_in_use h (next_header h count)
+pub follows : (h : Header) (count : ℕ) → IsGood h → h.generation < LAST → count ≤ LAST
+    → Follows layout_in_use h (next_header h count)
 follows h count g later few = record {
   area = refl;
   later = omega arith;
@@ -84,8 +88,11 @@ follows h count g later few = record {
     elements = omega (arith, g.limits.few_elements);
     slots = omega (arith, g.limits.few_slots);
   };
-  good = joined _ (are_sizes layout_in_use h.sizes) (joined _ (nat_le count LAST) (joined _ (nat_le (h.generation + 1) LAST) (joined _ (nat_le 1 (h.generation + 1))
-      (joined (h.version == layout_in_use.version) (1 - h.area == 1 - h.area) (same_itself _ _ g.version) (same_itself _ _ refl)) (is_least _ _ (omega arith))) (is_least _ _ (omega (arith, later)))) (is_least _ _ few)) g.sizes;
+  good = joined _ (are_sizes layout_in_use h.sizes)
+      (joined _ (nat_le count LAST) (joined _ (nat_le (h.generation + 1) LAST) (joined _ (nat_le 1 (h.generation + 1))
+      (joined (h.version == layout_in_use.version) (1 - h.area == 1 - h.area) (same_itself _ _ g.version)
+      (same_itself _ _ refl)) (is_least _ _ (omega arith))) (is_least _ _ (omega (arith, later))))
+      (is_least _ _ few)) g.sizes;
 }
 
 -- where the other area lies
@@ -110,7 +117,8 @@ area_before bytes (suc zero) low = omega arith
 area_before bytes (suc (suc n)) low = absurd (omega (arith, low))
 
 -- one area lies before the other
-pub area_apart : (bytes area : ℕ) → area ≤ 1 → (8192 + bytes * area + bytes ≤ 8192 + bytes * (1 - area)) ⊎ (8192 + bytes * (1 - area) + bytes ≤ 8192 + bytes * area)
+pub area_apart : (bytes area : ℕ) → area ≤ 1 → (8192 + bytes * area + bytes ≤ 8192 + bytes * (1 - area))
+    ⊎ (8192 + bytes * (1 - area) + bytes ≤ 8192 + bytes * area)
 area_apart bytes zero low = inl (omega arith)
 area_apart bytes (suc zero) low = inr (omega arith)
 area_apart bytes (suc (suc n)) low = absurd (omega (arith, low))

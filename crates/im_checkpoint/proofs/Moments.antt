@@ -1,5 +1,6 @@
 -- What each device call of a turn may leave.
-use Rattle.std.proofs.Common.{◌≡◌, inl, ⊎_elim, ℕ, zero, ◌+◌, ◌-◌, ◌*◌, ◌<◌, ◌≤◌, ◌==◌, true, false, List, [], ◌∷◌, length, refl, sym, ◌∙◌, ap, subst, arith}
+use Rattle.std.proofs.Common.{◌≡◌, inl, ⊎_elim, ℕ, zero, ◌+◌, ◌-◌, ◌*◌, ◌<◌, ◌≤◌, ◌==◌, true, false, List, [], ◌∷◌}
+use Rattle.std.proofs.Common.{length, refl, sym, ◌∙◌, ap, subst, arith}
 use Rattle.im_types.specs.Bytes.{open_gate}
 use Rattle.im_types.specs.Contents.{Contents}
 use Rattle.im_types.specs.Journal.{IsBoundary}
@@ -17,9 +18,11 @@ use Rattle.im_checkpoint.specs.Turns.{next_header, begun_at}
 use Rattle.im_checkpoint.specs.Keeping.{Paged, MeansWith, IsWriting, KeepsStep, Keeps, IsCalm, IsKept}
 use Rattle.im_checkpoint.proofs.Bytes.{same_all, same_back, same_then, same_wider, same_overlaid}
 use Rattle.im_checkpoint.proofs.Headers.{same_itself, area_from, place_to}
-use Rattle.im_checkpoint.proofs.Files.{Still, gate_is, still_means, keeps_at, still_in_area, still_gate, area_stays, size}
+use Rattle.im_checkpoint.proofs.Files.{Still, gate_is, still_means, keeps_at, still_in_area, still_gate, area_stays}
+use Rattle.im_checkpoint.proofs.Files.{size}
 use Rattle.im_checkpoint.proofs.Copies.{IsPageFor, page_written, writing_moved}
-use Rattle.im_checkpoint.proofs.Pages.{page_fits, page_still, this_page, apart_page, own_area, shut_but, shut_gate, shut_still}
+use Rattle.im_checkpoint.proofs.Pages.{page_fits, page_still, this_page, apart_page, own_area, shut_but, shut_gate}
+use Rattle.im_checkpoint.proofs.Pages.{shut_still}
 use Rattle.im_checkpoint.proofs.Takeover.{shut_torn, whole_there, next_kept, next_rests}
 
 -- where nothing is in doubt every state is calm
@@ -34,26 +37,35 @@ calm_left count [] now = tt
 calm_left count (page ∷ left) now = tt
 
 -- what is read where nothing is in doubt is kept
-pub kept_calm : (c : CheckpointState) (x : Paged) (m : Contents) (j : JournalState) (now : Moment) → now.ranges ≡ [] → (read : Keeps c.header m j now.bytes) → KeepsStep c.header read.shown read.commands x c.step now.bytes → IsKept c x m j now
+pub kept_calm : (c : CheckpointState) (x : Paged) (m : Contents) (j : JournalState) (now : Moment) → now.ranges ≡ []
+    → (read : Keeps c.header m j now.bytes) → KeepsStep c.header read.shown read.commands x c.step now.bytes
+    → IsKept c x m j now
 kept_calm c x m j now none read step = record {
   read = read;
   step = step;
-  elsewhere = λ d left. subst (λ (l : List ℕ). SameBut (area_at layout_in_use c.header.sizes (other c.header)) (area_bytes layout_in_use c.header.sizes) now.bytes l) (sym (left_settled now d none left))
-      (same_all (area_at layout_in_use c.header.sizes (other c.header)) (area_bytes layout_in_use c.header.sizes) now.bytes);
+  elsewhere = λ d left. subst
+      (λ (l : List ℕ). SameBut (area_at layout_in_use c.header.sizes (other c.header))
+      (area_bytes layout_in_use c.header.sizes) now.bytes l) (sym (left_settled now d none left))
+      (same_all (area_at layout_in_use c.header.sizes (other c.header))
+      (area_bytes layout_in_use c.header.sizes) now.bytes);
   calm = calm_all c.step now none;
 }
 
 -- the same of bytes that are those of a file
-pub kept_file : (c : CheckpointState) (x : Paged) (m : Contents) (j : JournalState) (now : Moment) (file : List ℕ) → now.ranges ≡ [] → now.bytes ≡ file → (read : Keeps c.header m j file) → KeepsStep c.header read.shown read.commands x c.step file → IsKept c x m j now
+pub kept_file : (c : CheckpointState) (x : Paged) (m : Contents) (j : JournalState) (now : Moment) (file : List ℕ)
+    → now.ranges ≡ [] → now.bytes ≡ file → (read : Keeps c.header m j file)
+    → KeepsStep c.header read.shown read.commands x c.step file → IsKept c x m j now
 kept_file c x m j now file none is read step = by_file now.bytes (sym is) none
   where
     AtBytes : List ℕ → Type 0
     AtBytes file = (read : Keeps c.header m j file) × KeepsStep c.header read.shown read.commands x c.step file
 
     by_file : (bytes : List ℕ) → file ≡ bytes → now.ranges ≡ [] → IsKept c x m j now
-    by_file bytes same none = let at : AtBytes now.bytes = subst AtBytes (sym is) (read, step) in kept_calm c x m j now none at.0 at.1
+    by_file bytes same none = let at : AtBytes now.bytes = subst AtBytes (sym is)
+        (read, step) in kept_calm c x m j now none at.0 at.1
 
-module _ (c : CheckpointState) (x : Paged) (m : Contents) (j : JournalState) (m0 : Moment) (kept : IsKept c x m j m0) where
+module _ (c : CheckpointState) (x : Paged) (m : Contents) (j : JournalState) (m0 : Moment)
+    (kept : IsKept c x m j m0) where
   abbrev P : List ℕ → Type 0
   P = MeansWith m j
 
@@ -74,7 +86,8 @@ module _ (c : CheckpointState) (x : Paged) (m : Contents) (j : JournalState) (m0
   means_left d left = near_means d (kept.elsewhere d left)
 
   -- a page
-  module _ (count : ℕ) (i : ℕ) (left : List ℕ) (is : c.step ≡ PagesLeft count (i ∷ left)) (bytes : List ℕ) (size_page : length bytes ≡ 4096) (page : IsPageFor c.header.sizes x i bytes)
+  module _ (count : ℕ) (i : ℕ) (left : List ℕ) (is : c.step ≡ PagesLeft count (i ∷ left)) (bytes : List ℕ)
+      (size_page : length bytes ≡ 4096) (page : IsPageFor c.header.sizes x i bytes)
       (at : ℕ) (at_is : at ≡ area_at layout_in_use c.header.sizes (other c.header) + 4096 * i) where
     known : IsWriting c.header kept.read.shown kept.read.commands x count (i ∷ left) m0.bytes
     known = subst (λ (s : Step). KeepsStep c.header kept.read.shown kept.read.commands x s m0.bytes) is kept.step
@@ -86,13 +99,16 @@ module _ (c : CheckpointState) (x : Paged) (m : Contents) (j : JournalState) (m0
     fits = page_fits c.header m j m0.bytes kept.read i few bytes size_page at at_is
 
     wide : (d e : List ℕ) → SameBut at (length bytes) d e → SameBut start many d e
-    wide d e but = same_wider at (length bytes) start many d e but (omega (arith, at_is)) (omega (arith, at_is, size_page, few))
+    wide d e but = same_wider at (length bytes) start many d e but (omega (arith, at_is))
+        (omega (arith, at_is, size_page, few))
 
-    module _ (past0 : List Moment) (m1 : Moment) (past1 : List Moment) (tick : MayTick (Torn at (length bytes)) m0 m1 past0 past1) where
+    module _ (past0 : List Moment) (m1 : Moment) (past1 : List Moment)
+        (tick : MayTick (Torn at (length bytes)) m0 m1 past0 past1) where
       near : (d : List ℕ) → Left m1 d → SameBut start many m0.bytes d
       near d here = ⊎_elim
           (λ nothing. kept.elsewhere d (subst (λ (y : Moment). Left y d) nothing.0 here))
-          (λ ticked. let from : (e : List ℕ) × Left m0 e × SameBut at (length bytes) e d = left_torn at (length bytes) m0 m1 fits ticked.now d here in
+          (λ ticked. let from : (e : List ℕ) × Left m0 e
+          × SameBut at (length bytes) e d = left_torn at (length bytes) m0 m1 fits ticked.now d here in
           same_then start many m0.bytes from.0 d (kept.elsewhere from.0 from.1) (wide from.0 d from.2))
           tick
 
@@ -100,41 +116,62 @@ module _ (c : CheckpointState) (x : Paged) (m : Contents) (j : JournalState) (m0
       page_now d here = near_means d (near d here)
 
       pub page_leaves : Leaves m0 m1 past0 past1 (MeansWith m j)
-      page_leaves = leaves_step m0 m0 m1 past0 past0 past1 P (Torn at (length bytes)) (leaves_start m0 past0 P) tick page_now
+      page_leaves = leaves_step m0 m0 m1 past0 past0 past1 P (Torn at (length bytes))
+          (leaves_start m0 past0 P) tick page_now
 
-      new_step : KeepsStep c.header kept.read.shown kept.read.commands x (with_left count left) (overlaid m0.bytes at bytes)
+      new_step : KeepsStep c.header kept.read.shown kept.read.commands x (with_left count left)
+          (overlaid m0.bytes at bytes)
       new_step = by_left left (page_written c.header x m0.bytes (overlaid m0.bytes at bytes) i left bytes page
-          (own_area c.header m j m0.bytes kept.read i few bytes size_page at at_is) (this_page c.header m j m0.bytes kept.read i few bytes size_page at at_is) (apart_page c.header m j m0.bytes kept.read i few bytes size_page at at_is)
-          kept.read.shown kept.read.commands count (page_still c.header m j m0.bytes kept.read i few bytes size_page at at_is).boundaries known)
+          (own_area c.header m j m0.bytes kept.read i few bytes size_page at at_is)
+          (this_page c.header m j m0.bytes kept.read i few bytes size_page at at_is)
+          (apart_page c.header m j m0.bytes kept.read i few bytes size_page at at_is)
+          kept.read.shown kept.read.commands count
+          (page_still c.header m j m0.bytes kept.read i few bytes size_page at at_is).boundaries known)
         where
-          by_left : (l : List ℕ) → IsWriting c.header kept.read.shown kept.read.commands x count l (overlaid m0.bytes at bytes) → KeepsStep c.header kept.read.shown kept.read.commands x (with_left count l) (overlaid m0.bytes at bytes)
+          by_left : (l : List ℕ)
+              → IsWriting c.header kept.read.shown kept.read.commands x count l (overlaid m0.bytes at bytes)
+              → KeepsStep c.header kept.read.shown kept.read.commands x (with_left count l) (overlaid m0.bytes at bytes)
           by_left [] w = w
           by_left (p ∷ l) w = w
 
-      pub page_done : m1 ≡ written at bytes m0 → IsKept (record { header = c.header; step = with_left count left }) x m j m1
+      pub page_done : m1 ≡ written at bytes m0
+          → IsKept (record { header = c.header; step = with_left count left }) x m j m1
       page_done is_written =
           let bytes_are : m1.bytes ≡ overlaid m0.bytes at bytes = ap (λ (y : Moment). y.bytes) is_written in
-          let both : (read : Keeps c.header m j m1.bytes) × KeepsStep c.header read.shown read.commands x (with_left count left) m1.bytes =
-          subst (λ (l : List ℕ). (read : Keeps c.header m j l) × KeepsStep c.header read.shown read.commands x (with_left count left) l) (sym bytes_are)
-          (keeps_at c.header m j m0.bytes kept.read (overlaid m0.bytes at bytes) (page_still c.header m j m0.bytes kept.read i few bytes size_page at at_is), new_step) in
+          let both : (read : Keeps c.header m j m1.bytes)
+          × KeepsStep c.header read.shown read.commands x (with_left count left) m1.bytes =
+          subst (λ (l : List ℕ). (read : Keeps c.header m j l)
+          × KeepsStep c.header read.shown read.commands x (with_left count left) l) (sym bytes_are) (
+            keeps_at c.header m j m0.bytes kept.read (overlaid m0.bytes at bytes)
+                (page_still c.header m j m0.bytes kept.read i few bytes size_page at at_is),
+            new_step,
+          ) in
           record {
             read = both.0;
             step = both.1;
             elsewhere = λ d here. same_then start many m1.bytes m0.bytes d
-                (same_back start many m0.bytes m1.bytes (wide m0.bytes m1.bytes (subst (λ (l : List ℕ). SameBut at (length bytes) m0.bytes l) (sym bytes_are) (same_overlaid m0.bytes at bytes fits))))
+                (same_back start many m0.bytes m1.bytes
+                (wide m0.bytes m1.bytes
+                (subst (λ (l : List ℕ). SameBut at (length bytes) m0.bytes l) (sym bytes_are)
+                (same_overlaid m0.bytes at bytes fits))))
                 (near d here);
             calm = calm_left count left m1;
           }
 
   -- a call that only reads
-  pub read_now : (past0 : List Moment) (m1 : Moment) (past1 : List Moment) → MayTick (λ a b. b ≡ a) m0 m1 past0 past1 → LeavesNow m1 (MeansWith m j)
-  read_now past0 m1 past1 tick d here = means_left d (subst (λ (x : Moment). Left x d) (⊎_elim (λ nothing. nothing.0) (λ ticked. ticked.now) tick) here)
+  pub read_now : (past0 : List Moment) (m1 : Moment) (past1 : List Moment) → MayTick (λ a b. b ≡ a) m0 m1 past0 past1
+      → LeavesNow m1 (MeansWith m j)
+  read_now past0 m1 past1 tick d here = means_left d
+      (subst (λ (x : Moment). Left x d) (⊎_elim (λ nothing. nothing.0) (λ ticked. ticked.now) tick) here)
 
-  pub read_leaves : (past0 : List Moment) (m1 : Moment) (past1 : List Moment) → MayTick (λ a b. b ≡ a) m0 m1 past0 past1 → Leaves m0 m1 past0 past1 (MeansWith m j)
-  read_leaves past0 m1 past1 tick = leaves_step m0 m0 m1 past0 past0 past1 P (λ a b. b ≡ a) (leaves_start m0 past0 P) tick (read_now past0 m1 past1 tick)
+  pub read_leaves : (past0 : List Moment) (m1 : Moment) (past1 : List Moment)
+      → MayTick (λ a b. b ≡ a) m0 m1 past0 past1 → Leaves m0 m1 past0 past1 (MeansWith m j)
+  read_leaves past0 m1 past1 tick = leaves_step m0 m0 m1 past0 past0 past1 P (λ a b. b ≡ a)
+      (leaves_start m0 past0 P) tick (read_now past0 m1 past1 tick)
 
   -- the other header's gate
-  module _ (past0 : List Moment) (m1 : Moment) (past1 : List Moment) (read_tick : MayTick (λ a b. b ≡ a) m0 m1 past0 past1) where
+  module _ (past0 : List Moment) (m1 : Moment) (past1 : List Moment)
+      (read_tick : MayTick (λ a b. b ≡ a) m0 m1 past0 past1) where
     m1_is : m1 ≡ m0
     m1_is = ⊎_elim (λ nothing. nothing.0) (λ ticked. ticked.now) read_tick
 
@@ -144,27 +181,37 @@ module _ (c : CheckpointState) (x : Paged) (m : Contents) (j : JournalState) (m0
       closed_now d here = read_now past0 m1 past1 read_tick d (left_sync m1 m2 past1 past2 sync_tick d here)
 
       pub closed_leaves : Leaves m0 m2 past0 past2 (MeansWith m j)
-      closed_leaves = leaves_step m0 m1 m2 past0 past1 past2 P Shaken (read_leaves past0 m1 past1 read_tick) sync_tick closed_now
+      closed_leaves = leaves_step m0 m1 m2 past0 past1 past2 P Shaken
+          (read_leaves past0 m1 past1 read_tick) sync_tick closed_now
 
-      pub closed_done : (count : ℕ) → c.step ≡ PagesDone count → is_open_header (header_place (other c.header) m0.bytes) ≡ false → m2 ≡ synced m1
+      pub closed_done : (count : ℕ) → c.step ≡ PagesDone count
+          → is_open_header (header_place (other c.header) m0.bytes) ≡ false → m2 ≡ synced m1
           → IsKept (record { header = c.header; step = Synced count }) x m j m2
       closed_done count is closed is_synced =
-          let known : IsWriting c.header kept.read.shown kept.read.commands x count [] m0.bytes = subst (λ (s : Step). KeepsStep c.header kept.read.shown kept.read.commands x s m0.bytes) is kept.step in
-          kept_file (record { header = c.header; step = Synced count }) x m j m2 m0.bytes (ap (λ (y : Moment). y.ranges) is_synced) (ap (λ (y : Moment). y.bytes) is_synced ∙ ap (λ (y : Moment). y.bytes) m1_is) kept.read (known, closed)
+          let known : IsWriting c.header kept.read.shown kept.read.commands x count [] m0.bytes = subst
+          (λ (s : Step). KeepsStep c.header kept.read.shown kept.read.commands x s m0.bytes) is kept.step in
+          kept_file (record { header = c.header; step = Synced count }) x m j m2 m0.bytes
+          (ap (λ (y : Moment). y.ranges) is_synced)
+          (ap (λ (y : Moment). y.bytes) is_synced ∙ ap (λ (y : Moment). y.bytes) m1_is) kept.read (known, closed)
 
     -- it is open, and is being closed
-    module _ (opened : is_open_header (header_place (other c.header) m0.bytes) ≡ true) (m2 : Moment) (past2 : List Moment) (write_tick : MayTick (Torn (4096 * other c.header) 1) m1 m2 past1 past2) where
+    module _ (opened : is_open_header (header_place (other c.header) m0.bytes) ≡ true) (m2 : Moment)
+        (past2 : List Moment) (write_tick : MayTick (Torn (4096 * other c.header) 1) m1 m2 past1 past2) where
       before : (e : List ℕ) → Left m1 e → Left m0 e
       before e here = subst (λ (x : Moment). Left x e) m1_is here
 
       place_fits : 4096 * other c.header + 1 ≤ length m1.bytes
-      place_fits = subst (λ (x : Moment). 4096 * other c.header + 1 ≤ length x.bytes) (sym m1_is) (omega (arith, place_to c.header.area, size c.header m j m0.bytes kept.read))
+      place_fits = subst (λ (x : Moment). 4096 * other c.header + 1 ≤ length x.bytes) (sym m1_is)
+          (omega (arith, place_to c.header.area, size c.header m j m0.bytes kept.read))
 
       -- a file that might be left before keeps the memory too, with the gate open
-      gate_before : (e : List ℕ) → SameBut start many m0.bytes e → is_open_header (header_place (other c.header) e) ≡ true
+      gate_before : (e : List ℕ) → SameBut start many m0.bytes e → is_open_header (header_place (other c.header) e)
+          ≡ true
       gate_before e but =
           gate_is (other c.header) e
-          ∙ ap (λ (b : ℕ). b == open_gate) (but.same (4096 * other c.header) (inl (omega (arith, place_to c.header.area, area_from many (other c.header)))))
+          ∙ ap (λ (b : ℕ). b == open_gate)
+          (but.same (4096 * other c.header)
+          (inl (omega (arith, place_to c.header.area, area_from many (other c.header)))))
           ∙ sym (gate_is (other c.header) m0.bytes) ∙ opened
 
       torn_means : (e d : List ℕ) → SameBut start many m0.bytes e → SameBut (4096 * other c.header) 1 e d → P d
@@ -175,12 +222,15 @@ module _ (c : CheckpointState) (x : Paged) (m : Contents) (j : JournalState) (m0
       pub shut_now : LeavesNow m2 (MeansWith m j)
       shut_now d here = ⊎_elim
           (λ nothing. means_left d (before d (subst (λ (x : Moment). Left x d) nothing.0 here)))
-          (λ ticked. let from : (e : List ℕ) × Left m1 e × SameBut (4096 * other c.header) 1 e d = left_torn (4096 * other c.header) 1 m1 m2 place_fits ticked.now d here in
+          (λ ticked. let from : (e : List ℕ) × Left m1 e
+          × SameBut (4096 * other c.header) 1 e d = left_torn
+          (4096 * other c.header) 1 m1 m2 place_fits ticked.now d here in
           torn_means from.0 d (kept.elsewhere from.0 (before from.0 from.1)) from.2)
           write_tick
 
       pub shut_leaves : Leaves m0 m2 past0 past2 (MeansWith m j)
-      shut_leaves = leaves_step m0 m1 m2 past0 past1 past2 P (Torn (4096 * other c.header) 1) (read_leaves past0 m1 past1 read_tick) write_tick shut_now
+      shut_leaves = leaves_step m0 m1 m2 past0 past1 past2 P (Torn (4096 * other c.header) 1)
+          (read_leaves past0 m1 past1 read_tick) write_tick shut_now
 
       module _ (m3 : Moment) (past3 : List Moment) (sync_tick : MayTick Shaken m2 m3 past2 past3) where
         pub shut_sync_now : LeavesNow m3 (MeansWith m j)
@@ -189,25 +239,34 @@ module _ (c : CheckpointState) (x : Paged) (m : Contents) (j : JournalState) (m0
         pub shut_sync_leaves : Leaves m0 m3 past0 past3 (MeansWith m j)
         shut_sync_leaves = leaves_step m0 m2 m3 past0 past2 past3 P Shaken shut_leaves sync_tick shut_sync_now
 
-        pub shut_done : (count : ℕ) → c.step ≡ PagesDone count → m2 ≡ written (4096 * other c.header) (0 ∷ []) m1 → m3 ≡ synced m2
+        pub shut_done : (count : ℕ) → c.step ≡ PagesDone count → m2 ≡ written (4096 * other c.header) (0 ∷ []) m1
+            → m3 ≡ synced m2
             → IsKept (record { header = c.header; step = Synced count }) x m j m3
         shut_done count is is_written is_synced =
             let file : List ℕ = overlaid m0.bytes (4096 * other c.header) (0 ∷ []) in
             let bytes_are : m3.bytes ≡ overlaid m0.bytes (4096 * other c.header) (0 ∷ []) =
-            ap (λ (y : Moment). y.bytes) is_synced ∙ ap (λ (y : Moment). y.bytes) is_written ∙ ap (λ (y : Moment). overlaid y.bytes (4096 * other c.header) (0 ∷ [])) m1_is in
-            let known : IsWriting c.header kept.read.shown kept.read.commands x count [] m0.bytes = subst (λ (s : Step). KeepsStep c.header kept.read.shown kept.read.commands x s m0.bytes) is kept.step in
+            ap (λ (y : Moment). y.bytes) is_synced ∙ ap (λ (y : Moment). y.bytes) is_written
+            ∙ ap (λ (y : Moment). overlaid y.bytes (4096 * other c.header) (0 ∷ [])) m1_is in
+            let known : IsWriting c.header kept.read.shown kept.read.commands x count [] m0.bytes = subst
+            (λ (s : Step). KeepsStep c.header kept.read.shown kept.read.commands x s m0.bytes) is kept.step in
             let but = shut_but c.header m j m0.bytes kept.read in
             let low : 4096 * other c.header + 1 ≤ 8192 = omega (arith, place_to c.header.area) in
-            kept_file (record { header = c.header; step = Synced count }) x m j m3 file (ap (λ (y : Moment). y.ranges) is_synced) bytes_are
+            kept_file (record { header = c.header; step = Synced count }) x m j m3 file
+            (ap (λ (y : Moment). y.ranges) is_synced) bytes_are
             (keeps_at c.header m j m0.bytes kept.read file (shut_still c.header m j m0.bytes kept.read opened)) (
-              writing_moved c.header x m0.bytes file (area_stays c.header m j m0.bytes kept.read c.header.area (4096 * other c.header) 1 file but low kept.read.image.in_force.number)
-                  (area_stays c.header m j m0.bytes kept.read (other c.header) (4096 * other c.header) 1 file but low (omega arith)) kept.read.shown kept.read.commands count [] (shut_still c.header m j m0.bytes kept.read opened).boundaries known,
+              writing_moved c.header x m0.bytes file
+                  (area_stays c.header m j m0.bytes kept.read c.header.area
+                  (4096 * other c.header) 1 file but low kept.read.image.in_force.number)
+                  (area_stays c.header m j m0.bytes kept.read (other c.header) (4096 * other c.header) 1 file but low
+                  (omega arith)) kept.read.shown kept.read.commands count []
+                  (shut_still c.header m j m0.bytes kept.read opened).boundaries known,
               shut_gate c.header m j m0.bytes kept.read,
             )
 
   -- the next header
   module _ (count : ℕ) (is : c.step ≡ Synced count) where
-    at_sync : IsWriting c.header kept.read.shown kept.read.commands x count [] m0.bytes × (is_open_header (header_place (other c.header) m0.bytes) ≡ false)
+    at_sync : IsWriting c.header kept.read.shown kept.read.commands x count [] m0.bytes
+        × (is_open_header (header_place (other c.header) m0.bytes) ≡ false)
     at_sync = subst (λ (s : Step). KeepsStep c.header kept.read.shown kept.read.commands x s m0.bytes) is kept.step
 
     only : (d : List ℕ) → Left m0 d → d ≡ m0.bytes
@@ -224,25 +283,32 @@ module _ (c : CheckpointState) (x : Paged) (m : Contents) (j : JournalState) (m0
       shut = λ d here. subst (λ (l : List ℕ). IsShut (4096 * other c.header) l) (sym (only d here)) shut_there;
     }
 
-    module _ (body : List ℕ) (body_is : body ≡ header_body (next_header c.header count)) (body_size : length body ≡ 63) (bytes : List ℕ) (bytes_are : bytes ≡ open_gate ∷ body) where
+    module _ (body : List ℕ) (body_is : body ≡ header_body (next_header c.header count))
+        (body_size : length body ≡ 63) (bytes : List ℕ) (bytes_are : bytes ≡ open_gate ∷ body) where
       long : length bytes ≡ 64
       long = omega (arith, ap length bytes_are, body_size)
 
       pub next_means : (d : List ℕ) → MayWrite (4096 * other c.header) bytes m0 d → MeansWith m j d
       next_means d may =
           let but : SameBut (4096 * other c.header) 64 m0.bytes d =
-          subst (λ (l : List ℕ). SameBut (4096 * other c.header) 64 l d) (only may.from may.left) (subst (λ (n : ℕ). SameBut (4096 * other c.header) n may.from d) long may.same) in
+          subst (λ (l : List ℕ). SameBut (4096 * other c.header) 64 l d) (only may.from may.left)
+          (subst (λ (n : ℕ). SameBut (4096 * other c.header) n may.from d) long may.same) in
           ⊎_elim
           (λ shut. shut_torn c.header x m j m0.bytes kept.read count at_sync body body_is body_size d but shut)
-          (λ there. whole_there c.header x m j m0.bytes kept.read count at_sync body body_is body_size d but (subst (λ (l : List ℕ). HasThere (4096 * other c.header) l d) bytes_are there))
+          (λ there. whole_there c.header x m j m0.bytes kept.read count at_sync body body_is body_size d but
+          (subst (λ (l : List ℕ). HasThere (4096 * other c.header) l d) bytes_are there))
           may.gated
 
-      pub in_force_done : ((f : List ℕ) → Holds j f → IsBoundary j.ring j.first (count - j.first) f → Holds (begun_at count j) f) → (m1 : Moment) → m1 ≡ synced (written (4096 * other c.header) bytes m0)
+      pub in_force_done :
+          ((f : List ℕ) → Holds j f → IsBoundary j.ring j.first (count - j.first) f → Holds (begun_at count j) f)
+          → (m1 : Moment) → m1 ≡ synced (written (4096 * other c.header) bytes m0)
           → IsKept (record { header = next_header c.header count; step = NoCheckpoint }) x m (begun_at count j) m1
       in_force_done later m1 is_written =
           let file : List ℕ = overlaid m0.bytes (4096 * other c.header) (open_gate ∷ body) in
           let bytes_is : m1.bytes ≡ overlaid m0.bytes (4096 * other c.header) (open_gate ∷ body) =
-          ap (λ (y : Moment). y.bytes) is_written ∙ ap (λ (l : List ℕ). overlaid m0.bytes (4096 * other c.header) l) bytes_are in
-          kept_file (record { header = next_header c.header count; step = NoCheckpoint }) x m (begun_at count j) m1 file (ap (λ (y : Moment). y.ranges) is_written) bytes_is
+          ap (λ (y : Moment). y.bytes) is_written
+          ∙ ap (λ (l : List ℕ). overlaid m0.bytes (4096 * other c.header) l) bytes_are in
+          kept_file (record { header = next_header c.header count; step = NoCheckpoint }) x m
+          (begun_at count j) m1 file (ap (λ (y : Moment). y.ranges) is_written) bytes_is
           (next_kept c.header x m j m0.bytes kept.read count at_sync body body_is body_size later)
           (next_rests c.header x m j m0.bytes kept.read count at_sync body body_is body_size)

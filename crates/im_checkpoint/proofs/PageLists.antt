@@ -7,8 +7,10 @@ use Rattle.im_journal.specs.Holding.{JournalState}
 use Rattle.im_memory.specs.State.{MemoryState}
 use Rattle.im_pages.specs.PageSets.{union}
 use Rattle.im_checkpoint.specs.declared.checkpoint.Step.{Step as Mark}
-use Rattle.im_checkpoint.specs.declared.checkpoint.Step.TheVariants.{NoCheckpoint as None_yet, PagesLeft as Some_left, PagesDone as All_written, Synced as On_disk}
-use Rattle.im_checkpoint.specs.Step.{Step, NoCheckpoint, PagesLeft, PagesDone, Synced, PagedCheckpoint, with_left, left_in, step_of, IsPagesLeft, IsPagesDone, IsSynced}
+use Rattle.im_checkpoint.specs.declared.checkpoint.Step.TheVariants.{NoCheckpoint as None_yet, PagesLeft as Some_left}
+use Rattle.im_checkpoint.specs.declared.checkpoint.Step.TheVariants.{PagesDone as All_written, Synced as On_disk}
+use Rattle.im_checkpoint.specs.Step.{Step, NoCheckpoint, PagesLeft, PagesDone, Synced, PagedCheckpoint, with_left}
+use Rattle.im_checkpoint.specs.Step.{left_in, step_of, IsPagesLeft, IsPagesDone, IsSynced}
 use Rattle.im_checkpoint.specs.Keeping.{paged, IsKept}
 
 -- a set with no page adds none
@@ -24,7 +26,8 @@ left_with count (page ∷ left) = refl
 abbrev pub view_of : Header → Mark → ℕ → List ℕ → List Bool → List Bool → List (List ℕ) → PagedCheckpoint
 view_of h p count left recent older copies = record { state = record { header = h; step = step_of p count left }; recent = recent; older = older; copies = copies }
 
-module _ (s : PagedCheckpoint) (h : Header) (p : Mark) (count : ℕ) (left : List ℕ) (recent older : List Bool) (copies : List (List ℕ)) (view : view_of h p count left recent older copies ≡ s) where
+module _ (s : PagedCheckpoint) (h : Header) (p : Mark) (count : ℕ) (left : List ℕ) (recent older : List Bool)
+    (copies : List (List ℕ)) (view : view_of h p count left recent older copies ≡ s) where
   step_is : s.state.step ≡ step_of p count left
   step_is = sym (ap (λ (x : PagedCheckpoint). x.state.step) view)
 
@@ -83,19 +86,32 @@ module _ (s : PagedCheckpoint) (h : Header) (p : Mark) (count : ℕ) (left : Lis
   header_is = ap (λ (x : PagedCheckpoint). x.state.header) view
 
   -- the invariant, of the fields
-  module _ (n : MemoryState) (m : Contents) (j : JournalState) (now : Moment) (kept : IsKept s.state (paged s n) m j now) where
-    kept_fields : (q : Mark) → p ≡ q → IsKept (record { header = h; step = step_of q count left }) (record { recent = recent; older = older; copies = copies; records = n.records }) m j now
-    kept_fields q is = subst (λ (q : Mark). IsKept (record { header = h; step = step_of q count left }) (record { recent = recent; older = older; copies = copies; records = n.records }) m j now) is
+  module _ (n : MemoryState) (m : Contents) (j : JournalState) (now : Moment)
+      (kept : IsKept s.state (paged s n) m j now) where
+    kept_fields : (q : Mark) → p ≡ q
+        → IsKept (record { header = h; step = step_of q count left })
+        (record { recent = recent; older = older; copies = copies; records = n.records }) m j now
+    kept_fields q is = subst
+        (λ (q : Mark). IsKept (record { header = h; step = step_of q count left })
+        (record { recent = recent; older = older; copies = copies; records = n.records }) m j now) is
         (subst (λ (x : PagedCheckpoint). IsKept x.state (paged x n) m j now) (sym view) kept)
 
-    pub kept_none : s.state.step ≡ NoCheckpoint → IsKept (record { header = h; step = NoCheckpoint }) (record { recent = recent; older = older; copies = copies; records = n.records }) m j now
+    pub kept_none : s.state.step ≡ NoCheckpoint
+        → IsKept (record { header = h; step = NoCheckpoint })
+        (record { recent = recent; older = older; copies = copies; records = n.records }) m j now
     kept_none is = kept_fields None_yet (mark_none is)
 
-    pub kept_left : IsPagesLeft s.state.step → IsKept (record { header = h; step = PagesLeft count left }) (record { recent = recent; older = older; copies = copies; records = n.records }) m j now
+    pub kept_left : IsPagesLeft s.state.step
+        → IsKept (record { header = h; step = PagesLeft count left })
+        (record { recent = recent; older = older; copies = copies; records = n.records }) m j now
     kept_left is = kept_fields Some_left (mark_left is)
 
-    pub kept_done : IsPagesDone s.state.step → IsKept (record { header = h; step = PagesDone count }) (record { recent = recent; older = older; copies = copies; records = n.records }) m j now
+    pub kept_done : IsPagesDone s.state.step
+        → IsKept (record { header = h; step = PagesDone count })
+        (record { recent = recent; older = older; copies = copies; records = n.records }) m j now
     kept_done is = kept_fields All_written (mark_done is)
 
-    pub kept_synced : IsSynced s.state.step → IsKept (record { header = h; step = Synced count }) (record { recent = recent; older = older; copies = copies; records = n.records }) m j now
+    pub kept_synced : IsSynced s.state.step
+        → IsKept (record { header = h; step = Synced count })
+        (record { recent = recent; older = older; copies = copies; records = n.records }) m j now
     kept_synced is = kept_fields On_disk (mark_synced is)

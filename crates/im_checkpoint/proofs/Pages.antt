@@ -1,5 +1,6 @@
 -- A page that is written, and the other header's gate.
-use Rattle.std.proofs.Common.{◌≡◌, ◌≢◌, inl, inr, ⊎_elim, ℕ, ◌+◌, ◌-◌, ◌*◌, ◌<◌, ◌≤◌, ◌==◌, true, false, List, [], ◌∷◌, length, get_or, slice_range, sym, ◌∙◌, ap, arith}
+use Rattle.std.proofs.Common.{◌≡◌, ◌≢◌, inl, inr, ⊎_elim, ℕ, ◌+◌, ◌-◌, ◌*◌, ◌<◌, ◌≤◌, ◌==◌, true, false, List, []}
+use Rattle.std.proofs.Common.{◌∷◌, length, get_or, slice_range, sym, ◌∙◌, ap, arith}
 use Rattle.std.proofs.lemmas.Bool.{cases_lt}
 use Rattle.im_types.specs.Bytes.{open_gate}
 use Rattle.im_types.specs.Contents.{Contents}
@@ -16,7 +17,8 @@ use Rattle.im_checkpoint.proofs.Headers.{area_before, area_apart, place_to}
 use Rattle.im_checkpoint.proofs.Files.{Still, size, facts, still_in_area, still_gate, gate_is, area_fits}
 
 -- the next page is written
-module _ (h : Header) (m : Contents) (j : JournalState) (file : List ℕ) (it : Keeps h m j file) (i : ℕ) (few : i < area_pages layout_in_use h.sizes) (bytes : List ℕ) (page_length : length bytes ≡ 4096)
+module _ (h : Header) (m : Contents) (j : JournalState) (file : List ℕ) (it : Keeps h m j file) (i : ℕ)
+    (few : i < area_pages layout_in_use h.sizes) (bytes : List ℕ) (page_length : length bytes ≡ 4096)
     (at : ℕ) (at_is : at ≡ area_at layout_in_use h.sizes (other h) + 4096 * i) where
   abbrev start : ℕ
   start = area_at layout_in_use h.sizes (other h)
@@ -40,7 +42,8 @@ module _ (h : Header) (m : Contents) (j : JournalState) (file : List ℕ) (it : 
   new_long = omega (arith, long, page_but.size)
 
   pub page_still : Still h m j file it new_file
-  page_still = still_in_area h m j file it at (length bytes) new_file page_but (omega (arith, at_is)) (omega (arith, at_is, page_length, few))
+  page_still = still_in_area h m j file it at (length bytes) new_file page_but (omega (arith, at_is))
+      (omega (arith, at_is, page_length, few))
 
   pub this_page : other_page h new_file i ≡ bytes
   this_page =
@@ -51,17 +54,22 @@ module _ (h : Header) (m : Contents) (j : JournalState) (file : List ℕ) (it : 
   pub apart_page : (p : ℕ) → p < pages → p ≢ i → other_page h new_file p ≡ other_page h file p
   apart_page p low apart =
       page_of_area new_file start pages p low new_long
-      ∙ range_outside at (length bytes) (start + 4096 * p) (start + 4096 * p + 4096) file new_file page_but (omega arith) (omega (arith, long, low))
-      (⊎_elim (λ (before : p < i). inl (omega (arith, at_is))) (λ (after : i ≤ p). inr (omega (arith, at_is, page_length, apart))) (cases_lt p i))
+      ∙ range_outside at (length bytes) (start + 4096 * p) (start + 4096 * p + 4096) file new_file page_but
+      (omega arith) (omega (arith, long, low))
+      (⊎_elim (λ (before : p < i). inl (omega (arith, at_is)))
+      (λ (after : i ≤ p). inr (omega (arith, at_is, page_length, apart))) (cases_lt p i))
       ∙ sym (page_of_area file start pages p low long)
 
   -- the area in force lies apart
   pub own_area : area_of layout_in_use h.sizes h.area new_file ≡ area_of layout_in_use h.sizes h.area file
   own_area =
       let g = facts h m j file it in
-      range_outside at (length bytes) (area_at layout_in_use h.sizes h.area) (area_at layout_in_use h.sizes h.area + area_bytes layout_in_use h.sizes) file new_file page_but (omega arith)
+      range_outside at (length bytes) (area_at layout_in_use h.sizes h.area)
+      (area_at layout_in_use h.sizes h.area + area_bytes layout_in_use h.sizes) file new_file page_but (omega arith)
       (omega (arith, size h m j file it, area_before (area_bytes layout_in_use h.sizes) h.area g.area))
-      (⊎_elim (λ before. inl (omega (arith, before, at_is))) (λ behind. inr (omega (arith, behind, at_is, page_length, few))) (area_apart (area_bytes layout_in_use h.sizes) h.area g.area))
+      (⊎_elim (λ before. inl (omega (arith, before, at_is)))
+      (λ behind. inr (omega (arith, behind, at_is, page_length, few)))
+      (area_apart (area_bytes layout_in_use h.sizes) h.area g.area))
 
 -- the other header's gate is being closed
 module _ (h : Header) (m : Contents) (j : JournalState) (file : List ℕ) (it : Keeps h m j file) where
@@ -76,7 +84,9 @@ module _ (h : Header) (m : Contents) (j : JournalState) (file : List ℕ) (it : 
 
   pub shut_gate : is_open_header (header_place (other h) shut_file) ≡ false
   shut_gate = gate_is (other h) shut_file
-      ∙ ap (λ (b : ℕ). b == open_gate) (overlaid_inside file (4096 * other h) (0 ∷ []) shut_fits (4096 * other h) (omega arith) (omega arith) ∙ ap (λ (k : ℕ). get_or (0 ∷ []) k 0) none)
+      ∙ ap (λ (b : ℕ). b == open_gate)
+      (overlaid_inside file (4096 * other h) (0 ∷ []) shut_fits (4096 * other h) (omega arith) (omega arith)
+      ∙ ap (λ (k : ℕ). get_or (0 ∷ []) k 0) none)
     where
       none : 4096 * other h - 4096 * other h ≡ 0
       none = omega arith

@@ -1,5 +1,7 @@
 -- The next header: behind its closed gate, and in force.
-use Rattle.std.proofs.Common.{◌≡◌, ◌⊎◌, inl, inr, ⊎_elim, ℕ, suc, ◌+◌, ◌-◌, ◌*◌, ◌<◌, ◌≤◌, ◌==◌, true, false, List, [], ◌∷◌, length, get_or, drop, slice_range, Some, refl, sym, ◌∙◌, ap, subst, arith, length-drop, get_or-take, get_or-drop}
+use Rattle.std.proofs.Common.{◌≡◌, ◌⊎◌, inl, inr, ⊎_elim, ℕ, suc, ◌+◌, ◌-◌, ◌*◌, ◌<◌, ◌≤◌, ◌==◌, true, false, List}
+use Rattle.std.proofs.Common.{[], ◌∷◌, length, get_or, drop, slice_range, Some, refl, sym, ◌∙◌, ap, subst, arith}
+use Rattle.std.proofs.Common.{length-drop, get_or-take, get_or-drop}
 use Rattle.std.proofs.lemmas.Bool.{cases_lt}
 use Rattle.std.proofs.lemmas.List.{ext_get_or}
 use Rattle.im_types.specs.Bytes.{open_gate}
@@ -22,10 +24,14 @@ use Rattle.im_checkpoint.specs.Turns.{next_header, begun_at}
 use Rattle.im_checkpoint.specs.Keeping.{Paged, MeansWith, IsWriting, IsResting, Keeps}
 use Rattle.im_checkpoint.proofs.Bytes.{same_overlaid, same_wider, same_then, range_byte, range_length}
 use Rattle.im_checkpoint.proofs.Headers.{follows, place_to}
-use Rattle.im_checkpoint.proofs.Files.{Still, accept_later, means_of, gate_is, facts, some, enough, size, still_means, still_shut, still_behind_gate, holds_still, boundaries_still, area_stays, area_length}
+use Rattle.im_checkpoint.proofs.Files.{Still, accept_later, means_of, gate_is, facts, some, enough, size, still_means}
+use Rattle.im_checkpoint.proofs.Files.{still_shut, still_behind_gate, holds_still, boundaries_still, area_stays}
+use Rattle.im_checkpoint.proofs.Files.{area_length}
 use Rattle.im_checkpoint.proofs.Copies.{area_shows, takes_over, resting_moved}
 
-module _ (h : Header) (x : Paged) (m : Contents) (j : JournalState) (file : List ℕ) (it : Keeps h m j file) (count : ℕ) (known : IsWriting h it.shown it.commands x count [] file × (is_open_header (header_place (other h) file) ≡ false))
+module _ (h : Header) (x : Paged) (m : Contents) (j : JournalState) (file : List ℕ) (it : Keeps h m j file)
+    (count : ℕ) (known : IsWriting h it.shown it.commands x count [] file
+    × (is_open_header (header_place (other h) file) ≡ false))
     (body : List ℕ) (body_is : body ≡ header_body (next_header h count)) (body_size : length body ≡ 63) where
   abbrev next : Header
   next = next_header h count
@@ -68,20 +74,26 @@ module _ (h : Header) (x : Paged) (m : Contents) (j : JournalState) (file : List
 
   staged_body : slice_range (header_place (other h) staged) 1 64 ≡ body
   staged_body =
-      let whole : length (header_place (other h) staged) ≡ (4096 * other h + 64) - 4096 * other h = range_length staged (4096 * other h) (4096 * other h + 64) (omega arith) staged_fits in
-      let part : length (slice_range (header_place (other h) staged) 1 64) ≡ 64 - 1 = range_length (header_place (other h) staged) 1 64 (omega arith) (omega (arith, whole)) in
+      let whole : length (header_place (other h) staged)
+      ≡ (4096 * other h + 64) - 4096 * other h = range_length staged (4096 * other h) (4096 * other h + 64)
+      (omega arith) staged_fits in
+      let part : length (slice_range (header_place (other h) staged) 1 64)
+      ≡ 64 - 1 = range_length (header_place (other h) staged) 1 64 (omega arith) (omega (arith, whole)) in
       ext_get_or 0 (slice_range (header_place (other h) staged) 1 64) body (omega (arith, part, body_size)) (λ i lt.
       let low : i < 63 = omega (arith, part, lt) in
       range_byte (header_place (other h) staged) 1 64 i (omega (arith, low))
       ∙ range_byte staged (4096 * other h) (4096 * other h + 64) (1 + i) (omega (arith, low))
-      ∙ overlaid_inside file (4096 * other h + 1) body body_fits (4096 * other h + (1 + i)) (omega arith) (omega (arith, low, body_size))
+      ∙ overlaid_inside file (4096 * other h + 1) body body_fits (4096 * other h + (1 + i)) (omega arith)
+      (omega (arith, low, body_size))
       ∙ ap (λ (k : ℕ). get_or body k 0) (omega arith))
 
   prepared : IsPrepared layout_in_use h next known.0.is_taken.memory staged
   prepared = record {
     closed = staged_gate;
     body = staged_body ∙ body_is;
-    shows = subst (λ (area : List ℕ). Shows layout_in_use h.sizes area known.0.is_taken.memory) (sym (area_stays h m j file it (other h) (4096 * other h + 1) 63 staged staged_63 (omega (arith, place_low)) (omega arith)))
+    shows = subst (λ (area : List ℕ). Shows layout_in_use h.sizes area known.0.is_taken.memory)
+        (sym (area_stays h m j file it (other h) (4096 * other h + 1) 63 staged staged_63 (omega (arith, place_low))
+        (omega arith)))
         (area_shows h x file it.shown it.commands count known.0 (area_length h m j file it));
   }
 
@@ -99,20 +111,23 @@ module _ (h : Header) (x : Paged) (m : Contents) (j : JournalState) (file : List
 
   -- the gate is being opened
   module _ (d : List ℕ) (but : SameBut (4096 * other h) 1 staged d) where
-    either : IsImage layout_in_use h it.shown it.commands it.there d ⊎ IsImage layout_in_use next known.0.is_taken.memory (drop known.0.is_taken.many it.commands) it.there d
+    either : IsImage layout_in_use h it.shown it.commands it.there d
+        ⊎ IsImage layout_in_use next known.0.is_taken.memory (drop known.0.is_taken.many it.commands) it.there d
     either = one_of_two layout_in_use h next it.shown known.0.is_taken.memory it.commands it.there known.0.is_taken.many staged d staged_still.image (some h m j file it) follow prepared but known.0.is_taken.count_is staged_boundary
 
     gate_torn : MeansWith m j d
     gate_torn = ⊎_elim
         (λ image. means_of h m j it.shown it.commands it.there d image it.accepts it.count (enough h m j file it))
-        (λ image. means_of next m j known.0.is_taken.memory (drop known.0.is_taken.many it.commands) it.there d image left_over left_count (enough h m j file it))
+        (λ image. means_of next m j known.0.is_taken.memory
+        (drop known.0.is_taken.many it.commands) it.there d image left_over left_count (enough h m j file it))
         either
 
   -- the header is being written
   module _ (d : List ℕ) (but : SameBut (4096 * other h) 64 file d) where
     -- its gate is closed
     pub shut_torn : IsShut (4096 * other h) d → MeansWith m j d
-    shut_torn shut = still_means h m j file it d (still_shut h m j file it d (gate_is (other h) d ∙ other_number _ _ shut) but)
+    shut_torn shut = still_means h m j file it d
+        (still_shut h m j file it d (gate_is (other h) d ∙ other_number _ _ shut) but)
 
     -- all of it stands there
     module _ (there : HasThere (4096 * other h) (open_gate ∷ body) d) where
@@ -138,7 +153,8 @@ module _ (h : Header) (x : Paged) (m : Contents) (j : JournalState) (file : List
             (λ (low : i < 4096 * other h). but.same i (inl low) ∙ sym (staged_but.same i (inl (omega arith))))
             (λ (high : 4096 * other h + 1 ≤ i). ⊎_elim
             (λ (inside : i < 4096 * other h + 64). body_byte i high inside)
-            (λ (beyond : 4096 * other h + 64 ≤ i). but.same i (inr beyond) ∙ sym (staged_but.same i (inr (omega (arith, beyond, body_size)))))
+            (λ (beyond : 4096 * other h + 64 ≤ i). but.same i (inr beyond)
+            ∙ sym (staged_but.same i (inr (omega (arith, beyond, body_size)))))
             (cases_lt i (4096 * other h + 64)))
             out;
       }
@@ -159,7 +175,9 @@ module _ (h : Header) (x : Paged) (m : Contents) (j : JournalState) (file : List
   opened_gate : is_open_header (header_place (other h) opened_file) ≡ true
   opened_gate =
       gate_is (other h) opened_file
-      ∙ ap (λ (b : ℕ). b == open_gate) (overlaid_inside staged (4096 * other h) (open_gate ∷ []) gate_fits (4096 * other h) (omega arith) (omega arith) ∙ ap (λ (k : ℕ). get_or (open_gate ∷ []) k 0) none)
+      ∙ ap (λ (b : ℕ). b == open_gate)
+      (overlaid_inside staged (4096 * other h) (open_gate ∷ []) gate_fits (4096 * other h) (omega arith)
+      (omega arith) ∙ ap (λ (k : ℕ). get_or (open_gate ∷ []) k 0) none)
     where
       none : 4096 * other h - 4096 * other h ≡ 0
       none = omega arith
@@ -172,13 +190,16 @@ module _ (h : Header) (x : Paged) (m : Contents) (j : JournalState) (file : List
   -- where the journal's run begins anew, no group goes on
   opened_boundary : IsBoundary j.ring j.first (count - j.first) opened_file
   opened_boundary =
-      let there : IsBoundary (ring_of layout_in_use h.sizes) h.count known.0.is_taken.many opened_file = boundaries_still h m j file it (4096 * other h) 64 opened_file opened_place place_low known.0.is_taken.many known.0.boundary in
+      let there : IsBoundary
+      (ring_of layout_in_use h.sizes) h.count known.0.is_taken.many opened_file = boundaries_still h m j file it
+      (4096 * other h) 64 opened_file opened_place place_low known.0.is_taken.many known.0.boundary in
       let many_is : known.0.is_taken.many ≡ count - j.first = omega (arith, known.0.is_taken.count_is, it.first) in
       subst (λ (n : ℕ). IsBoundary j.ring j.first n opened_file) many_is
       (subst (λ (n : ℕ). IsBoundary j.ring n known.0.is_taken.many opened_file) (sym it.first)
       (subst (λ (r : Ring). IsBoundary r h.count known.0.is_taken.many opened_file) (sym it.ring) there))
 
-  in_force_kept : ((f : List ℕ) → Holds j f → IsBoundary j.ring j.first (count - j.first) f → Holds (begun_at count j) f) → Keeps next m (begun_at count j) opened_file
+  in_force_kept : ((f : List ℕ) → Holds j f → IsBoundary j.ring j.first (count - j.first) f
+      → Holds (begun_at count j) f) → Keeps next m (begun_at count j) opened_file
   in_force_kept later = record {
     shown = known.0.is_taken.memory;
     commands = drop known.0.is_taken.many it.commands;
@@ -188,10 +209,13 @@ module _ (h : Header) (x : Paged) (m : Contents) (j : JournalState) (file : List
     count = left_count;
     ring = it.ring;
     first = refl;
-    journal = later opened_file (holds_still h m j file it (4096 * other h) 64 opened_file opened_place place_low) opened_boundary;
+    journal = later opened_file
+        (holds_still h m j file it (4096 * other h) 64 opened_file opened_place place_low) opened_boundary;
   }
 
-  pub next_kept : ((f : List ℕ) → Holds j f → IsBoundary j.ring j.first (count - j.first) f → Holds (begun_at count j) f) → Keeps next m (begun_at count j) (overlaid file (4096 * other h) (open_gate ∷ body))
+  pub next_kept : ((f : List ℕ) → Holds j f → IsBoundary j.ring j.first (count - j.first) f
+      → Holds (begun_at count j) f)
+      → Keeps next m (begun_at count j) (overlaid file (4096 * other h) (open_gate ∷ body))
   next_kept later = subst (λ (l : List ℕ). Keeps next m (begun_at count j) l)
       (body_and_gate file body (4096 * other h) open_gate body_fits) (in_force_kept later)
 

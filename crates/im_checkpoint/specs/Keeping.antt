@@ -1,10 +1,12 @@
 -- What a checkpoint, a memory and a journal have to do with the file that they are kept in. (Own.)
-use Rattle.std.specs.Prelude.{◌≡◌, ℕ, ◌+◌, ◌<◌, ◌≤◌, Bool, ◌||◌, List, [], length, take, Some, true, false, Result, OnOk}
+use Rattle.std.specs.Prelude.{◌≡◌, ℕ, ◌+◌, ◌<◌, ◌≤◌, Bool, ◌||◌, List, [], length, take, Some, true, false, Result}
+use Rattle.std.specs.Prelude.{OnOk}
 use Rattle.std.specs.List.{Contains}
 use Rattle.im_types.specs.declared.TheConstants.{LAST}
 use Rattle.im_types.specs.declared.commands.Command.{Command}
 use Rattle.im_types.specs.Contents.{Contents}
-use Rattle.im_types.specs.Layout.{Sizes, layout_in_use, page_bytes, area_at, area_bytes, area_pages, area_of, record_at, ring_of}
+use Rattle.im_types.specs.Layout.{Sizes, layout_in_use, page_bytes, area_at, area_bytes, area_pages, area_of}
+use Rattle.im_types.specs.Layout.{record_at, ring_of}
 use Rattle.im_types.specs.Header.{Header, header_place, is_open_header}
 use Rattle.im_types.specs.Journal.{IsBoundary}
 use Rattle.im_types.specs.Pages.{Records, ShowsRecords}
@@ -20,7 +22,8 @@ use Rattle.im_image.specs.Encoding.{IsAreaPage, AreCounted, SameOn}
 use Rattle.im_image.specs.Reading.{HasSizes}
 use Rattle.im_checkpoint.specs.declared.checkpoint.TurnDone.{TurnDone}
 use Rattle.im_checkpoint.specs.Copied.{copy_of}
-use Rattle.im_checkpoint.specs.Step.{Step, NoCheckpoint, PagesLeft, PagesDone, Synced, CheckpointState, PagedCheckpoint, IsUnderWay, IsPagesLeft, IsSynced, turns_left, left_in}
+use Rattle.im_checkpoint.specs.Step.{Step, NoCheckpoint, PagesLeft, PagesDone, Synced, CheckpointState}
+use Rattle.im_checkpoint.specs.Step.{PagedCheckpoint, IsUnderWay, IsPagesLeft, IsSynced, turns_left, left_in}
 use Rattle.im_checkpoint.specs.Turns.{Turned, Moved}
 
 -- the file means this memory after as many commands as the journal has, with its room at the least

@@ -532,9 +532,9 @@ impl Checkpoint {
         }
     }
 
-    /// Closes the gates of the oldest slots whose commands the area in force holds, so many at most, by a device call for
-    /// each and a sync for all of them: how many they were. Where there are none, and while a checkpoint is under way, it
-    /// makes no call. It takes no memory.
+    /// Closes the gates of the oldest slots whose commands the area in force holds, so many at most, by a device call
+    /// for each and a sync for all of them: how many they were. Where there are none, and while a checkpoint is under
+    /// way, it makes no call. It takes no memory.
     ///
     /// `Device` where a call of the disk failed: the journal is as it was, and the image has to be opened again.
     pub fn sweep<D: Disk>(

@@ -176,8 +176,8 @@ fn add_wrong(out: &mut String, number: u64, words: &str) -> Result<(), AllocErro
     write!(out, "error {number}: {words}\n")
 }
 
-/// Adds the line of an answer. The name is that of the refusal, where it is one, and where the line isn't in the grammar
-/// the words for where it goes wrong. At an error a part of the line may be there.
+/// Adds the line of an answer. The name is that of the refusal, where it is one, and where the line isn't in the
+/// grammar the words for where it goes wrong. At an error a part of the line may be there.
 pub fn add_answer(out: &mut String, answer: Answer, name: &str) -> Result<(), AllocError>
     ensures { OnOk result (string_bytes out.new ≡ string_bytes out.old ++ answer_text name.now answer) }
 {

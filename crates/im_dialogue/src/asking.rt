@@ -204,8 +204,8 @@ fn read_words(alloc: Global, words: &[&[u8]]) -> Result<Option<Asked>, AllocErro
     }
 }
 
-/// What a line asks, which has no line feed; `None` where it isn't in the grammar, or has more than 4,096 bytes. A growth that `alloc` refused is the
-/// one error, and nothing is left of it.
+/// What a line asks, which has no line feed; `None` where it isn't in the grammar, or has more than 4,096 bytes. A
+/// growth that `alloc` refused is the one error, and nothing is left of it.
 pub fn read_asked(alloc: Global, line: &[u8]) -> Result<Option<Asked>, AllocError>
     ensures { IfOk result (λ asked. asked ≡ asked_of line.now) }
 {

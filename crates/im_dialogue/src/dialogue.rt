@@ -13,8 +13,8 @@ use im_text::{Observer, diagnose, end};
 use std::alloc::Global;
 use std::io::{BufRead, Write};
 
-/// Opens the image of a disk, serves a dialogue on it as [`serve_lines`] does, and gives the disk back. While nothing is
-/// there to be read it takes turns of a checkpoint if there is room for less than half of what the journal holds.
+/// Opens the image of a disk, serves a dialogue on it as [`serve_lines`] does, and gives the disk back. While nothing
+/// is there to be read it takes turns of a checkpoint if there is room for less than half of what the journal holds.
 ///
 /// The status is 0, or 1 where something ended the dialogue: the image was refused at opening; a call of the disk
 /// failed; the input can't be read, or the output can't be written; or there was not enough memory. The observer is

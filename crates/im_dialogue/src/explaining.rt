@@ -118,8 +118,8 @@ fn words_fault(alloc: Global, words: &[&[u8]]) -> Result<LineFault, AllocError>
     }
 }
 
-/// Where a line goes wrong that isn't in the grammar: it is too long, exactly where it has more than 4,096 bytes; or at the
-/// first word that isn't what is expected there.
+/// Where a line goes wrong that isn't in the grammar: it is too long, exactly where it has more than 4,096 bytes; or
+/// at the first word that isn't what is expected there.
 pub(crate) fn explain(alloc: Global, line: &[u8]) -> Result<LineFault, AllocError>
     ensures { IfOk result (λ fault. is_of_length fault ≡ not (is_short line.now)) }
 {

@@ -80,9 +80,9 @@ fn read_part<R: BufRead>(input: &mut R, line: &mut Vec<u8>) -> Result<Part, Reas
     })
 }
 
-/// Reads the next line, without its line feed. Of one that is longer than [`MAX_LINE`] only the first [`KEPT`] bytes are
-/// kept, and it is read to its line feed. None is left at the end, and none of a line that ends without one: what was cut
-/// off isn't asked.
+/// Reads the next line, without its line feed. Of one that is longer than [`MAX_LINE`] only the first [`KEPT`] bytes
+/// are kept, and it is read to its line feed. None is left at the end, and none of a line that ends without one: what
+/// was cut off isn't asked.
 pub(crate) fn next_line<R: BufRead>(input: &mut R, line: &mut Vec<u8>) -> Result<bool, Reason>
     ensures few { length line.new.items ≤ KEPT }
 {

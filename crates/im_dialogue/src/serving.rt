@@ -170,8 +170,8 @@ fn serve_line<D: Disk, W: Write>(
     }
 }
 
-// Serves the lines that stand in the reader's buffer together as one group, where they are two or more and there is room
-// for their commands. How many they were, or none.
+// Serves the lines that stand in the reader's buffer together as one group, where they are two or more and there is
+// room for their commands. How many they were, or none.
 fn serve_together<D: Disk, R: BufRead, W: Write>(
     alloc: Global,
     engine: &mut Engine<D>,
@@ -295,8 +295,8 @@ fn serve_rested<D: Disk, R: BufRead + Ear, W: Write>(
 /// as one group, and their answers written together: they are those that the lines would have by themselves. No line
 /// waits for another. All other lines are answered before the next one is read.
 ///
-/// While nothing is there to be read, as the reader tells, turns of a checkpoint are taken if there is room for less than
-/// so many commands (`least`).
+/// While nothing is there to be read, as the reader tells, turns of a checkpoint are taken if there is room for less
+/// than so many commands (`least`).
 ///
 /// Where it is watched (`watch`), the line of a request is followed by a line `E.N now REPLY` for each request that
 /// waited and is answered by it, in the order in which they came. A request that may bring such lines is then served by

@@ -42,8 +42,8 @@ impl Ear for Deaf {
 }
 
 /// Takes turns of a checkpoint while nothing is heard, there is room for less than so many commands, and something is
-/// left to do. `Device`, where a call of the disk failed, or `Failed`, where one had failed before: what was said stays.
-/// Where there is room for so many, or where a read never waits, nothing is done.
+/// left to do. `Device`, where a call of the disk failed, or `Failed`, where one had failed before: what was said
+/// stays. Where there is room for so many, or where a read never waits, nothing is done.
 pub(crate) fn turn_while_quiet<D: Disk, E: Ear>(
     engine: &mut Engine<D>,
     ear: &mut E,

@@ -199,8 +199,8 @@ fn make_lines(
     Ok(())
 }
 
-/// Serves the requests of lines that stand together as one group, and prints their answers in the lines' order. Where it
-/// is watched, they are none by which a request that waits is answered.
+/// Serves the requests of lines that stand together as one group, and prints their answers in the lines' order. Where
+/// it is watched, they are none by which a request that waits is answered.
 ///
 /// A member that finds no room is answered `JournalFull`. Where a call of the disk fails, the dialogue is ended: then
 /// the commands of the group are on the disk all together or not at all, and none is answered.

@@ -109,8 +109,8 @@ fn add_by_command(out: &mut String, memory: &Memory, command: &Command) -> Resul
     }
 }
 
-/// Makes the lines of those that wait on this memory, and that what is asked resumes if it is put on the disk; none where
-/// it isn't watched.
+/// Makes the lines of those that wait on this memory, and that what is asked resumes if it is put on the disk; none
+/// where it isn't watched.
 pub(crate) fn make_nows(
     nows: &mut String,
     memory: &Memory,

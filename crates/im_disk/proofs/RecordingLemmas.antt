@@ -9,12 +9,16 @@ torn_by_scar : (at n : ℕ) (byte : Option ℕ) (m : Moment) → at + n ≤ leng
 torn_by_scar at n None m fits = record { size = refl; same = λ i out. refl; ranges = refl }
 torn_by_scar at n (Some byte) m fits =
     let size = length-replicate n byte in
-    subst (λ (k : ℕ). Torn at k m (written at (replicate n byte) m)) size (torn_by_write m at (replicate n byte) (omega arith))
+    subst (λ (k : ℕ). Torn at k m (written at (replicate n byte) m)) size
+    (torn_by_write m at (replicate n byte) (omega arith))
 
 -- a failed write may have torn its range
-pub may_tick_torn : (at n : ℕ) (byte : Option ℕ) (old new : Recording) → at + n ≤ length old.moment.bytes → Fails (scarred at n byte old.moment) old new → MayTick (Torn at n) old.moment new.moment old.past new.past
+pub may_tick_torn : (at n : ℕ) (byte : Option ℕ) (old new : Recording) → at + n ≤ length old.moment.bytes
+    → Fails (scarred at n byte old.moment) old new → MayTick (Torn at n) old.moment new.moment old.past new.past
 may_tick_torn at n byte old new fits (inl tick) = inr (record {
   past = ap (λ (r : Recording). r.past) tick;
-  now = subst (Torn at n old.moment) (sym (ap (λ (r : Recording). r.moment) tick)) (torn_by_scar at n byte old.moment fits);
+  now = subst (Torn at n old.moment) (sym (ap (λ (r : Recording). r.moment) tick))
+      (torn_by_scar at n byte old.moment fits);
 })
-may_tick_torn at n byte old new fits (inr none) = inl (ap (λ (r : Recording). r.moment) none, ap (λ (r : Recording). r.past) none)
+may_tick_torn at n byte old new fits (inr none) = inl
+    (ap (λ (r : Recording). r.moment) none, ap (λ (r : Recording). r.past) none)

@@ -1,6 +1,7 @@
 -- Laws of what a run of calls may leave, for the proofs of callers.
 use Rattle.std.specs.Prelude.{◌≡◌, ◌⊎◌, ℕ, ◌+◌, ◌-◌, ◌<◌, ◌≤◌, List, [], ◌∷◌, length, take, drop, get_or, refl}
-use Rattle.std.proofs.Common.{inl, inr, ⊎_elim, sym, ◌∙◌, ap, subst, arith, length-take, length-drop, get_or-take, get_or-drop}
+use Rattle.std.proofs.Common.{inl, inr, ⊎_elim, sym, ◌∙◌, ap, subst, arith, length-take, length-drop, get_or-take}
+use Rattle.std.proofs.Common.{get_or-drop}
 use Rattle.std.proofs.lemmas.Bool.{cases_lt}
 use Rattle.std.proofs.lemmas.List.{ext_get_or}
 use Rattle.im_disk.specs.Moment.{Moment, Outside, Left, LeftSince, Torn, Shaken, MayTick, overlaid, synced}
@@ -23,7 +24,9 @@ left_now m = record { size = refl; same = λ i out. refl }
 pub leaves_start : (m : Moment) (past : List Moment) (P : List ℕ → Type 0) → Leaves m m past past P
 leaves_start m past P = record { later = omega arith; each = λ t c le left. inl left }
 
-pub leaves_step : (old mid new : Moment) (past past_mid past_new : List Moment) (P : List ℕ → Type 0) (step : Moment → Moment → Type 0) → Leaves old mid past past_mid P → MayTick step mid new past_mid past_new → ((c : List ℕ) → Left new c → P c) → Leaves old new past past_new P
+pub leaves_step : (old mid new : Moment) (past past_mid past_new : List Moment) (P : List ℕ → Type 0)
+    (step : Moment → Moment → Type 0) → Leaves old mid past past_mid P → MayTick step mid new past_mid past_new
+    → ((c : List ℕ) → Left new c → P c) → Leaves old new past past_new P
 leaves_step old mid new past past_mid past_new P step so_far (inl same) here =
     let e : new ∷ past_new ≡ mid ∷ past_mid = (λ i. same.0 i ∷ same.1 i) in
     record {
@@ -32,16 +35,31 @@ leaves_step old mid new past past_mid past_new P step so_far (inl same) here =
     }
 leaves_step old mid new past past_mid past_new P step so_far (inr tick) here =
     record {
-      later = let so : length past ≤ length past_mid = so_far.later in let e : length past_new ≡ length (mid ∷ past_mid) = ap length tick.past in omega arith;
-      each = λ t c le left. ⊎_elim (λ now. inr (here c now.1)) (λ earlier. so_far.each t c le (subst (λ (l : List Moment). LeftSince l t c) tick.past earlier)) left;
+      later = let so : length past ≤ length past_mid = so_far.later in let e : length past_new
+          ≡ length (mid ∷ past_mid) = ap length tick.past in omega arith;
+      each = λ t c le left. ⊎_elim (λ now. inr (here c now.1))
+          (λ earlier. so_far.each t c le (subst (λ (l : List Moment). LeftSince l t c) tick.past earlier)) left;
     }
 
 abbrev restored : ℕ → ℕ → Moment → List ℕ → List ℕ
 restored at n m c = overlaid c at (take n (drop at m.bytes))
 
 -- what a torn write may leave is what could be left before it, but for its range
-pub left_torn : (at n : ℕ) (m m' : Moment) → at + n ≤ length m.bytes → Torn at n m m' → (c : List ℕ) → Left m' c → (d : List ℕ) × Left m d × SameBut at n d c
-left_torn at n m m' fits torn c left = (restored at n m c, record { size = size_d ∙ size_c; same = same_d }, record { size = sym size_d; same = λ i out. sym (overlaid_outside c at (take n (drop at m.bytes)) fits_c i (wide i out)) })
+pub left_torn : (at n : ℕ) (m m' : Moment) → at + n ≤ length m.bytes → Torn at n m m' → (c : List ℕ) → Left m' c
+    → (d : List ℕ) × Left m d × SameBut at n d c
+left_torn at n m m' fits torn c left = (
+  restored at n m c,
+  record {
+    size = size_d
+        ∙ size_c;
+    same = same_d;
+  },
+  record {
+    size = sym size_d;
+    same = λ i out. sym
+        (overlaid_outside c at (take n (drop at m.bytes)) fits_c i (wide i out));
+  },
+)
   where
     size_c : length c ≡ length m.bytes
     size_c = left.size ∙ torn.size
@@ -59,8 +77,10 @@ left_torn at n m m' fits torn c left = (restored at n m c, record { size = size_
     wide i (inl low) = inl low
     wide i (inr high) = inr (omega (arith, size_part))
 
-    outside : (i : ℕ) → (i < at) ⊎ (at + n ≤ i) → Outside m.ranges i → get_or (restored at n m c) i 0 ≡ get_or m.bytes i 0
-    outside i here out = overlaid_outside c at (take n (drop at m.bytes)) fits_c i (wide i here) ∙ left.same i (subst (λ (r : List (ℕ × ℕ)). Outside r i) (sym torn.ranges) (here, out)) ∙ torn.same i here
+    outside : (i : ℕ) → (i < at) ⊎ (at + n ≤ i) → Outside m.ranges i → get_or (restored at n m c) i 0
+        ≡ get_or m.bytes i 0
+    outside i here out = overlaid_outside c at (take n (drop at m.bytes)) fits_c i (wide i here)
+        ∙ left.same i (subst (λ (r : List (ℕ × ℕ)). Outside r i) (sym torn.ranges) (here, out)) ∙ torn.same i here
 
     inside : (i : ℕ) → at ≤ i → i < at + n → get_or (restored at n m c) i 0 ≡ get_or m.bytes i 0
     inside i low high =
@@ -70,7 +90,9 @@ left_torn at n m m' fits torn c left = (restored at n m c, record { size = size_
         ∙ ap (λ (k : ℕ). get_or m.bytes k 0) (omega arith)
 
     same_d : (i : ℕ) → Outside m.ranges i → get_or (restored at n m c) i 0 ≡ get_or m.bytes i 0
-    same_d i out = ⊎_elim (λ low. outside i (inl low) out) (λ ge. ⊎_elim (λ high. inside i ge high) (λ high. outside i (inr high) out) (cases_lt i (at + n))) (cases_lt i at)
+    same_d i out = ⊎_elim (λ low. outside i (inl low) out)
+        (λ ge. ⊎_elim (λ high. inside i ge high) (λ high. outside i (inr high) out) (cases_lt i (at + n)))
+        (cases_lt i at)
 
 -- after a sync there is one file
 pub left_synced : (m : Moment) (c : List ℕ) → Left (synced m) c → c ≡ m.bytes
@@ -78,7 +100,8 @@ left_synced m c left = ext_get_or 0 c m.bytes left.size (λ i lt. left.same i tt
 
 -- the same of a moment with no range
 pub left_settled : (m : Moment) (c : List ℕ) → m.ranges ≡ [] → Left m c → c ≡ m.bytes
-left_settled m c none left = ext_get_or 0 c m.bytes left.size (λ i lt. left.same i (subst (λ (r : List (ℕ × ℕ)). Outside r i) (sym none) tt))
+left_settled m c none left = ext_get_or 0 c m.bytes left.size
+    (λ i lt. left.same i (subst (λ (r : List (ℕ × ℕ)). Outside r i) (sym none) tt))
 
 pub leaves_now_settled : (m : Moment) (P : List ℕ → Type 0) → m.ranges ≡ [] → P m.bytes → LeavesNow m P
 leaves_now_settled m P none has c left = subst P (sym (left_settled m c none left)) has
@@ -86,25 +109,37 @@ leaves_now_settled m P none has c left = subst P (sym (left_settled m c none lef
 -- a sync, failed or not, leaves no file that couldn't be left before it
 pub left_shaken : (m m' : Moment) → Shaken m m' → (c : List ℕ) → Left m' c → Left m c
 left_shaken m m' shaken c left = ⊎_elim
-    (λ same. record { size = left.size ∙ shaken.size; same = λ i out. left.same i (subst (λ (r : List (ℕ × ℕ)). Outside r i) (sym same) out) ∙ shaken.same i out })
+    (λ same. record {
+      size = left.size
+          ∙ shaken.size;
+      same = λ i out. left.same i (subst (λ (r : List (ℕ × ℕ)). Outside r i) (sym same) out)
+          ∙ shaken.same i out;
+    })
     (λ done. subst (Left m) (sym (left_synced m c (subst (λ (x : Moment). Left x c) done left))) (left_now m))
     shaken.ranges
 
 -- the same where the call may have done nothing
-pub left_sync : (m m' : Moment) (past past' : List Moment) → MayTick Shaken m m' past past' → (c : List ℕ) → Left m' c → Left m c
+pub left_sync : (m m' : Moment) (past past' : List Moment) → MayTick Shaken m m' past past' → (c : List ℕ)
+    → Left m' c → Left m c
 left_sync m m' past past' (inl same) c left = subst (λ (x : Moment). Left x c) same.0 left
 left_sync m m' past past' (inr tick) c left = left_shaken m m' tick.now c left
 
 pub reads_start : (m : Moment) (past : List Moment) → ReadsOnly m m past past
 reads_start m past = record { now = refl; leaves = leaves_start m past (Left m) }
 
-pub reads_step : (old mid new : Moment) (past past_mid past_new : List Moment) → ReadsOnly old mid past past_mid → MayTick (λ m n. n ≡ m) mid new past_mid past_new → ReadsOnly old new past past_new
+pub reads_step : (old mid new : Moment) (past past_mid past_new : List Moment) → ReadsOnly old mid past past_mid
+    → MayTick (λ m n. n ≡ m) mid new past_mid past_new → ReadsOnly old new past past_new
 reads_step old mid new past past_mid past_new so_far tick =
     let stays : new ≡ mid = ⊎_elim (λ same. same.0) (λ ticked. ticked.now) tick in
     let is : new ≡ old = stays ∙ so_far.now in
-    record { now = is; leaves = leaves_step old mid new past past_mid past_new (Left old) (λ m n. n ≡ m) so_far.leaves tick (λ c left. subst (λ (x : Moment). Left x c) is left) }
+    record {
+      now = is;
+      leaves = leaves_step old mid new past past_mid past_new (Left old)
+          (λ m n. n ≡ m) so_far.leaves tick (λ c left. subst (λ (x : Moment). Left x c) is left);
+    }
 
-pub reads_then : (old mid new : Moment) (past past_mid past_new : List Moment) → ReadsOnly old mid past past_mid → ReadsOnly mid new past_mid past_new → ReadsOnly old new past past_new
+pub reads_then : (old mid new : Moment) (past past_mid past_new : List Moment) → ReadsOnly old mid past past_mid
+    → ReadsOnly mid new past_mid past_new → ReadsOnly old new past past_new
 reads_then old mid new past past_mid past_new first second = record {
   now = second.now ∙ first.now;
   leaves = record {
@@ -116,18 +151,26 @@ reads_then old mid new past past_mid past_new first second = record {
   };
 }
 
-pub leaves_weaker : (old new : Moment) (past past_new : List Moment) (P Q : List ℕ → Type 0) → Leaves old new past past_new P → ((c : List ℕ) → P c → Q c) → Leaves old new past past_new Q
-leaves_weaker old new past past_new P Q leaves weaker = record { later = leaves.later; each = λ t c le left. ⊎_elim (λ earlier. inl earlier) (λ here. inr (weaker c here)) (leaves.each t c le left) }
+pub leaves_weaker : (old new : Moment) (past past_new : List Moment) (P Q : List ℕ → Type 0)
+    → Leaves old new past past_new P → ((c : List ℕ) → P c → Q c) → Leaves old new past past_new Q
+leaves_weaker old new past past_new P Q leaves weaker = record {
+  later = leaves.later;
+  each = λ t c le left. ⊎_elim
+      (λ earlier. inl earlier) (λ here. inr (weaker c here)) (leaves.each t c le left);
+}
 
 -- the same of a disk, within the run and at its end
-pub only_weaker : {D : Type 0} (now : D → Moment) (past : D → List Moment) (old new : D) (P Q : List ℕ → Type 0) → LeavesOnly now past old new P → ((c : List ℕ) → P c → Q c) → LeavesOnly now past old new Q
+pub only_weaker : {D : Type 0} (now : D → Moment) (past : D → List Moment) (old new : D) (P Q : List ℕ → Type 0)
+    → LeavesOnly now past old new P → ((c : List ℕ) → P c → Q c) → LeavesOnly now past old new Q
 only_weaker now past old new P Q only weaker = record {
   within = leaves_weaker (now old) (now new) (past old) (past new) P Q only.within weaker;
   after = λ c left. weaker c (only.after c left);
 }
 
 -- two runs of calls, one after the other
-pub leaves_then : (old mid new : Moment) (past past_mid past_new : List Moment) (P Q R : List ℕ → Type 0) → Leaves old mid past past_mid P → Leaves mid new past_mid past_new Q → ((c : List ℕ) → P c → R c) → ((c : List ℕ) → Q c → R c) → Leaves old new past past_new R
+pub leaves_then : (old mid new : Moment) (past past_mid past_new : List Moment) (P Q R : List ℕ → Type 0)
+    → Leaves old mid past past_mid P → Leaves mid new past_mid past_new Q → ((c : List ℕ) → P c → R c)
+    → ((c : List ℕ) → Q c → R c) → Leaves old new past past_new R
 leaves_then old mid new past past_mid past_new P Q R first second weaker_p weaker_q = record {
   later = let a : length past ≤ length past_mid = first.later in let b : length past_mid ≤ length past_new = second.later in omega arith;
   each = λ t c le left. ⊎_elim
@@ -137,8 +180,10 @@ leaves_then old mid new past past_mid past_new P Q R first second weaker_p weake
 }
 
 -- At its end a run that leaves only P leaves now what has P, or what could be left at its start.
-pub leaves_now : (old new : Moment) (past past_new : List Moment) (P : List ℕ → Type 0) → Leaves old new past past_new P → LeavesNow new (λ c. Left old c ⊎ P c)
-leaves_now old new past past_new P leaves c left = ⊎_elim (λ earlier. inl (only_now old past c earlier)) (λ here. inr here) (leaves.each (length past) c (omega arith) (inl (leaves.later, left)))
+pub leaves_now : (old new : Moment) (past past_new : List Moment) (P : List ℕ → Type 0)
+    → Leaves old new past past_new P → LeavesNow new (λ c. Left old c ⊎ P c)
+leaves_now old new past past_new P leaves c left = ⊎_elim (λ earlier. inl (only_now old past c earlier))
+    (λ here. inr here) (leaves.each (length past) c (omega arith) (inl (leaves.later, left)))
 
 -- after a sync that succeeded, what its one file has
 pub leaves_now_synced : (m m' : Moment) (P : List ℕ → Type 0) → m' ≡ synced m → P m.bytes → LeavesNow m' P
@@ -146,4 +191,7 @@ leaves_now_synced m m' P is has c left = subst P (sym (left_synced m c (subst (�
 
 -- files that agree but for a range agree in front of it
 pub same_before : (at n k : ℕ) (c d : List ℕ) → SameBut at n c d → k ≤ at → take k d ≡ take k c
-same_before at n k c d but le = ext_get_or 0 (take k d) (take k c) (omega (arith, length-take k d, length-take k c, but.size)) (λ i lt. let low : i < k = omega (arith, length-take k d) in get_or-take k d i 0 low ∙ but.same i (inl (omega arith)) ∙ sym (get_or-take k c i 0 low))
+same_before at n k c d but le = ext_get_or 0 (take k d) (take k c)
+    (omega (arith, length-take k d, length-take k c, but.size))
+    (λ i lt. let low : i < k = omega (arith, length-take k d) in get_or-take k d i 0 low
+    ∙ but.same i (inl (omega arith)) ∙ sym (get_or-take k c i 0 low))

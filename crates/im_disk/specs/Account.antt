@@ -1,5 +1,7 @@
 -- What an honest file would have come to, had it given the answers that a real one gave.
-use Rattle.std.specs.Prelude.{ℕ, zero, suc, ◌+◌, nat_lt, nat_le, Bool, true, false, not, ◌&&◌, ◌||◌, ◌==◌, if◌then◌else◌, List, [], ◌∷◌, length, take, drop, replicate, slice_index, bytes_eq, IsTrue}
+use Rattle.std.specs.Prelude.{ℕ, zero, suc, ◌+◌, nat_lt, nat_le, Bool, true, false, not, ◌&&◌, ◌||◌, ◌==◌}
+use Rattle.std.specs.Prelude.{if◌then◌else◌, List, [], ◌∷◌, length, take, drop, replicate, slice_index, bytes_eq}
+use Rattle.std.specs.Prelude.{IsTrue}
 use Rattle.im_disk.specs.Moment.{Moment, overlaid, written, synced}
 
 -- what is known of a file from its calls and their answers

@@ -1,5 +1,6 @@
 -- What a disk in memory shows, and what its calls make of it.
-use Rattle.std.specs.Prelude.{◌≡◌, ◌⊎◌, ℕ, ◌+◌, ◌-◌, ◌^◌, min, List, [], ◌∷◌, length, replicate, slice_index, Option, None, Some, Result, MatchResult}
+use Rattle.std.specs.Prelude.{◌≡◌, ◌⊎◌, ℕ, ◌+◌, ◌-◌, ◌^◌, min, List, [], ◌∷◌, length, replicate, slice_index, Option}
+use Rattle.std.specs.Prelude.{None, Some, Result, MatchResult}
 use Rattle.im_disk.specs.declared.memory.Crash.{Crash}
 use Rattle.im_disk.specs.declared.memory.Crash.TheVariants.{Kept, Lost, Byte}
 use Rattle.im_disk.specs.Moment.{Moment, Outside, Inside, written, synced}

@@ -52,8 +52,8 @@ impl<S: Start> FileDisk<S> {
     /// Makes a file of so many zero bytes at the path, also over one that is there, and puts it and its name on the
     /// disk. It is locked before a byte is changed, for as long as the disk lives.
     ///
-    /// `InUse` where another opening has its lock, and `NotFile` where what is there is no regular file: then nothing is
-    /// changed. `System` where a call of the system fails, and what is at the path may then be any file. That the
+    /// `InUse` where another opening has its lock, and `NotFile` where what is there is no regular file: then nothing
+    /// is changed. `System` where a call of the system fails, and what is at the path may then be any file. That the
     /// bytes are zero and none is in doubt is what an honest file would have, as everywhere.
     pub fn create<R: Files<File = File>>(
         rt: &R,
@@ -73,9 +73,9 @@ impl<S: Start> FileDisk<S> {
 
     /// Makes a file as [`create`](FileDisk::create) does where nothing is at the path, no link either.
     ///
-    /// `Exists` where something is: then nothing is changed. `System` where a call of the system fails: then the path is
-    /// free again, unless taking the name away failed too. `InUse` where another program has locked the file right after
-    /// it was made: then it is there, empty.
+    /// `Exists` where something is: then nothing is changed. `System` where a call of the system fails: then the path
+    /// is free again, unless taking the name away failed too. `InUse` where another program has locked the file right
+    /// after it was made: then it is there, empty.
     pub fn create_new<R: Files<File = File>>(
         rt: &R,
         path: &str,
@@ -93,8 +93,9 @@ impl<S: Start> FileDisk<S> {
     }
 
     /// Opens the file at the path to read and write it, and puts it on the disk. It is locked for as long as the disk
-    /// lives. `InUse` where another opening has its lock, `NotFile` where it is no regular file, `Sync` where putting it
-    /// on the disk fails, `System` where another call of the system does. Its bytes aren't changed, and none is read.
+    /// lives. `InUse` where another opening has its lock, `NotFile` where it is no regular file, `Sync` where putting
+    /// it on the disk fails, `System` where another call of the system does. Its bytes aren't changed, and none is
+    /// read.
     pub fn open<R: Files<File = File>>(
         rt: &R,
         path: &str,
@@ -110,8 +111,8 @@ impl<S: Start> FileDisk<S> {
     }
 
     /// Opens the file at the path to read it alone: each write to it fails. Others may read it at the same time.
-    /// `InUse` where one that writes it has its lock, `NotFile` where it is no regular file, `System` where a call of the
-    /// system fails. No byte is read.
+    /// `InUse` where one that writes it has its lock, `NotFile` where it is no regular file, `System` where a call of
+    /// the system fails. No byte is read.
     pub fn open_to_read<R: Files<File = File>>(
         rt: &R,
         path: &str,
@@ -126,8 +127,8 @@ impl<S: Start> FileDisk<S> {
         Ok(over(file, len, start))
     }
 
-    /// What failed first since the opening: there is one exactly where the count of failures isn't 0. A sync that failed
-    /// is told instead of what failed before it, as what was written may be lost with no further error.
+    /// What failed first since the opening: there is one exactly where the count of failures isn't 0. A sync that
+    /// failed is told instead of what failed before it, as what was written may be lost with no further error.
     pub fn failure(&self) -> Option<Failure>
         ensures some { is_some result ≡ nat_lt 0 (⟦<FileDisk<S> as Disk>⟧.failures self.now) }
         ensures sync { is_of_sync result ≡ has_failed_sync S.Start self.now }

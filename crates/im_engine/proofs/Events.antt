@@ -1,5 +1,7 @@
 -- How far a run of commands, groups, turns and sweeps has come.
-use Rattle.std.proofs.Common.{◌≡◌, ◌⊎◌, inl, inr, ⊎_elim, ℕ, ◌+◌, ◌<◌, ◌≤◌, Bool, true, false, ◌&&◌, List, [], ◌∷◌, ◌++◌, length, take, get_or, Result, Ok, Err, append_assoc, refl, sym, ◌∙◌, ap, subst, arith, length-append, if◌then◌else◌}
+use Rattle.std.proofs.Common.{◌≡◌, ◌⊎◌, inl, inr, ⊎_elim, ℕ, ◌+◌, ◌<◌, ◌≤◌, Bool, true, false, ◌&&◌, List, [], ◌∷◌}
+use Rattle.std.proofs.Common.{◌++◌, length, take, get_or, Result, Ok, Err, append_assoc, refl, sym, ◌∙◌, ap, subst}
+use Rattle.std.proofs.Common.{arith, length-append, if◌then◌else◌}
 use Rattle.std.proofs.lemmas.List.{append-nil, take_all, take-append-le, take_more, length-take-le}
 use Rattle.im_types.specs.declared.commands.Request.{Request}
 use Rattle.im_types.specs.declared.commands.Command.{Command}
@@ -24,38 +26,54 @@ use Rattle.arrayvec.specs.ArrayVec.{ArrayVec}
 use Rattle.im_engine.specs.declared.run.Event.{Event}
 use Rattle.im_engine.specs.declared.run.Event.TheVariants.{Command as Serve, Group as Together, Turn, Sweep}
 use Rattle.im_engine.specs.declared.run.Answer.{Answer}
-use Rattle.im_engine.specs.declared.run.Answer.TheVariants.{Served as Told, Grouped, Turned as TookTurn, Swept as DidSweep}
+use Rattle.im_engine.specs.declared.run.Answer.TheVariants.{Served as Told, Grouped, Turned as TookTurn}
+use Rattle.im_engine.specs.declared.run.Answer.TheVariants.{Swept as DidSweep}
 use Rattle.im_engine.specs.State.{EngineState, MeansState, with_command}
 use Rattle.im_engine.specs.Groups.{reached_in, after_group, group_put, answers_in, all_refused, GroupAnswered}
-use Rattle.im_engine.specs.Run.{Answered, TurnAnswered, SweepAnswered, EventAnswered, AnsweredInTurn, has_device, acknowledged_members, acknowledged_by, acknowledged, is_doubt, reached_at, in_doubt_by, in_doubt, put_on_disk, HasRun, MeansBy, MeansAll, MeansBeginningOf, MeansWithOrWithout}
+use Rattle.im_engine.specs.Run.{Answered, TurnAnswered, SweepAnswered, EventAnswered, AnsweredInTurn, has_device}
+use Rattle.im_engine.specs.Run.{acknowledged_members, acknowledged_by, acknowledged, is_doubt, reached_at}
+use Rattle.im_engine.specs.Run.{in_doubt_by, in_doubt, put_on_disk, HasRun, MeansBy, MeansAll, MeansBeginningOf}
+use Rattle.im_engine.specs.Run.{MeansWithOrWithout}
 use Rattle.im_engine.proofs.Accepting.{Answers, accepted_answers}
-use Rattle.im_engine.proofs.Acknowledging.{acknowledged-puts, answers-no_device, refused-none, some-device, failed-no_device}
+use Rattle.im_engine.proofs.Acknowledging.{acknowledged-puts, answers-no_device, refused-none, some-device}
+use Rattle.im_engine.proofs.Acknowledging.{failed-no_device}
 
 -- ---- one event more at the end of a list
 
-in_turn_more : {D : Type 0} (old mid new : EngineState D) (events : List Event) (answers : List Answer) (e : Event) (a : Answer)
-    → AnsweredInTurn old events answers mid → EventAnswered mid e a new → AnsweredInTurn old (events ++ e ∷ []) (answers ++ a ∷ []) new
-in_turn_more {D} old mid new [] [] e a it one = (new, subst (λ (s : EngineState D). EventAnswered s e a new) it one, refl)
+in_turn_more : {D : Type 0} (old mid new : EngineState D) (events : List Event) (answers : List Answer) (e : Event)
+    (a : Answer)
+    → AnsweredInTurn old events answers mid → EventAnswered mid e a new
+    → AnsweredInTurn old (events ++ e ∷ []) (answers ++ a ∷ []) new
+in_turn_more {D} old mid new [] [] e a it one =
+    (new, subst (λ (s : EngineState D). EventAnswered s e a new) it one, refl)
 in_turn_more old mid new [] (b ∷ answers) e a it one = absurd it
 in_turn_more old mid new (d ∷ events) [] e a it one = absurd it
-in_turn_more old mid new (d ∷ events) (b ∷ answers) e a it one = (it.0, it.1, in_turn_more it.0 mid new events answers e a it.2 one)
+in_turn_more old mid new (d ∷ events) (b ∷ answers) e a it one =
+    (it.0, it.1, in_turn_more it.0 mid new events answers e a it.2 one)
 
-acknowledged-push : (m : Contents) (events : List Event) (answers : List Answer) (e : Event) (a : Answer) → length events ≡ length answers
-    → acknowledged m (events ++ e ∷ []) (answers ++ a ∷ []) ≡ acknowledged m events answers ++ acknowledged_by (after m (acknowledged m events answers)) e a
+acknowledged-push : (m : Contents) (events : List Event) (answers : List Answer) (e : Event) (a : Answer)
+    → length events ≡ length answers
+    → acknowledged m (events ++ e ∷ []) (answers ++ a ∷ [])
+    ≡ acknowledged m events answers ++ acknowledged_by (after m (acknowledged m events answers)) e a
 acknowledged-push m [] [] e a same = append-nil (acknowledged_by m e a)
 acknowledged-push m [] (b ∷ answers) e a same = absurd (omega arith)
 acknowledged-push m (d ∷ events) [] e a same = absurd (omega arith)
 acknowledged-push m (d ∷ events) (b ∷ answers) e a same =
     let p : List Command = acknowledged_by m d b in
-    ap (λ (l : List Command). acknowledged_by m d b ++ l) (acknowledged-push (after m (acknowledged_by m d b)) events answers e a (omega arith))
-    ∙ ap (λ (x : Contents). acknowledged_by m d b ++ (acknowledged (after m (acknowledged_by m d b)) events answers ++ acknowledged_by x e a))
+    ap (λ (l : List Command). acknowledged_by m d b ++ l)
+    (acknowledged-push (after m (acknowledged_by m d b)) events answers e a (omega arith))
+    ∙ ap (λ (x : Contents). acknowledged_by m d b ++
+    (acknowledged (after m (acknowledged_by m d b)) events answers ++ acknowledged_by x e a))
     (sym (after-append m (acknowledged_by m d b) (acknowledged (after m (acknowledged_by m d b)) events answers)))
     ∙ sym (append_assoc (acknowledged_by m d b) (acknowledged (after m (acknowledged_by m d b)) events answers)
-    (acknowledged_by (after m (acknowledged_by m d b ++ acknowledged (after m (acknowledged_by m d b)) events answers)) e a))
+    (acknowledged_by (after m
+    (acknowledged_by m d b ++ acknowledged (after m (acknowledged_by m d b)) events answers)) e a))
 
-in_doubt-push : (m : Contents) (n : ℕ) (events : List Event) (answers : List Answer) (e : Event) (a : Answer) → length events ≡ length answers
+in_doubt-push : (m : Contents) (n : ℕ) (events : List Event) (answers : List Answer) (e : Event) (a : Answer)
+    → length events ≡ length answers
     → in_doubt m n (events ++ e ∷ []) (answers ++ a ∷ [])
-    ≡ in_doubt m n events answers ++ in_doubt_by (after m (acknowledged m events answers)) (n + length (acknowledged m events answers)) e a
+    ≡ in_doubt m n events answers ++ in_doubt_by (after m (acknowledged m events answers))
+    (n + length (acknowledged m events answers)) e a
 in_doubt-push m n [] [] e a same = append-nil (in_doubt_by m n e a) ∙ ap (λ (k : ℕ). in_doubt_by m k e a) (none n)
   where
     none : (n : ℕ) → n ≡ n + 0
@@ -64,14 +82,20 @@ in_doubt-push m n [] (b ∷ answers) e a same = absurd (omega arith)
 in_doubt-push m n (d ∷ events) [] e a same = absurd (omega arith)
 in_doubt-push m n (d ∷ events) (b ∷ answers) e a same =
     ap (λ (l : List Command). in_doubt_by m n d b ++ l)
-    (in_doubt-push (after m (acknowledged_by m d b)) (n + length (acknowledged_by m d b)) events answers e a (omega arith))
-    ∙ ap (λ (x : Contents). in_doubt_by m n d b ++ (in_doubt (after m (acknowledged_by m d b)) (n + length (acknowledged_by m d b)) events answers
-    ++ in_doubt_by x ((n + length (acknowledged_by m d b)) + length (acknowledged (after m (acknowledged_by m d b)) events answers)) e a))
+    (in_doubt-push (after m (acknowledged_by m d b)) (n + length (acknowledged_by m d b)) events answers e a
+    (omega arith))
+    ∙ ap (λ (x : Contents). in_doubt_by m n d b ++
+    (in_doubt (after m (acknowledged_by m d b)) (n + length (acknowledged_by m d b)) events answers
+    ++ in_doubt_by x ((n + length (acknowledged_by m d b)) + length
+    (acknowledged (after m (acknowledged_by m d b)) events answers)) e a))
     (sym (after-append m (acknowledged_by m d b) (acknowledged (after m (acknowledged_by m d b)) events answers)))
-    ∙ ap (λ (k : ℕ). in_doubt_by m n d b ++ (in_doubt (after m (acknowledged_by m d b)) (n + length (acknowledged_by m d b)) events answers
-    ++ in_doubt_by (after m (acknowledged_by m d b ++ acknowledged (after m (acknowledged_by m d b)) events answers)) k e a))
+    ∙ ap (λ (k : ℕ). in_doubt_by m n d b ++
+    (in_doubt (after m (acknowledged_by m d b)) (n + length (acknowledged_by m d b)) events answers
+    ++ in_doubt_by (after m
+    (acknowledged_by m d b ++ acknowledged (after m (acknowledged_by m d b)) events answers)) k e a))
     (counts n (acknowledged_by m d b) (acknowledged (after m (acknowledged_by m d b)) events answers))
-    ∙ sym (append_assoc (in_doubt_by m n d b) (in_doubt (after m (acknowledged_by m d b)) (n + length (acknowledged_by m d b)) events answers)
+    ∙ sym (append_assoc (in_doubt_by m n d b)
+    (in_doubt (after m (acknowledged_by m d b)) (n + length (acknowledged_by m d b)) events answers)
     (in_doubt_by (after m (acknowledged_by m d b ++ acknowledged (after m (acknowledged_by m d b)) events answers))
     (n + length (acknowledged_by m d b ++ acknowledged (after m (acknowledged_by m d b)) events answers)) e a))
   where
@@ -119,29 +143,37 @@ some_room : (m : Contents) (count room : ℕ) (file : List ℕ) → Means m coun
 some_room m count room file it = (it.0, omega arith, it.2)
 
 -- the engine's own meaning, by what it comes to
-means_as : {D : Type 0} (s new : EngineState D) (l : List Command) → new.memory ≡ after s.memory l → new.count ≡ s.count + length l → (file : List ℕ) → MeansState new file → MeansAll s l file
+means_as : {D : Type 0} (s new : EngineState D) (l : List Command) → new.memory ≡ after s.memory l → new.count
+    ≡ s.count + length l → (file : List ℕ) → MeansState new file → MeansAll s l file
 means_as s new l memory count file means =
     subst (λ (m : Contents). Means m (s.count + length l) 0 file) memory
     (subst (λ (n : ℕ). Means new.memory n 0 file) count (some_room new.memory new.count new.room file means))
 
 -- once the engine has failed
 module _ {D : Type 0} (mid new : EngineState D) (m : Contents) (n : ℕ) where
-  still_command : (c : Command) (a : Result Outcome Refusal) → Answered mid c a new → mid.failed ≡ true → IsStill mid new (acknowledged_by m (Serve c) (Told a)) (in_doubt_by m n (Serve c) (Told a))
+  still_command : (c : Command) (a : Result Outcome Refusal) → Answered mid c a new → mid.failed ≡ true
+      → IsStill mid new (acknowledged_by m (Serve c) (Told a)) (in_doubt_by m n (Serve c) (Told a))
   still_command c a it dead = record {
     same = (it.dead dead).1;
     sure_none = ap (λ (x : Result Outcome Refusal). acknowledged_by m (Serve c) (Told x)) (it.dead dead).0;
-    doubt_none = none_if (c ∷ []) (is_accepted m c) (is_doubt (Told a)) (ap (λ (x : Result Outcome Refusal). is_doubt (Told x)) (it.dead dead).0);
+    doubt_none = none_if (c ∷ []) (is_accepted m c) (is_doubt (Told a))
+        (ap (λ (x : Result Outcome Refusal). is_doubt (Told x)) (it.dead dead).0);
   }
 
-  still_group : (members : List Request) (room : ℕ) (served : ArrayVec ServedMember) → GroupAnswered mid members served.items new → mid.failed ≡ true
-      → IsStill mid new (acknowledged_by m (Together members) (Grouped room served)) (in_doubt_by m n (Together members) (Grouped room served))
+  still_group : (members : List Request) (room : ℕ) (served : ArrayVec ServedMember)
+      → GroupAnswered mid members served.items new → mid.failed ≡ true
+      → IsStill mid new (acknowledged_by m (Together members) (Grouped room served))
+      (in_doubt_by m n (Together members) (Grouped room served))
   still_group members room served it dead = record {
     same = (it.dead dead).1;
-    sure_none = ap (λ (l : List ServedMember). acknowledged_members m members l) (it.dead dead).0 ∙ refused-none m Failed members;
-    doubt_none = ap (λ (b : Bool). if b then puts_of (reached_at m n room) members else []) (ap has_device (it.dead dead).0 ∙ failed-no_device members);
+    sure_none = ap (λ (l : List ServedMember). acknowledged_members m members l) (it.dead dead).0
+        ∙ refused-none m Failed members;
+    doubt_none = ap (λ (b : Bool). if b then puts_of (reached_at m n room) members else [])
+        (ap has_device (it.dead dead).0 ∙ failed-no_device members);
   }
 
-  dead_step : (e : Event) (a : Answer) → EventAnswered mid e a new → mid.failed ≡ true → IsStill mid new (acknowledged_by m e a) (in_doubt_by m n e a)
+  dead_step : (e : Event) (a : Answer) → EventAnswered mid e a new → mid.failed ≡ true
+      → IsStill mid new (acknowledged_by m e a) (in_doubt_by m n e a)
   dead_step (Serve c) (Told a) it dead = still_command c a it dead
   dead_step (Serve c) (Grouped room served) it dead = absurd it
   dead_step (Serve c) (TookTurn a) it dead = absurd it
@@ -172,9 +204,11 @@ module _ {D : Type 0} (mid new : EngineState D) (f : mid.failed ≡ false) where
     whole_command : (l : List Command) → l ≡ c ∷ [] → MeansWhole mid (Serve c) l
     whole_command l is file (inl image) = inl image
     whole_command l is file (inr image) =
-        inr (means_as mid (with_command mid c) l (ap (λ (k : List Command). after mid.memory k) (sym is)) (ap (λ (k : List Command). mid.count + length k) (sym is)) file image)
+        inr (means_as mid (with_command mid c) l (ap (λ (k : List Command). after mid.memory k) (sym is))
+        (ap (λ (k : List Command). mid.count + length k) (sym is)) file image)
 
-    sure_unaccepted : (b : Result Outcome Refusal) → is_accepted mid.memory c ≡ false → acknowledged_by mid.memory (Serve c) (Told b) ≡ []
+    sure_unaccepted : (b : Result Outcome Refusal) → is_accepted mid.memory c ≡ false
+        → acknowledged_by mid.memory (Serve c) (Told b) ≡ []
     sure_unaccepted (Ok outcome) un = ap (λ (x : Bool). if x then c ∷ [] else []) un
     sure_unaccepted (Err refusal) un = refl
 
@@ -182,23 +216,28 @@ module _ {D : Type 0} (mid new : EngineState D) (f : mid.failed ≡ false) where
     no_doubt is = none_if (c ∷ []) (is_accepted mid.memory c) (is_doubt (Told a)) is
 
     put_command : is_accepted mid.memory c ≡ true
-        → ((a ≡ (step mid.memory c).answer) × (new ≡ record (with_command mid c) { disk = new.disk })) ⊎ ((a ≡ Err Device) × (new ≡ record mid { disk = new.disk; failed = true }))
+        → ((a ≡ (step mid.memory c).answer) × (new ≡ record (with_command mid c) { disk = new.disk }))
+        ⊎ ((a ≡ Err Device) × (new ≡ record mid { disk = new.disk; failed = true }))
         → Steps mid new (Serve c) sure_c doubt_c
     put_command accepted (inl done) =
         let answers : Answers (step mid.memory c).answer = accepted_answers mid.memory c accepted in
         let sure : acknowledged_by mid.memory (Serve c) (Told a) ≡ c ∷ [] =
-        ap (λ (x : Result Outcome Refusal). acknowledged_by mid.memory (Serve c) (Told x)) (done.0 ∙ answers.1) ∙ ap (λ (x : Bool). if x then c ∷ [] else []) accepted in
+        ap (λ (x : Result Outcome Refusal). acknowledged_by mid.memory (Serve c) (Told x)) (done.0 ∙ answers.1)
+        ∙ ap (λ (x : Bool). if x then c ∷ [] else []) accepted in
         inr (inl (record {
           alive = f;
           works = ap (λ (s : EngineState D). s.failed) done.1 ∙ f;
           doubt_none = no_doubt (ap (λ (x : Result Outcome Refusal). is_doubt (Told x)) (done.0 ∙ answers.1));
-          memory = ap (λ (s : EngineState D). s.memory) done.1 ∙ ap (λ (l : List Command). after mid.memory l) (sym sure);
-          count = ap (λ (s : EngineState D). s.count) done.1 ∙ ap (λ (l : List Command). mid.count + length l) (sym sure);
+          memory = ap (λ (s : EngineState D). s.memory) done.1
+              ∙ ap (λ (l : List Command). after mid.memory l) (sym sure);
+          count = ap (λ (s : EngineState D). s.count) done.1
+              ∙ ap (λ (l : List Command). mid.count + length l) (sym sure);
           means = whole_command sure_c sure;
         }))
     put_command accepted (inr fault) =
         let doubt : (if is_accepted mid.memory c && is_doubt (Told a) then c ∷ [] else []) ≡ c ∷ [] =
-        ap (λ (x : Bool). if x && is_doubt (Told a) then c ∷ [] else []) accepted ∙ ap (λ (x : Result Outcome Refusal). if is_doubt (Told x) then c ∷ [] else []) fault.0 in
+        ap (λ (x : Bool). if x && is_doubt (Told a) then c ∷ [] else []) accepted
+        ∙ ap (λ (x : Result Outcome Refusal). if is_doubt (Told x) then c ∷ [] else []) fault.0 in
         inr (inr (record {
           alive = f;
           dead = ap (λ (s : EngineState D). s.failed) fault.1;
@@ -224,7 +263,8 @@ module _ {D : Type 0} (mid new : EngineState D) (f : mid.failed ≡ false) where
         (true_or_false (is_accepted mid.memory c))
 
   -- ---- a group
-  module _ (members : List Request) (room : ℕ) (served : ArrayVec ServedMember) (same_room : room ≡ mid.room) (it : GroupAnswered mid members served.items new) where
+  module _ (members : List Request) (room : ℕ) (served : ArrayVec ServedMember) (same_room : room ≡ mid.room)
+      (it : GroupAnswered mid members served.items new) where
     abbrev sure_g : List Command
     sure_g = acknowledged_members mid.memory members served.items
 
@@ -232,10 +272,12 @@ module _ {D : Type 0} (mid new : EngineState D) (f : mid.failed ≡ false) where
     doubt_g = if has_device served.items then puts_of (reached_at mid.memory mid.count room) members else []
 
     sure_is : served.items ≡ answers_in mid members → sure_g ≡ group_put mid members
-    sure_is told = ap (λ (l : List ServedMember). acknowledged_members mid.memory members l) told ∙ acknowledged-puts (reached_in mid) members
+    sure_is told = ap (λ (l : List ServedMember). acknowledged_members mid.memory members l) told
+        ∙ acknowledged-puts (reached_in mid) members
 
     no_doubt_g : served.items ≡ answers_in mid members → doubt_g ≡ []
-    no_doubt_g told = ap (λ (b : Bool). if b then puts_of (reached_at mid.memory mid.count room) members else []) (ap has_device told ∙ answers-no_device (reached_in mid) members)
+    no_doubt_g told = ap (λ (b : Bool). if b then puts_of (reached_at mid.memory mid.count room) members else [])
+        (ap has_device told ∙ answers-no_device (reached_in mid) members)
 
     memory_by : (l : List Command) → l ≡ group_put mid members → (after_group mid members).memory ≡ after mid.memory l
     memory_by l is = puts-after (reached_in mid) members ∙ ap (λ (k : List Command). after mid.memory k) (sym is)
@@ -245,10 +287,12 @@ module _ {D : Type 0} (mid new : EngineState D) (f : mid.failed ≡ false) where
 
     whole_group : (l : List Command) → l ≡ group_put mid members → MeansWhole mid (Together members) l
     whole_group l is file (inl image) = inl image
-    whole_group l is file (inr image) = inr (means_as mid (after_group mid members) l (memory_by l is) (count_by l is) file image)
+    whole_group l is file (inr image) = inr
+        (means_as mid (after_group mid members) l (memory_by l is) (count_by l is) file image)
 
     put_group : 0 < length (group_put mid members)
-        → ((served.items ≡ answers_in mid members) × (new ≡ record (after_group mid members) { disk = new.disk })) ⊎ ((served.items ≡ all_refused Device members) × (new ≡ record mid { disk = new.disk; failed = true }))
+        → ((served.items ≡ answers_in mid members) × (new ≡ record (after_group mid members) { disk = new.disk }))
+        ⊎ ((served.items ≡ all_refused Device members) × (new ≡ record mid { disk = new.disk; failed = true }))
         → Steps mid new (Together members) sure_g doubt_g
     put_group some (inl done) = inr (inl (record {
       alive = f;
@@ -259,13 +303,16 @@ module _ {D : Type 0} (mid new : EngineState D) (f : mid.failed ≡ false) where
       means = whole_group sure_g (sure_is done.0);
     }))
     put_group some (inr fault) =
-        let doubt : (if has_device served.items then puts_of (reached_at mid.memory mid.count room) members else []) ≡ group_put mid members =
-        ap (λ (b : Bool). if b then puts_of (reached_at mid.memory mid.count room) members else []) (ap has_device fault.0 ∙ some-device (reached_in mid) members some)
+        let doubt : (if has_device served.items then puts_of (reached_at mid.memory mid.count room) members else [])
+        ≡ group_put mid members =
+        ap (λ (b : Bool). if b then puts_of (reached_at mid.memory mid.count room) members else [])
+        (ap has_device fault.0 ∙ some-device (reached_in mid) members some)
         ∙ ap (λ (k : ℕ). puts_of (reached_at mid.memory mid.count k) members) same_room in
         inr (inr (record {
           alive = f;
           dead = ap (λ (s : EngineState D). s.failed) fault.1;
-          sure_none = ap (λ (l : List ServedMember). acknowledged_members mid.memory members l) fault.0 ∙ refused-none mid.memory Device members;
+          sure_none = ap (λ (l : List ServedMember). acknowledged_members mid.memory members l) fault.0
+              ∙ refused-none mid.memory Device members;
           means = whole_group doubt_g doubt;
         }))
 
@@ -273,7 +320,8 @@ module _ {D : Type 0} (mid new : EngineState D) (f : mid.failed ≡ false) where
     by_put [] none =
         let is = it.none f none in
         inl (record { same = is.1; sure_none = sure_is is.0 ∙ none; doubt_none = no_doubt_g is.0 })
-    by_put (command ∷ commands) is = let some : 0 < length (group_put mid members) = omega (arith, ap length is) in put_group some (it.put f some)
+    by_put (command ∷ commands) is = let some : 0 < length (group_put mid members) = omega
+        (arith, ap length is) in put_group some (it.put f some)
 
     group_step : Steps mid new (Together members) sure_g doubt_g
     group_step = by_put (group_put mid members) refl
@@ -289,7 +337,13 @@ module _ {D : Type 0} (mid new : EngineState D) (f : mid.failed ≡ false) where
         count = done.2.count ∙ none mid.count;
         means = λ file image. inl image;
       })))
-      (λ fault. inr (inr (record { alive = f; dead = ap (λ (s : EngineState D). s.failed) fault.1; sure_none = refl; means = λ file image. inl image })))
+      (λ fault. inr (inr (record {
+        alive = f;
+        dead = ap
+            (λ (s : EngineState D). s.failed) fault.1;
+        sure_none = refl;
+        means = λ file image. inl image;
+      })))
       (it.alive f)
     where
       none : (n : ℕ) → n ≡ n + 0
@@ -306,13 +360,20 @@ module _ {D : Type 0} (mid new : EngineState D) (f : mid.failed ≡ false) where
         count = ap (λ (s : EngineState D). s.count) done.1 ∙ nothing mid.count;
         means = λ file image. inl image;
       })))
-      (λ fault. inr (inr (record { alive = f; dead = ap (λ (s : EngineState D). s.failed) fault.1; sure_none = refl; means = λ file image. inl image })))
+      (λ fault. inr (inr (record {
+        alive = f;
+        dead = ap
+            (λ (s : EngineState D). s.failed) fault.1;
+        sure_none = refl;
+        means = λ file image. inl image;
+      })))
       (it.alive f)
     where
       nothing : (n : ℕ) → n ≡ n + 0
       nothing n = omega arith
 
-  alive_step : (e : Event) (a : Answer) → EventAnswered mid e a new → Steps mid new e (acknowledged_by mid.memory e a) (in_doubt_by mid.memory mid.count e a)
+  alive_step : (e : Event) (a : Answer) → EventAnswered mid e a new
+      → Steps mid new e (acknowledged_by mid.memory e a) (in_doubt_by mid.memory mid.count e a)
   alive_step (Serve c) (Told a) it = command_step c a it
   alive_step (Serve c) (Grouped room served) it = absurd it
   alive_step (Serve c) (TookTurn a) it = absurd it
@@ -340,7 +401,8 @@ pub record IsRun {D : Type 0} (old now : EngineState D) (sure doubt : List Comma
 pub run_start : {D : Type 0} (s : EngineState D) → IsRun s s [] []
 run_start s = record { run = record { memory = λ f. refl; count = λ f. omega arith }; none = λ f. refl }
 
-module _ {D : Type 0} (old mid new : EngineState D) (sure doubt : List Command) (e : Event) (a : Answer) (far : IsRun old mid sure doubt) (it : EventAnswered mid e a new) where
+module _ {D : Type 0} (old mid new : EngineState D) (sure doubt : List Command) (e : Event) (a : Answer)
+    (far : IsRun old mid sure doubt) (it : EventAnswered mid e a new) where
   abbrev sure1 : List Command
   sure1 = acknowledged_by (after old.memory sure) e a
 
@@ -350,8 +412,10 @@ module _ {D : Type 0} (old mid new : EngineState D) (sure doubt : List Command) 
   steps : Steps mid new e sure1 doubt1
   steps = ⊎_elim
       (λ dead. inl (dead_step mid new (after old.memory sure) (old.count + length sure) e a it dead))
-      (λ f. subst (λ (m : Contents). Steps mid new e (acknowledged_by m e a) (in_doubt_by m (old.count + length sure) e a)) (far.run.memory f)
-      (subst (λ (n : ℕ). Steps mid new e (acknowledged_by mid.memory e a) (in_doubt_by mid.memory n e a)) (far.run.count f) (alive_step mid new f e a it)))
+      (λ f. subst (λ (m : Contents). Steps mid new e (acknowledged_by m e a)
+      (in_doubt_by m (old.count + length sure) e a)) (far.run.memory f)
+      (subst (λ (n : ℕ). Steps mid new e (acknowledged_by mid.memory e a) (in_doubt_by mid.memory n e a))
+      (far.run.count f) (alive_step mid new f e a it)))
       (true_or_false mid.failed)
 
   sure_still : sure1 ≡ [] → sure ++ sure1 ≡ sure
@@ -366,11 +430,14 @@ module _ {D : Type 0} (old mid new : EngineState D) (sure doubt : List Command) 
   by_steps : Steps mid new e sure1 doubt1 → IsRun old new (sure ++ sure1) (doubt ++ doubt1)
   by_steps (inl still) =
       subst (λ (l : List Command). IsRun old new l (doubt ++ doubt1)) (sym (sure_still still.sure_none))
-      (subst (λ (l : List Command). IsRun old new sure l) (sym (doubt_still still.doubt_none)) (subst (λ (s : EngineState D). IsRun old s sure doubt) (sym still.same) far))
+      (subst (λ (l : List Command). IsRun old new sure l) (sym (doubt_still still.doubt_none))
+      (subst (λ (s : EngineState D). IsRun old s sure doubt) (sym still.same) far))
   by_steps (inr (inl done)) = record {
     run = record {
-      memory = λ f. done.memory ∙ ap (λ (m : Contents). after m sure1) (far.run.memory done.alive) ∙ sym (after-append old.memory sure sure1);
-      count = λ f. let a : new.count ≡ mid.count + length sure1 = done.count in let b : mid.count ≡ old.count + length sure = far.run.count done.alive in omega (arith, a, b, length-append sure sure1);
+      memory = λ f. done.memory ∙ ap (λ (m : Contents). after m sure1) (far.run.memory done.alive)
+          ∙ sym (after-append old.memory sure sure1);
+      count = λ f. let a : new.count ≡ mid.count + length sure1 = done.count in let b : mid.count
+          ≡ old.count + length sure = far.run.count done.alive in omega (arith, a, b, length-append sure sure1);
     };
     none = λ f. doubt_now done.alive ∙ done.doubt_none;
   }
@@ -391,28 +458,42 @@ module _ {D : Type 0} (old mid new : EngineState D) (sure doubt : List Command) 
 
   behind : mid.failed ≡ false → (l : List Command) (file : List ℕ) → MeansAll mid l file → MeansAll old (sure ++ l) file
   behind f l file means =
-      subst (λ (m : Contents). Means m (old.count + length (sure ++ l)) 0 file) (ap (λ (m : Contents). after m l) (far.run.memory f) ∙ sym (after-append old.memory sure l))
-      (subst (λ (n : ℕ). Means (after mid.memory l) n 0 file) (let b : mid.count ≡ old.count + length sure = far.run.count f in omega (arith, b, length-append sure l)) means)
+      subst (λ (m : Contents). Means m (old.count + length (sure ++ l)) 0 file)
+      (ap (λ (m : Contents). after m l) (far.run.memory f) ∙ sym (after-append old.memory sure l))
+      (subst (λ (n : ℕ). Means (after mid.memory l) n 0 file)
+      (let b : mid.count
+      ≡ old.count + length sure = far.run.count f in omega (arith, b, length-append sure l)) means)
 
   pub now_on : (now : D → Moment) → LeavesNow (now mid.disk) (MeansWithOrWithout old sure doubt)
-      → (mid.failed ≡ false → LeavesNow (now new.disk) (MeansBy mid e)) → (new.failed ≡ false → LeavesNow (now new.disk) (MeansState new))
+      → (mid.failed ≡ false → LeavesNow (now new.disk) (MeansBy mid e))
+      → (new.failed ≡ false → LeavesNow (now new.disk) (MeansState new))
       → LeavesNow (now new.disk) (MeansWithOrWithout old (sure ++ sure1) (doubt ++ doubt1))
   now_on now so_far call works = elim steps [
     | inl still ↦
-        subst (λ (l : List Command). LeavesNow (now new.disk) (MeansWithOrWithout old l (doubt ++ doubt1))) (sym (sure_still still.sure_none))
-        (subst (λ (l : List Command). LeavesNow (now new.disk) (MeansWithOrWithout old sure l)) (sym (doubt_still still.doubt_none))
-        (subst (λ (s : EngineState D). LeavesNow (now s.disk) (MeansWithOrWithout old sure doubt)) (sym still.same) so_far))
-    | inr (inl done) ↦ (λ file left. inl (means_as old new (sure ++ sure1) (run_on.run.memory done.works) (run_on.run.count done.works) file (works done.works file left)))
+        subst (λ (l : List Command). LeavesNow (now new.disk) (MeansWithOrWithout old l (doubt ++ doubt1)))
+        (sym (sure_still still.sure_none))
+        (subst (λ (l : List Command). LeavesNow (now new.disk) (MeansWithOrWithout old sure l))
+        (sym (doubt_still still.doubt_none))
+        (subst (λ (s : EngineState D). LeavesNow (now s.disk) (MeansWithOrWithout old sure doubt))
+        (sym still.same) so_far))
+    | inr (inl done) ↦ (λ file left. inl
+        (means_as old new (sure ++ sure1) (run_on.run.memory done.works) (run_on.run.count done.works) file
+        (works done.works file left)))
     | inr (inr fault) ↦
-        subst (λ (l : List Command). LeavesNow (now new.disk) (MeansWithOrWithout old l (doubt ++ doubt1))) (sym (sure_still fault.sure_none))
-        (subst (λ (l : List Command). LeavesNow (now new.disk) (MeansWithOrWithout old sure l)) (sym (doubt_now fault.alive))
-        (λ file left. ⊎_elim (λ image. inl (before fault.alive file image)) (λ image. inr (behind fault.alive doubt1 file image)) (fault.means file (call fault.alive file left))))
+        subst (λ (l : List Command). LeavesNow (now new.disk) (MeansWithOrWithout old l (doubt ++ doubt1)))
+        (sym (sure_still fault.sure_none))
+        (subst (λ (l : List Command). LeavesNow (now new.disk) (MeansWithOrWithout old sure l))
+        (sym (doubt_now fault.alive))
+        (λ file left. ⊎_elim (λ image. inl (before fault.alive file image))
+        (λ image. inr (behind fault.alive doubt1 file image)) (fault.means file (call fault.alive file left))))
   ]
 
 -- ---- the same over the events so far
 
-module _ {D : Type 0} (old mid new : EngineState D) (events : List Event) (answers longer_answers : List Answer) (i : ℕ) (d event : Event) (a : Answer)
-    (lt : i < length events) (is : event ≡ get_or events i d) (size : length answers ≡ i) (items : longer_answers ≡ answers ++ a ∷ []) (it : EventAnswered mid event a new) where
+module _ {D : Type 0} (old mid new : EngineState D) (events : List Event) (answers longer_answers : List Answer)
+    (i : ℕ) (d event : Event) (a : Answer)
+    (lt : i < length events) (is : event ≡ get_or events i d) (size : length answers ≡ i)
+    (items : longer_answers ≡ answers ++ a ∷ []) (it : EventAnswered mid event a new) where
   abbrev sure_far : List Command
   sure_far = acknowledged old.memory (take i events) answers
 
@@ -432,63 +513,94 @@ module _ {D : Type 0} (old mid new : EngineState D) (events : List Event) (answe
   same_length = let n : length (take i events) ≡ i = length-take-le i events (omega arith) in omega (arith, n, size)
 
   sure_grown : sure_here ≡ sure_far ++ acknowledged_by (after old.memory sure_far) event a
-  sure_grown = (λ k. acknowledged old.memory (stepped k) (items k)) ∙ acknowledged-push old.memory (take i events) answers event a same_length
+  sure_grown = (λ k. acknowledged old.memory (stepped k) (items k))
+      ∙ acknowledged-push old.memory (take i events) answers event a same_length
 
   doubt_grown : doubt_here ≡ doubt_far ++ in_doubt_by (after old.memory sure_far) (old.count + length sure_far) event a
-  doubt_grown = (λ k. in_doubt old.memory old.count (stepped k) (items k)) ∙ in_doubt-push old.memory old.count (take i events) answers event a same_length
+  doubt_grown = (λ k. in_doubt old.memory old.count (stepped k) (items k))
+      ∙ in_doubt-push old.memory old.count (take i events) answers event a same_length
 
-  pub answers_step : AnsweredInTurn old (take i events) answers mid → AnsweredInTurn old (take (i + 1) events) longer_answers new
+  pub answers_step : AnsweredInTurn old (take i events) answers mid
+      → AnsweredInTurn old (take (i + 1) events) longer_answers new
   answers_step so_far = subst (λ (l : List Event). AnsweredInTurn old l longer_answers new) (sym stepped)
-      (subst (λ (l : List Answer). AnsweredInTurn old (take i events ++ event ∷ []) l new) (sym items) (in_turn_more old mid new (take i events) answers event a so_far it))
+      (subst (λ (l : List Answer). AnsweredInTurn old (take i events ++ event ∷ []) l new) (sym items)
+      (in_turn_more old mid new (take i events) answers event a so_far it))
 
   module _ (far : IsRun old mid sure_far doubt_far) where
     pub far_step : IsRun old new sure_here doubt_here
     far_step = subst (λ (l : List Command). IsRun old new l doubt_here) (sym sure_grown)
-        (subst (λ (l : List Command). IsRun old new (sure_far ++ acknowledged_by (after old.memory sure_far) event a) l) (sym doubt_grown)
+        (subst (λ (l : List Command). IsRun old new
+        (sure_far ++ acknowledged_by (after old.memory sure_far) event a) l) (sym doubt_grown)
         (run_on old mid new sure_far doubt_far event a far it))
 
     pub now_step : (now : D → Moment) → LeavesNow (now mid.disk) (MeansWithOrWithout old sure_far doubt_far)
-        → (mid.failed ≡ false → LeavesNow (now new.disk) (MeansBy mid event)) → (new.failed ≡ false → LeavesNow (now new.disk) (MeansState new))
+        → (mid.failed ≡ false → LeavesNow (now new.disk) (MeansBy mid event))
+        → (new.failed ≡ false → LeavesNow (now new.disk) (MeansState new))
         → LeavesNow (now new.disk) (MeansWithOrWithout old sure_here doubt_here)
-    now_step now so_far call works = subst (λ (l : List Command). LeavesNow (now new.disk) (MeansWithOrWithout old l doubt_here)) (sym sure_grown)
-        (subst (λ (l : List Command). LeavesNow (now new.disk) (MeansWithOrWithout old (sure_far ++ acknowledged_by (after old.memory sure_far) event a) l)) (sym doubt_grown)
+    now_step now so_far call works = subst
+        (λ (l : List Command). LeavesNow (now new.disk) (MeansWithOrWithout old l doubt_here)) (sym sure_grown)
+        (subst (λ (l : List Command). LeavesNow (now new.disk)
+        (MeansWithOrWithout old (sure_far ++ acknowledged_by (after old.memory sure_far) event a) l))
+        (sym doubt_grown)
         (now_on old mid new sure_far doubt_far event a far it now so_far call works))
 
     -- a beginning of the events so far is one of the events with this one
-    longer : (file : List ℕ) → MeansBeginningOf old events answers file → MeansBeginningOf old events longer_answers file
+    longer : (file : List ℕ) → MeansBeginningOf old events answers file
+        → MeansBeginningOf old events longer_answers file
     longer file (many, few, means) =
-        let same : take many longer_answers ≡ take many answers = ap (λ (l : List Answer). take many l) items ∙ take-append-le many answers (a ∷ []) few in
-        (many, omega (arith, few, ap length items, length-append answers (a ∷ [])), subst (λ (l : List Answer). MeansAll old (put_on_disk old.memory old.count (take many events) l) file) (sym same) means)
+        let same : take many longer_answers ≡ take many answers = ap (λ (l : List Answer). take many l) items
+        ∙ take-append-le many answers (a ∷ []) few in (
+          many,
+          omega (arith, few, ap length items, length-append answers (a ∷ [])),
+          subst
+              (λ (l : List Answer). MeansAll old (put_on_disk old.memory old.count (take many events) l) file)
+              (sym same) means,
+        )
 
-    all_before : mid.failed ≡ false → (file : List ℕ) → MeansState mid file → MeansBeginningOf old events longer_answers file
+    all_before : mid.failed ≡ false → (file : List ℕ) → MeansState mid file
+        → MeansBeginningOf old events longer_answers file
     all_before f file means =
         let same : take (length answers) answers ≡ answers = take_all (length answers) answers (omega arith) in
-        let none : sure_far ++ doubt_far ≡ sure_far = ap (λ (l : List Command). sure_far ++ l) (far.none f) ∙ append-nil sure_far in
+        let none : sure_far ++ doubt_far ≡ sure_far = ap (λ (l : List Command). sure_far ++ l) (far.none f)
+        ∙ append-nil sure_far in
         longer file (
           length answers,
           omega arith,
-          subst (λ (l : List Answer). MeansAll old (put_on_disk old.memory old.count (take (length answers) events) l) file) (sym same)
-              (subst (λ (k : ℕ). MeansAll old (put_on_disk old.memory old.count (take k events) answers) file) (sym size)
-              (subst (λ (l : List Command). MeansAll old l file) (sym none) (before old mid new sure_far doubt_far event a far it f file means))),
+          subst (λ (l : List Answer). MeansAll old
+              (put_on_disk old.memory old.count (take (length answers) events) l) file) (sym same)
+              (subst (λ (k : ℕ). MeansAll old (put_on_disk old.memory old.count (take k events) answers) file)
+              (sym size)
+              (subst (λ (l : List Command). MeansAll old l file) (sym none)
+              (before old mid new sure_far doubt_far event a far it f file means))),
         )
 
-    with_this : (file : List ℕ) → MeansAll old (sure_here ++ doubt_here) file → MeansBeginningOf old events longer_answers file
+    with_this : (file : List ℕ) → MeansAll old (sure_here ++ doubt_here) file
+        → MeansBeginningOf old events longer_answers file
     with_this file means =
-        let size_is : length longer_answers ≡ i + 1 = omega (arith, ap length items, length-append answers (a ∷ []), size) in
-        let same : take (length longer_answers) longer_answers ≡ longer_answers = take_all (length longer_answers) longer_answers (omega arith) in (
+        let size_is : length longer_answers
+        ≡ i + 1 = omega (arith, ap length items, length-append answers (a ∷ []), size) in
+        let same : take (length longer_answers) longer_answers
+        ≡ longer_answers = take_all (length longer_answers) longer_answers (omega arith) in (
           length longer_answers,
           omega arith,
-          subst (λ (l : List Answer). MeansAll old (put_on_disk old.memory old.count (take (length longer_answers) events) l) file) (sym same)
-              (subst (λ (k : ℕ). MeansAll old (put_on_disk old.memory old.count (take k events) longer_answers) file) (sym size_is) means),
+          subst (λ (l : List Answer). MeansAll old
+              (put_on_disk old.memory old.count (take (length longer_answers) events) l) file) (sym same)
+              (subst (λ (k : ℕ). MeansAll old (put_on_disk old.memory old.count (take k events) longer_answers) file)
+              (sym size_is) means),
         )
 
     leaves_on : (now : D → Moment) (past : D → List Moment)
         → Leaves (now old.disk) (now mid.disk) (past old.disk) (past mid.disk) (MeansBeginningOf old events answers)
-        → (mid.failed ≡ false → Leaves (now mid.disk) (now new.disk) (past mid.disk) (past new.disk) (MeansBy mid event))
-        → (mid.failed ≡ false → (file : List ℕ) → MeansBy mid event file → MeansBeginningOf old events longer_answers file) → mid.failed ≡ false
-        → Leaves (now old.disk) (now new.disk) (past old.disk) (past new.disk) (MeansBeginningOf old events longer_answers)
+        → (mid.failed ≡ false
+        → Leaves (now mid.disk) (now new.disk) (past mid.disk) (past new.disk) (MeansBy mid event))
+        → (mid.failed ≡ false → (file : List ℕ) → MeansBy mid event file
+        → MeansBeginningOf old events longer_answers file) → mid.failed ≡ false
+        → Leaves (now old.disk) (now new.disk) (past old.disk) (past new.disk)
+        (MeansBeginningOf old events longer_answers)
     leaves_on now past so_far call as_beginning f =
-        leaves_then (now old.disk) (now mid.disk) (now new.disk) (past old.disk) (past mid.disk) (past new.disk) (MeansBeginningOf old events answers) (MeansBy mid event) (MeansBeginningOf old events longer_answers) so_far (call f)
+        leaves_then (now old.disk) (now mid.disk) (now new.disk) (past old.disk) (past mid.disk) (past new.disk)
+        (MeansBeginningOf old events answers) (MeansBy mid event)
+        (MeansBeginningOf old events longer_answers) so_far (call f)
         longer (as_beginning f)
 
     abbrev sure_one : List Command
@@ -499,37 +611,50 @@ module _ {D : Type 0} (old mid new : EngineState D) (events : List Event) (answe
 
     pub leaves_step : (now : D → Moment) (past : D → List Moment)
         → Leaves (now old.disk) (now mid.disk) (past old.disk) (past mid.disk) (MeansBeginningOf old events answers)
-        → (mid.failed ≡ false → Leaves (now mid.disk) (now new.disk) (past mid.disk) (past new.disk) (MeansBy mid event))
-        → Leaves (now old.disk) (now new.disk) (past old.disk) (past new.disk) (MeansBeginningOf old events longer_answers)
+        → (mid.failed ≡ false
+        → Leaves (now mid.disk) (now new.disk) (past mid.disk) (past new.disk) (MeansBy mid event))
+        → Leaves (now old.disk) (now new.disk) (past old.disk) (past new.disk)
+        (MeansBeginningOf old events longer_answers)
     leaves_step now past so_far call = elim (steps old mid new sure_far doubt_far event a far it) [
       | inl still ↦
-          subst (λ (s : EngineState D). Leaves (now old.disk) (now s.disk) (past old.disk) (past s.disk) (MeansBeginningOf old events longer_answers)) (sym still.same)
-          (leaves_weaker (now old.disk) (now mid.disk) (past old.disk) (past mid.disk) (MeansBeginningOf old events answers) (MeansBeginningOf old events longer_answers) so_far longer)
+          subst (λ (s : EngineState D). Leaves (now old.disk) (now s.disk) (past old.disk) (past s.disk)
+          (MeansBeginningOf old events longer_answers)) (sym still.same)
+          (leaves_weaker (now old.disk) (now mid.disk) (past old.disk) (past mid.disk)
+          (MeansBeginningOf old events answers) (MeansBeginningOf old events longer_answers) so_far longer)
       | inr (inl done) ↦ leaves_on now past so_far call
           (λ f file means. ⊎_elim
           (λ image. all_before f file image)
-          (λ image. with_this file (subst (λ (l : List Command). MeansAll old l file) (sym (done_is done)) (behind old mid new sure_far doubt_far event a far it f sure_one file image)))
+          (λ image. with_this file
+          (subst (λ (l : List Command). MeansAll old l file) (sym (done_is done))
+          (behind old mid new sure_far doubt_far event a far it f sure_one file image)))
           (done.means file means))
           done.alive
       | inr (inr fault) ↦ leaves_on now past so_far call
           (λ f file means. ⊎_elim
           (λ image. all_before f file image)
-          (λ image. with_this file (subst (λ (l : List Command). MeansAll old l file) (sym (fault_is fault)) (behind old mid new sure_far doubt_far event a far it f doubt_one file image)))
+          (λ image. with_this file
+          (subst (λ (l : List Command). MeansAll old l file) (sym (fault_is fault))
+          (behind old mid new sure_far doubt_far event a far it f doubt_one file image)))
           (fault.means file means))
           fault.alive
     ]
       where
         done_is : IsDone mid new event sure_one doubt_one → sure_here ++ doubt_here ≡ sure_far ++ sure_one
-        done_is done = ap (λ (l : List Command). sure_here ++ l) (doubt_grown ∙ ap (λ (l : List Command). l ++ doubt_one) (far.none done.alive) ∙ done.doubt_none) ∙ append-nil sure_here ∙ sure_grown
+        done_is done = ap (λ (l : List Command). sure_here ++ l)
+            (doubt_grown ∙ ap (λ (l : List Command). l ++ doubt_one) (far.none done.alive) ∙ done.doubt_none)
+            ∙ append-nil sure_here ∙ sure_grown
 
         fault_is : IsFault mid new event sure_one doubt_one → sure_here ++ doubt_here ≡ sure_far ++ doubt_one
-        fault_is fault = ap (λ (l : List Command). l ++ doubt_here) (sure_grown ∙ ap (λ (l : List Command). sure_far ++ l) fault.sure_none ∙ append-nil sure_far)
-            ∙ ap (λ (l : List Command). sure_far ++ l) (doubt_grown ∙ ap (λ (l : List Command). l ++ doubt_one) (far.none fault.alive))
+        fault_is fault = ap (λ (l : List Command). l ++ doubt_here)
+            (sure_grown ∙ ap (λ (l : List Command). sure_far ++ l) fault.sure_none ∙ append-nil sure_far)
+            ∙ ap (λ (l : List Command). sure_far ++ l)
+            (doubt_grown ∙ ap (λ (l : List Command). l ++ doubt_one) (far.none fault.alive))
 
 -- ---- a run that has done nothing yet
 
 means_start : {D : Type 0} (s : EngineState D) (file : List ℕ) → MeansState s file → MeansAll s [] file
-means_start s file means = subst (λ (n : ℕ). Means s.memory n 0 file) (none s.count) (some_room s.memory s.count s.room file means)
+means_start s file means = subst (λ (n : ℕ). Means s.memory n 0 file) (none s.count)
+    (some_room s.memory s.count s.room file means)
   where
     none : (n : ℕ) → n ≡ n + 0
     none n = omega arith

@@ -1,5 +1,7 @@
 -- What appended commands leave of a disk that keeps a memory.
-use Rattle.std.proofs.Common.{◌≡◌, ◌⊎◌, inl, inr, ⊎_elim, ℕ, ◌+◌, ◌*◌, ◌-◌, ◌<◌, ◌≤◌, ◌==◌, Bool, true, false, List, [], ◌∷◌, ◌++◌, length, Option, None, Some, option_map, refl, sym, ◌∙◌, ap, subst, arith, length-append, if◌then◌else◌}
+use Rattle.std.proofs.Common.{◌≡◌, ◌⊎◌, inl, inr, ⊎_elim, ℕ, ◌+◌, ◌*◌, ◌-◌, ◌<◌, ◌≤◌, ◌==◌, Bool, true, false, List}
+use Rattle.std.proofs.Common.{[], ◌∷◌, ◌++◌, length, Option, None, Some, option_map, refl, sym, ◌∙◌, ap, subst, arith}
+use Rattle.std.proofs.Common.{length-append, if◌then◌else◌}
 use Rattle.im_types.specs.declared.TheConstants.{LAST}
 use Rattle.im_types.specs.declared.commands.Command.{Command}
 use Rattle.im_types.specs.Contents.{Contents}
@@ -10,7 +12,8 @@ use Rattle.im_types.specs.Journal.{Ring, Tail, tail}
 use Rattle.im_types.specs.Meaning.{accept_each}
 use Rattle.im_disk.specs.Moment.{Moment, Left}
 use Rattle.im_disk.specs.Since.{SameBut, LeavesNow}
-use Rattle.im_journal.specs.Holding.{JournalState, Holds, AllHold, room_after, longer, longer_tail, KeepsBoundaries, Appended, MayAppend}
+use Rattle.im_journal.specs.Holding.{JournalState, Holds, AllHold, room_after, longer, longer_tail, KeepsBoundaries}
+use Rattle.im_journal.specs.Holding.{Appended, MayAppend}
 use Rattle.im_journal.specs.Groups.{SameButGroup}
 use Rattle.im_journal.proofs.Slots.{slot_inside}
 use Rattle.im_memory.specs.State.{MemoryState}
@@ -22,22 +25,28 @@ use Rattle.im_checkpoint.specs.Keeping.{Paged, paged, MeansWith, Keeps, IsKept, 
 use Rattle.im_checkpoint.proofs.Bytes.{same_all}
 use Rattle.im_checkpoint.proofs.Files.{Still, still_in_area, keeps_at, means_of, enough, some}
 use Rattle.im_checkpoint.proofs.Moments.{kept_calm, means_left}
-use Rattle.im_checkpoint.proofs.Sweeping.{area_before_stays, other_place_stays, in_force_stays, shows_stays, tail_of_image}
+use Rattle.im_checkpoint.proofs.Sweeping.{area_before_stays, other_place_stays, in_force_stays, shows_stays}
+use Rattle.im_checkpoint.proofs.Sweeping.{tail_of_image}
 use Rattle.im_checkpoint.proofs.Copies.{IsPrepared, step_named, step_moved, taken_longer}
 use Rattle.im_checkpoint.proofs.Copying.{prepared_for}
 
 -- commands that are accepted, and then others
-pub accept_both : (m m2 m3 : Contents) (commands added : List Command) → accept_each m commands ≡ Some m2 → accept_each m2 added ≡ Some m3 → accept_each m (commands ++ added) ≡ Some m3
-accept_both m m2 m3 [] added is more = let same : m ≡ m2 = cc in subst (λ (x : Contents). accept_each x added ≡ Some m3) (sym same) more
-accept_both m m2 m3 (c ∷ commands) added is more = by_test (is_accepted m c) is (λ rest. accept_both (step m c).contents m2 m3 commands added rest more)
+pub accept_both : (m m2 m3 : Contents) (commands added : List Command) → accept_each m commands ≡ Some m2
+    → accept_each m2 added ≡ Some m3 → accept_each m (commands ++ added) ≡ Some m3
+accept_both m m2 m3 [] added is more = let same : m
+    ≡ m2 = cc in subst (λ (x : Contents). accept_each x added ≡ Some m3) (sym same) more
+accept_both m m2 m3 (c ∷ commands) added is more = by_test (is_accepted m c) is
+    (λ rest. accept_both (step m c).contents m2 m3 commands added rest more)
   where
     by_test : (b : Bool) → (if b then accept_each (step m c).contents commands else None) ≡ Some m2
-        → (accept_each (step m c).contents commands ≡ Some m2 → accept_each (step m c).contents (commands ++ added) ≡ Some m3)
+        → (accept_each (step m c).contents commands ≡ Some m2 → accept_each (step m c).contents (commands ++ added)
+        ≡ Some m3)
         → (if b then accept_each (step m c).contents (commands ++ added) else None) ≡ Some m3
     by_test true e more = more e
     by_test false e more = absurd (cc)
 
-pub accept_one : (m : Contents) (command : Command) → is_accepted m command ≡ true → accept_each m (command ∷ []) ≡ Some (step m command).contents
+pub accept_one : (m : Contents) (command : Command) → is_accepted m command ≡ true → accept_each m (command ∷ [])
+    ≡ Some (step m command).contents
 accept_one m command accepted = ap (λ (b : Bool). if b then Some (step m command).contents else None) accepted
 
 pub room_grows : (count n room there : ℕ) → room ≤ there → room_after count n room ≤ room_after count n there
@@ -48,11 +57,13 @@ room_grows count n room there le = by_test (count + n == LAST)
     by_test false = omega arith
 
 -- a file that differs from one that keeps a memory in the journal's ring alone
-module _ (h : Header) (m : Contents) (j : JournalState) (file : List ℕ) (it : Keeps h m j file) (d : List ℕ) (but : SameBut j.ring.base (64 * j.ring.slots) file d) where
+module _ (h : Header) (m : Contents) (j : JournalState) (file : List ℕ) (it : Keeps h m j file) (d : List ℕ)
+    (but : SameBut j.ring.base (64 * j.ring.slots) file d) where
   tail_there : tail j.ring j.first file ≡ Some (record { commands = it.commands; room = it.there })
   tail_there = (λ i. tail (it.ring i) (it.first i) file) ∙ it.image.journal
 
-  pub with_tail : (later : List Command) (there : ℕ) → tail j.ring j.first d ≡ Some (record { commands = later; room = there }) → IsImage layout_in_use h it.shown later there d
+  pub with_tail : (later : List Command) (there : ℕ) → tail j.ring j.first d
+      ≡ Some (record { commands = later; room = there }) → IsImage layout_in_use h it.shown later there d
   with_tail later there e = record {
     in_force = in_force_stays h m j file it d but;
     shows = shows_stays h m j file it d but;
@@ -61,11 +72,14 @@ module _ (h : Header) (m : Contents) (j : JournalState) (file : List ℕ) (it : 
 
   -- its tail is the same
   pub means_same : tail j.ring j.first d ≡ tail j.ring j.first file → MeansWith m j d
-  means_same e = means_of h m j it.shown it.commands it.there d (with_tail it.commands it.there (e ∙ tail_there)) it.accepts it.count (enough h m j file it)
+  means_same e = means_of h m j it.shown it.commands it.there d
+      (with_tail it.commands it.there (e ∙ tail_there)) it.accepts it.count (enough h m j file it)
 
   -- its tail has these commands more, and the journal with them has its room at the least
-  module _ (added : List Command) (m2 : Contents) (accepts : accept_each m added ≡ Some m2) (k : JournalState) (ring : k.ring ≡ j.ring) (first : k.first ≡ j.first) (count : k.count ≡ j.count + length added)
-      (there : ℕ) (room : k.room ≤ there) (e : tail j.ring j.first d ≡ Some (record { commands = it.commands ++ added; room = there })) where
+  module _ (added : List Command) (m2 : Contents) (accepts : accept_each m added ≡ Some m2) (k : JournalState)
+      (ring : k.ring ≡ j.ring) (first : k.first ≡ j.first) (count : k.count ≡ j.count + length added)
+      (there : ℕ) (room : k.room ≤ there)
+      (e : tail j.ring j.first d ≡ Some (record { commands = it.commands ++ added; room = there })) where
     pub all_accepted : accept_each it.shown (it.commands ++ added) ≡ Some m2
     all_accepted = accept_both it.shown m m2 it.commands added it.accepts accepts
 
@@ -73,7 +87,8 @@ module _ (h : Header) (m : Contents) (j : JournalState) (file : List ℕ) (it : 
     counted = omega (arith, count, it.count, length-append it.commands added)
 
     pub means_more : MeansWith m2 k d
-    means_more = means_of h m2 k it.shown (it.commands ++ added) there d (with_tail (it.commands ++ added) there e) all_accepted counted room
+    means_more = means_of h m2 k it.shown (it.commands ++ added) there d
+        (with_tail (it.commands ++ added) there e) all_accepted counted room
 
     abbrev pub keeps_more : Holds k d → Keeps h m2 k d
     keeps_more holds = record {
@@ -88,9 +103,12 @@ module _ (h : Header) (m : Contents) (j : JournalState) (file : List ℕ) (it : 
       journal = holds;
     }
 
-module _ (c : CheckpointState) (x : Paged) (m : Contents) (j : JournalState) (now : Moment) (kept : IsKept c x m j now) where
+module _ (c : CheckpointState) (x : Paged) (m : Contents) (j : JournalState) (now : Moment)
+    (kept : IsKept c x m j now) where
   still : (file : List ℕ) → Left now file → Still c.header m j now.bytes kept.read file
-  still file left = still_in_area c.header m j now.bytes kept.read (area_at layout_in_use c.header.sizes (other c.header)) (area_bytes layout_in_use c.header.sizes) file (kept.elsewhere file left) (omega arith) (omega arith)
+  still file left = still_in_area c.header m j now.bytes kept.read
+      (area_at layout_in_use c.header.sizes (other c.header)) (area_bytes layout_in_use c.header.sizes) file
+      (kept.elsewhere file left) (omega arith) (omega arith)
 
   pub all_mean : LeavesNow now (MeansWith m j)
   all_mean file left = means_left c x m j now kept file left
@@ -109,7 +127,9 @@ module _ (c : CheckpointState) (x : Paged) (m : Contents) (j : JournalState) (no
     size = but.size;
     same = λ i out. ⊎_elim
         (λ (low : i < j.ring.base). but.same i (omega arith) (λ k below. inl (omega arith)))
-        (λ (high : j.ring.base + 64 * j.ring.slots ≤ i). but.same i (omega (arith, slot_inside j.ring some_slots j.count)) (λ k below. inr (omega (arith, slot_inside j.ring some_slots (j.count + k)))))
+        (λ (high : j.ring.base + 64 * j.ring.slots ≤ i). but.same i
+        (omega (arith, slot_inside j.ring some_slots j.count))
+        (λ k below. inr (omega (arith, slot_inside j.ring some_slots (j.count + k)))))
         out;
   }
 
@@ -118,46 +138,69 @@ module _ (c : CheckpointState) (x : Paged) (m : Contents) (j : JournalState) (no
     abbrev more : JournalState
     more = longer (length commands) j
 
-    added_tail : (from file : List ℕ) → Left now from → tail j.ring j.first file ≡ option_map (longer_tail j.count commands) (tail j.ring j.first from)
-        → tail j.ring j.first file ≡ Some (record { commands = kept.read.commands ++ commands; room = room_after j.count (length commands) kept.read.there })
-    added_tail from file left e = e ∙ ap (λ (t : Option Tail). option_map (longer_tail j.count commands) t) (tail_there c.header m j from (there from left) from (same_all j.ring.base (64 * j.ring.slots) from))
+    added_tail : (from file : List ℕ) → Left now from → tail j.ring j.first file
+        ≡ option_map (longer_tail j.count commands) (tail j.ring j.first from)
+        → tail j.ring j.first file
+        ≡ Some (record {
+          commands = kept.read.commands ++ commands;
+          room = room_after j.count
+              (length commands) kept.read.there;
+        })
+    added_tail from file left e = e
+        ∙ ap (λ (t : Option Tail). option_map (longer_tail j.count commands) t)
+        (tail_there c.header m j from (there from left) from (same_all j.ring.base (64 * j.ring.slots) from))
 
     room_there : room_after j.count (length commands) j.room ≤ room_after j.count (length commands) kept.read.there
     room_there = room_grows j.count (length commands) j.room kept.read.there (enough c.header m j now.bytes kept.read)
 
-    pub may_append_means : (file : List ℕ) → MayAppend j commands now file → MeansWith m j file ⊎ MeansWith m2 (longer (length commands) j) file
+    pub may_append_means : (file : List ℕ) → MayAppend j commands now file → MeansWith m j file
+        ⊎ MeansWith m2 (longer (length commands) j) file
     may_append_means file may = ⊎_elim
-        (λ same. inl (means_same c.header m j may.from (there may.from may.left) file (in_ring (length commands) may.from file may.same) same))
-        (λ added. inr (means_more c.header m j may.from (there may.from may.left) file (in_ring (length commands) may.from file may.same) commands m2 accepts
-        more refl refl refl (room_after j.count (length commands) kept.read.there) room_there (added_tail may.from file may.left added)))
+        (λ same. inl (means_same c.header m j may.from (there may.from may.left) file
+        (in_ring (length commands) may.from file may.same) same))
+        (λ added. inr (means_more c.header m j may.from (there may.from may.left) file
+        (in_ring (length commands) may.from file may.same) commands m2 accepts
+        more refl refl refl (room_after j.count (length commands) kept.read.there) room_there
+        (added_tail may.from file may.left added)))
         may.reads
 
     -- once they are appended, the disk keeps it
-    pub kept_longer : (new : Moment) → SameButGroup j.ring j.count (length commands) now.bytes new.bytes → new.ranges ≡ [] → Appended j commands now new.bytes → Holds (longer (length commands) j) new.bytes
+    pub kept_longer : (new : Moment) → SameButGroup j.ring j.count (length commands) now.bytes new.bytes → new.ranges
+        ≡ [] → Appended j commands now new.bytes → Holds (longer (length commands) j) new.bytes
         → IsKept c x m2 (longer (length commands) j) new
     kept_longer new but calm added holds =
-        let ring : SameBut j.ring.base (64 * j.ring.slots) now.bytes new.bytes = in_ring (length commands) now.bytes new.bytes but in
+        let ring : SameBut j.ring.base (64 * j.ring.slots) now.bytes new.bytes = in_ring
+        (length commands) now.bytes new.bytes but in
         let boundaries : KeepsBoundaries (ring_of layout_in_use c.header.sizes) c.header.count added.from new.bytes =
         subst (λ (n : ℕ). KeepsBoundaries (ring_of layout_in_use c.header.sizes) n added.from new.bytes) kept.read.first
         (subst (λ (r : Ring). KeepsBoundaries r j.first added.from new.bytes) kept.read.ring added.boundaries) in
         kept_calm c x m2 more new calm
         (keeps_more c.header m j now.bytes kept.read new.bytes ring commands m2 accepts
-        more refl refl refl (room_after j.count (length commands) kept.read.there) room_there (added_tail added.from new.bytes added.left added.reads) holds)
+        more refl refl refl (room_after j.count (length commands) kept.read.there) room_there
+        (added_tail added.from new.bytes added.left added.reads) holds)
         (taken_longer c.header kept.read.shown kept.read.commands commands x c.step new.bytes
-        (step_moved c.header x now.bytes new.bytes (area_before_stays c.header m j now.bytes kept.read new.bytes ring c.header.area kept.read.image.in_force.number)
-        (area_before_stays c.header m j now.bytes kept.read new.bytes ring (other c.header) (omega arith)) kept.read.shown kept.read.commands c.step
-        (other_place_stays c.header m j now.bytes kept.read new.bytes ring) (λ k boundary. boundaries k ((still added.from added.left).boundaries k boundary)) kept.step))
+        (step_moved c.header x now.bytes new.bytes
+        (area_before_stays c.header m j now.bytes kept.read new.bytes ring c.header.area kept.read.image.in_force.number)
+        (area_before_stays c.header m j now.bytes kept.read new.bytes ring (other c.header)
+        (omega arith)) kept.read.shown kept.read.commands c.step
+        (other_place_stays c.header m j now.bytes kept.read new.bytes ring)
+        (λ k boundary. boundaries k ((still added.from added.left).boundaries k boundary)) kept.step))
 
 -- before a command acts, its pages were named
-module _ (c d : PagedCheckpoint) (m n : MemoryState) (command : Command) (prepares : Prepares c m command d) (sizes : HasSizes c.state.header.sizes m.contents) (changes : ChangesOnly (touched m command) m.records n.records) where
+module _ (c d : PagedCheckpoint) (m n : MemoryState) (command : Command) (prepares : Prepares c m command d)
+    (sizes : HasSizes c.state.header.sizes m.contents)
+    (changes : ChangesOnly (touched m command) m.records n.records) where
   prepared : IsPrepared c.state.header.sizes (left_in c.state.step) (paged c m) (paged d n)
   prepared = prepared_for c d m n command prepares changes sizes.cells sizes.elements
 
   -- so what is known of the file stays known once it acted
-  pub kept_prepared : (contents : Contents) (j : JournalState) (now : Moment) → IsKept c.state (paged c m) contents j now → IsKept d.state (paged d n) contents j now
-  kept_prepared contents j now kept = subst (λ (s : CheckpointState). IsKept s (paged d n) contents j now) (sym prepares.state) (record {
-    read = kept.read;
-    step = step_named c.state.header (paged c m) (paged d n) now.bytes kept.read.shown kept.read.commands c.state.step prepared kept.step;
-    elsewhere = kept.elsewhere;
-    calm = kept.calm;
-  })
+  pub kept_prepared : (contents : Contents) (j : JournalState) (now : Moment)
+      → IsKept c.state (paged c m) contents j now → IsKept d.state (paged d n) contents j now
+  kept_prepared contents j now kept = subst (λ (s : CheckpointState). IsKept s (paged d n) contents j now)
+      (sym prepares.state) (record {
+        read = kept.read;
+        step = step_named c.state.header (paged c m)
+            (paged d n) now.bytes kept.read.shown kept.read.commands c.state.step prepared kept.step;
+        elsewhere = kept.elsewhere;
+        calm = kept.calm;
+      })

@@ -1,5 +1,6 @@
 -- How one command is served.
-use Rattle.std.proofs.Common.{◌≡◌, ℕ, ◌≤◌, [], ◌∷◌, Bool, true, false, List, length, Result, Ok, Err, if◌then◌else◌, refl, sym, ◌∙◌, ap, subst, arith}
+use Rattle.std.proofs.Common.{◌≡◌, ℕ, ◌≤◌, [], ◌∷◌, Bool, true, false, List, length, Result, Ok, Err, if◌then◌else◌}
+use Rattle.std.proofs.Common.{refl, sym, ◌∙◌, ap, subst, arith}
 use Rattle.im_types.specs.declared.commands.Command.{Command}
 use Rattle.im_types.specs.declared.commands.Outcome.{Outcome}
 use Rattle.im_types.specs.declared.refusals.Refusal.{Refusal}
@@ -20,19 +21,23 @@ use Rattle.im_engine.proofs.Accepting.{Answers, accepted_answers}
 use Rattle.im_engine.proofs.Keeping.{accept_one, kept_longer}
 
 -- the judgement, taken apart
-pub judged_is : (accepts b : Bool) (answer : Result Outcome Refusal) → unless_refused accepts answer ≡ Ok b → accepts ≡ b
+pub judged_is : (accepts b : Bool) (answer : Result Outcome Refusal) → unless_refused accepts answer ≡ Ok b → accepts
+    ≡ b
 judged_is accepts b (Ok outcome) e = cc
 judged_is accepts b (Err refusal) e = absurd (cc)
 
-pub judged_refused : (accepts : Bool) (refusal : Refusal) (answer : Result Outcome Refusal) → unless_refused accepts answer ≡ Err refusal → answer ≡ Err refusal
+pub judged_refused : (accepts : Bool) (refusal : Refusal) (answer : Result Outcome Refusal)
+    → unless_refused accepts answer ≡ Err refusal → answer ≡ Err refusal
 judged_refused accepts refusal (Ok outcome) e = absurd (cc)
 judged_refused accepts refusal (Err other) e = cc
 
-pub accepts : (m : Contents) (command : Command) (b : Bool) (r : Result Bool Refusal) → r ≡ acceptance m command → r ≡ Ok b → is_accepted m command ≡ b
+pub accepts : (m : Contents) (command : Command) (b : Bool) (r : Result Bool Refusal) → r ≡ acceptance m command → r
+    ≡ Ok b → is_accepted m command ≡ b
 accepts m command b r is e = judged_is (is_accepted m command) b (step m command).answer (sym is ∙ e)
 
 -- a memory and a journal of the sizes of a header, with a command more
-pub fits_longer : (c : CheckpointState) (m new : Contents) (j longer_j : JournalState) (command : Command) → Fits c m j → new ≡ (step m command).contents → longer_j ≡ longer 1 j → Fits c new longer_j
+pub fits_longer : (c : CheckpointState) (m new : Contents) (j longer_j : JournalState) (command : Command)
+    → Fits c m j → new ≡ (step m command).contents → longer_j ≡ longer 1 j → Fits c new longer_j
 fits_longer c m new j longer_j command it is more = record {
   cells = ap (λ (x : Contents). length x.cells) is ∙ step-cell_count m command ∙ it.cells;
   elements = ap (λ (x : Contents). length x.windows) is ∙ step-window_count m command ∙ it.elements;
@@ -51,18 +56,23 @@ fits_longer c m new j longer_j command it is more = record {
     step_longer h j (Synced count) it = later h j count it
 
 -- a disk that keeps a memory keeps it with a command more, once that is appended
-module _ (c : CheckpointState) (x : Paged) (m : Contents) (j : JournalState) (now : Moment) (kept : IsKept c x m j now) (command : Command) (accepted : is_accepted m command ≡ true) where
-  pub kept_with_it : (new : Contents) → new ≡ (step m command).contents → (longer_j : JournalState) → longer_j ≡ longer 1 j → (after : Moment) → SameButGroup j.ring j.count 1 now.bytes after.bytes → after.ranges ≡ []
-      → ((file : List ℕ) → Left after file → Appended j (command ∷ []) now file) → AllHold longer_j after → IsKept c x new longer_j after
+module _ (c : CheckpointState) (x : Paged) (m : Contents) (j : JournalState) (now : Moment)
+    (kept : IsKept c x m j now) (command : Command) (accepted : is_accepted m command ≡ true) where
+  pub kept_with_it : (new : Contents) → new ≡ (step m command).contents → (longer_j : JournalState) → longer_j
+      ≡ longer 1 j → (after : Moment) → SameButGroup j.ring j.count 1 now.bytes after.bytes → after.ranges ≡ []
+      → ((file : List ℕ) → Left after file → Appended j (command ∷ []) now file) → AllHold longer_j after
+      → IsKept c x new longer_j after
   kept_with_it new is longer_j more after but calm added holds =
       subst (λ (y : Contents). IsKept c x y longer_j after) (sym is)
       (subst (λ (y : JournalState). IsKept c x (step m command).contents y after) (sym more)
-      (kept_longer c x m j now kept (command ∷ []) (step m command).contents (accept_one m command accepted) after but calm (added after.bytes (left_now after))
+      (kept_longer c x m j now kept (command ∷ []) (step m command).contents
+      (accept_one m command accepted) after but calm (added after.bytes (left_now after))
       (subst (λ (x : JournalState). Holds x after.bytes) more (holds after.bytes (left_now after)))))
 
 -- an answer to a command, by what the engine is
 
-pub answered_unaccepted : {D : Type 0} (old new : EngineState D) (command : Command) (answer : Result Outcome Refusal) → old.failed ≡ false → is_accepted old.memory command ≡ false
+pub answered_unaccepted : {D : Type 0} (old new : EngineState D) (command : Command)
+    (answer : Result Outcome Refusal) → old.failed ≡ false → is_accepted old.memory command ≡ false
     → answer ≡ (step old.memory command).answer → new ≡ old → Answered old command answer new
 answered_unaccepted old new command answer alive un is same = record {
   dead = λ e. absurd (cc);
@@ -72,7 +82,8 @@ answered_unaccepted old new command answer alive un is same = record {
 }
 
 -- a refused command isn't accepted
-pub refused_unaccepted : (m : Contents) (command : Command) (refusal : Refusal) → (step m command).answer ≡ Err refusal → is_accepted m command ≡ false
+pub refused_unaccepted : (m : Contents) (command : Command) (refusal : Refusal) → (step m command).answer
+    ≡ Err refusal → is_accepted m command ≡ false
 refused_unaccepted m command refusal is = by_test (is_accepted m command) refl
   where
     by_test : (b : Bool) → is_accepted m command ≡ b → b ≡ false
@@ -80,23 +91,32 @@ refused_unaccepted m command refusal is = by_test (is_accepted m command) refl
     by_test true e = let answers : Answers (step m command).answer = accepted_answers m command e in
         let both : Ok answers.0 ≡ Err refusal = sym answers.1 ∙ is in absurd (cc)
 
-pub refused_acceptance : (m : Contents) (command : Command) (refusal : Refusal) (r : Result Bool Refusal) → r ≡ acceptance m command → r ≡ Err refusal → (step m command).answer ≡ Err refusal
-refused_acceptance m command refusal r is e = judged_refused (is_accepted m command) refusal (step m command).answer (sym is ∙ e)
+pub refused_acceptance : (m : Contents) (command : Command) (refusal : Refusal) (r : Result Bool Refusal) → r
+    ≡ acceptance m command → r ≡ Err refusal → (step m command).answer ≡ Err refusal
+refused_acceptance m command refusal r is e = judged_refused (is_accepted m command) refusal (step m command).answer
+    (sym is ∙ e)
 
 -- how many calls of the disk a command takes
 abbrev calls_where : Bool → ℕ
 calls_where accepted = if accepted then 4 else 0
 
-calls_always : {D T E : Type 0} (past : D → List Moment) (old new : D) (n : ℕ) (r : Result T E) → Calls past old new n → CallsBy past old new n r
+calls_always : {D T E : Type 0} (past : D → List Moment) (old new : D) (n : ℕ) (r : Result T E)
+    → Calls past old new n → CallsBy past old new n r
 calls_always past old new n (Ok x) is = is
 calls_always past old new n (Err e) is = omega (arith, is)
 
-pub calls_after : {D T E U V : Type 0} (past : D → List Moment) (old new : D) (n : ℕ) (first : Result T E) (x : T) (r : Result U V) → first ≡ Ok x → CallsBy past old new n first → CallsBy past old new n r
-calls_after {D} {T} {E} past old new n first x r is calls = calls_always past old new n r (subst (λ (a : Result T E). CallsBy past old new n a) is calls)
+pub calls_after : {D T E U V : Type 0} (past : D → List Moment) (old new : D) (n : ℕ) (first : Result T E) (x : T)
+    (r : Result U V) → first ≡ Ok x → CallsBy past old new n first → CallsBy past old new n r
+calls_after {D} {T} {E} past old new n first x r is calls = calls_always past old new n r
+    (subst (λ (a : Result T E). CallsBy past old new n a) is calls)
 
-pub calls_accepted : {D T E : Type 0} (past : D → List Moment) (old new : D) (m : Contents) (command : Command) (r : Result T E) → is_accepted m command ≡ true → CallsBy past old new 4 r
+pub calls_accepted : {D T E : Type 0} (past : D → List Moment) (old new : D) (m : Contents) (command : Command)
+    (r : Result T E) → is_accepted m command ≡ true → CallsBy past old new 4 r
     → CallsBy past old new (calls_for m command) r
-calls_accepted past old new m command r accepted is = subst (λ (n : ℕ). CallsBy past old new n r) (sym (ap calls_where accepted)) is
+calls_accepted past old new m command r accepted is = subst (λ (n : ℕ). CallsBy past old new n r)
+    (sym (ap calls_where accepted)) is
 
-pub calls_none : {D T E : Type 0} (past : D → List Moment) (d : D) (m : Contents) (command : Command) (r : Result T E) → is_accepted m command ≡ false → CallsBy past d d (calls_for m command) r
-calls_none past d m command r un = subst (λ (n : ℕ). CallsBy past d d n r) (sym (ap calls_where un)) (calls_always past d d 0 r (omega arith))
+pub calls_none : {D T E : Type 0} (past : D → List Moment) (d : D) (m : Contents) (command : Command)
+    (r : Result T E) → is_accepted m command ≡ false → CallsBy past d d (calls_for m command) r
+calls_none past d m command r un = subst (λ (n : ℕ). CallsBy past d d n r) (sym (ap calls_where un))
+    (calls_always past d d 0 r (omega arith))

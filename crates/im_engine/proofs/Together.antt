@@ -1,5 +1,6 @@
 -- How a group is served.
-use Rattle.std.proofs.Common.{◌≡◌, ◌⊎◌, inl, inr, ⊎_elim, ℕ, ◌+◌, ◌-◌, ◌≤◌, min, Bool, true, false, List, [], length, map, Some, Result, Ok, Err, sym, ◌∙◌, ap, subst, arith}
+use Rattle.std.proofs.Common.{◌≡◌, ◌⊎◌, inl, inr, ⊎_elim, ℕ, ◌+◌, ◌-◌, ◌≤◌, min, Bool, true, false, List, [], length}
+use Rattle.std.proofs.Common.{map, Some, Result, Ok, Err, sym, ◌∙◌, ap, subst, arith}
 use Rattle.im_types.specs.declared.TheConstants.{LAST}
 use Rattle.im_types.specs.declared.commands.Request.{Request}
 use Rattle.im_types.specs.declared.commands.Command.{Command}
@@ -20,17 +21,21 @@ use Rattle.im_image.specs.Reading.{HasSizes}
 use Rattle.im_checkpoint.specs.Step.{Step, NoCheckpoint, PagesLeft, PagesDone, Synced, CheckpointState, PagedCheckpoint}
 use Rattle.im_checkpoint.specs.Keeping.{IsBetween, StepFits, Fits, MeansWith}
 use Rattle.im_engine.specs.State.{EngineState}
-use Rattle.im_engine.specs.Groups.{after_group, group_put, MeansGroup, all_refused, answers_in, GroupAnswered, calls_for_group, GroupCalls, answers_with, contents_after, commands_at}
+use Rattle.im_engine.specs.Groups.{after_group, group_put, MeansGroup, all_refused, answers_in, GroupAnswered}
+use Rattle.im_engine.specs.Groups.{calls_for_group, GroupCalls, answers_with, contents_after, commands_at}
 use Rattle.im_engine.proofs.Members.{answers_by, contents_by, puts_judged, few_at, none_reached}
 
 -- the memory and the journal with more commands are of the sizes of the header still
-pub fits_group : (c c2 : CheckpointState) (m m2 : Contents) (j j2 : JournalState) (n : ℕ) → Fits c m j → c2 ≡ c → HasSizes c2.header.sizes m2 → j2 ≡ longer n j → Fits c2 m2 j2
+pub fits_group : (c c2 : CheckpointState) (m m2 : Contents) (j j2 : JournalState) (n : ℕ) → Fits c m j → c2 ≡ c
+    → HasSizes c2.header.sizes m2 → j2 ≡ longer n j → Fits c2 m2 j2
 fits_group c c2 m m2 j j2 n it same sizes more = record {
   cells = sizes.cells;
   elements = sizes.elements;
   ring = ap (λ (x : JournalState). x.ring) more ∙ ring;
   first = ap (λ (x : JournalState). x.first) more ∙ first;
-  step = subst (λ (x : JournalState). StepFits c2.header x c2.step) (sym more) (subst (λ (x : CheckpointState). StepFits x.header (longer n j) x.step) (sym same) (step_longer c.header j c.step it.step));
+  step = subst (λ (x : JournalState). StepFits c2.header x c2.step) (sym more)
+      (subst (λ (x : CheckpointState). StepFits x.header (longer n j) x.step) (sym same)
+      (step_longer c.header j c.step it.step));
 }
   where
     ring : j.ring ≡ ring_of layout_in_use c2.header.sizes
@@ -52,7 +57,9 @@ fits_group c c2 m m2 j j2 n it same sizes more = record {
 abbrev pub engine_of : {D : Type 0} → D → PagedCheckpoint → MemoryState → JournalState → Bool → EngineState D
 engine_of d c m j f = record { disk = d; header = c.state.header; step = c.state.step; memory = m.contents; count = j.count; room = j.room; failed = f }
 
-module _ {D : Type 0} (d : D) (c : PagedCheckpoint) (m : MemoryState) (j : JournalState) (f : Bool) (rs rs0 : List Request) (same : rs0 ≡ rs) (apart : AreApart rs) (p : ℕ) (p_is : p ≡ min j.room (LAST - j.count)) (known : IsJournal j)
+module _ {D : Type 0} (d : D) (c : PagedCheckpoint) (m : MemoryState) (j : JournalState) (f : Bool)
+    (rs rs0 : List Request) (same : rs0 ≡ rs) (apart : AreApart rs) (p : ℕ) (p_is : p ≡ min j.room (LAST - j.count))
+    (known : IsJournal j)
     (cmds : List Command) (cmds_is : cmds ≡ commands_at m.contents p rs0) where
   abbrev s : Reached
   s = record { contents = m.contents; count = j.count; room = j.room }
@@ -61,7 +68,8 @@ module _ {D : Type 0} (d : D) (c : PagedCheckpoint) (m : MemoryState) (j : Journ
   counted = record { to_last = known.to_last; full_at_last = known.full_at_last }
 
   pub put_is : cmds ≡ puts_of s rs
-  put_is = cmds_is ∙ ap (λ (l : List Request). commands_at m.contents p l) same ∙ ap (λ (n : ℕ). commands_at m.contents n rs) p_is ∙ sym (puts_judged s rs counted apart)
+  put_is = cmds_is ∙ ap (λ (l : List Request). commands_at m.contents p l) same
+      ∙ ap (λ (n : ℕ). commands_at m.contents n rs) p_is ∙ sym (puts_judged s rs counted apart)
 
   few : length cmds ≤ p
   few = omega (arith, ap length cmds_is, few_at m.contents p rs0)
@@ -82,35 +90,62 @@ module _ {D : Type 0} (d : D) (c : PagedCheckpoint) (m : MemoryState) (j : Journ
   room_is = ap (λ (l : List Command). room_after j.count (length l) j.room) put_is ∙ sym (puts-room s rs counted)
 
   -- the files mean what the engine is without the group, or with it
-  pub means_group : (file : List ℕ) → MeansWith m.contents j file ⊎ MeansWith (reached_by_all s rs).contents (longer (length cmds) j) file → MeansGroup (engine_of d c m j f) rs file
+  pub means_group : (file : List ℕ) → MeansWith m.contents j file
+      ⊎ MeansWith (reached_by_all s rs).contents (longer (length cmds) j) file
+      → MeansGroup (engine_of d c m j f) rs file
   means_group file either = ⊎_elim
       (λ old. inl old)
-      (λ new. inr (subst (λ (n : ℕ). Means (reached_by_all s rs).contents (reached_by_all s rs).count n file) room_is (subst (λ (n : ℕ). Means (reached_by_all s rs).contents n (room_after j.count (length cmds) j.room) file) count_is new)))
+      (λ new. inr (subst (λ (n : ℕ). Means (reached_by_all s rs).contents (reached_by_all s rs).count n file) room_is
+      (subst (λ (n : ℕ). Means (reached_by_all s rs).contents n
+      (room_after j.count (length cmds) j.room) file) count_is new)))
       either
 
   none_put : puts_of s rs ≡ [] → cmds ≡ []
   none_put none = put_is ∙ none
 
   -- the disk has the group, and its members acted
-  module _ (alive : f ≡ false) (d2 : D) (c2 : PagedCheckpoint) (m2 : MemoryState) (j2 : JournalState) (more : j2 ≡ longer (length cmds) j) (untouched : cmds ≡ [] → d2 ≡ d) (still : c2.state ≡ c.state)
-      (contents : m2.contents ≡ contents_after m.contents p rs0) (answers : List Served) (answers_are : answers ≡ map as_served (answers_with m.contents p rs0)) where
+  module _ (alive : f ≡ false) (d2 : D) (c2 : PagedCheckpoint) (m2 : MemoryState) (j2 : JournalState)
+      (more : j2 ≡ longer (length cmds) j) (untouched : cmds ≡ [] → d2 ≡ d) (still : c2.state ≡ c.state)
+      (contents : m2.contents ≡ contents_after m.contents p rs0) (answers : List Served)
+      (answers_are : answers ≡ map as_served (answers_with m.contents p rs0)) where
     pub reached_is : m2.contents ≡ (reached_by_all s rs).contents
-    reached_is = contents ∙ ap (λ (l : List Request). contents_after m.contents p l) same ∙ ap (λ (n : ℕ). contents_after m.contents n rs) p_is ∙ sym (contents_by s rs counted)
+    reached_is = contents ∙ ap (λ (l : List Request). contents_after m.contents p l) same
+        ∙ ap (λ (n : ℕ). contents_after m.contents n rs) p_is ∙ sym (contents_by s rs counted)
 
     told : answers ≡ answers_in (engine_of d c m j f) rs
-    told = answers_are ∙ ap (λ (l : List Request). map as_served (answers_with m.contents p l)) same ∙ ap (λ (n : ℕ). map as_served (answers_with m.contents n rs)) p_is ∙ ap (map as_served) (sym (answers_by s rs counted))
+    told = answers_are ∙ ap (λ (l : List Request). map as_served (answers_with m.contents p l)) same
+        ∙ ap (λ (n : ℕ). map as_served (answers_with m.contents n rs)) p_is
+        ∙ ap (map as_served) (sym (answers_by s rs counted))
 
     new_is : engine_of d2 c2 m2 j2 f ≡ record (after_group (engine_of d c m j f) rs) { disk = d2 }
     new_is =
         let count : j2.count ≡ (reached_by_all s rs).count = ap (λ (x : JournalState). x.count) more ∙ count_is in
         let room : j2.room ≡ (reached_by_all s rs).room = ap (λ (x : JournalState). x.room) more ∙ room_is in
-        (λ i. record { disk = d2; header = (still i).header; step = (still i).step; memory = reached_is i; count = count i; room = room i; failed = f })
+        (λ i. record {
+          disk = d2;
+          header = (still i).header;
+          step =
+              (still i).step;
+          memory = reached_is i;
+          count = count i;
+          room = room i;
+          failed = f;
+        })
 
     back : puts_of s rs ≡ [] → record (after_group (engine_of d c m j f) rs) { disk = d2 } ≡ engine_of d c m j f
     back none =
         let disk : d2 ≡ d = untouched (none_put none) in
         let there : reached_by_all s rs ≡ s = none_reached s rs none in
-        (λ i. record { disk = disk i; header = c.state.header; step = c.state.step; memory = (there i).contents; count = (there i).count; room = (there i).room; failed = f })
+        (λ i. record {
+          disk = disk i;
+          header = c.state.header;
+          step = c.state.step;
+          memory =
+              (there i).contents;
+          count = (there i).count;
+          room = (there i).room;
+          failed = f;
+        })
 
     pub group_done : GroupAnswered (engine_of d c m j f) rs answers (engine_of d2 c2 m2 j2 f)
     group_done = record {
@@ -120,27 +155,46 @@ module _ {D : Type 0} (d : D) (c : PagedCheckpoint) (m : MemoryState) (j : Journ
     }
 
   -- a call of the disk failed
-  pub group_failed : f ≡ false → (d2 : D) (j2 : JournalState) → j2 ≡ j → (cmds ≡ [] → ⊥) → (answers : List Served) → answers ≡ all_refused Device rs0 → GroupAnswered (engine_of d c m j f) rs answers (engine_of d2 c m j2 true)
+  pub group_failed : f ≡ false → (d2 : D) (j2 : JournalState) → j2 ≡ j → (cmds ≡ [] → ⊥) → (answers : List Served)
+      → answers ≡ all_refused Device rs0 → GroupAnswered (engine_of d c m j f) rs answers (engine_of d2 c m j2 true)
   group_failed alive d2 j2 stays some answers answers_are = record {
     dead = λ e. absurd (cc);
     none = λ a none. absurd (some (none_put none));
     put = λ a any. inr (
       answers_are ∙ ap (λ (l : List Request). all_refused Device l) same,
-      (λ i. record { disk = d2; header = c.state.header; step = c.state.step; memory = m.contents; count = (stays i).count; room = (stays i).room; failed = true }),
+      (λ i. record {
+        disk = d2;
+        header = c.state.header;
+        step = c.state.step;
+        memory = m.contents;
+        count =
+            (stays i).count;
+        room = (stays i).room;
+        failed = true;
+      }),
     );
   }
 
   calls_are : calls_for_group (length cmds) ≡ calls_for_group (length (group_put (engine_of d c m j f) rs))
   calls_are = ap (λ (l : List Command). calls_for_group (length l)) put_is
 
-  pub calls_done : {T E : Type 0} (past : D → List Moment) (d2 : D) (result : Result T E) (x : T) → result ≡ Ok x → CallsBy past d d2 (calls_for_group (length cmds)) result
+  pub calls_done : {T E : Type 0} (past : D → List Moment) (d2 : D) (result : Result T E) (x : T) → result ≡ Ok x
+      → CallsBy past d d2 (calls_for_group (length cmds)) result
       → GroupCalls past d d2 f (calls_for_group (length (group_put (engine_of d c m j f) rs)))
   calls_done {T} {E} past d2 result x is calls =
-      let made : length (past d2) ≡ length (past d) + calls_for_group (length cmds) = subst (λ (y : Result T E). CallsBy past d d2 (calls_for_group (length cmds)) y) is calls in
-      record { exactly = λ e. made ∙ ap (λ (n : ℕ). length (past d) + n) calls_are; most = omega (arith, made, calls_are) }
+      let made : length (past d2)
+      ≡ length (past d) + calls_for_group (length cmds) = subst
+      (λ (y : Result T E). CallsBy past d d2 (calls_for_group (length cmds)) y) is calls in
+      record {
+        exactly = λ e. made
+            ∙ ap (λ (n : ℕ). length (past d) + n) calls_are;
+        most = omega (arith, made, calls_are);
+      }
 
-  pub calls_failed : {T E : Type 0} (past : D → List Moment) (d2 : D) (result : Result T E) (e : E) → result ≡ Err e → CallsBy past d d2 (calls_for_group (length cmds)) result
+  pub calls_failed : {T E : Type 0} (past : D → List Moment) (d2 : D) (result : Result T E) (e : E) → result ≡ Err e
+      → CallsBy past d d2 (calls_for_group (length cmds)) result
       → GroupCalls past d d2 true (calls_for_group (length (group_put (engine_of d c m j f) rs)))
   calls_failed {T} {E} past d2 result e is calls =
-      let most : CallsAtMost past d d2 (calls_for_group (length cmds)) = subst (λ (y : Result T E). CallsBy past d d2 (calls_for_group (length cmds)) y) is calls in
+      let most : CallsAtMost past d d2 (calls_for_group (length cmds)) = subst
+      (λ (y : Result T E). CallsBy past d d2 (calls_for_group (length cmds)) y) is calls in
       record { exactly = λ e. absurd (cc); most = omega (arith, most, calls_are) }

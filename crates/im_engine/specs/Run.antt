@@ -1,5 +1,6 @@
 -- Commands, groups, turns and sweeps one after another, and what the files mean that a crash may leave. (Own.)
-use Rattle.std.specs.Prelude.{◌≡◌, ◌⊎◌, ℕ, ◌+◌, ◌<◌, ◌≤◌, Bool, true, false, ◌&&◌, ◌||◌, List, [], ◌∷◌, ◌++◌, length, take, Result, Ok, Err, IsErrOf, if◌then◌else◌}
+use Rattle.std.specs.Prelude.{◌≡◌, ◌⊎◌, ℕ, ◌+◌, ◌<◌, ◌≤◌, Bool, true, false, ◌&&◌, ◌||◌, List, [], ◌∷◌, ◌++◌, length}
+use Rattle.std.specs.Prelude.{take, Result, Ok, Err, IsErrOf, if◌then◌else◌}
 use Rattle.im_types.specs.declared.commands.Request.{Request}
 use Rattle.im_types.specs.declared.commands.Command.{Command}
 use Rattle.im_types.specs.declared.commands.Command.TheVariants.{Request as Asks}
@@ -21,7 +22,8 @@ use Rattle.im_engine.specs.Groups.{GroupAnswered, MeansGroup}
 use Rattle.im_engine.specs.declared.run.Event.{Event}
 use Rattle.im_engine.specs.declared.run.Event.TheVariants.{Command as Serve, Group as Together, Turn, Sweep}
 use Rattle.im_engine.specs.declared.run.Answer.{Answer}
-use Rattle.im_engine.specs.declared.run.Answer.TheVariants.{Served as Told, Grouped, Turned as TookTurn, Swept as DidSweep}
+use Rattle.im_engine.specs.declared.run.Answer.TheVariants.{Served as Told, Grouped, Turned as TookTurn}
+use Rattle.im_engine.specs.declared.run.Answer.TheVariants.{Swept as DidSweep}
 
 -- an engine's answer to one command, and what it comes to, on any disk
 pub record Answered {D : Type 0} (old : EngineState D) (command : Command) (answer : Result Outcome Refusal) (new : EngineState D) : Type 0 where

@@ -24,8 +24,8 @@ pub fn note_name(alloc: Global, path: &str) -> Result<String, AllocError>
     Ok(name)
 }
 
-/// The path of the note of the file at the path. Where that is a link, the note stands beside the link's target, if that
-/// can be found.
+/// The path of the note of the file at the path. Where that is a link, the note stands beside the link's target, if
+/// that can be found.
 pub fn note_path<R: Files<File = File> + AllocGlobal>(
     rt: &R,
     path: &str,
@@ -77,7 +77,8 @@ fn sight_of<R: Files<File = File>>(rt: &R, note: &str) -> Sight {
     }
 }
 
-// Writes the name of this run of the machine into a new file. It needn't be on the disk: it says nothing to the next run.
+// Writes the name of this run of the machine into a new file. It needn't be on the disk: it says nothing to the next
+// run.
 fn write_note<R: Files<File = File>>(rt: &R, note: &str) -> io::Result<()> {
     let mut boot = [0; NAME];
     if read_short(rt, BOOT, &mut boot)? != NAME {

@@ -16,9 +16,9 @@ use std::rt::Files;
 pub enum FileFault {
     /// The file can't be made or opened. Where its sync failed (`OpenFault::Sync`), a note was left if one could be.
     Open(OpenFault),
-    /// A sync of the file has failed since the machine was started, by the note beside it, which stays there. What the file
-    /// shows may not be on the disk. Once its file system has been mounted anew the note may be removed; or the machine is
-    /// started again.
+    /// A sync of the file has failed since the machine was started, by the note beside it, which stays there. What
+    /// the file shows may not be on the disk. Once its file system has been mounted anew the note may be removed; or
+    /// the machine is started again.
     Unsynced,
 }
 
@@ -45,8 +45,8 @@ impl From<FileFault> for Refusal {
 }
 
 /// Opens the file of an image to read and write it, as [`FileDisk::open`] does. Its note is looked at while the file is
-/// locked, and before a byte of it is read: `Unsynced` where the note stands, and an earlier one is taken away. The file's
-/// bytes aren't changed.
+/// locked, and before a byte of it is read: `Unsynced` where the note stands, and an earlier one is taken away. The
+/// file's bytes aren't changed.
 pub fn open_image<R: Files<File = File> + AllocGlobal, S: Start>(
     rt: &R,
     path: &str,
@@ -71,8 +71,8 @@ pub fn open_image<R: Files<File = File> + AllocGlobal, S: Start>(
     }
 }
 
-/// Opens the file of an image to read it alone, as [`FileDisk::open_to_read`] does, and tells whether its note stands: what
-/// is read may then not be on the disk. The note stays.
+/// Opens the file of an image to read it alone, as [`FileDisk::open_to_read`] does, and tells whether its note
+/// stands: what is read may then not be on the disk. The note stays.
 pub fn open_image_to_read<R: Files<File = File> + AllocGlobal, S: Start>(
     rt: &R,
     path: &str,
@@ -89,9 +89,9 @@ pub fn open_image_to_read<R: Files<File = File> + AllocGlobal, S: Start>(
 }
 
 /// Makes the file of an image, of so many zero bytes, and tells whether nothing was at the path before: then it may be
-/// removed again ([`remove_image`]) where it doesn't become an image. Where a new one is asked for and something is there,
-/// `Exists`, and nothing is changed; else the file that is there is made over, as [`FileDisk::create`] does. The note of what
-/// was there is taken away, as none of its bytes are.
+/// removed again ([`remove_image`]) where it doesn't become an image. Where a new one is asked for and something is
+/// there, `Exists`, and nothing is changed; else the file that is there is made over, as [`FileDisk::create`] does.
+/// The note of what was there is taken away, as none of its bytes are.
 pub fn make_image<R: Files<File = File> + AllocGlobal, S: Start>(
     rt: &R,
     path: &str,
@@ -126,8 +126,8 @@ fn is_free<R: Files<File = File>>(rt: &R, path: &str) -> bool {
     }
 }
 
-/// Removes a file that [`make_image`] made, where nothing was at its path before, and tells whether it is gone. A file that
-/// was there before stays.
+/// Removes a file that [`make_image`] made, where nothing was at its path before, and tells whether it is gone. A
+/// file that was there before stays.
 pub fn remove_image<R: Files<File = File>, S: Start>(
     rt: &R,
     path: &str,

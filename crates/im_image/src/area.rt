@@ -100,8 +100,8 @@ pub(crate) fn show(alloc: Global, limits: Limits, records: AreaRecords) -> Resul
     }
 }
 
-/// The memory that the pages of an area of a version show. `BadPage` exactly where they show none; `NoMemory` where there is no room
-/// for the memory, or for what is read.
+/// The memory that the pages of an area of a version show. `BadPage` exactly where they show none; `NoMemory` where
+/// there is no room for the memory, or for what is read.
 ///
 /// It takes a step for each byte, each record, each waiter and each entry.
 pub fn decode(
@@ -112,7 +112,8 @@ pub fn decode(
 ) -> Result<Memory, Refusal>
     requires { length area.now ≡ layout.area_bytes (layout_of version) (sizes_of limits) }
     ensures found { IfOk result (λ m. Shows (layout_of version) (sizes_of limits) area.now m.contents) }
-    ensures bad { IsErrOf result Refusal.BadPage → (m : Contents) → Shows (layout_of version) (sizes_of limits) area.now m
+    ensures bad { IsErrOf result Refusal.BadPage → (m : Contents)
+        → Shows (layout_of version) (sizes_of limits) area.now m
         → ⊥ }
     ensures only { IfErr result (λ e. (e ≡ Refusal.BadPage) ⊎ (e ≡ Refusal.NoMemory)) }
 {
@@ -124,6 +125,7 @@ pub fn decode(
 
 /// The pages of an area of either version show no two memories.
 pub fn areas_show_one_memory()
-    ensures { (version : Version) (s : Sizes) (area : List ℕ) (m other : Contents) → AreLimits s.cells s.elements s.slots
+    ensures { (version : Version) (s : Sizes) (area : List ℕ) (m other : Contents)
+        → AreLimits s.cells s.elements s.slots
         → Shows (layout_of version) s area m → Shows (layout_of version) s area other → m ≡ other }
 {}

@@ -146,7 +146,8 @@ fn read_beginning<D: Disk>(disk: &mut D) -> Result<Option<Beginning>, DeviceFaul
 /// `WrongLength`, `NoHeader`, `BadHeader`: the first fault in the order of the definition. `Device`: a call failed.
 pub fn read_header<D: Disk>(disk: &mut D) -> Result<Header, Refusal>
     ensures found { IfOk result (λ h. D.honest disk.new → seen h ≡ header_of (D.now disk.old).bytes) }
-    ensures good { OnOk result (D.honest disk.new → header_fault (layout_in (D.now disk.old).bytes) (D.now disk.old).bytes ≡ None) }
+    ensures good { OnOk result
+        (D.honest disk.new → header_fault (layout_in (D.now disk.old).bytes) (D.now disk.old).bytes ≡ None) }
     ensures fault { IfErr result (λ e. (e ≡ Device)
         ⊎ (D.honest disk.new → header_fault (layout_in (D.now disk.old).bytes) (D.now disk.old).bytes ≡ Some e)) }
     ensures reads { D.honest disk.new → OnlyReads D.now D.past disk.old disk.new }
@@ -161,8 +162,8 @@ pub fn read_header<D: Disk>(disk: &mut D) -> Result<Header, Refusal>
     }
 }
 
-// The header in force of an image that begins so, or why it isn't opened: a sound header of the first version is refused
-// before the length is compared.
+// The header in force of an image that begins so, or why it isn't opened: a sound header of the first version is
+// refused before the length is compared.
 fn header_to_open(beginning: &Beginning) -> Result<Header, Refusal>
     ensures found { IfOk result (λ h. seen h ≡ header_in (place_in_force beginning.now.zero beginning.now.one)) }
     ensures range { IfOk result (λ h. (h.area ≤ 1) × (h.count ≤ LAST)) }
@@ -207,8 +208,8 @@ pub(crate) fn read_header_to_open<D: Disk>(disk: &mut D) -> Result<Header, Refus
     }
 }
 
-// The header in force of an image that begins so, by the rules of the first version: any other version is a fault of it,
-// before the length is compared.
+// The header in force of an image that begins so, by the rules of the first version: any other version is a fault of
+// it, before the length is compared.
 fn old_header_of(beginning: &Beginning) -> Result<Header, Refusal>
     ensures found { IfOk result (λ h. seen h ≡ header_in (place_in_force beginning.now.zero beginning.now.one)) }
     ensures range { IfOk result (λ h. (h.area ≤ 1) × (h.count ≤ LAST)) }

@@ -217,12 +217,13 @@ fn read_records<D: Disk>(
 /// The memory that the area of a header in force shows. `BadPage` exactly where it shows none.
 ///
 /// It only reads, the area: pieces of 8,192 cells while there are more, each with one call, and then all that is left
-/// with one more. Memory: its records, and with them the bytes of a piece, 262,144, or of what is left, at most 589,824,
-/// which are given back before the memory is made; `NoMemory` where it is refused. `Device`: a read failed.
+/// with one more. Memory: its records, and with them the bytes of a piece, 262,144, or of what is left, at most
+/// 589,824, which are given back before the memory is made; `NoMemory` where it is refused. `Device`: a read failed.
 pub fn read_memory<D: Disk>(alloc: Global, disk: &mut D, header: &Header) -> Result<Memory, Refusal>
     requires area { header.now.area ≤ 1 }
     requires sound { D.honest disk.old → HasHeader (seen header.now) (D.now disk.old).bytes }
-    ensures shown { IfOk result (λ m. D.honest disk.new → IsShown (layout_in (D.now disk.old).bytes) (D.now disk.old).bytes m.contents) }
+    ensures shown { IfOk result
+        (λ m. D.honest disk.new → IsShown (layout_in (D.now disk.old).bytes) (D.now disk.old).bytes m.contents) }
     ensures sizes { IfOk result (λ m. HasSizes (sizes_of header.now.limits) m.contents) }
     ensures bad { IsErrOf result Refusal.BadPage → D.honest disk.new
         → (m : Contents) → IsShown (layout_in (D.now disk.old).bytes) (D.now disk.old).bytes m → ⊥ }

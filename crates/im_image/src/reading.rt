@@ -206,8 +206,8 @@ pub fn read_to_open<D: Disk>(alloc: Global, disk: &mut D) -> Result<Image, Refus
     }
 }
 
-/// What an image of the first version means, or its first fault by the rules of that version: as [`read_image`], but that
-/// a header in force of any other version is `BadHeader`, whatever else is wrong with the image.
+/// What an image of the first version means, or its first fault by the rules of that version: as [`read_image`], but
+/// that a header in force of any other version is `BadHeader`, whatever else is wrong with the image.
 pub fn read_old<D: Disk>(alloc: Global, disk: &mut D) -> Result<Image, Refusal>
     ensures parts { IfOk result (λ i. AreParts i) }
     ensures old { IfOk result (λ i. layout_named i.header.version ≡ layout_1) }
@@ -229,7 +229,8 @@ pub fn read_old<D: Disk>(alloc: Global, disk: &mut D) -> Result<Image, Refusal>
 /// refusals are those of [`read_image`].
 pub fn inspect<D: Disk>(alloc: Global, disk: &mut D) -> Result<Report, Refusal>
     ensures header { IfOk result (λ r. D.honest disk.new → seen r.header ≡ header_of (D.now disk.old).bytes) }
-    ensures means { IfOk result (λ r. D.honest disk.new → Reads (layout_in (D.now disk.old).bytes) (D.now disk.old).bytes
+    ensures means { IfOk result
+        (λ r. D.honest disk.new → Reads (layout_in (D.now disk.old).bytes) (D.now disk.old).bytes
         (Ok (record { contents = r.memory.contents; count = r.header.count + r.run; room = r.room }))) }
     ensures fault { IfErr result (λ e. (e ≡ NoMemory) ⊎ (e ≡ Device)
         ⊎ (D.honest disk.new → Reads (layout_in (D.now disk.old).bytes) (D.now disk.old).bytes (Err e))) }

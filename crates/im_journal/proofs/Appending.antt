@@ -1,5 +1,7 @@
 -- What the slots of a group that is written, or may be, do to the tail.
-use Rattle.std.proofs.Common.{◌≡◌, ◌≢◌, ◌⊎◌, inl, inr, ⊎_elim, ℕ, ◌+◌, ◌-◌, ◌*◌, ◌<◌, ◌≤◌, ◌==◌, ◌&&◌, nat_le, Result, Bool, true, false, List, [], ◌∷◌, ◌++◌, Some, option_map, length, get_or, drop, refl, sym, ◌∙◌, ap, subst, arith, length-append, get_or-take, get_or-drop, if◌then◌else◌}
+use Rattle.std.proofs.Common.{◌≡◌, ◌≢◌, ◌⊎◌, inl, inr, ⊎_elim, ℕ, ◌+◌, ◌-◌, ◌*◌, ◌<◌, ◌≤◌, ◌==◌, ◌&&◌, nat_le, Result}
+use Rattle.std.proofs.Common.{Bool, true, false, List, [], ◌∷◌, ◌++◌, Some, option_map, length, get_or, drop, refl}
+use Rattle.std.proofs.Common.{sym, ◌∙◌, ap, subst, arith, length-append, get_or-take, get_or-drop, if◌then◌else◌}
 use Rattle.std.proofs.lemmas.Bool.{cases_eq, cases_lt, leb-true}
 use Rattle.im_types.proofs.Tests.{and_both}
 use Rattle.im_types.specs.declared.TheConstants.{LAST, MAX_GROUP}
@@ -14,11 +16,13 @@ use Rattle.im_disk.specs.Gate.{HasThere, MayOpen}
 use Rattle.im_disk.proofs.GateLemmas.{done_same, done_there, done_kept, done_calm}
 use Rattle.im_disk.proofs.SinceLemmas.{left_now, leaves_then, only_weaker}
 use Rattle.im_journal.specs.Groups.{HasBodies, AllFit, SameButBodies, SameButGroup, MayWriteBodies, AreWritten}
-use Rattle.im_journal.specs.Holding.{JournalState, IsJournal, Holds, AllHold, room_after, longer, longer_tail, KeepsBoundaries, Appended, MayAppend, Adds, IsFullBy}
+use Rattle.im_journal.specs.Holding.{JournalState, IsJournal, Holds, AllHold, room_after, longer, longer_tail}
+use Rattle.im_journal.specs.Holding.{KeepsBoundaries, Appended, MayAppend, Adds, IsFullBy}
 use Rattle.im_journal.proofs.Slots.{slot_inside, same_body, opened_gate, no_gate_behind, away_after}
 use Rattle.im_journal.proofs.Rings.{other_number}
 use Rattle.im_journal.proofs.Groups.{same_bodies, beside_group}
-use Rattle.im_journal.proofs.Tails.{Parts, parts_of, next_closed, tail_kept, tail_added, boundaries_kept, boundaries_added}
+use Rattle.im_journal.proofs.Tails.{Parts, parts_of, next_closed, tail_kept, tail_added, boundaries_kept}
+use Rattle.im_journal.proofs.Tails.{boundaries_added}
 
 -- there is room for these commands
 pub record IsNext (j : JournalState) (commands : List Command) (m0 : Moment) : Type 0 where
@@ -30,10 +34,13 @@ pub record IsNext (j : JournalState) (commands : List Command) (m0 : Moment) : T
   pub last : j.count + length commands ≤ LAST
 
 -- that there is, by the test; `s` is the journal, as its fields show it
-pub next_of : (s j : JournalState) (commands : List Command) (m0 : Moment) (test : Bool) → s ≡ j → IsJournal s → AllHold j m0 → 0 < length commands → length commands ≤ MAX_GROUP
-    → test ≡ (nat_le (length commands) s.room && nat_le (s.count + length commands) LAST) → test ≡ true → IsNext s commands m0
+pub next_of : (s j : JournalState) (commands : List Command) (m0 : Moment) (test : Bool) → s ≡ j → IsJournal s
+    → AllHold j m0 → 0 < length commands → length commands ≤ MAX_GROUP
+    → test ≡ (nat_le (length commands) s.room && nat_le (s.count + length commands) LAST) → test ≡ true
+    → IsNext s commands m0
 next_of s j commands m0 test is known all some few tested passed =
-    let both = and_both (nat_le (length commands) s.room) (nat_le (s.count + length commands) LAST) (sym tested ∙ passed) in
+    let both = and_both (nat_le (length commands) s.room) (nat_le (s.count + length commands) LAST)
+    (sym tested ∙ passed) in
     record {
       known = known;
       all = λ c left. subst (λ (x : JournalState). Holds x c) (sym is) (all c left);
@@ -78,12 +85,14 @@ module _ {j : JournalState} {commands : List Command} {m0 : Moment} (next : IsNe
 
     module _ (c : List ℕ) (same : SameButGroup j.ring j.count g d c) where
       kept : get_or c at 0 ≢ open_gate → tail j.ring j.first c ≡ tail j.ring j.first d
-      kept shut = tail_kept j.ring some_slots j.first j.count g d c t parts held.count next.some room_there same shut ∙ sym held.reads
+      kept shut = tail_kept j.ring some_slots j.first j.count g d c t parts held.count next.some room_there same shut
+          ∙ sym held.reads
 
       kept_boundaries : get_or c at 0 ≢ open_gate → KeepsBoundaries j.ring j.first d c
       kept_boundaries shut = boundaries_kept j.ring some_slots j.first j.count g d c t parts held.count next.some room_there same shut
 
-      module _ (fits : AllFit commands) (opened : is_open (slot j.ring j.count c) ≡ true) (bodies : HasBodies j.ring g j.count commands c) where
+      module _ (fits : AllFit commands) (opened : is_open (slot j.ring j.count c) ≡ true)
+          (bodies : HasBodies j.ring g j.count commands c) where
         added : tail j.ring j.first c ≡ Some (longer_tail j.count commands t)
         added = tail_added j.ring some_slots j.first j.count g d c t parts held.count next.some room_there same commands refl next.few fits next.known.begun next.last opened bodies
 
@@ -104,24 +113,32 @@ module _ {j : JournalState} {commands : List Command} {m0 : Moment} (next : IsNe
           behind = still_behind;
         }
           where
-            less_room : (b : Bool) → j.room ≤ held.there → (if b then 0 else j.room - g) ≤ (if b then 0 else held.there - g)
+            less_room : (b : Bool) → j.room ≤ held.there
+                → (if b then 0 else j.room - g) ≤ (if b then 0 else held.there - g)
             less_room true le = omega arith
             less_room false le = omega (arith, le)
 
             -- the slots behind the known room stay: they are others of the ring
-            slot_kept : (k : ℕ) → j.room ≤ g + k → g + k < j.ring.slots - (j.count - j.first) → sequence_of (slot j.ring (j.count + (g + k)) c) < j.first
+            slot_kept : (k : ℕ) → j.room ≤ g + k → g + k < j.ring.slots - (j.count - j.first)
+                → sequence_of (slot j.ring (j.count + (g + k)) c) < j.first
             slot_kept k low_k high =
                 let is_same : slot j.ring (j.count + (g + k)) c ≡ slot j.ring (j.count + (g + k)) d =
                 beside_group j.ring j.count g (j.count + (g + k)) d c next.some same
-                (λ m i less lo hi. away_after j.ring some_slots (j.count + (g + k)) (j.count + m) i (omega (arith, less)) (omega (arith, high)) lo hi) in
-                subst (λ (l : List ℕ). sequence_of l < j.first) (sym is_same) (held.behind (omega (arith, next.last, next.some)) (g + k) low_k high)
+                (λ m i less lo hi. away_after j.ring some_slots (j.count + (g + k)) (j.count + m) i
+                (omega (arith, less)) (omega (arith, high)) lo hi) in
+                subst (λ (l : List ℕ). sequence_of l < j.first) (sym is_same)
+                (held.behind (omega (arith, next.last, next.some)) (g + k) low_k high)
 
-            still_behind : j.count + g < LAST → (k : ℕ) → room_after j.count g j.room ≤ k → k < j.ring.slots - (j.count + g - j.first) → sequence_of (slot j.ring (j.count + g + k) c) < j.first
+            still_behind : j.count + g < LAST → (k : ℕ) → room_after j.count g j.room ≤ k
+                → k < j.ring.slots - (j.count + g - j.first) → sequence_of (slot j.ring (j.count + g + k) c) < j.first
             still_behind lower k from to =
-                let not_last : (j.count + g == LAST) ≡ false = other_number (j.count + g) LAST (λ last. absurd (omega (arith, lower, last))) in
-                let less : room_after j.count g j.room ≡ j.room - g = ap (λ (b : Bool). if b then 0 else j.room - g) not_last in
+                let not_last : (j.count + g == LAST)
+                ≡ false = other_number (j.count + g) LAST (λ last. absurd (omega (arith, lower, last))) in
+                let less : room_after j.count g j.room
+                ≡ j.room - g = ap (λ (b : Bool). if b then 0 else j.room - g) not_last in
                 let there : j.count + (g + k) ≡ j.count + g + k = omega arith in
-                subst (λ (m : ℕ). sequence_of (slot j.ring m c) < j.first) there (slot_kept k (omega (arith, from, less)) (omega (arith, to, next.known.begun)))
+                subst (λ (m : ℕ). sequence_of (slot j.ring m c) < j.first) there
+                (slot_kept k (omega (arith, from, less)) (omega (arith, to, next.known.begun)))
 
   -- what a write of bodies leaves
   abbrev Bodies : List ℕ → Type 0
@@ -135,7 +152,8 @@ module _ {j : JournalState} {commands : List Command} {m0 : Moment} (next : IsNe
 
   pub may_bodies : (c : List ℕ) → Bodies c → MayAppend j commands m0 c
   may_bodies c w =
-      let shut : get_or c at 0 ≢ open_gate = (λ is. gate_shut w.from (next.all w.from w.left) (sym (gate_stays w.from c w.same) ∙ is)) in
+      let shut : get_or c at 0 ≢ open_gate =
+      (λ is. gate_shut w.from (next.all w.from w.left) (sym (gate_stays w.from c w.same) ∙ is)) in
       record {
         from = w.from;
         left = w.left;
@@ -156,10 +174,12 @@ module _ {j : JournalState} {commands : List Command} {m0 : Moment} (next : IsNe
     }
       where
         beside : (i a : ℕ) → i ≢ a → (i < a) ⊎ (a + 1 ≤ i)
-        beside i a other = ⊎_elim (λ (low : i < a). inl low) (λ (high : a ≤ i). inr (omega (arith, high, other))) (cases_lt i a)
+        beside i a other = ⊎_elim (λ (low : i < a). inl low) (λ (high : a ≤ i). inr (omega (arith, high, other)))
+            (cases_lt i a)
 
     bodies_there : (c : List ℕ) → SameBut at 1 m1.bytes c → HasBodies j.ring g j.count commands c
-    bodies_there c but = same_bodies j.ring m1.bytes c g j.count commands (λ k less. same_body j.ring (j.count + k) c m1.bytes but.size
+    bodies_there c but = same_bodies j.ring m1.bytes c g j.count commands
+        (λ k less. same_body j.ring (j.count + k) c m1.bytes but.size
         (λ i low high. but.same i (behind_gate i (j.count + k) low high))) w.bodies
       where
         behind_gate : (i s : ℕ) → slot_at j.ring s < i → i < slot_at j.ring s + 64 → (i < at) ⊎ (at + 1 ≤ i)
@@ -176,8 +196,10 @@ module _ {j : JournalState} {commands : List Command} {m0 : Moment} (next : IsNe
           from = m0.bytes;
           left = left_now m0;
           same = group_same c but;
-          reads = inr (added_to m0.bytes held c (group_same c but) w.fits (opened_gate j.ring j.count c is) (bodies_there c but));
-          boundaries = added_boundaries m0.bytes held c (group_same c but) w.fits (opened_gate j.ring j.count c is) (bodies_there c but);
+          reads = inr (added_to m0.bytes held c (group_same c but) w.fits (opened_gate j.ring j.count c is)
+              (bodies_there c but));
+          boundaries = added_boundaries m0.bytes held c (group_same c but) w.fits (opened_gate j.ring j.count c is)
+              (bodies_there c but);
         }
         by_gate (inr shut) = record {
           from = m0.bytes;
@@ -200,7 +222,8 @@ module _ {j : JournalState} {commands : List Command} {m0 : Moment} (next : IsNe
         gate_c : get_or c at 0 ≡ open_gate
         gate_c =
             let here : at + 0 ≡ at = omega arith in
-            sym (get_or-take 1 (drop at c) 0 0 (omega arith) ∙ get_or-drop at c 0 0 ∙ ap (λ (i : ℕ). get_or c i 0) here) ∙ ap (λ (l : List ℕ). get_or l 0 0) there_c
+            sym (get_or-take 1 (drop at c) 0 0 (omega arith) ∙ get_or-drop at c 0 0
+            ∙ ap (λ (i : ℕ). get_or c i 0) here) ∙ ap (λ (l : List ℕ). get_or l 0 0) there_c
 
         opened_c : is_open (slot j.ring j.count c) ≡ true
         opened_c = opened_gate j.ring j.count c gate_c
@@ -228,37 +251,47 @@ module _ {j : JournalState} {commands : List Command} {m0 : Moment} (next : IsNe
       pub adds : (longer_j : JournalState) → longer_j ≡ longer g j → Adds j longer_j commands m0 m2
       adds longer_j longer_is = record {
         added = λ c left. appended c (same_in c left) (there_in c left);
-        holds = λ c left. subst (λ (x : JournalState). Holds x c) (sym longer_is) (holds_longer c (same_in c left) (there_in c left));
+        holds = λ c left. subst (λ (x : JournalState). Holds x c) (sym longer_is)
+            (holds_longer c (same_in c left) (there_in c left));
         kept = group_same m2.bytes (done_kept at (open_gate ∷ []) m1 m2 fits_gate is);
         calm = done_calm at (open_gate ∷ []) m1 m2 fits_gate is;
       }
 
 -- since the start, and at the end: while the bodies are written, and then the gate
-module _ {D : Type 0} (now : D → Moment) (past : D → List Moment) (d0 d1 : D) {s j : JournalState} {commands : List Command} (is : s ≡ j) (next : IsNext s commands (now d0))
+module _ {D : Type 0} (now : D → Moment) (past : D → List Moment)
+    (d0 d1 : D) {s j : JournalState} {commands : List Command} (is : s ≡ j) (next : IsNext s commands (now d0))
     (leaves : LeavesOnly now past d0 d1 (MayWriteBodies s.ring s.count (length commands) (now d0))) where
   abbrev May : JournalState → List ℕ → Type 0
   May x = MayAppend x commands (now d0)
 
   pub bodies_leave : LeavesOnly now past d0 d1 (MayAppend j commands (now d0))
   bodies_leave = subst (λ (x : JournalState). LeavesOnly now past d0 d1 (May x)) is
-      (only_weaker now past d0 d1 (MayWriteBodies s.ring s.count (length commands) (now d0)) (May s) leaves (may_bodies next))
+      (only_weaker now past d0 d1 (MayWriteBodies s.ring s.count (length commands) (now d0)) (May s) leaves
+      (may_bodies next))
 
   module _ (w : AreWritten s.ring s.count commands (now d0) (now d1)) (d2 : D) where
     may : (c : List ℕ) → MayOpen (slot_at s.ring s.count) (now d1) c → May s c
     may = may_open next (now d1) w leaves.after
 
-    pub gate_leaves : LeavesOnly now past d1 d2 (MayOpen (slot_at s.ring s.count) (now d1)) → LeavesOnly now past d0 d2 (MayAppend j commands (now d0))
+    pub gate_leaves : LeavesOnly now past d1 d2 (MayOpen (slot_at s.ring s.count) (now d1))
+        → LeavesOnly now past d0 d2 (MayAppend j commands (now d0))
     gate_leaves opens = subst (λ (x : JournalState). LeavesOnly now past d0 d2 (May x)) is (record {
-      within = leaves_then (now d0) (now d1) (now d2) (past d0) (past d1) (past d2) (MayWriteBodies s.ring s.count (length commands) (now d0)) (MayOpen (slot_at s.ring s.count) (now d1)) (May s)
+      within = leaves_then (now d0) (now d1) (now d2) (past d0) (past d1) (past d2)
+          (MayWriteBodies s.ring s.count (length commands) (now d0)) (MayOpen (slot_at s.ring s.count) (now d1)) (May s)
           leaves.within opens.within (may_bodies next) may;
       after = λ c left. may c (opens.after c left);
     })
 
-    pub group_adds : (longer_j : JournalState) → longer_j ≡ longer (length commands) s → now d2 ≡ synced (written (slot_at s.ring s.count) (open_gate ∷ []) (now d1)) → Adds j longer_j commands (now d0) (now d2)
-    group_adds longer_j longer_is opened = subst (λ (x : JournalState). Adds x longer_j commands (now d0) (now d2)) is (adds next (now d1) w (now d2) opened longer_j longer_is)
+    pub group_adds : (longer_j : JournalState) → longer_j ≡ longer (length commands) s → now d2
+        ≡ synced (written (slot_at s.ring s.count) (open_gate ∷ []) (now d1))
+        → Adds j longer_j commands (now d0) (now d2)
+    group_adds longer_j longer_is opened = subst
+        (λ (x : JournalState). Adds x longer_j commands (now d0) (now d2)) is
+        (adds next (now d1) w (now d2) opened longer_j longer_is)
 
 -- of one command: there is no room, as the last count has none
-pub full_of_one : {T D : Type 0} (j : JournalState) (old new : D) (result : Result T Refusal) → IsJournal j → IsFullBy ((j.room < 1) ⊎ (LAST < j.count + 1)) old new result → IsFullBy (j.room ≡ 0) old new result
+pub full_of_one : {T D : Type 0} (j : JournalState) (old new : D) (result : Result T Refusal) → IsJournal j
+    → IsFullBy ((j.room < 1) ⊎ (LAST < j.count + 1)) old new result → IsFullBy (j.room ≡ 0) old new result
 full_of_one j old new result known full = record {
   exactly = (
     λ e. ⊎_elim

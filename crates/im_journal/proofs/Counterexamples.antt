@@ -1,5 +1,6 @@
 -- A run begins anew behind a whole group alone: the law without that premise fails at a ring that is written out here.
-use Rattle.std.proofs.Common.{◌≡◌, ℕ, ◌+◌, ◌≤◌, List, [], ◌∷◌, ◌++◌, Option, None, Some, length, drop, refl, sym, ◌∙◌, ap, arith}
+use Rattle.std.proofs.Common.{◌≡◌, ℕ, ◌+◌, ◌≤◌, List, [], ◌∷◌, ◌++◌, Option, None, Some, length, drop, refl, sym, ◌∙◌}
+use Rattle.std.proofs.Common.{ap, arith}
 use Rattle.im_types.proofs.Tests.{differ}
 use Rattle.im_types.specs.declared.commands.Command.{Command}
 use Rattle.im_types.specs.declared.commands.Command.TheVariants.{Confirm}
@@ -27,6 +28,9 @@ unfolding tail slot continues read_in command_in sequence_of
 reads_none = refl
 
 -- `begin_later`, its clause `tail`: begun at its follower a group of two would be lost, since only its leader has a gate.
-a_run_begins_at_no_follower : ((ring : Ring) (first k : ℕ) (file : List ℕ) (commands : List Command) (room : ℕ) → tail ring first file ≡ Some (record { commands = commands; room = room })
+a_run_begins_at_no_follower :
+    ((ring : Ring) (first k : ℕ) (file : List ℕ) (commands : List Command) (room : ℕ) → tail ring first file
+    ≡ Some (record { commands = commands; room = room })
     → k ≤ length commands → tail ring (first + k) file ≡ Some (record { commands = drop k commands; room = room })) → ⊥
-a_run_begins_at_no_follower law = differ 0 1 refl (sym reads_none ∙ ap count (law small 0 1 group (Confirm 0 1 ∷ Confirm 1 1 ∷ []) 0 reads_both (omega arith)))
+a_run_begins_at_no_follower law = differ 0 1 refl
+    (sym reads_none ∙ ap count (law small 0 1 group (Confirm 0 1 ∷ Confirm 1 1 ∷ []) 0 reads_both (omega arith)))

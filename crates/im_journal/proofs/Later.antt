@@ -1,24 +1,29 @@
 -- The tail of a journal from a later command on.
-use Rattle.std.proofs.Common.{◌≡◌, ℕ, zero, suc, ◌+◌, ◌-◌, ◌<◌, ◌≤◌, ◌==◌, Bool, true, false, List, Some, length, drop, sym, ◌∙◌, ap, subst, arith, if◌then◌else◌, length-drop}
+use Rattle.std.proofs.Common.{◌≡◌, ℕ, zero, suc, ◌+◌, ◌-◌, ◌<◌, ◌≤◌, ◌==◌, Bool, true, false, List, Some, length}
+use Rattle.std.proofs.Common.{drop, sym, ◌∙◌, ap, subst, arith, if◌then◌else◌, length-drop}
 use Rattle.im_types.specs.declared.TheConstants.{LAST}
 use Rattle.im_types.specs.declared.commands.Command.{Command}
 use Rattle.im_types.specs.Slot.{is_open, sequence_of, group_of}
-use Rattle.im_types.specs.Journal.{Ring, slot, continues, next_if, run_from, run, commands_in, IsBoundary, closed_from, are_stale, ends_stale, room_of, tail}
+use Rattle.im_types.specs.Journal.{Ring, slot, continues, next_if, run_from, run, commands_in, IsBoundary}
+use Rattle.im_types.specs.Journal.{closed_from, are_stale, ends_stale, room_of, tail}
 use Rattle.im_journal.proofs.Runs.{closed_at_most, whole-commands, boundary-low, behind_boundary}
 use Rattle.im_journal.proofs.Tails.{Parts, parts_of, tail_of}
-use Rattle.im_journal.proofs.Rings.{continues_is, continues_not, slot_round, first_continues, nth_sequence, run_dropped, run_more, closed_more, stale_joined, stale_each, stale_at}
+use Rattle.im_journal.proofs.Rings.{continues_is, continues_not, slot_round, first_continues, nth_sequence}
+use Rattle.im_journal.proofs.Rings.{run_dropped, run_more, closed_more, stale_joined, stale_each, stale_at}
 
 pub at_most : (r : Ring) (c : List ℕ) (fuel due s : ℕ) → length (run_from r fuel due s c) ≤ fuel
 at_most r c zero due s = omega arith
 at_most r c (suc fuel) (suc due) s = omega (arith, at_most r c fuel due (s + 1))
-at_most r c (suc fuel) zero s = by_test (continues (slot r s c) s) (run_from r fuel (group_of (slot r s c) - 1) (s + 1) c) (at_most r c fuel (group_of (slot r s c) - 1) (s + 1))
+at_most r c (suc fuel) zero s = by_test (continues (slot r s c) s)
+    (run_from r fuel (group_of (slot r s c) - 1) (s + 1) c) (at_most r c fuel (group_of (slot r s c) - 1) (s + 1))
   where
     by_test : (b : Bool) (rest : List (List ℕ)) → length rest ≤ fuel → length (next_if b (slot r s c) rest) ≤ suc fuel
     by_test true rest le = omega (arith, le)
     by_test false rest le = omega arith
 
 -- the tail from the k-th command of a run on
-module _ (r : Ring) (first k : ℕ) (c : List ℕ) (commands : List Command) (room : ℕ) (e : tail r first c ≡ Some (record { commands = commands; room = room })) (boundary : IsBoundary r first k c) where
+module _ (r : Ring) (first k : ℕ) (c : List ℕ) (commands : List Command) (room : ℕ)
+    (e : tail r first c ≡ Some (record { commands = commands; room = room })) (boundary : IsBoundary r first k c) where
   abbrev n : ℕ
   n = length commands
 
@@ -51,7 +56,8 @@ module _ (r : Ring) (first k : ℕ) (c : List ℕ) (commands : List Command) (ro
   round_ends some =
       let same : slot r (first + slots) c ≡ slot r first c = slot_round r first c in
       let here = continues_is (slot r first c) first (begins some) in
-      continues_not (slot r (first + slots) c) (first + slots) (λ is. absurd (omega (arith, ap sequence_of same, here.1, is, few, some)))
+      continues_not (slot r (first + slots) c) (first + slots)
+      (λ is. absurd (omega (arith, ap sequence_of same, here.1, is, few, some)))
 
   round_open : 0 < n → is_open (slot r (first + slots) c) ≡ true
   round_open some =
@@ -65,13 +71,16 @@ module _ (r : Ring) (first k : ℕ) (c : List ℕ) (commands : List Command) (ro
   rest_size = sym (ap length rest) ∙ length-drop k (run_from r slots 0 first c) ∙ ap (λ (m : ℕ). m - k) size
 
   rest_read : commands_in 0 (first + k) (run_from r (slots - k) 0 (first + k) c) ≡ Some (drop k commands)
-  rest_read = ap (λ (l : List (List ℕ)). commands_in 0 (first + k) l) (sym rest) ∙ behind_boundary 0 first k (run r first c) commands it.read boundary
+  rest_read = ap (λ (l : List (List ℕ)). commands_in 0 (first + k) l) (sym rest)
+      ∙ behind_boundary 0 first k (run r first c) commands it.read boundary
 
   later_run : run r (first + k) c ≡ run_from r (slots - k) 0 (first + k) c
   later_run =
       let fuel : slots ≡ (slots - k) + k = omega (arith, low, few) in
       ap (λ (m : ℕ). run_from r m 0 (first + k) c) fuel
-      ∙ run_more r c (slots - k) k 0 (first + k) (whole-commands 0 (first + k) (run_from r (slots - k) 0 (first + k) c) (drop k commands) rest_read) (λ whole some.
+      ∙ run_more r c (slots - k) k 0 (first + k)
+      (whole-commands 0 (first + k) (run_from r (slots - k) 0 (first + k) c) (drop k commands) rest_read)
+      (λ whole some.
       let at : (first + k) + (slots - k) ≡ first + slots = omega (arith, low, few) in
       subst (λ (m : ℕ). continues (slot r m c) m ≡ false) (sym at) (round_ends (omega (arith, low, some))))
 
@@ -112,15 +121,20 @@ module _ (r : Ring) (first k : ℕ) (c : List ℕ) (commands : List Command) (ro
   passed i less =
       let at : (first + n + closed) + (slots - n - closed) + i ≡ (first + i) + slots = omega (arith, few, closed_few) in
       let is : sequence_of (slot r (first + i) c) ≡ first + i = numbered i (omega (arith, low, less)) in
-      subst (λ (m : ℕ). sequence_of (slot r m c) < first + k) (sym at) (subst (λ (bytes : List ℕ). sequence_of bytes < first + k) (sym (slot_round r (first + i) c)) (omega (arith, is, less)))
+      subst (λ (m : ℕ). sequence_of (slot r m c) < first + k) (sym at)
+      (subst (λ (bytes : List ℕ). sequence_of bytes < first + k) (sym (slot_round r (first + i) c))
+      (omega (arith, is, less)))
 
   later_stale : ends_stale r (first + k) (n - k) c ≡ true
   later_stale =
       let front : are_stale r (slots - n - closed) (first + n + closed) (first + k) c ≡ true =
-      stale_each r c (slots - n - closed) (first + n + closed) (first + k) (λ i less. let was = stale_at r c (slots - n - closed) (first + n + closed) first i was_stale less in omega (arith, was)) in
+      stale_each r c (slots - n - closed) (first + n + closed) (first + k)
+      (λ i less. let was = stale_at r c (slots - n - closed) (first + n + closed) first i was_stale less in omega
+      (arith, was)) in
       let back : are_stale r k ((first + n + closed) + (slots - n - closed)) (first + k) c ≡ true =
       stale_each r c k ((first + n + closed) + (slots - n - closed)) (first + k) passed in
-      let whole : are_stale r ((slots - n - closed) + k) (first + n + closed) (first + k) c ≡ true = stale_joined r c (slots - n - closed) k (first + n + closed) (first + k) front back in
+      let whole : are_stale r ((slots - n - closed) + k) (first + n + closed) (first + k) c
+      ≡ true = stale_joined r c (slots - n - closed) k (first + n + closed) (first + k) front back in
       let many : (slots - n - closed) + k ≡ slots - (n - k) - closed = omega (arith, low, few, closed_few) in
       let start : first + n + closed ≡ ((first + k) + (n - k)) + closed = ap (λ (m : ℕ). m + closed) (sym next_is) in
       let back_many : slots - (n - k) - closed ≡ (slots - n - closed) + k = sym many in

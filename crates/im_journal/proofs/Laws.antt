@@ -1,5 +1,6 @@
 -- What a journal's owner may rely on while other parts of the file are written.
-use Rattle.std.proofs.Common.{◌≡◌, ◌⊎◌, inl, inr, ⊎_elim, ℕ, ◌+◌, ◌*◌, ◌<◌, ◌≤◌, List, length, get_or, sym, ◌∙◌, subst, arith}
+use Rattle.std.proofs.Common.{◌≡◌, ◌⊎◌, inl, inr, ⊎_elim, ℕ, ◌+◌, ◌*◌, ◌<◌, ◌≤◌, List, length, get_or, sym, ◌∙◌}
+use Rattle.std.proofs.Common.{subst, arith}
 use Rattle.im_types.specs.Bytes.{open_gate}
 use Rattle.im_types.specs.Slot.{sequence_of}
 use Rattle.im_types.specs.Journal.{Ring, slot}
@@ -15,7 +16,8 @@ abbrev pub IsElsewhere : Ring → ℕ → ℕ → Type 0
 IsElsewhere ring at n = (at + n ≤ ring.base) ⊎ (ring.base + 64 * ring.slots ≤ at)
 
 -- zero bytes are closed gates
-pub closed_zeros : (ring : Ring) (file : List ℕ) → ((i : ℕ) → ring.base ≤ i → i < ring.base + 64 * ring.slots → get_or file i 0 ≡ 0) → AreClosed ring file
+pub closed_zeros : (ring : Ring) (file : List ℕ)
+    → ((i : ℕ) → ring.base ≤ i → i < ring.base + 64 * ring.slots → get_or file i 0 ≡ 0) → AreClosed ring file
 closed_zeros ring file zero i lt is =
     let none : get_or file (ring.base + 64 * i) 0 ≡ 0 = zero (ring.base + 64 * i) (omega arith) (omega arith) in
     absurd (clash (get_or file (ring.base + 64 * i) 0) none is)
@@ -27,7 +29,8 @@ module _ (j : JournalState) (known : IsJournal j) where
   some : 0 < j.ring.slots
   some = omega (arith, known.enough_slots)
 
-  slot_elsewhere : (at n : ℕ) (d c : List ℕ) → IsElsewhere j.ring at n → SameBut at n d c → (s : ℕ) → slot j.ring s c ≡ slot j.ring s d
+  slot_elsewhere : (at n : ℕ) (d c : List ℕ) → IsElsewhere j.ring at n → SameBut at n d c → (s : ℕ) → slot j.ring s c
+      ≡ slot j.ring s d
   slot_elsewhere at n d c beside same s = same_slot j.ring s c d same.size (λ i low high. same.same i (⊎_elim
       (λ before. inr (omega arith))
       (λ after. let end = slot_inside j.ring some s in inl (omega arith))
@@ -42,18 +45,22 @@ module _ (j : JournalState) (known : IsJournal j) where
     reads = tail_elsewhere j.ring j.first at n d c some beside same ∙ held.reads;
     count = held.count;
     enough = held.enough;
-    behind = λ low k from to. subst (λ (l : List ℕ). sequence_of l < j.first) (sym (slot_elsewhere at n d c beside same (j.count + k))) (held.behind low k from to);
+    behind = λ low k from to. subst (λ (l : List ℕ). sequence_of l < j.first)
+        (sym (slot_elsewhere at n d c beside same (j.count + k))) (held.behind low k from to);
   }
 
   -- so a write elsewhere, failed or not, leaves it
-  pub all_hold_torn : (at n : ℕ) (m m' : Moment) (past past' : List Moment) → at + n ≤ length m.bytes → IsElsewhere j.ring at n → MayTick (Torn at n) m m' past past' → AllHold j m → AllHold j m'
-  all_hold_torn at n m m' past past' fits beside (inl same) all c left = all c (subst (λ (x : Moment). Left x c) same.0 left)
+  pub all_hold_torn : (at n : ℕ) (m m' : Moment) (past past' : List Moment) → at + n ≤ length m.bytes
+      → IsElsewhere j.ring at n → MayTick (Torn at n) m m' past past' → AllHold j m → AllHold j m'
+  all_hold_torn at n m m' past past' fits beside (inl same) all c left = all c
+      (subst (λ (x : Moment). Left x c) same.0 left)
   all_hold_torn at n m m' past past' fits beside (inr tick) all c left =
       let from : (d : List ℕ) × Left m d × SameBut at n d c = left_torn at n m m' fits tick.now c left in
       holds_elsewhere at n from.0 c beside from.2 (all from.0 from.1)
 
 -- and so does a sync
-pub all_hold_sync : (j : JournalState) (m m' : Moment) (past past' : List Moment) → MayTick Shaken m m' past past' → AllHold j m → AllHold j m'
+pub all_hold_sync : (j : JournalState) (m m' : Moment) (past past' : List Moment) → MayTick Shaken m m' past past'
+    → AllHold j m → AllHold j m'
 all_hold_sync j m m' past past' tick all c left = all c (left_sync m m' past past' tick c left)
 
 -- after a sync that succeeded it is enough to know the bytes

@@ -1,5 +1,7 @@
 -- Where the slots of a ring stand, and on which bytes they depend.
-use Rattle.std.proofs.Common.{◌≡◌, ◌≢◌, ◌⊎◌, inl, inr, ⊎_elim, ℕ, ◌+◌, ◌*◌, ◌/◌, ◌%◌, ◌<◌, ◌≤◌, ◌==◌, ◌&&◌, Bool, true, false, List, length, get_or, take, drop, refl, sym, ◌∙◌, ap, arith, length-take, length-drop, get_or-take, get_or-drop, nat_lt, eq-eqb}
+use Rattle.std.proofs.Common.{◌≡◌, ◌≢◌, ◌⊎◌, inl, inr, ⊎_elim, ℕ, ◌+◌, ◌*◌, ◌/◌, ◌%◌, ◌<◌, ◌≤◌, ◌==◌, ◌&&◌, Bool}
+use Rattle.std.proofs.Common.{true, false, List, length, get_or, take, drop, refl, sym, ◌∙◌, ap, arith, length-take}
+use Rattle.std.proofs.Common.{length-drop, get_or-take, get_or-drop, nat_lt, eq-eqb}
 use Rattle.std.proofs.Math.Nat.{mul-le-mul_left, mod-lt}
 use Rattle.std.proofs.lemmas.Bool.{cases_lt, ne_eqb}
 use Rattle.std.proofs.lemmas.List.{ext_get_or, drop-take, drop-drop}
@@ -21,7 +23,8 @@ module _ (r : Ring) (some : 0 < r.slots) where
   slot_inside s = let low : s % r.slots < r.slots = mod-lt s some in omega arith
 
   -- so their slots don't touch
-  beside : (a b i : ℕ) → (a % r.slots ≡ b % r.slots → ⊥) → slot_at r a ≤ i → i < slot_at r a + 64 → (i < slot_at r b) ⊎ (slot_at r b + 64 ≤ i)
+  beside : (a b i : ℕ) → (a % r.slots ≡ b % r.slots → ⊥) → slot_at r a ≤ i → i < slot_at r a + 64 → (i < slot_at r b)
+      ⊎ (slot_at r b + 64 ≤ i)
   beside a b i differ low high = ⊎_elim
       (λ (first : a % r.slots < b % r.slots). inl (omega arith))
       (λ (ge : b % r.slots ≤ a % r.slots). ⊎_elim
@@ -30,10 +33,12 @@ module _ (r : Ring) (some : 0 < r.slots) where
       (cases_lt (b % r.slots) (a % r.slots)))
       (cases_lt (a % r.slots) (b % r.slots))
 
-  pub away : (a b i : ℕ) → a < b → b < a + r.slots → slot_at r a ≤ i → i < slot_at r a + 64 → (i < slot_at r b) ⊎ (slot_at r b + 64 ≤ i)
+  pub away : (a b i : ℕ) → a < b → b < a + r.slots → slot_at r a ≤ i → i < slot_at r a + 64 → (i < slot_at r b)
+      ⊎ (slot_at r b + 64 ≤ i)
   away a b i lt near low high = beside a b i (apart r.slots a b some lt near) low high
 
-  pub away_after : (a b i : ℕ) → b < a → a < b + r.slots → slot_at r a ≤ i → i < slot_at r a + 64 → (i < slot_at r b) ⊎ (slot_at r b + 64 ≤ i)
+  pub away_after : (a b i : ℕ) → b < a → a < b + r.slots → slot_at r a ≤ i → i < slot_at r a + 64 → (i < slot_at r b)
+      ⊎ (slot_at r b + 64 ≤ i)
   away_after a b i lt near low high = beside a b i (λ e. apart r.slots b a some lt near (sym e)) low high
 
 -- a byte beside a slot is no part of it
@@ -46,14 +51,24 @@ not_in i a (inl lt) is = absurd (omega (arith, lt, is))
 not_in i a (inr ge) is = absurd (omega (arith, ge, is))
 
 -- a slot is its 64 bytes
-pub same_slot : (r : Ring) (s : ℕ) (c d : List ℕ) → length c ≡ length d → ((i : ℕ) → slot_at r s ≤ i → i < slot_at r s + 64 → get_or c i 0 ≡ get_or d i 0) → slot r s c ≡ slot r s d
+pub same_slot : (r : Ring) (s : ℕ) (c d : List ℕ) → length c ≡ length d
+    → ((i : ℕ) → slot_at r s ≤ i → i < slot_at r s + 64 → get_or c i 0 ≡ get_or d i 0) → slot r s c ≡ slot r s d
 unfolding slot
-same_slot r s c d size same = ext_get_or 0 (take 64 (drop (slot_at r s) c)) (take 64 (drop (slot_at r s) d)) lengths each
+same_slot r s c d size same = ext_get_or 0 (take 64 (drop (slot_at r s) c))
+    (take 64 (drop (slot_at r s) d)) lengths each
   where
     lengths : length (take 64 (drop (slot_at r s) c)) ≡ length (take 64 (drop (slot_at r s) d))
-    lengths = omega (arith, length-take 64 (drop (slot_at r s) c), length-drop (slot_at r s) c, length-take 64 (drop (slot_at r s) d), length-drop (slot_at r s) d)
+    lengths = omega (
+      arith,
+      length-take 64 (drop (slot_at r s) c),
+      length-drop (slot_at r s) c,
+      length-take 64
+          (drop (slot_at r s) d),
+      length-drop (slot_at r s) d,
+    )
 
-    each : (i : ℕ) → i < length (take 64 (drop (slot_at r s) c)) → get_or (take 64 (drop (slot_at r s) c)) i 0 ≡ get_or (take 64 (drop (slot_at r s) d)) i 0
+    each : (i : ℕ) → i < length (take 64 (drop (slot_at r s) c)) → get_or (take 64 (drop (slot_at r s) c)) i 0
+        ≡ get_or (take 64 (drop (slot_at r s) d)) i 0
     each i lt =
         let short : i < 64 = omega (arith, length-take 64 (drop (slot_at r s) c)) in
         get_or-take 64 (drop (slot_at r s) c) i 0 short ∙ get_or-drop (slot_at r s) c i 0
@@ -61,7 +76,9 @@ same_slot r s c d size same = ext_get_or 0 (take 64 (drop (slot_at r s) c)) (tak
         ∙ sym (get_or-take 64 (drop (slot_at r s) d) i 0 short ∙ get_or-drop (slot_at r s) d i 0)
 
 -- what is behind its gate is 63 of them
-pub same_body : (r : Ring) (s : ℕ) (c d : List ℕ) → length c ≡ length d → ((i : ℕ) → slot_at r s < i → i < slot_at r s + 64 → get_or c i 0 ≡ get_or d i 0) → drop 1 (slot r s c) ≡ drop 1 (slot r s d)
+pub same_body : (r : Ring) (s : ℕ) (c d : List ℕ) → length c ≡ length d
+    → ((i : ℕ) → slot_at r s < i → i < slot_at r s + 64 → get_or c i 0 ≡ get_or d i 0) → drop 1 (slot r s c)
+    ≡ drop 1 (slot r s d)
 unfolding slot
 same_body r s c d size same =
     drop-take 1 63 (drop (slot_at r s) c) ∙ ap (λ (l : List ℕ). take 63 l) (drop-drop 1 (slot_at r s) c)
@@ -69,16 +86,26 @@ same_body r s c d size same =
     ∙ sym (drop-take 1 63 (drop (slot_at r s) d) ∙ ap (λ (l : List ℕ). take 63 l) (drop-drop 1 (slot_at r s) d))
   where
     lengths : length (take 63 (drop (slot_at r s + 1) c)) ≡ length (take 63 (drop (slot_at r s + 1) d))
-    lengths = omega (arith, size, length-take 63 (drop (slot_at r s + 1) c), length-drop (slot_at r s + 1) c, length-take 63 (drop (slot_at r s + 1) d), length-drop (slot_at r s + 1) d)
+    lengths = omega (
+      arith,
+      size,
+      length-take 63 (drop (slot_at r s + 1) c),
+      length-drop
+          (slot_at r s + 1) c,
+      length-take 63 (drop (slot_at r s + 1) d),
+      length-drop (slot_at r s + 1) d,
+    )
 
-    each : (i : ℕ) → i < length (take 63 (drop (slot_at r s + 1) c)) → get_or (take 63 (drop (slot_at r s + 1) c)) i 0 ≡ get_or (take 63 (drop (slot_at r s + 1) d)) i 0
+    each : (i : ℕ) → i < length (take 63 (drop (slot_at r s + 1) c))
+        → get_or (take 63 (drop (slot_at r s + 1) c)) i 0 ≡ get_or (take 63 (drop (slot_at r s + 1) d)) i 0
     each i lt =
         let short : i < 63 = omega (arith, lt, length-take 63 (drop (slot_at r s + 1) c)) in
         get_or-take 63 (drop (slot_at r s + 1) c) i 0 short ∙ get_or-drop (slot_at r s + 1) c i 0
         ∙ same (slot_at r s + 1 + i) (omega arith) (omega (arith, short))
         ∙ sym (get_or-take 63 (drop (slot_at r s + 1) d) i 0 short ∙ get_or-drop (slot_at r s + 1) d i 0)
 
-pub body_is : (r : Ring) (s : ℕ) (file bytes : List ℕ) → length bytes ≡ 63 → take (length bytes) (drop (slot_at r s + 1) file) ≡ bytes → drop 1 (slot r s file) ≡ bytes
+pub body_is : (r : Ring) (s : ℕ) (file bytes : List ℕ) → length bytes ≡ 63
+    → take (length bytes) (drop (slot_at r s + 1) file) ≡ bytes → drop 1 (slot r s file) ≡ bytes
 unfolding slot
 body_is r s file bytes long e =
     drop-take 1 63 (drop (slot_at r s) file)
@@ -88,15 +115,19 @@ body_is r s file bytes long e =
 -- a slot's gate is its first byte
 gate_of : (r : Ring) (s : ℕ) (file : List ℕ) → get_or (slot r s file) 0 0 ≡ get_or file (slot_at r s) 0
 unfolding slot
-gate_of r s file = get_or-take 64 (drop (slot_at r s) file) 0 0 (omega arith) ∙ get_or-drop (slot_at r s) file 0 0 ∙ ap (λ (k : ℕ). get_or file k 0) (omega arith)
+gate_of r s file = get_or-take 64 (drop (slot_at r s) file) 0 0 (omega arith) ∙ get_or-drop (slot_at r s) file 0 0
+    ∙ ap (λ (k : ℕ). get_or file k 0) (omega arith)
 
-pub closed_gate : (r : Ring) (s : ℕ) (file : List ℕ) → get_or file (slot_at r s) 0 ≢ open_gate → is_open (slot r s file) ≡ false
+pub closed_gate : (r : Ring) (s : ℕ) (file : List ℕ) → get_or file (slot_at r s) 0 ≢ open_gate
+    → is_open (slot r s file) ≡ false
 closed_gate r s file shut = ne_eqb (get_or (slot r s file) 0 0) open_gate (λ e. shut (sym (gate_of r s file) ∙ e))
 
-pub opened_gate : (r : Ring) (s : ℕ) (file : List ℕ) → get_or file (slot_at r s) 0 ≡ open_gate → is_open (slot r s file) ≡ true
+pub opened_gate : (r : Ring) (s : ℕ) (file : List ℕ) → get_or file (slot_at r s) 0 ≡ open_gate
+    → is_open (slot r s file) ≡ true
 opened_gate r s file is = eq-eqb (get_or (slot r s file) 0 0) open_gate (gate_of r s file ∙ is)
 
-pub same_gate : (r : Ring) (s : ℕ) (c d : List ℕ) → get_or c (slot_at r s) 0 ≡ get_or d (slot_at r s) 0 → is_open (slot r s c) ≡ is_open (slot r s d)
+pub same_gate : (r : Ring) (s : ℕ) (c d : List ℕ) → get_or c (slot_at r s) 0 ≡ get_or d (slot_at r s) 0
+    → is_open (slot r s c) ≡ is_open (slot r s d)
 same_gate r s c d same = ap (λ (b : ℕ). b == open_gate) (gate_of r s c ∙ same ∙ sym (gate_of r s d))
 
 -- no slot's gate is behind the gate of a slot
@@ -106,7 +137,8 @@ no_gate_behind r a b = ⊎_elim
     (λ (high : a % r.slots ≤ b % r.slots). inl (omega (arith, high)))
     (cases_lt (b % r.slots) (a % r.slots))
 
-pub gate_closed : (r : Ring) (s : ℕ) (file : List ℕ) → is_open (slot r s file) ≡ false → get_or file (slot_at r s) 0 ≢ open_gate
+pub gate_closed : (r : Ring) (s : ℕ) (file : List ℕ) → is_open (slot r s file) ≡ false
+    → get_or file (slot_at r s) 0 ≢ open_gate
 gate_closed r s file shut e = clash (sym (eq-eqb (get_or (slot r s file) 0 0) open_gate (gate_of r s file ∙ e)) ∙ shut)
   where
     clash : true ≡ false → ⊥
@@ -126,7 +158,9 @@ and_first a b e = ap (λ (x : Bool). x && b) e
 
 pub stops_other : (bytes : List ℕ) (s : ℕ) → sequence_of bytes < s → continues bytes s ≡ false
 unfolding continues
-stops_other bytes s other = and_first (is_open bytes && (sequence_of bytes == s)) (nat_lt s LAST) (and_false (is_open bytes) (sequence_of bytes == s) (ne_eqb (sequence_of bytes) s (λ e. less (sequence_of bytes) s other e)))
+stops_other bytes s other = and_first (is_open bytes && (sequence_of bytes == s)) (nat_lt s LAST)
+    (and_false (is_open bytes) (sequence_of bytes == s)
+    (ne_eqb (sequence_of bytes) s (λ e. less (sequence_of bytes) s other e)))
   where
     less : (a b : ℕ) → a < b → a ≡ b → ⊥
     less a b lt e = absurd (omega arith)
@@ -137,9 +171,11 @@ both true true false x y z = z
 both true false c x y z = absurd (cc)
 both false b c x y z = absurd (cc)
 
-pub goes_on : (bytes : List ℕ) (s : ℕ) → is_open bytes ≡ true → sequence_of bytes ≡ s → nat_lt s LAST ≡ true → continues bytes s ≡ true
+pub goes_on : (bytes : List ℕ) (s : ℕ) → is_open bytes ≡ true → sequence_of bytes ≡ s → nat_lt s LAST ≡ true
+    → continues bytes s ≡ true
 unfolding continues
-goes_on bytes s open_here same low = both (is_open bytes) (sequence_of bytes == s) (nat_lt s LAST) open_here (eq-eqb (sequence_of bytes) s same) low
+goes_on bytes s open_here same low = both (is_open bytes) (sequence_of bytes == s) (nat_lt s LAST) open_here
+    (eq-eqb (sequence_of bytes) s same) low
 
 last_of : (a b c : Bool) → (a && b && c) ≡ true → (a ≡ true) × (c ≡ true)
 last_of true true c e = (refl, e)

@@ -1,5 +1,7 @@
 -- A journal some of whose gates behind the known room were written.
-use Rattle.std.proofs.Common.{◌≡◌, ◌≢◌, ⊎_elim, ℕ, ◌+◌, ◌-◌, ◌*◌, ◌<◌, ◌≤◌, ◌==◌, min, false, if◌then◌else◌, List, Some, length, get_or, take, drop, sym, ◌∙◌, ap, subst, arith, length-take, length-drop, get_or-take, get_or-drop, eq-eqb}
+use Rattle.std.proofs.Common.{◌≡◌, ◌≢◌, ⊎_elim, ℕ, ◌+◌, ◌-◌, ◌*◌, ◌<◌, ◌≤◌, ◌==◌, min, false, if◌then◌else◌, List}
+use Rattle.std.proofs.Common.{Some, length, get_or, take, drop, sym, ◌∙◌, ap, subst, arith, length-take, length-drop}
+use Rattle.std.proofs.Common.{get_or-take, get_or-drop, eq-eqb}
 use Rattle.std.proofs.lemmas.Bool.{cases_lt, cases_eq}
 use Rattle.std.proofs.lemmas.List.{ext_get_or}
 use Rattle.byteorder.specs.Endian.{little_number}
@@ -11,7 +13,8 @@ use Rattle.im_types.specs.Journal.{Ring, slot_at, slot, closed_from, room_of, ta
 use Rattle.im_disk.specs.Moment.{Moment}
 use Rattle.im_disk.specs.Since.{SameBut, LeavesOnly}
 use Rattle.im_disk.proofs.SinceLemmas.{left_now, left_settled, only_weaker}
-use Rattle.im_journal.specs.Holding.{JournalState, IsJournal, Holds, AllHold, to_sweep, with_room, KeepsBoundaries, SameRun, MaySweep, Sweeps}
+use Rattle.im_journal.specs.Holding.{JournalState, IsJournal, Holds, AllHold, to_sweep, with_room, KeepsBoundaries}
+use Rattle.im_journal.specs.Holding.{SameRun, MaySweep, Sweeps}
 use Rattle.im_journal.specs.Gates.{closed_gate as shut_gate, SameButGates, MayClose, HasClosed, AreShut}
 use Rattle.im_journal.proofs.Slots.{slot_inside, away, same_slot, closed_gate}
 use Rattle.im_journal.proofs.Tails.{Parts, parts_of}
@@ -19,7 +22,8 @@ use Rattle.im_journal.proofs.Rings.{other_number, closed_at}
 use Rattle.im_journal.proofs.Sweeps.{tail_swept, boundaries_swept, no_less}
 
 -- a slot's sequence number doesn't depend on its gate
-sequence_bytes : (r : Ring) (s : ℕ) (c : List ℕ) (i : ℕ) → i < 8 → get_or (take 8 (drop 8 (slot r s c))) i 0 ≡ get_or c (slot_at r s + (8 + i)) 0
+sequence_bytes : (r : Ring) (s : ℕ) (c : List ℕ) (i : ℕ) → i < 8 → get_or (take 8 (drop 8 (slot r s c))) i 0
+    ≡ get_or c (slot_at r s + (8 + i)) 0
 unfolding slot
 sequence_bytes r s c i low =
     get_or-take 8 (drop 8 (take 64 (drop (slot_at r s) c))) i 0 low
@@ -27,7 +31,8 @@ sequence_bytes r s c i low =
     ∙ get_or-take 64 (drop (slot_at r s) c) (8 + i) 0 (omega (arith, low))
     ∙ get_or-drop (slot_at r s) c (8 + i) 0
 
-sequence_size : (r : Ring) (s : ℕ) (c d : List ℕ) → length d ≡ length c → length (take 8 (drop 8 (slot r s d))) ≡ length (take 8 (drop 8 (slot r s c)))
+sequence_size : (r : Ring) (s : ℕ) (c d : List ℕ) → length d ≡ length c → length (take 8 (drop 8 (slot r s d)))
+    ≡ length (take 8 (drop 8 (slot r s c)))
 unfolding slot
 sequence_size r s c d size = omega (
   arith,
@@ -42,13 +47,18 @@ sequence_size r s c d size = omega (
   length-drop (slot_at r s) c,
 )
 
-same_sequence : (r : Ring) (s : ℕ) (c d : List ℕ) → length d ≡ length c → ((i : ℕ) → i < 8 → get_or d (slot_at r s + (8 + i)) 0 ≡ get_or c (slot_at r s + (8 + i)) 0) → sequence_of (slot r s d) ≡ sequence_of (slot r s c)
+same_sequence : (r : Ring) (s : ℕ) (c d : List ℕ) → length d ≡ length c
+    → ((i : ℕ) → i < 8 → get_or d (slot_at r s + (8 + i)) 0 ≡ get_or c (slot_at r s + (8 + i)) 0)
+    → sequence_of (slot r s d) ≡ sequence_of (slot r s c)
 unfolding sequence_of
-same_sequence r s c d size same = ap (λ (l : List ℕ). little_number 8 l) (ext_get_or 0 (take 8 (drop 8 (slot r s d))) (take 8 (drop 8 (slot r s c))) (sequence_size r s c d size)
-    (λ i lt. let low : i < 8 = omega (arith, lt, length-take 8 (drop 8 (slot r s d))) in sequence_bytes r s d i low ∙ same i low ∙ sym (sequence_bytes r s c i low)))
+same_sequence r s c d size same = ap (λ (l : List ℕ). little_number 8 l)
+    (ext_get_or 0 (take 8 (drop 8 (slot r s d))) (take 8 (drop 8 (slot r s c))) (sequence_size r s c d size)
+    (λ i lt. let low : i < 8 = omega (arith, lt, length-take 8 (drop 8 (slot r s d))) in sequence_bytes r s d i low
+    ∙ same i low ∙ sym (sequence_bytes r s c i low)))
 
 -- n slots behind the known room are swept
-module _ (j : JournalState) (known : IsJournal j) (n : ℕ) (low : j.count < LAST) (few : j.room + n ≤ j.ring.slots - (j.count - j.first)) where
+module _ (j : JournalState) (known : IsJournal j) (n : ℕ) (low : j.count < LAST)
+    (few : j.room + n ≤ j.ring.slots - (j.count - j.first)) where
   abbrev next : ℕ
   next = j.count + j.room
 
@@ -67,10 +77,12 @@ module _ (j : JournalState) (known : IsJournal j) (n : ℕ) (low : j.count < LAS
         apart k b less is lo hi = ⊎_elim
             (λ (before : b < slot_at j.ring (next + k)). absurd (omega (arith, before, is)))
             (λ (behind : slot_at j.ring (next + k) + 64 ≤ b). absurd (omega (arith, behind, is)))
-            (away j.ring some_slots s (next + k) b (omega (arith, to)) (omega (arith, from, less, few, known.once_round, known.begun)) lo hi)
+            (away j.ring some_slots s (next + k) b (omega (arith, to))
+            (omega (arith, from, less, few, known.once_round, known.begun)) lo hi)
 
     sequences_stay : (s : ℕ) → sequence_of (slot j.ring s d) ≡ sequence_of (slot j.ring s c)
-    sequences_stay s = same_sequence j.ring s c d but.size (λ i less. but.same (slot_at j.ring s + (8 + i)) (λ k few_k is. absurd (omega (arith, less, is))))
+    sequences_stay s = same_sequence j.ring s c d but.size
+        (λ i less. but.same (slot_at j.ring s + (8 + i)) (λ k few_k is. absurd (omega (arith, less, is))))
 
     -- the known room's gates
     count_is : j.first + length commands ≡ j.count
@@ -86,10 +98,12 @@ module _ (j : JournalState) (known : IsJournal j) (n : ℕ) (low : j.count < LAS
     not_last = other_number (j.first + length commands) LAST (λ last. absurd (omega (arith, low, last, held.count)))
 
     room_is : closed_from j.ring (j.ring.slots - length commands) (j.first + length commands) c ≡ held.there
-    room_is = sym (ap (λ b. if b then 0 else closed_from j.ring (j.ring.slots - length commands) (j.first + length commands) c) not_last) ∙ parts.room
+    room_is = sym (ap (λ b. if b then 0 else closed_from j.ring (j.ring.slots - length commands)
+        (j.first + length commands) c) not_last) ∙ parts.room
 
     shut_before : (k : ℕ) → k < j.room → is_open (slot j.ring (j.first + length commands + k) c) ≡ false
-    shut_before k less = closed_at j.ring c (j.ring.slots - length commands) (j.first + length commands) k (omega (arith, less, room_is, held.enough))
+    shut_before k less = closed_at j.ring c (j.ring.slots - length commands) (j.first + length commands) k
+        (omega (arith, less, room_is, held.enough))
 
     -- so many of the gates that were written are known to be closed
     module _ (more : ℕ) (of : more ≤ n) (closed : HasClosed j.ring next more d) where
@@ -98,11 +112,16 @@ module _ (j : JournalState) (known : IsJournal j) (n : ℕ) (low : j.count < LAS
 
       swept_shut : (k : ℕ) → k < room_known → is_open (slot j.ring (j.first + length commands + k) d) ≡ false
       swept_shut k less = ⊎_elim
-          (λ (before : k < j.room). ap is_open (stays (j.first + length commands + k) (omega arith) (omega (arith, before, count_is))) ∙ shut_before k before)
+          (λ (before : k < j.room). ap is_open
+          (stays (j.first + length commands + k) (omega arith) (omega (arith, before, count_is)))
+          ∙ shut_before k before)
           (λ (behind : j.room ≤ k).
           let at : next + (k - j.room) ≡ j.first + length commands + k = omega (arith, behind, count_is) in
           subst (λ (s : ℕ). is_open (slot j.ring s d) ≡ false) at
-          (closed_gate j.ring (next + (k - j.room)) d (λ is. absurd (clash (get_or d (slot_at j.ring (next + (k - j.room))) 0) (closed (k - j.room) (omega (arith, less, behind))) is))))
+          (closed_gate j.ring (next + (k - j.room)) d
+          (λ is. absurd
+          (clash (get_or d (slot_at j.ring (next + (k - j.room))) 0)
+          (closed (k - j.room) (omega (arith, less, behind))) is))))
           (cases_lt k j.room)
         where
           clash : (b : ℕ) → b ≡ shut_gate → b ≡ open_gate → ⊥
@@ -114,11 +133,13 @@ module _ (j : JournalState) (known : IsJournal j) (n : ℕ) (low : j.count < LAS
       enough_known : room_known ≤ j.ring.slots - length commands
       enough_known = omega (arith, of, few, run_is)
 
-      still_stale : (k : ℕ) → room_known ≤ k → k < j.ring.slots - length commands → sequence_of (slot j.ring (j.first + length commands + k) d) < j.first
+      still_stale : (k : ℕ) → room_known ≤ k → k < j.ring.slots - length commands
+          → sequence_of (slot j.ring (j.first + length commands + k) d) < j.first
       still_stale k from to =
           let at : j.count + k ≡ j.first + length commands + k = ap (λ (m : ℕ). m + k) held.count in
           subst (λ (s : ℕ). sequence_of (slot j.ring s d) < j.first) at
-          (subst (λ (m : ℕ). m < j.first) (sym (sequences_stay (j.count + k))) (held.behind low k (omega (arith, from)) (omega (arith, to, run_is))))
+          (subst (λ (m : ℕ). m < j.first) (sym (sequences_stay (j.count + k)))
+          (held.behind low k (omega (arith, from)) (omega (arith, to, run_is))))
 
       boundaries_kept : KeepsBoundaries j.ring j.first c d
       boundaries_kept = boundaries_swept j.ring j.first c d commands held.there held.reads room_known run_stays enough_known swept_shut still_stale
@@ -130,10 +151,12 @@ module _ (j : JournalState) (known : IsJournal j) (n : ℕ) (low : j.count < LAS
       reads_swept = tail_swept j.ring j.first c d commands held.there held.reads room_known run_stays enough_known swept_shut still_stale
 
       found_is : found ≡ closed_from j.ring (j.ring.slots - length commands) (j.first + length commands) d
-      found_is = ap (λ b. if b then 0 else closed_from j.ring (j.ring.slots - length commands) (j.first + length commands) d) not_last
+      found_is = ap (λ b. if b then 0 else closed_from j.ring (j.ring.slots - length commands)
+          (j.first + length commands) d) not_last
 
       pub found_enough : room_known ≤ found
-      found_enough = omega (arith, found_is, no_less j.ring j.first c d commands held.there held.reads room_known run_stays enough_known swept_shut still_stale)
+      found_enough = omega
+          (arith, found_is, no_less j.ring j.first c d commands held.there held.reads room_known run_stays enough_known swept_shut still_stale)
 
       pub holds_swept : Holds (with_room j more) d
       holds_swept = record {
@@ -143,7 +166,8 @@ module _ (j : JournalState) (known : IsJournal j) (n : ℕ) (low : j.count < LAS
         reads = reads_swept;
         count = held.count;
         enough = found_enough;
-        behind = λ lower k from to. subst (λ (m : ℕ). m < j.first) (sym (sequences_stay (j.count + k))) (held.behind low k (omega (arith, from)) to);
+        behind = λ lower k from to. subst (λ (m : ℕ). m < j.first) (sym (sequences_stay (j.count + k)))
+            (held.behind low k (omega (arith, from)) to);
       }
 
     none_closed : HasClosed j.ring next 0 d
@@ -185,16 +209,28 @@ pub record IsTurn (s j : JournalState) (n : ℕ) (m0 : Moment) : Type 0 where
   pub low : s.count < LAST
   pub few : s.room + n ≤ s.ring.slots - (s.count - s.first)
 
-some_to_sweep : (j : JournalState) → 0 < to_sweep j → (j.count ≢ LAST) × (to_sweep j ≡ j.ring.slots - (j.count - j.first) - j.room)
+some_to_sweep : (j : JournalState) → 0 < to_sweep j → (j.count ≢ LAST)
+    × (to_sweep j ≡ j.ring.slots - (j.count - j.first) - j.room)
 some_to_sweep j some = ⊎_elim
-    (λ (last : j.count ≡ LAST). absurd (omega (arith, some, ap (λ b. if b then 0 else j.ring.slots - (j.count - j.first) - j.room) (eq-eqb j.count LAST last))))
-    (λ (other : j.count ≢ LAST). (other, ap (λ b. if b then 0 else j.ring.slots - (j.count - j.first) - j.room) (other_number j.count LAST other)))
+    (λ (last : j.count ≡ LAST). absurd
+    (omega (
+      arith,
+      some,
+      ap (λ b. if b then 0 else j.ring.slots - (j.count - j.first) - j.room)
+          (eq-eqb j.count LAST last),
+    )))
+    (λ (other : j.count ≢ LAST). (
+      other,
+      ap (λ b. if b then 0 else j.ring.slots - (j.count - j.first) - j.room)
+          (other_number j.count LAST other),
+    ))
     (cases_eq j.count LAST)
 
 pub no_more : (n most t u : ℕ) → n ≡ min most t → t ≡ u → n ≤ u
 no_more n most t u is same = omega (arith, is, same)
 
-pub turn_of : (s j : JournalState) (n : ℕ) (m0 : Moment) → s ≡ j → IsJournal s → 0 < to_sweep j → AllHold j m0 → n ≤ to_sweep j → IsTurn s j n m0
+pub turn_of : (s j : JournalState) (n : ℕ) (m0 : Moment) → s ≡ j → IsJournal s → 0 < to_sweep j → AllHold j m0
+    → n ≤ to_sweep j → IsTurn s j n m0
 turn_of s j n m0 is known some all few =
     let parts = some_to_sweep s (subst (λ (x : JournalState). 0 < to_sweep x) (sym is) some) in
     let few_s : n ≤ to_sweep s = subst (λ (x : JournalState). n ≤ to_sweep x) (sym is) few in
@@ -225,12 +261,17 @@ module _ {s j : JournalState} {n : ℕ} {m0 : Moment} (t : IsTurn s j n m0) wher
     -- the journal, as its fields show it once they are swept
     pub sweeps : Sweeps j (with_room s n) m0 m
     sweeps = record {
-      holds = λ c left. subst (λ (l : List ℕ). Holds (with_room s n) l) (sym (left_settled m c shut.calm left)) (holds_swept s t.known n t.low t.few m0.bytes m.bytes held shut.kept n (omega arith) shut.closed);
-      run = subst (λ (x : JournalState). SameRun x m0.bytes m.bytes) t.is (same_run_there s t.known n t.low t.few m0.bytes m.bytes held shut.kept);
+      holds = λ c left. subst (λ (l : List ℕ). Holds (with_room s n) l) (sym (left_settled m c shut.calm left))
+          (holds_swept s t.known n t.low t.few m0.bytes m.bytes held shut.kept n (omega arith) shut.closed);
+      run = subst (λ (x : JournalState). SameRun x m0.bytes m.bytes) t.is
+          (same_run_there s t.known n t.low t.few m0.bytes m.bytes held shut.kept);
       calm = shut.calm;
     }
 
 -- the same of a disk
-pub sweep_leaves : {D : Type 0} (now : D → Moment) (past : D → List Moment) (d0 d1 : D) {s j : JournalState} {n : ℕ} → IsTurn s j n (now d0)
-    → LeavesOnly now past d0 d1 (MayClose s.ring (s.count + s.room) n (now d0)) → LeavesOnly now past d0 d1 (MaySweep j (now d0))
-sweep_leaves now past d0 d1 {s} {j} {n} t leaves = only_weaker now past d0 d1 (MayClose s.ring (s.count + s.room) n (now d0)) (MaySweep j (now d0)) leaves (may_sweep t)
+pub sweep_leaves : {D : Type 0} (now : D → Moment) (past : D → List Moment) (d0 d1 : D) {s j : JournalState} {n : ℕ}
+    → IsTurn s j n (now d0)
+    → LeavesOnly now past d0 d1 (MayClose s.ring (s.count + s.room) n (now d0))
+    → LeavesOnly now past d0 d1 (MaySweep j (now d0))
+sweep_leaves now past d0 d1 {s} {j} {n} t leaves = only_weaker now past d0 d1
+    (MayClose s.ring (s.count + s.room) n (now d0)) (MaySweep j (now d0)) leaves (may_sweep t)

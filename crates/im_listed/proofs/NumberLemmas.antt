@@ -40,7 +40,8 @@ ranges_same (r ∷ rs) (s ∷ ss) e =
 
 moment_same : (m n : Moment) → moment_number m ≡ moment_number n → m ≡ n
 moment_same m n e =
-    let parts = pair_same (bytes_number m.bytes) (ranges_number m.ranges) (bytes_number n.bytes) (ranges_number n.ranges) e in
+    let parts = pair_same (bytes_number m.bytes) (ranges_number m.ranges) (bytes_number n.bytes)
+    (ranges_number n.ranges) e in
     let bytes = bytes_same m.bytes n.bytes parts.0 in
     let ranges = ranges_same m.ranges n.ranges parts.1 in
     (λ i. record { bytes = bytes i; ranges = ranges i })

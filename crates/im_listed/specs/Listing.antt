@@ -1,5 +1,6 @@
 -- A disk over a caller's bytes, and what the caller's file comes to by the list of its writes and syncs.
-use Rattle.std.specs.Prelude.{◌≡◌, ℕ, ◌≤◌, Bool, true, false, List, [], ◌∷◌, ◌++◌, length, take, map, Result, MatchResult, if◌then◌else◌}
+use Rattle.std.specs.Prelude.{◌≡◌, ℕ, ◌≤◌, Bool, true, false, List, [], ◌∷◌, ◌++◌, length, take, map, Result}
+use Rattle.std.specs.Prelude.{MatchResult, if◌then◌else◌}
 use Rattle.im_disk.specs.Moment.{Moment, Left, LeftSince, written, synced}
 use Rattle.im_listed.specs.declared.step.Step.{Step}
 use Rattle.im_listed.specs.declared.step.Step.TheVariants.{Write, Sync}

@@ -78,8 +78,8 @@ fn settled(bytes: Vec<u8>) -> Result<Listed, DeviceFault>
 impl Image {
     /// Makes the image of an empty memory. The caller's file has its length, and each of its bytes is in doubt.
     ///
-    /// `NoMemory` where there isn't room for the image, the memory and the pages of a checkpoint, `Device` where the list
-    /// couldn't grow.
+    /// `NoMemory` where there isn't room for the image, the memory and the pages of a checkpoint, `Device` where the
+    /// list couldn't grow.
     pub fn format(alloc: Global, limits: Limits) -> Result<Image, Refusal>
         ensures empty { IfOk result (λ i. (i.engine.memory ≡ empty_contents limits.cells limits.elements)
             × (i.engine.count ≡ 0) × (i.engine.room ≡ limits.slots)) }

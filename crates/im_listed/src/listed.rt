@@ -1,7 +1,9 @@
 //! A disk over bytes that a caller hands in. It lists what the caller has to do to its file.
-ghost use Rattle.std.specs.Prelude.{◌≡◌, ◌+◌, ◌≤◌, ◌∷◌, ◌++◌, [], false, true, map, length, take, drop, Ok, OnOk, OnErr};
+ghost use Rattle.std.specs.Prelude.{◌≡◌, ◌+◌, ◌≤◌, ◌∷◌, ◌++◌, [], false, true, map, length, take, drop, Ok, OnOk};
+ghost use Rattle.std.specs.Prelude.{OnErr};
 ghost use Rattle.im_disk.specs.Moment.{Counts, written, synced};
-ghost use Rattle.im_listed.specs.Listing.{Puts, task_of, over, with_no_steps, later_with, settled, is_calm, Lists, Accounts};
+ghost use Rattle.im_listed.specs.Listing.{Puts, task_of, over, with_no_steps, later_with, settled, is_calm, Lists};
+ghost use Rattle.im_listed.specs.Listing.{Accounts};
 ghost use Rattle.im_listed.specs.Numbers.{told};
 
 use crate::account::Ledger;
@@ -22,9 +24,9 @@ const WRITTEN: u64 = 3;
 
 const SYNCED: u64 = 4;
 
-/// A disk over bytes that a caller hands in, which are a copy of its file. It lists its writes and syncs, for the caller
-/// to carry out on the file in their order, and makes them on the copy at once. The list is emptied between calls
-/// ([`Empties`]). A sync lists nothing where nothing was written since the last one.
+/// A disk over bytes that a caller hands in, which are a copy of its file. It lists its writes and syncs, for the
+/// caller to carry out on the file in their order, and makes them on the copy at once. The list is emptied between
+/// calls ([`Empties`]). A sync lists nothing where nothing was written since the last one.
 ///
 /// What a crash leaves of the caller's file is what it leaves at a beginning of the list ([`Listed::steps`]). A call
 /// fails only where the list cannot grow.

@@ -1,5 +1,6 @@
 -- What an operation comes to on a table and an arena is what it comes to on their cells.
-use Rattle.std.proofs.Common.{◌≡◌, ◌≢◌, ℕ, List, [], take, drop, Some, None, Bool, true, false, cond, refl, sym, ap, ◌∙◌, arith}
+use Rattle.std.proofs.Common.{◌≡◌, ◌≢◌, ℕ, List, [], take, drop, Some, None, Bool, true, false, cond, refl, sym, ap}
+use Rattle.std.proofs.Common.{◌∙◌, arith}
 use Rattle.std.specs.Prelude.{Option, ◌==◌, not}
 use Rattle.std.specs.List.{list_any}
 use Rattle.std.proofs.lemmas.Bool.Decides.{nat_tests}
@@ -7,13 +8,16 @@ use Rattle.im_types.specs.declared.operations.Block.{Block}
 use Rattle.im_types.specs.declared.operations.Kind.{Kind}
 use Rattle.im_types.specs.declared.operations.Entry.TheVariants.{Answered}
 use Rattle.im_types.specs.declared.operations.Reply.{Reply}
-use Rattle.im_types.specs.declared.operations.Reply.TheVariants.{Base, BadLength, NoSpace, NoBlock, StillWaiting, Released, Cleared}
+use Rattle.im_types.specs.declared.operations.Reply.TheVariants.{Base, BadLength, NoSpace, NoBlock, StillWaiting}
+use Rattle.im_types.specs.declared.operations.Reply.TheVariants.{Released, Cleared}
 use Rattle.im_types.specs.Contents.{Held, held_at}
-use Rattle.im_types.specs.Act.{Acted as ActedCells, only_tells, new_cell, allocate, allocate_at, unless_waited_for, release_block, emptied, reset_block, block_with_base}
+use Rattle.im_types.specs.Act.{Acted as ActedCells, only_tells, new_cell, allocate, allocate_at, unless_waited_for}
+use Rattle.im_types.specs.Act.{release_block, emptied, reset_block, block_with_base}
 use Rattle.im_types.specs.Place.{place, fill, change_each, IsLeastFree}
 use Rattle.im_laws.proofs.PlaceLemmas.{place-free}
 use Rattle.im_cell.specs.declared.slots.Slot.{Slot}
-use Rattle.im_cell.specs.Slots.{is_waiting, with_cell, empty_slot, block_at, is_quiet_block, is_releasable, length_of, length_at}
+use Rattle.im_cell.specs.Slots.{is_waiting, with_cell, empty_slot, block_at, is_quiet_block, is_releasable, length_of}
+use Rattle.im_cell.specs.Slots.{length_at}
 use Rattle.im_cell.specs.Slots.{block_with_base as slot_with_base}
 use Rattle.im_arena.specs.Lists.{Shown}
 use Rattle.im_istore.specs.Joined.{held_of, cells_of}
@@ -24,7 +28,8 @@ use Rattle.im_laws.specs.Blocks.{IsRefused}
 use Rattle.im_memory.specs.declared.acts.Resumed.TheVariants.{Nobody}
 use Rattle.im_memory.specs.declared.acts.Acted.{Acted}
 use Rattle.im_memory.specs.Resuming.{HasActed}
-use Rattle.im_memory.proofs.CellsLemmas.{place-cells, cells-fill, cells-emptied, any_waiting-cells, with_base-cells, free-list}
+use Rattle.im_memory.proofs.CellsLemmas.{place-cells, cells-fill, cells-emptied, any_waiting-cells, with_base-cells}
+use Rattle.im_memory.proofs.CellsLemmas.{free-list}
 
 -- what is told at once, to the asker alone
 abbrev pub telling : Reply → Acted
@@ -43,7 +48,8 @@ module _ (slots : List (Option Slot)) (arena : Shown) (agree : Agree slots arena
   cells = cells_of slots arena
 
   -- only an answer is given
-  pub tells-HasActed : (reply : Reply) (was : ActedCells) → was ≡ only_tells cells reply → HasActed slots arena (telling reply) was
+  pub tells-HasActed : (reply : Reply) (was : ActedCells) → was ≡ only_tells cells reply
+      → HasActed slots arena (telling reply) was
   tells-HasActed reply was e = record {
     cells = sym (ap (λ a. a.cells) e);
     told = sym (ap (λ a. a.entry) e);
@@ -53,19 +59,23 @@ module _ (slots : List (Option Slot)) (arena : Shown) (agree : Agree slots arena
   }
 
   -- a new block
-  allocate-placed : (kind : Kind) (n : ℕ) → n ≢ 0 → (o : Option ℕ) → o ≡ place n slots → allocate cells kind n ≡ allocate_at cells kind n o
+  allocate-placed : (kind : Kind) (n : ℕ) → n ≢ 0 → (o : Option ℕ) → o ≡ place n slots → allocate cells kind n
+      ≡ allocate_at cells kind n o
   allocate-placed kind n some o e =
       let t : (n == 0) ≡ false = grind (arith, nat_tests) in
-      ap (λ b. cond b (only_tells cells BadLength) (allocate_at cells kind n (place n cells))) t ∙ ap (allocate_at cells kind n) (place-cells slots arena n ∙ sym e)
+      ap (λ b. cond b (only_tells cells BadLength) (allocate_at cells kind n (place n cells))) t
+      ∙ ap (allocate_at cells kind n) (place-cells slots arena n ∙ sym e)
 
-  pub unplaced-HasActed : (kind : Kind) (n : ℕ) → n ≢ 0 → None ≡ place n slots → HasActed slots arena (telling NoSpace) (allocate cells kind n)
+  pub unplaced-HasActed : (kind : Kind) (n : ℕ) → n ≢ 0 → None ≡ place n slots
+      → HasActed slots arena (telling NoSpace) (allocate cells kind n)
   unplaced-HasActed kind n some e = tells-HasActed NoSpace (allocate cells kind n) (allocate-placed kind n some None e)
 
   pub placed-HasActed : (kind : Kind) (n base : ℕ) → n ≢ 0 → Some base ≡ place n slots → IsLeastFree slots n base
       → HasActed (fill slots base n (empty_slot base n kind)) arena (telling (Base base)) (allocate cells kind n)
   placed-HasActed kind n base some e least = record {
     cells = cells-fill slots arena base n (empty_slot base n kind) (new_cell base n kind)
-        (λ a lo hi. ap (held_of (empty_slot base n kind)) (free-list slots arena agree a (place-free n slots base (sym e) a lo hi)))
+        (λ a lo hi. ap (held_of (empty_slot base n kind))
+        (free-list slots arena agree a (place-free n slots base (sym e) a lo hi)))
         ∙ sym (ap (λ (acted : ActedCells). acted.cells) same);
     told = sym (ap (λ (acted : ActedCells). acted.entry) same);
     replies = sym (ap (λ (acted : ActedCells). acted.resumed) same);
@@ -85,30 +95,41 @@ module _ (slots : List (Option Slot)) (arena : Shown) (agree : Agree slots arena
     found-at o e = with_base-cells slots arena a ∙ e
 
     pub absent-refused : None ≡ block_at slots a → IsRefused cells a NoBlock
-    absent-refused e after reply = ap (unless_waited_for after reply cells a) (found-at None (ap (slot_with_base a) (sym e)))
+    absent-refused e after reply = ap (unless_waited_for after reply cells a)
+        (found-at None (ap (slot_with_base a) (sym e)))
 
     pub inner-refused : (block : Block) → Some block ≡ block_at slots a → block.base ≢ a → IsRefused cells a NoBlock
     inner-refused block e inner after reply =
         let t : (block.base == a) ≡ false = grind (arith, nat_tests) in
-        ap (unless_waited_for after reply cells a) (found-at None (ap (slot_with_base a) (sym e) ∙ ap (λ b. cond b (Some block) None) t))
+        ap (unless_waited_for after reply cells a)
+        (found-at None (ap (slot_with_base a) (sym e) ∙ ap (λ b. cond b (Some block) None) t))
 
-    own : (block : Block) → Some block ≡ block_at slots a → block.base ≡ a → slot_with_base a (block_at slots a) ≡ Some block
+    own : (block : Block) → Some block ≡ block_at slots a → block.base ≡ a → slot_with_base a (block_at slots a)
+        ≡ Some block
     own block e base =
         let t : (block.base == a) ≡ true = grind (arith, nat_tests) in
         ap (slot_with_base a) (sym e) ∙ ap (λ b. cond b (Some block) None) t
 
-    becomes : (block : Block) → slot_with_base a (block_at slots a) ≡ Some block → (b : Bool) → list_any is_waiting (take block.length (drop a slots)) ≡ b
+    becomes : (block : Block) → slot_with_base a (block_at slots a) ≡ Some block → (b : Bool)
+        → list_any is_waiting (take block.length (drop a slots)) ≡ b
         → (after : Block → List (Option Held)) (reply : Reply)
-        → unless_waited_for after reply cells a asked ≡ cond b (only_tells cells StillWaiting) (record { cells = after block; entry = Answered reply; resumed = [] })
+        → unless_waited_for after reply cells a asked
+        ≡ cond b (only_tells cells StillWaiting)
+        (record { cells = after block; entry = Answered reply; resumed = [] })
     becomes block found b w after reply =
         ap (unless_waited_for after reply cells a) (found-at (Some block) found)
-        ∙ ap (λ b. cond b (only_tells cells StillWaiting) (record { cells = after block; entry = Answered reply; resumed = [] })) (any_waiting-cells slots arena agree a block.length ∙ w)
+        ∙ ap (λ b. cond b (only_tells cells StillWaiting)
+        (record { cells = after block; entry = Answered reply; resumed = [] }))
+        (any_waiting-cells slots arena agree a block.length ∙ w)
 
-    pub waiting-refused : (block : Block) → Some block ≡ block_at slots a → block.base ≡ a → is_releasable slots a ≡ false → IsRefused cells a StillWaiting
+    pub waiting-refused : (block : Block) → Some block ≡ block_at slots a → block.base ≡ a → is_releasable slots a
+        ≡ false → IsRefused cells a StillWaiting
     waiting-refused block e base stays =
-        becomes block (own block e base) true (not_false _ (sym (ap (is_quiet_block slots a) (own block e base)) ∙ stays))
+        becomes block (own block e base) true
+        (not_false _ (sym (ap (is_quiet_block slots a) (own block e base)) ∙ stays))
 
-    pub refused-HasActed : (reply : Reply) → IsRefused cells a reply → (after : Block → List (Option Held)) (meant : Reply)
+    pub refused-HasActed : (reply : Reply) → IsRefused cells a reply
+        → (after : Block → List (Option Held)) (meant : Reply)
         → HasActed slots arena (telling reply) (unless_waited_for after meant cells a asked)
     refused-HasActed reply refused after meant = tells-HasActed reply _ (refused after meant)
 
@@ -130,7 +151,8 @@ module _ (slots : List (Option Slot)) (arena : Shown) (agree : Agree slots arena
             record { block = block; found = own block (sym e) base; at = sym e; base = base; nobody = not_true _ r }
         by_base block e false t r = absurd (cc)
 
-        by_block : (o : Option Block) → block_at slots a ≡ o → is_quiet_block slots a (slot_with_base a o) ≡ true → IsFound
+        by_block : (o : Option Block) → block_at slots a ≡ o → is_quiet_block slots a (slot_with_base a o) ≡ true
+            → IsFound
         by_block None e r = absurd (cc)
         by_block (Some block) e r = by_base block e (block.base == a) refl r
 
@@ -138,27 +160,35 @@ module _ (slots : List (Option Slot)) (arena : Shown) (agree : Agree slots arena
       abbrev it : IsFound
       it = releasable-found r
 
-      pub released-HasActed : HasActed (fill slots a (length_at slots a) None) arena (telling Released) (release_block cells a asked)
+      pub released-HasActed : HasActed (fill slots a (length_at slots a) None) arena (telling Released)
+          (release_block cells a asked)
       released-HasActed = record {
-        cells = cells-fill slots arena a (length_at slots a) None None (λ b lo hi. refl) ∙ ap (λ (o : Option Block). fill cells a (length_of o) None) (sym it.at) ∙ sym (ap (λ (acted : ActedCells). acted.cells) same);
+        cells = cells-fill slots arena a (length_at slots a) None None (λ b lo hi. refl)
+            ∙ ap (λ (o : Option Block). fill cells a (length_of o) None) (sym it.at)
+            ∙ sym (ap (λ (acted : ActedCells). acted.cells) same);
         told = sym (ap (λ (acted : ActedCells). acted.entry) same);
         replies = sym (ap (λ (acted : ActedCells). acted.resumed) same);
         listed = tt;
         agree = Agree-released slots arena a (sym r) agree;
       }
         where
-          same : release_block cells a asked ≡ record { cells = fill cells a it.block.length None; entry = Answered Released; resumed = [] }
+          same : release_block cells a asked
+              ≡ record { cells = fill cells a it.block.length None; entry = Answered Released; resumed = [] }
           same = becomes it.block it.found false it.nobody (λ block. fill cells a block.length None) Released
 
-      pub reset-HasActed : HasActed (change_each (with_cell Empty) slots a (length_at slots a)) arena (telling Cleared) (reset_block cells a asked)
+      pub reset-HasActed : HasActed (change_each (with_cell Empty) slots a (length_at slots a)) arena
+          (telling Cleared) (reset_block cells a asked)
       reset-HasActed = record {
-        cells = cells-emptied slots arena agree a (length_at slots a) (ap (λ (o : Option Block). list_any is_waiting (take (length_of o) (drop a slots))) (sym it.at) ∙ it.nobody)
-            ∙ ap (λ (o : Option Block). change_each emptied cells a (length_of o)) (sym it.at) ∙ sym (ap (λ (acted : ActedCells). acted.cells) same);
+        cells = cells-emptied slots arena agree a (length_at slots a)
+            (ap (λ (o : Option Block). list_any is_waiting (take (length_of o) (drop a slots))) (sym it.at) ∙ it.nobody)
+            ∙ ap (λ (o : Option Block). change_each emptied cells a (length_of o)) (sym it.at)
+            ∙ sym (ap (λ (acted : ActedCells). acted.cells) same);
         told = sym (ap (λ (acted : ActedCells). acted.entry) same);
         replies = sym (ap (λ (acted : ActedCells). acted.resumed) same);
         listed = tt;
         agree = Agree-emptied slots arena a (sym r) agree;
       }
         where
-          same : reset_block cells a asked ≡ record { cells = change_each emptied cells a it.block.length; entry = Answered Cleared; resumed = [] }
+          same : reset_block cells a asked
+              ≡ record { cells = change_each emptied cells a it.block.length; entry = Answered Cleared; resumed = [] }
           same = becomes it.block it.found false it.nobody (λ block. change_each emptied cells a block.length) Cleared

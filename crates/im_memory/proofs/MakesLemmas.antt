@@ -1,5 +1,6 @@
 -- A table, an arena and windows go on making a memory.
-use Rattle.std.proofs.Common.{◌≡◌, ℕ, zero, suc, ◌*◌, ◌≤◌, List, [], ◌∷◌, length, set, replicate, None, Ok, Err, refl, sym, ap, ◌∙◌, subst, arith}
+use Rattle.std.proofs.Common.{◌≡◌, ℕ, zero, suc, ◌*◌, ◌≤◌, List, [], ◌∷◌, length, set, replicate, None, Ok, Err, refl}
+use Rattle.std.proofs.Common.{sym, ap, ◌∙◌, subst, arith}
 use Rattle.std.specs.Prelude.{Option, Result, OnOk, IfErr, slice_get}
 use Rattle.std.proofs.lemmas.List.{length-replicate}
 use Rattle.im_types.specs.declared.TheConstants.{WINDOW, MAX_CELLS, MAX_ELEMENTS}
@@ -28,7 +29,8 @@ use Rattle.im_laws.proofs.MemoryLemmas.{step-memory, empty-memory}
 
 -- the counts of a memory are those of its table and windows
 own-IsMemory : (cells elements : ℕ) (slots : List (Option Slot)) (arena : Shown) (windows : List Window)
-    → IsMemory cells elements (contents_of slots arena windows) → IsMemory (length slots) (length windows) (contents_of slots arena windows)
+    → IsMemory cells elements (contents_of slots arena windows)
+    → IsMemory (length slots) (length windows) (contents_of slots arena windows)
 own-IsMemory cells elements slots arena windows is = record {
   cell_count = length-cells slots arena;
   window_count = refl;
@@ -37,12 +39,14 @@ own-IsMemory cells elements slots arena windows is = record {
   agrees = is.agrees;
 }
 
-module _ (slots : List (Option Slot)) (arena : Shown) (windows : List Window) (makes : MakesMemory slots arena windows) where
+module _ (slots : List (Option Slot)) (arena : Shown) (windows : List Window)
+    (makes : MakesMemory slots arena windows) where
   abbrev was : Contents
   was = contents_of slots arena windows
 
   -- a step keeps the memory one
-  stays : (slots' : List (Option Slot)) (arena' : Shown) (windows' : List Window) → Agree slots' arena' → IsMemory (length slots) (length windows) (contents_of slots' arena' windows')
+  stays : (slots' : List (Option Slot)) (arena' : Shown) (windows' : List Window) → Agree slots' arena'
+      → IsMemory (length slots) (length windows) (contents_of slots' arena' windows')
       → arena'.held.nodes ≡ arena.held.nodes → MakesMemory slots' arena' windows'
   stays slots' arena' windows' agree is nodes =
       let cells = sym (length-cells slots' arena') ∙ is.cell_count in
@@ -57,7 +61,8 @@ module _ (slots : List (Option Slot)) (arena : Shown) (windows : List Window) (m
       }
 
   -- after a new request
-  module _ (r : Request) (fresh : judge windows r ≡ Ok Fresh) (acted : Acted) (slots' : List (Option Slot)) (arena' : Shown) (has : HasActed slots' arena' acted (act (cells_of slots arena) (asker r) r.op)) where
+  module _ (r : Request) (fresh : judge windows r ≡ Ok Fresh) (acted : Acted) (slots' : List (Option Slot))
+      (arena' : Shown) (has : HasActed slots' arena' acted (act (cells_of slots arena) (asker r) r.op)) where
     abbrev done : ActedCells
     done = act (cells_of slots arena) (asker r) r.op
 
@@ -65,40 +70,54 @@ module _ (slots : List (Option Slot)) (arena : Shown) (windows : List Window) (m
     pub resumed-awaited : AreAwaited (note windows r acted.entry) (replies_of acted.resumed arena')
     resumed-awaited =
         subst (λ replies. AreAwaited (note windows r acted.entry) replies) (sym has.replies)
-        (subst (λ entry. AreAwaited (note windows r entry) done.resumed) (sym has.told) (act-ready windows (cells_of slots arena) r (judge-fresh windows r fresh) makes.memory.agrees))
+        (subst (λ entry. AreAwaited (note windows r entry) done.resumed) (sym has.told)
+        (act-ready windows (cells_of slots arena) r (judge-fresh windows r fresh) makes.memory.agrees))
 
     module _ (arena'' : Shown) (windows' : List Window) (left : cells_of slots' arena'' ≡ cells_of slots' arena')
         (answered : windows' ≡ answer_each (note windows r acted.entry) (replies_of acted.resumed arena')) where
       pub served-contents : contents_of slots' arena'' windows' ≡ (serve was r done).contents
       served-contents =
           let cells = left ∙ has.cells in
-          let kept = answered ∙ ap (λ entry. answer_each (note windows r entry) (replies_of acted.resumed arena')) has.told ∙ ap (answer_each (note windows r done.entry)) has.replies in
+          let kept = answered
+          ∙ ap (λ entry. answer_each (note windows r entry) (replies_of acted.resumed arena')) has.told
+          ∙ ap (answer_each (note windows r done.entry)) has.replies in
           λ i. record { cells = cells i; windows = kept i }
 
-      pub makes-served : Agree slots' arena'' → arena''.held.nodes ≡ arena.held.nodes → MakesMemory slots' arena'' windows'
+      pub makes-served : Agree slots' arena'' → arena''.held.nodes ≡ arena.held.nodes
+          → MakesMemory slots' arena'' windows'
       makes-served agree nodes =
           stays slots' arena'' windows' agree
-          (subst (IsMemory (length slots) (length windows)) (ap (λ j. (step_request was r j).contents) fresh ∙ sym served-contents) (step-memory (length slots) (length windows) was (Asks r) makes.memory))
+          (subst (IsMemory (length slots) (length windows))
+          (ap (λ j. (step_request was r j).contents) fresh ∙ sym served-contents)
+          (step-memory (length slots) (length windows) was (Asks r) makes.memory))
           nodes
 
   -- after a confirmation, or one that was refused
   module _ (element upto : ℕ) (result : Result (Unit {0}) Refusal) (windows' : List Window)
-      (ok : OnOk result ((w : Window) × (confirm_window upto (slice_get windows element) ≡ Ok w) × (windows' ≡ set windows element w)))
-      (err : IfErr result (λ refusal. (confirm_window upto (slice_get windows element) ≡ Err refusal) × (windows' ≡ windows))) where
+      (ok : OnOk result ((w : Window) × (confirm_window upto (slice_get windows element) ≡ Ok w)
+      × (windows' ≡ set windows element w)))
+      (err : IfErr result
+      (λ refusal. (confirm_window upto (slice_get windows element) ≡ Err refusal) × (windows' ≡ windows))) where
     confirmed-contents : contents_of slots arena windows' ≡ (step was (Confirm element upto)).contents
     confirmed-contents = by_result result ok err
       where
         by_result : (result : Result (Unit {0}) Refusal)
-            → OnOk result ((w : Window) × (confirm_window upto (slice_get windows element) ≡ Ok w) × (windows' ≡ set windows element w))
-            → IfErr result (λ refusal. (confirm_window upto (slice_get windows element) ≡ Err refusal) × (windows' ≡ windows))
+            → OnOk result
+            ((w : Window) × (confirm_window upto (slice_get windows element) ≡ Ok w)
+            × (windows' ≡ set windows element w))
+            → IfErr result
+            (λ refusal. (confirm_window upto (slice_get windows element) ≡ Err refusal) × (windows' ≡ windows))
             → contents_of slots arena windows' ≡ (step was (Confirm element upto)).contents
-        by_result (Ok u) ok err = ap (contents_of slots arena) ok.2 ∙ sym (ap (λ c. (step_confirm was element c).contents) ok.1)
-        by_result (Err refusal) ok err = ap (contents_of slots arena) err.1 ∙ sym (ap (λ c. (step_confirm was element c).contents) err.0)
+        by_result (Ok u) ok err = ap (contents_of slots arena) ok.2
+            ∙ sym (ap (λ c. (step_confirm was element c).contents) ok.1)
+        by_result (Err refusal) ok err = ap (contents_of slots arena) err.1
+            ∙ sym (ap (λ c. (step_confirm was element c).contents) err.0)
 
     pub makes-confirmed : MakesMemory slots arena windows'
     makes-confirmed =
         stays slots arena windows' makes.agree
-        (subst (IsMemory (length slots) (length windows)) (sym confirmed-contents) (step-memory (length slots) (length windows) was (Confirm element upto) makes.memory))
+        (subst (IsMemory (length slots) (length windows)) (sym confirmed-contents)
+        (step-memory (length slots) (length windows) was (Confirm element upto) makes.memory))
         refl
 
 -- nothing in any block, and nobody waits
@@ -107,19 +126,23 @@ joined-replicate zero = refl
 joined-replicate (suc n) = ap (λ cells. None ∷ cells) (joined-replicate n)
 
 module _ (cells elements : ℕ) (arena : Shown) (lists : arena.held.lists ≡ replicate cells []) where
-  pub contents_of-empty : contents_of (replicate cells None) arena (replicate elements new_window) ≡ empty_contents cells elements
+  pub contents_of-empty : contents_of (replicate cells None) arena (replicate elements new_window)
+      ≡ empty_contents cells elements
   unfolding empty_contents
   contents_of-empty =
-      ap (λ (cells : List (Option Held)). let m : Contents = record { cells = cells; windows = replicate elements new_window } in m)
+      ap (λ (cells : List
+      (Option Held)). let m : Contents = record { cells = cells; windows = replicate elements new_window } in m)
       (ap (λ (lists : List (List Waiter)). joined (replicate cells None) lists) lists ∙ joined-replicate cells)
 
-  pub makes-empty : 1 ≤ cells → cells ≤ MAX_CELLS → elements ≤ MAX_ELEMENTS → arena.held.nodes ≡ WINDOW * elements → MakesMemory (replicate cells None) arena (replicate elements new_window)
+  pub makes-empty : 1 ≤ cells → cells ≤ MAX_CELLS → elements ≤ MAX_ELEMENTS → arena.held.nodes ≡ WINDOW * elements
+      → MakesMemory (replicate cells None) arena (replicate elements new_window)
   makes-empty some_cell few_cells few_elements nodes =
       let c = length-replicate cells (none_of Slot) in
       let e = length-replicate elements new_window in
       record {
         agree = Agree-start cells arena lists;
-        memory = own-IsMemory cells elements (replicate cells None) arena (replicate elements new_window) (subst (IsMemory cells elements) (sym contents_of-empty) (empty-memory cells elements));
+        memory = own-IsMemory cells elements (replicate cells None) arena (replicate elements new_window)
+            (subst (IsMemory cells elements) (sym contents_of-empty) (empty-memory cells elements));
         some_cell = omega arith;
         few_cells = omega arith;
         few_elements = omega arith;

@@ -14,7 +14,8 @@ use Rattle.im_istore.specs.Agreement.{has_some, Agree}
 use Rattle.im_istore.proofs.Cells.{held_at-cells}
 
 -- a cell that waits exactly where somebody is on its list is the tag of its state
-cell-shown : (cell : Cell) (waiters : List Waiter) → is_waiting_cell cell ≡ has_some waiters → cell ≡ presence_of (state_of cell waiters)
+cell-shown : (cell : Cell) (waiters : List Waiter) → is_waiting_cell cell ≡ has_some waiters → cell
+    ≡ presence_of (state_of cell waiters)
 cell-shown Empty [] agree = refl
 cell-shown Empty (waiter ∷ waiters) agree = absurd (cc)
 cell-shown Waiting [] agree = absurd (cc)
@@ -22,9 +23,12 @@ cell-shown Waiting (waiter ∷ waiters) agree = refl
 cell-shown (Full v) waiters agree = refl
 cell-shown (Clashed v) waiters agree = refl
 
-slot-shown : (slot : Option Slot) (waiters : List Waiter) → is_waiting slot ≡ has_some waiters → cell_in slot ≡ presence_in (held_of slot waiters)
+slot-shown : (slot : Option Slot) (waiters : List Waiter) → is_waiting slot ≡ has_some waiters → cell_in slot
+    ≡ presence_in (held_of slot waiters)
 slot-shown None waiters agree = refl
 slot-shown (Some slot) waiters agree = ap Some (cell-shown slot.cell waiters agree)
 
-pub presence-at : (slots : List (Option Slot)) (arena : Shown) → Agree slots arena → (a : ℕ) → cell_at slots a ≡ presence_in (held_at (cells_of slots arena) a)
-presence-at slots arena agree a = slot-shown (slot_at slots a) (list_at arena.held a) (agree.each a) ∙ sym (ap presence_in (held_at-cells slots arena a))
+pub presence-at : (slots : List (Option Slot)) (arena : Shown) → Agree slots arena → (a : ℕ) → cell_at slots a
+    ≡ presence_in (held_at (cells_of slots arena) a)
+presence-at slots arena agree a = slot-shown (slot_at slots a) (list_at arena.held a) (agree.each a)
+    ∙ sym (ap presence_in (held_at-cells slots arena a))

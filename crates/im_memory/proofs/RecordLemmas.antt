@@ -1,5 +1,6 @@
 -- One record of a memory, and its bounds.
-use Rattle.std.proofs.Common.{◌≡◌, inl, ⊎_elim, ℕ, zero, suc, ◌<◌, ◌≤◌, ◌*◌, List, [], ◌∷◌, length, Some, None, refl, sym, ap, ◌∙◌, subst, arith}
+use Rattle.std.proofs.Common.{◌≡◌, inl, ⊎_elim, ℕ, zero, suc, ◌<◌, ◌≤◌, ◌*◌, List, [], ◌∷◌, length, Some, None, refl}
+use Rattle.std.proofs.Common.{sym, ap, ◌∙◌, subst, arith}
 use Rattle.std.specs.Prelude.{Option, slice_get, slice_index_or, replicate}
 use Rattle.im_types.specs.declared.TheConstants.{NONE, WINDOW}
 use Rattle.im_types.specs.declared.operations.Block.{Block}
@@ -21,12 +22,15 @@ use Rattle.im_memory.specs.State.{empty_records}
 use Rattle.im_memory.proofs.ThreadLemmas.{first-within, last-within, read-within}
 use Rattle.im_memory.proofs.ShownLemmas.{IsNode, On, Off, Past, each-node}
 
-pub length-cells : (slots : List (Option Slot)) (ends : List (Option Ends)) → length (cell_records slots ends) ≡ length slots
+pub length-cells : (slots : List (Option Slot)) (ends : List (Option Ends)) → length (cell_records slots ends)
+    ≡ length slots
 length-cells [] ends = refl
 length-cells (slot ∷ slots) [] = ap suc (length-cells slots [])
 length-cells (slot ∷ slots) (e ∷ ends) = ap suc (length-cells slots ends)
 
-pub cell-at : (slots : List (Option Slot)) (ends : List (Option Ends)) (a : ℕ) → slice_index_or (cell_records slots ends) a (FreeCell 0 NONE) ≡ cell_record (slot_at slots a) (slice_index_or ends a None)
+pub cell-at : (slots : List (Option Slot)) (ends : List (Option Ends)) (a : ℕ)
+    → slice_index_or (cell_records slots ends) a (FreeCell 0 NONE)
+    ≡ cell_record (slot_at slots a) (slice_index_or ends a None)
 cell-at [] ends a = refl
 cell-at (slot ∷ slots) [] zero = refl
 cell-at (slot ∷ slots) [] (suc a) = cell-at slots [] a
@@ -41,7 +45,8 @@ free-cell : (slot : Option Slot) (ends : Option Ends) → None ≡ cell_in slot 
 free-cell None ends e = refl
 free-cell (Some slot) ends e = absurd (cc)
 
-held-cell : (slot : Option Slot) (ends : Option Ends) (block : Block) (cell : Cell) → Some block ≡ block_in slot → Some cell ≡ cell_in slot → BlockCell block (tag_of cell ends) ≡ cell_record slot ends
+held-cell : (slot : Option Slot) (ends : Option Ends) (block : Block) (cell : Cell) → Some block ≡ block_in slot
+    → Some cell ≡ cell_in slot → BlockCell block (tag_of cell ends) ≡ cell_record slot ends
 held-cell None ends block cell b c = absurd (cc)
 held-cell (Some slot) ends block cell b c =
     let one : block ≡ slot.block = cc in
@@ -49,43 +54,60 @@ held-cell (Some slot) ends block cell b c =
     ap (λ block. BlockCell block (tag_of cell ends)) one ∙ ap (λ cell. BlockCell slot.block (tag_of cell ends)) two
 
 module _ (slots : List (Option Slot)) (arena : Shown) (a : ℕ) where
-  pub block-none : None ≡ block_in (slot_at slots a) → FreeCell 0 NONE ≡ slice_index_or (cell_records slots arena.links.ends) a (FreeCell 0 NONE)
+  pub block-none : None ≡ block_in (slot_at slots a) → FreeCell 0 NONE
+      ≡ slice_index_or (cell_records slots arena.links.ends) a (FreeCell 0 NONE)
   block-none e = free-block (slot_at slots a) (ends_at arena.links a) e ∙ sym (cell-at slots arena.links.ends a)
 
-  pub cell-some : (block : Block) (cell : Cell) → Some block ≡ block_in (slot_at slots a) → Some cell ≡ cell_in (slot_at slots a)
-      → BlockCell block (tag_of cell (ends_at arena.links a)) ≡ slice_index_or (cell_records slots arena.links.ends) a (FreeCell 0 NONE)
-  cell-some block cell b c = held-cell (slot_at slots a) (ends_at arena.links a) block cell b c ∙ sym (cell-at slots arena.links.ends a)
+  pub cell-some : (block : Block) (cell : Cell) → Some block ≡ block_in (slot_at slots a) → Some cell
+      ≡ cell_in (slot_at slots a)
+      → BlockCell block (tag_of cell (ends_at arena.links a))
+      ≡ slice_index_or (cell_records slots arena.links.ends) a (FreeCell 0 NONE)
+  cell-some block cell b c = held-cell (slot_at slots a) (ends_at arena.links a) block cell b c
+      ∙ sym (cell-at slots arena.links.ends a)
 
 -- the ends of a list are nodes
-ends-list : (records : List NodeRecord) (ends : Option Ends) (waiters : List Waiter) → (waiters ≡ [] → ends ≡ None) → Threads records NONE (first_in ends) (last_in ends) waiters → AreWithin (length records) ends
+ends-list : (records : List NodeRecord) (ends : Option Ends) (waiters : List Waiter) → (waiters ≡ [] → ends ≡ None)
+    → Threads records NONE (first_in ends) (last_in ends) waiters → AreWithin (length records) ends
 ends-list records None waiters has t = tt
 ends-list records (Some ends) [] has t = let none = has refl in absurd (cc)
-ends-list records (Some ends) (w ∷ ws) has t = (first-within records w ws NONE ends.first ends.last t, last-within records w ws NONE ends.first ends.last t)
+ends-list records (Some ends) (w ∷ ws) has t =
+    (first-within records w ws NONE ends.first ends.last t, last-within records w ws NONE ends.first ends.last t)
 
 none_past : (ends : List (Option Ends)) (a : ℕ) → length ends ≤ a → slice_index_or ends a None ≡ None
 none_past [] a past = refl
 none_past (e ∷ ends) zero past = absurd (omega arith)
 none_past (e ∷ ends) (suc a) past = none_past ends a (omega arith)
 
-pub ends-within : (arena : Shown) → IsThreaded arena → (a : ℕ) → AreWithin (length arena.links.records) (ends_at arena.links a)
+pub ends-within : (arena : Shown) → IsThreaded arena → (a : ℕ)
+    → AreWithin (length arena.links.records) (ends_at arena.links a)
 ends-within arena threaded a = ⊎_elim
-    (λ lt. ends-list arena.links.records (ends_at arena.links a) (list_at arena.held a) (threaded.empty a lt).1 (threaded.threads a lt))
-    (λ past. subst (AreWithin (length arena.links.records)) (sym (none_past arena.links.ends a (omega (arith, past, threaded.list_count)))) tt)
+    (λ lt. ends-list arena.links.records (ends_at arena.links a) (list_at arena.held a) (threaded.empty a lt).1
+    (threaded.threads a lt))
+    (λ past. subst (AreWithin (length arena.links.records))
+    (sym (none_past arena.links.ends a (omega (arith, past, threaded.list_count)))) tt)
     (below_or_from a (length arena.held.lists))
 
-pub ends-past : (arena : Shown) → IsThreaded arena → (a : ℕ) → length arena.held.lists ≤ a → None ≡ ends_at arena.links a
+pub ends-past : (arena : Shown) → IsThreaded arena → (a : ℕ) → length arena.held.lists ≤ a → None
+    ≡ ends_at arena.links a
 ends-past arena threaded a past = sym (none_past arena.links.ends a (omega (arith, past, threaded.list_count)))
 
 -- the link of a node
-link-read : (arena : Shown) (threaded : IsThreaded arena) (n : ℕ) (node : NodeRecord) → slice_get arena.links.records n ≡ Some node → IsNode arena threaded n → IsLink (length arena.links.records) (link_of node)
-link-read arena threaded n node e (On listed one) = subst (λ (node : NodeRecord). IsLink (length arena.links.records) (link_of node)) (some_same _ node (sym listed.there ∙ e)) listed.link
+link-read : (arena : Shown) (threaded : IsThreaded arena) (n : ℕ) (node : NodeRecord)
+    → slice_get arena.links.records n ≡ Some node → IsNode arena threaded n
+    → IsLink (length arena.links.records) (link_of node)
+link-read arena threaded n node e (On listed one) = subst
+    (λ (node : NodeRecord). IsLink (length arena.links.records) (link_of node))
+    (some_same _ node (sym listed.there ∙ e)) listed.link
 link-read arena threaded n node e (Off free none) = inl (ap link_of (some_same node free_record (sym e ∙ free)))
-link-read arena threaded n node e (Past past none) = absurd (omega (arith, past, read-within arena.links.records n node e))
+link-read arena threaded n node e (Past past none) = absurd
+    (omega (arith, past, read-within arena.links.records n node e))
 
-pub link-within : (arena : Shown) → IsThreaded arena → (n : ℕ) (node : NodeRecord) → Some node ≡ slice_get arena.links.records n → IsLink (length arena.links.records) (link_of node)
+pub link-within : (arena : Shown) → IsThreaded arena → (n : ℕ) (node : NodeRecord) → Some node
+    ≡ slice_get arena.links.records n → IsLink (length arena.links.records) (link_of node)
 link-within arena threaded n node e = link-read arena threaded n node (sym e) (each-node arena threaded n)
 
-pub ends-read : (arena : Shown) (a : ℕ) (ends : Option Ends) → Some ends ≡ slice_get arena.links.ends a → ends ≡ ends_at arena.links a
+pub ends-read : (arena : Shown) (a : ℕ) (ends : Option Ends) → Some ends ≡ slice_get arena.links.ends a → ends
+    ≡ ends_at arena.links a
 ends-read arena a ends e = by_list arena.links.ends a e
   where
     by_list : (all : List (Option Ends)) (a : ℕ) → Some ends ≡ slice_get all a → ends ≡ slice_index_or all a None
@@ -101,7 +123,8 @@ free-cells (suc n) [] = ap (λ cells. FreeCell 0 NONE ∷ cells) (free-cells n [
 free-cells (suc n) (e ∷ ends) = ap (λ cells. FreeCell 0 NONE ∷ cells) (free-cells n ends)
 
 -- a list that has one thing in each place
-all-free : (records : List NodeRecord) (n : ℕ) → length records ≡ n → ((i : ℕ) → i < n → slice_get records i ≡ Some free_record) → records ≡ replicate n free_record
+all-free : (records : List NodeRecord) (n : ℕ) → length records ≡ n
+    → ((i : ℕ) → i < n → slice_get records i ≡ Some free_record) → records ≡ replicate n free_record
 all-free [] zero size each = refl
 all-free [] (suc n) size each = absurd (omega arith)
 all-free (x ∷ records) zero size each = absurd (omega arith)
@@ -117,11 +140,19 @@ no-list zero a = refl
 no-list (suc lists) zero = refl
 no-list (suc lists) (suc a) = no-list lists a
 
-pub empty-records : (cells elements : ℕ) (arena : Shown) → IsThreaded arena → arena.held.lists ≡ replicate cells [] → arena.held.nodes ≡ WINDOW * elements
+pub empty-records : (cells elements : ℕ) (arena : Shown) → IsThreaded arena → arena.held.lists ≡ replicate cells []
+    → arena.held.nodes ≡ WINDOW * elements
     → records_of (replicate cells None) arena (replicate elements new_window) ≡ empty_records cells elements
 empty-records cells elements arena threaded lists nodes =
-    let empty : (a : ℕ) → list_at arena.held a ≡ [] = λ a. ap (λ (all : List (List Waiter)). slice_index_or all a []) lists ∙ no-list cells a in
+    let empty : (a : ℕ) → list_at arena.held a
+    ≡ [] = λ a. ap (λ (all : List (List Waiter)). slice_index_or all a []) lists ∙ no-list cells a in
     let free = all-free arena.links.records (WINDOW * elements) (threaded.node_count ∙ nodes)
-    (λ n lt. threaded.unreached n (omega arith) (λ a i listed below at. let none = ap length (empty a) in omega arith)) in
+    (λ n lt. threaded.unreached n (omega arith)
+    (λ a i listed below at. let none = ap length (empty a) in omega arith)) in
     ap (λ (shown : List CellRecord). let r : Records = record { cells = shown; nodes = arena.links.records; windows = replicate elements new_window } in r) (free-cells cells arena.links.ends)
-    ∙ ap (λ (shown : List NodeRecord). let r : Records = record { cells = replicate cells (FreeCell 0 NONE); nodes = shown; windows = replicate elements new_window } in r) free
+    ∙ ap (λ (shown : List NodeRecord). let r : Records = record {
+      cells = replicate cells
+          (FreeCell 0 NONE);
+      nodes = shown;
+      windows = replicate elements new_window;
+    } in r) free

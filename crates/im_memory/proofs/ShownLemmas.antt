@@ -1,5 +1,6 @@
 -- The records of a table and an arena show their memory.
-use Rattle.std.proofs.Common.{◌≡◌, ⊎_elim, ℕ, zero, suc, ◌<◌, ◌≤◌, List, [], ◌∷◌, length, get_or, Some, None, refl, sym, ap, ◌∙◌, subst, arith}
+use Rattle.std.proofs.Common.{◌≡◌, ⊎_elim, ℕ, zero, suc, ◌<◌, ◌≤◌, List, [], ◌∷◌, length, get_or, Some, None, refl}
+use Rattle.std.proofs.Common.{sym, ap, ◌∙◌, subst, arith}
 use Rattle.std.specs.Prelude.{Option, ◌↔◌, slice_get, slice_index_or}
 use Rattle.im_types.specs.declared.TheConstants.{NONE}
 use Rattle.im_types.specs.declared.operations.Waiter.{Waiter}
@@ -16,14 +17,16 @@ use Rattle.im_types.specs.declared.cells.Cell.TheVariants.{Empty, Waiting, Full,
 use Rattle.im_cell.specs.declared.slots.Slot.{Slot}
 use Rattle.im_cell.specs.Slots.{slot_at, is_waiting, is_waiting_cell}
 use Rattle.im_arena.specs.declared.table.Ends.{Ends}
-use Rattle.im_arena.specs.Lists.{Shown, Threads, IsThreaded, list_at, ends_at, next_in, node_at, first_in, last_in, free_record, link_of}
+use Rattle.im_arena.specs.Lists.{Shown, Threads, IsThreaded, list_at, ends_at, next_in, node_at, first_in, last_in}
+use Rattle.im_arena.specs.Lists.{free_record, link_of}
 use Rattle.im_istore.specs.Joined.{state_of, held_of, joined, cells_of}
 use Rattle.im_istore.specs.Agreement.{has_some}
 use Rattle.im_istore.proofs.Cells.{list_of}
 use Rattle.im_memory.specs.MakesMemory.{contents_of, MakesMemory}
 use Rattle.im_memory.specs.Shown.{tag_of, cell_record, cell_records, records_of}
 use Rattle.im_memory.proofs.CellsLemmas.{length-cells, no_list}
-use Rattle.im_memory.proofs.ThreadLemmas.{chain_from, length-chain, place-chain, record-read, record_past, holds-chain, last-chain, Listed, listed-at}
+use Rattle.im_memory.proofs.ThreadLemmas.{chain_from, length-chain, place-chain, record-read, record_past}
+use Rattle.im_memory.proofs.ThreadLemmas.{holds-chain, last-chain, Listed, listed-at}
 use Rattle.im_memory.proofs.UseLemmas.{IsAt, all_uses-from, all_uses-at, IsOnce, all_uses-once}
 
 -- a list has ends exactly where somebody is on it
@@ -31,16 +34,22 @@ abbrev HasEnds : Option Ends → List Waiter → Type 0
 HasEnds ends waiters = (ends ≡ None) ↔ (waiters ≡ [])
 
 -- one cell
-state-shown : (cell : Cell) (ends : Option Ends) (waiters : List Waiter) → is_waiting_cell cell ≡ has_some waiters → HasEnds ends waiters → state_shown (tag_of cell ends) waiters ≡ state_of cell waiters
-state-shown Empty ends waiters agree has = let none = no_list waiters (sym agree) in ap (λ waiters. state_of Empty waiters) (sym none)
-state-shown Waiting None waiters agree has = let none = has.0 refl in ap (λ waiters. state_of Waiting waiters) (sym none)
+state-shown : (cell : Cell) (ends : Option Ends) (waiters : List Waiter) → is_waiting_cell cell ≡ has_some waiters
+    → HasEnds ends waiters → state_shown (tag_of cell ends) waiters ≡ state_of cell waiters
+state-shown Empty ends waiters agree has = let none = no_list waiters (sym agree) in ap
+    (λ waiters. state_of Empty waiters) (sym none)
+state-shown Waiting None waiters agree has = let none = has.0 refl in ap (λ waiters. state_of Waiting waiters)
+    (sym none)
 state-shown Waiting (Some ends) waiters agree has = refl
 state-shown (Full v) ends waiters agree has = refl
 state-shown (Clashed v) ends waiters agree has = refl
 
-cell-shown : (slot : Option Slot) (ends : Option Ends) (waiters : List Waiter) → is_waiting slot ≡ has_some waiters → HasEnds ends waiters → cell_shown (cell_record slot ends) waiters ≡ held_of slot waiters
+cell-shown : (slot : Option Slot) (ends : Option Ends) (waiters : List Waiter) → is_waiting slot ≡ has_some waiters
+    → HasEnds ends waiters → cell_shown (cell_record slot ends) waiters ≡ held_of slot waiters
 cell-shown None ends waiters agree has = refl
-cell-shown (Some slot) ends waiters agree has = ap (λ (state : CellState). Some (record { block = slot.block; state = state })) (state-shown slot.cell ends waiters agree has)
+cell-shown (Some slot) ends waiters agree has = ap
+    (λ (state : CellState). Some (record { block = slot.block; state = state }))
+    (state-shown slot.cell ends waiters agree has)
 
 module _ (records : List NodeRecord) where
   abbrev next : ℕ → ℕ
@@ -49,9 +58,13 @@ module _ (records : List NodeRecord) where
   abbrev chain_of : Option Ends → List Waiter → List ℕ
   chain_of ends waiters = chain_from next (first_in ends) waiters
 
-  state-chain : (cell : Cell) (ends : Option Ends) (waiters : List Waiter) (slot : Slot) → is_waiting_cell cell ≡ has_some waiters → HasEnds ends waiters
-      → Threads records NONE (first_in ends) (last_in ends) waiters → HasChain records (cell_record (Some (record { block = slot.block; cell = cell })) ends) (chain_of ends waiters) waiters
-  state-chain Empty ends waiters slot agree has t = let none = no_list waiters (sym agree) in (ap (chain_of ends) none, none)
+  state-chain : (cell : Cell) (ends : Option Ends) (waiters : List Waiter) (slot : Slot) → is_waiting_cell cell
+      ≡ has_some waiters → HasEnds ends waiters
+      → Threads records NONE (first_in ends) (last_in ends) waiters
+      → HasChain records (cell_record (Some (record { block = slot.block; cell = cell })) ends)
+      (chain_of ends waiters) waiters
+  state-chain Empty ends waiters slot agree has t = let none = no_list waiters (sym agree) in
+      (ap (chain_of ends) none, none)
   state-chain Waiting None waiters slot agree has t = let none = has.0 refl in (ap (chain_of None) none, none)
   state-chain Waiting (Some ends) [] slot agree has t = absurd (cc)
   state-chain Waiting (Some ends) (w ∷ ws) slot agree has t = record {
@@ -60,11 +73,15 @@ module _ (records : List NodeRecord) where
     last_is = last-chain records w ws NONE ends.first ends.last t;
     holds = holds-chain records (w ∷ ws) NONE ends.first ends.last t;
   }
-  state-chain (Full v) ends waiters slot agree has t = let none = no_list waiters (sym agree) in (ap (chain_of ends) none, none)
-  state-chain (Clashed v) ends waiters slot agree has t = let none = no_list waiters (sym agree) in (ap (chain_of ends) none, none)
+  state-chain (Full v) ends waiters slot agree has t = let none = no_list waiters (sym agree) in
+      (ap (chain_of ends) none, none)
+  state-chain (Clashed v) ends waiters slot agree has t = let none = no_list waiters (sym agree) in
+      (ap (chain_of ends) none, none)
 
-  cell-chain : (slot : Option Slot) (ends : Option Ends) (waiters : List Waiter) → is_waiting slot ≡ has_some waiters → HasEnds ends waiters
-      → Threads records NONE (first_in ends) (last_in ends) waiters → HasChain records (cell_record slot ends) (chain_of ends waiters) waiters
+  cell-chain : (slot : Option Slot) (ends : Option Ends) (waiters : List Waiter) → is_waiting slot ≡ has_some waiters
+      → HasEnds ends waiters
+      → Threads records NONE (first_in ends) (last_in ends) waiters
+      → HasChain records (cell_record slot ends) (chain_of ends waiters) waiters
   cell-chain None ends waiters agree has t = let none = no_list waiters (sym agree) in (ap (chain_of ends) none, none)
   cell-chain (Some slot) ends waiters agree has t = state-chain slot.cell ends waiters slot agree has t
 
@@ -79,9 +96,12 @@ module _ (records : List NodeRecord) where
     pub lists_count : length lists ≡ length slots
     pub agree : (a : ℕ) → is_waiting (slot_at slots a) ≡ has_some (list_of lists a)
     pub has : (a : ℕ) → a < length lists → HasEnds (slice_index_or ends a None) (list_of lists a)
-    pub threads : (a : ℕ) → a < length lists → Threads records NONE (first_in (slice_index_or ends a None)) (last_in (slice_index_or ends a None)) (list_of lists a)
+    pub threads : (a : ℕ) → a < length lists
+        → Threads records NONE (first_in (slice_index_or ends a None)) (last_in (slice_index_or ends a None))
+        (list_of lists a)
 
-  rest : (slot : Option Slot) (slots : List (Option Slot)) (e : Option Ends) (ends : List (Option Ends)) (waiters : List Waiter) (lists : List (List Waiter))
+  rest : (slot : Option Slot) (slots : List (Option Slot)) (e : Option Ends) (ends : List (Option Ends))
+      (waiters : List Waiter) (lists : List (List Waiter))
       → AreEach (slot ∷ slots) (e ∷ ends) (waiters ∷ lists) → AreEach slots ends lists
   rest slot slots e ends waiters lists each = record {
     ends_count = omega (arith, each.ends_count);
@@ -91,15 +111,18 @@ module _ (records : List NodeRecord) where
     threads = λ a lt. each.threads (suc a) (omega arith);
   }
 
-  cells-shown : (slots : List (Option Slot)) (ends : List (Option Ends)) (lists : List (List Waiter)) → AreEach slots ends lists → joined slots lists ≡ cells_shown (cell_records slots ends) lists
+  cells-shown : (slots : List (Option Slot)) (ends : List (Option Ends)) (lists : List (List Waiter))
+      → AreEach slots ends lists → joined slots lists ≡ cells_shown (cell_records slots ends) lists
   cells-shown [] ends lists each = refl
   cells-shown (slot ∷ slots) ends [] each = absurd (omega (arith, each.lists_count))
   cells-shown (slot ∷ slots) [] (waiters ∷ lists) each = absurd (omega (arith, each.ends_count))
   cells-shown (slot ∷ slots) (e ∷ ends) (waiters ∷ lists) each =
       ap (λ held. held ∷ joined slots lists) (sym (cell-shown slot e waiters (each.agree 0) (each.has 0 (omega arith))))
-      ∙ ap (λ cells. cell_shown (cell_record slot e) waiters ∷ cells) (cells-shown slots ends lists (rest slot slots e ends waiters lists each))
+      ∙ ap (λ cells. cell_shown (cell_record slot e) waiters ∷ cells)
+      (cells-shown slots ends lists (rest slot slots e ends waiters lists each))
 
-  have-chains : (slots : List (Option Slot)) (ends : List (Option Ends)) (lists : List (List Waiter)) → AreEach slots ends lists → HaveChains records (cell_records slots ends) (chains_of ends lists) lists
+  have-chains : (slots : List (Option Slot)) (ends : List (Option Ends)) (lists : List (List Waiter))
+      → AreEach slots ends lists → HaveChains records (cell_records slots ends) (chains_of ends lists) lists
   unfolding chains_of
   have-chains [] [] [] each = tt
   have-chains [] [] (waiters ∷ lists) each = absurd (omega (arith, each.lists_count))
@@ -107,17 +130,22 @@ module _ (records : List NodeRecord) where
   have-chains [] (e ∷ ends) (waiters ∷ lists) each = absurd (omega (arith, each.lists_count))
   have-chains (slot ∷ slots) ends [] each = absurd (omega (arith, each.lists_count))
   have-chains (slot ∷ slots) [] (waiters ∷ lists) each = absurd (omega (arith, each.ends_count))
-  have-chains (slot ∷ slots) (e ∷ ends) (waiters ∷ lists) each =
-      (cell-chain slot e waiters (each.agree 0) (each.has 0 (omega arith)) (each.threads 0 (omega arith)), have-chains slots ends lists (rest slot slots e ends waiters lists each))
+  have-chains (slot ∷ slots) (e ∷ ends) (waiters ∷ lists) each = (
+    cell-chain slot e waiters (each.agree 0) (each.has 0 (omega arith))
+        (each.threads 0 (omega arith)),
+    have-chains slots ends lists (rest slot slots e ends waiters lists each),
+  )
 
-  length-chains : (ends : List (Option Ends)) (lists : List (List Waiter)) → length ends ≡ length lists → length (chains_of ends lists) ≡ length lists
+  length-chains : (ends : List (Option Ends)) (lists : List (List Waiter)) → length ends ≡ length lists
+      → length (chains_of ends lists) ≡ length lists
   unfolding chains_of
   length-chains [] [] e = refl
   length-chains [] (waiters ∷ lists) e = absurd (omega arith)
   length-chains (x ∷ ends) [] e = refl
   length-chains (x ∷ ends) (waiters ∷ lists) e = ap suc (length-chains ends lists (omega arith))
 
-  chain-at : (ends : List (Option Ends)) (lists : List (List Waiter)) → length ends ≡ length lists → (a : ℕ) → a < length lists → get_or (chains_of ends lists) a [] ≡ chain_of (slice_index_or ends a None) (list_of lists a)
+  chain-at : (ends : List (Option Ends)) (lists : List (List Waiter)) → length ends ≡ length lists → (a : ℕ)
+      → a < length lists → get_or (chains_of ends lists) a [] ≡ chain_of (slice_index_or ends a None) (list_of lists a)
   unfolding chains_of
   chain-at ends [] e a lt = absurd (omega arith)
   chain-at [] (waiters ∷ lists) e a lt = absurd (omega arith)
@@ -138,26 +166,43 @@ module _ (arena : Shown) (threaded : IsThreaded arena) where
     pub inside : i < length (list_at arena.held a)
     pub is : node_at arena.links a i ≡ n
 
-  on-list : (n a i : ℕ) → a < length all_chains → i < length (get_or all_chains a []) → get_or (get_or all_chains a []) i 0 ≡ n → IsOn n a i
+  on-list : (n a i : ℕ) → a < length all_chains → i < length (get_or all_chains a [])
+      → get_or (get_or all_chains a []) i 0 ≡ n → IsOn n a i
   on-list n a i la li e =
-      let lt : a < length arena.held.lists = omega (arith, la, length-chains records_in arena.links.ends arena.held.lists threaded.list_count) in
+      let lt : a < length arena.held.lists = omega
+      (arith, la, length-chains records_in arena.links.ends arena.held.lists threaded.list_count) in
       let same = chain-at records_in arena.links.ends arena.held.lists threaded.list_count a lt in
-      let inside : i < length (list_at arena.held a) = omega (arith, li, ap length same, length-chain (next_in arena.links) (first_in (ends_at arena.links a)) (list_at arena.held a)) in
+      let inside : i < length (list_at arena.held a) = omega (
+        arith,
+        li,
+        ap length same,
+        length-chain (next_in arena.links) (first_in (ends_at arena.links a))
+            (list_at arena.held a),
+      ) in
       record {
         within = lt;
         inside = inside;
-        is = sym (ap (λ chain. get_or chain i 0) same ∙ place-chain (next_in arena.links) (first_in (ends_at arena.links a)) (list_at arena.held a) i inside) ∙ e;
+        is = sym (ap (λ chain. get_or chain i 0) same
+            ∙ place-chain (next_in arena.links) (first_in (ends_at arena.links a)) (list_at arena.held a) i inside) ∙ e;
       }
 
-  in-chain : (n a i : ℕ) → a < length arena.held.lists → i < length (list_at arena.held a) → node_at arena.links a i ≡ n → IsAt n all_chains
+  in-chain : (n a i : ℕ) → a < length arena.held.lists → i < length (list_at arena.held a) → node_at arena.links a i
+      ≡ n → IsAt n all_chains
   in-chain n a i la li e =
       let same = chain-at records_in arena.links.ends arena.held.lists threaded.list_count a la in
       record {
         chain = a;
         place = i;
         within = omega (arith, la, length-chains records_in arena.links.ends arena.held.lists threaded.list_count);
-        inside = omega (arith, li, ap length same, length-chain (next_in arena.links) (first_in (ends_at arena.links a)) (list_at arena.held a));
-        is = ap (λ chain. get_or chain i 0) same ∙ place-chain (next_in arena.links) (first_in (ends_at arena.links a)) (list_at arena.held a) i li ∙ e;
+        inside = omega (
+          arith,
+          li,
+          ap length same,
+          length-chain (next_in arena.links)
+              (first_in (ends_at arena.links a)) (list_at arena.held a),
+        );
+        is = ap (λ chain. get_or chain i 0) same
+            ∙ place-chain (next_in arena.links) (first_in (ends_at arena.links a)) (list_at arena.held a) i li ∙ e;
       }
 
   once : (n : ℕ) → IsOnce n all_chains
@@ -175,13 +220,16 @@ module _ (arena : Shown) (threaded : IsThreaded arena) where
   pub each-node : (n : ℕ) → IsNode n
   each-node n = ⊎_elim
       (λ none. ⊎_elim
-      (λ lt. Off (threaded.unreached n (omega (arith, lt, threaded.node_count)) (λ a i la li e. let some = all_uses-from n all_chains (in-chain n a i la li e) in omega (arith, none, some))) none)
+      (λ lt. Off (threaded.unreached n (omega (arith, lt, threaded.node_count))
+      (λ a i la li e. let some = all_uses-from n all_chains (in-chain n a i la li e) in omega
+      (arith, none, some))) none)
       (λ past. Past past none)
       (below_or_from n (length records_in)))
       (λ some.
       let at = all_uses-at n all_chains some in
       let on = on-list n at.chain at.place at.within at.inside at.is in
-      let listed = listed-at records_in (list_at arena.held at.chain) NONE (first_in (ends_at arena.links at.chain)) (last_in (ends_at arena.links at.chain)) (threaded.threads at.chain on.within) at.place on.inside in
+      let listed = listed-at records_in (list_at arena.held at.chain) NONE (first_in (ends_at arena.links at.chain))
+      (last_in (ends_at arena.links at.chain)) (threaded.threads at.chain on.within) at.place on.inside in
       On (subst (Listed records_in) on.is listed) (omega (arith, some, all_uses-once n all_chains (once n))))
       (zero_or_more (all_uses n all_chains))
 
@@ -194,7 +242,8 @@ module _ (arena : Shown) (threaded : IsThreaded arena) where
       by_node (Past past none) = none ∙ sym (ap (λ r. bit (is_listed r)) (record_past records_in n past))
 
 -- a memory
-module _ (slots : List (Option Slot)) (arena : Shown) (windows : List Window) (makes : MakesMemory slots arena windows) (threaded : IsThreaded arena) where
+module _ (slots : List (Option Slot)) (arena : Shown) (windows : List Window)
+    (makes : MakesMemory slots arena windows) (threaded : IsThreaded arena) where
   each : AreEach arena.links.records slots arena.links.ends arena.held.lists
   each = record {
     ends_count = threaded.list_count;
@@ -211,12 +260,14 @@ module _ (slots : List (Option Slot)) (arena : Shown) (windows : List Window) (m
     once = uses-listed arena threaded;
   }
 
-  pub shows-records : (s : Sizes) → s.cells ≡ length (cells_of slots arena) → s.elements ≡ length windows → ShowsRecords s (records_of slots arena windows) (contents_of slots arena windows)
+  pub shows-records : (s : Sizes) → s.cells ≡ length (cells_of slots arena) → s.elements ≡ length windows
+      → ShowsRecords s (records_of slots arena windows) (contents_of slots arena windows)
   shows-records s cells elements = record {
     lists = arena.held.lists;
     chained = show-lists;
     cells = cells-shown arena.links.records slots arena.links.ends arena.held.lists each;
     windows = refl;
     memory = subst (λ n. IsMemory s.cells n (contents_of slots arena windows)) (sym elements)
-        (subst (λ n. IsMemory n (length windows) (contents_of slots arena windows)) (sym (cells ∙ length-cells slots arena)) makes.memory);
+        (subst (λ n. IsMemory n (length windows) (contents_of slots arena windows))
+        (sym (cells ∙ length-cells slots arena)) makes.memory);
   }

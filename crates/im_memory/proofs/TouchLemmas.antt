@@ -1,5 +1,6 @@
 -- Which records an operation changes.
-use Rattle.std.proofs.Common.{◌≡◌, ◌≢◌, ℕ, zero, suc, ◌+◌, ◌<◌, ◌≤◌, List, [], ◌∷◌, Bool, true, false, Option, None, Some, Ok, Err, map, length, get_or, slice_get, refl, sym, ap, subst, ◌∙◌, arith}
+use Rattle.std.proofs.Common.{◌≡◌, ◌≢◌, ℕ, zero, suc, ◌+◌, ◌<◌, ◌≤◌, List, [], ◌∷◌, Bool, true, false, Option, None}
+use Rattle.std.proofs.Common.{Some, Ok, Err, map, length, get_or, slice_get, refl, sym, ap, subst, ◌∙◌, arith}
 use Rattle.std.specs.Prelude.{option_map, drop, cond, ◌==◌}
 use Rattle.std.proofs.lemmas.Bool.Decides.{nat_tests}
 use Rattle.im_types.specs.declared.operations.Kind.{Kind}
@@ -21,7 +22,8 @@ use Rattle.im_types.specs.Contents.{Empty as IsEmpty, Full as IsFull, Clashed as
 use Rattle.im_types.specs.Place.{place, fill, change_each}
 use Rattle.im_types.specs.Records.{tag_first, tag_last}
 use Rattle.im_types.specs.Window.{with_window, answer, answer_each, answer_in}
-use Rattle.im_types.specs.Act.{Served, Acted as ActedCells, same_kind, only_tells, serve_cell, at_cell, fetch, take_from, store, put, block_with_base}
+use Rattle.im_types.specs.Act.{Served, Acted as ActedCells, same_kind, only_tells, serve_cell, at_cell, fetch}
+use Rattle.im_types.specs.Act.{take_from, store, put, block_with_base}
 use Rattle.im_cell.specs.declared.slots.Slot.{Slot}
 use Rattle.im_cell.specs.Slots.{slot_at, block_at, with_cell, length_of, length_at, is_waiting, is_waiting_cell}
 use Rattle.im_cell.specs.Slots.{block_with_base as slot_with_base}
@@ -39,7 +41,9 @@ use Rattle.im_memory.specs.declared.acts.Resumed.{Resumed}
 use Rattle.im_memory.specs.declared.acts.Resumed.TheVariants.{Nobody, Taker, Readers}
 use Rattle.im_memory.specs.Shown.{tag_of, cell_record, cell_records, records_of}
 use Rattle.im_memory.specs.State.{rows_of}
-use Rattle.im_memory.specs.Touched.{IsOther, Places, nowhere, one_cell, addresses, tag_in, first_at, last_at, next_at, nodes_from, nodes_behind, by_fetch, by_take, by_put, by_store, places_at, places_from, places_of, places, elements_told, touched_in, ChangesOnly}
+use Rattle.im_memory.specs.Touched.{IsOther, Places, nowhere, one_cell, addresses, tag_in, first_at, last_at, next_at}
+use Rattle.im_memory.specs.Touched.{nodes_from, nodes_behind, by_fetch, by_take, by_put, by_store, places_at}
+use Rattle.im_memory.specs.Touched.{places_from, places_of, places, elements_told, touched_in, ChangesOnly}
 use Rattle.im_memory.specs.Changing.{places_in, ChangesAt, IsAway, AreAmong, LeavesOthers}
 use Rattle.im_memory.proofs.CellsLemmas.{place-cells, with_base-cells}
 use Rattle.im_memory.proofs.RecordLemmas.{cell-at}
@@ -56,7 +60,8 @@ places-rows slots arena windows (Take a) = refl
 places-rows slots arena windows (Put a v) = refl
 
 -- a table that is the same, and an arena too
-pub same-change : (p : Places) (slots slots2 : List (Option Slot)) (arena arena2 : Shown) → slots2 ≡ slots → arena2 ≡ arena → ChangesAt p slots arena slots2 arena2
+pub same-change : (p : Places) (slots slots2 : List (Option Slot)) (arena arena2 : Shown) → slots2 ≡ slots → arena2
+    ≡ arena → ChangesAt p slots arena slots2 arena2
 same-change p slots slots2 arena arena2 s a = record {
   cells = λ b o. ap (λ xs. slice_get xs b) s;
   ends = λ b o. ap (λ (x : Shown). slice_get x.links.ends b) a;
@@ -66,9 +71,11 @@ same-change p slots slots2 arena arena2 s a = record {
 -- addresses outside a range
 pub addresses-other : (base n b : ℕ) → IsOther (addresses base n) b → base ≤ b → b < base + n → ⊥
 addresses-other base zero b other lo hi = omega arith
-addresses-other base (suc n) b other lo hi = let no = other.0 in addresses-other (suc base) n b other.1 (omega arith) (omega arith)
+addresses-other base (suc n) b other lo hi = let no = other.0 in addresses-other (suc base) n b other.1 (omega arith)
+    (omega arith)
 
-fill-other : {X : Type 0} (xs : List (Option X)) (base n b : ℕ) (x : Option X) → (base ≤ b → b < base + n → ⊥) → slice_get (fill xs base n x) b ≡ slice_get xs b
+fill-other : {X : Type 0} (xs : List (Option X)) (base n b : ℕ) (x : Option X) → (base ≤ b → b < base + n → ⊥)
+    → slice_get (fill xs base n x) b ≡ slice_get xs b
 fill-other [] base n b x out = refl
 fill-other (y ∷ ys) zero zero b x out = refl
 fill-other (y ∷ ys) zero (suc n) zero x out = absurd (out (omega arith) (omega arith))
@@ -76,24 +83,29 @@ fill-other (y ∷ ys) zero (suc n) (suc b) x out = fill-other ys zero n b x (λ 
 fill-other (y ∷ ys) (suc base) n zero x out = refl
 fill-other (y ∷ ys) (suc base) n (suc b) x out = fill-other ys base n b x (λ lo hi. out (omega arith) (omega arith))
 
-filled : (slots : List (Option Slot)) (arena : Shown) (base n : ℕ) (slot : Option Slot) → ChangesAt (record { cells = addresses base n; nodes = [] }) slots arena (fill slots base n slot) arena
+filled : (slots : List (Option Slot)) (arena : Shown) (base n : ℕ) (slot : Option Slot)
+    → ChangesAt (record { cells = addresses base n; nodes = [] }) slots arena (fill slots base n slot) arena
 filled slots arena base n slot = record {
   cells = λ b other. fill-other slots base n b slot (addresses-other base n b other);
   ends = λ b o. refl;
   nodes = λ n o. refl;
 }
 
-change_each-other : {X : Type 0} (change : Option X → Option X) (xs : List (Option X)) (base n b : ℕ) → (base ≤ b → b < base + n → ⊥)
+change_each-other : {X : Type 0} (change : Option X → Option X) (xs : List (Option X)) (base n b : ℕ)
+    → (base ≤ b → b < base + n → ⊥)
     → slice_get (change_each change xs base n) b ≡ slice_get xs b
 change_each-other change [] base n b out = refl
 change_each-other change (y ∷ ys) zero zero b out = refl
 change_each-other change (y ∷ ys) zero (suc n) zero out = absurd (out (omega arith) (omega arith))
-change_each-other change (y ∷ ys) zero (suc n) (suc b) out = change_each-other change ys zero n b (λ lo hi. out (omega arith) (omega arith))
+change_each-other change (y ∷ ys) zero (suc n) (suc b) out = change_each-other change ys zero n b
+    (λ lo hi. out (omega arith) (omega arith))
 change_each-other change (y ∷ ys) (suc base) n zero out = refl
-change_each-other change (y ∷ ys) (suc base) n (suc b) out = change_each-other change ys base n b (λ lo hi. out (omega arith) (omega arith))
+change_each-other change (y ∷ ys) (suc base) n (suc b) out = change_each-other change ys base n b
+    (λ lo hi. out (omega arith) (omega arith))
 
 changed_each : (slots : List (Option Slot)) (arena : Shown) (base n : ℕ)
-    → ChangesAt (record { cells = addresses base n; nodes = [] }) slots arena (change_each (with_cell Empty) slots base n) arena
+    → ChangesAt (record { cells = addresses base n; nodes = [] }) slots arena
+    (change_each (with_cell Empty) slots base n) arena
 changed_each slots arena base n = record {
   cells = λ b other. change_each-other (with_cell Empty) slots base n b (addresses-other base n b other);
   ends = λ b o. refl;
@@ -101,24 +113,32 @@ changed_each slots arena base n = record {
 }
 
 -- the record of a cell that somebody waits for names the ends of its list
-named-cell : (cell : Cell) (ends : Option Ends) → is_waiting_cell cell ≡ true → (tag_first (tag_of cell ends) ≡ first_in ends) × (tag_last (tag_of cell ends) ≡ last_in ends)
+named-cell : (cell : Cell) (ends : Option Ends) → is_waiting_cell cell ≡ true
+    → (tag_first (tag_of cell ends) ≡ first_in ends) × (tag_last (tag_of cell ends) ≡ last_in ends)
 named-cell Empty ends e = absurd (cc)
 named-cell Waiting None e = (refl, refl)
 named-cell Waiting (Some ends) e = (refl, refl)
 named-cell (Full v) ends e = absurd (cc)
 named-cell (Clashed v) ends e = absurd (cc)
 
-named-slot : (at : Option Slot) (ends : Option Ends) → is_waiting at ≡ true → (tag_first (tag_in (cell_record at ends)) ≡ first_in ends) × (tag_last (tag_in (cell_record at ends)) ≡ last_in ends)
+named-slot : (at : Option Slot) (ends : Option Ends) → is_waiting at ≡ true
+    → (tag_first (tag_in (cell_record at ends)) ≡ first_in ends)
+    × (tag_last (tag_in (cell_record at ends)) ≡ last_in ends)
 named-slot None ends e = absurd (cc)
 named-slot (Some slot) ends e = named-cell slot.cell ends e
 
-pub named : (slots : List (Option Slot)) (arena : Shown) → Agree slots arena → (a : ℕ) (w : Waiter) (ws : List Waiter) → list_at arena.held a ≡ w ∷ ws
-    → (first_at (rows_of slots arena) a ≡ first_in (ends_at arena.links a)) × (last_at (rows_of slots arena) a ≡ last_in (ends_at arena.links a))
+pub named : (slots : List (Option Slot)) (arena : Shown) → Agree slots arena
+    → (a : ℕ) (w : Waiter) (ws : List Waiter) → list_at arena.held a ≡ w ∷ ws
+    → (first_at (rows_of slots arena) a ≡ first_in (ends_at arena.links a))
+    × (last_at (rows_of slots arena) a ≡ last_in (ends_at arena.links a))
 named slots arena agree a w ws e =
     let waits : is_waiting (slot_at slots a) ≡ true = agree.each a ∙ ap has_some e in
     let both = named-slot (slot_at slots a) (ends_at arena.links a) waits in
-    let at = cell-at slots arena.links.ends a in
-    (ap (λ (c : CellRecord). tag_first (tag_in c)) at ∙ both.0, ap (λ (c : CellRecord). tag_last (tag_in c)) at ∙ both.1)
+    let at = cell-at slots arena.links.ends a in (
+      ap (λ (c : CellRecord). tag_first (tag_in c)) at ∙ both.0,
+      ap (λ (c : CellRecord). tag_last (tag_in c)) at
+          ∙ both.1,
+    )
 
 module _ (slots : List (Option Slot)) (arena : Shown) where
   abbrev cells : List (Option Held)
@@ -128,61 +148,82 @@ module _ (slots : List (Option Slot)) (arena : Shown) where
   pub placed-change : (kind : Kind) (n base : ℕ) (slot : Option Slot) → Some base ≡ place n slots
       → ChangesAt (places_in slots arena (Alloc kind n)) slots arena (fill slots base n slot) arena
   placed-change kind n base slot e =
-      subst (λ o. ChangesAt (places_from n o) slots arena (fill slots base n slot) arena) (e ∙ sym (place-cells slots arena n)) (filled slots arena base n slot)
+      subst (λ o. ChangesAt (places_from n o) slots arena (fill slots base n slot) arena)
+      (e ∙ sym (place-cells slots arena n)) (filled slots arena base n slot)
 
-  pub found-base : (a : ℕ) (block : Block) → Some block ≡ block_at slots a → block.base ≡ a → Some block ≡ block_with_base a (held_at cells a)
+  pub found-base : (a : ℕ) (block : Block) → Some block ≡ block_at slots a → block.base ≡ a → Some block
+      ≡ block_with_base a (held_at cells a)
   found-base a block e base =
       let t : (block.base == a) ≡ true = grind (arith, nat_tests) in
       sym (with_base-cells slots arena a ∙ ap (slot_with_base a) (sym e) ∙ ap (λ b. cond b (Some block) None) t)
 
   -- what becomes of the cells of a block alone
-  block-change : (by : ℕ → ℕ → List (Option Slot)) → ((base n : ℕ) → ChangesAt (record { cells = addresses base n; nodes = [] }) slots arena (by base n) arena)
+  block-change : (by : ℕ → ℕ → List (Option Slot))
+      → ((base n : ℕ) → ChangesAt (record { cells = addresses base n; nodes = [] }) slots arena (by base n) arena)
       → (a : ℕ) (block : Block) → Some block ≡ block_at slots a → block.base ≡ a
       → ChangesAt (places_of (block_with_base a (held_at cells a))) slots arena (by a (length_at slots a)) arena
   block-change by among a block e base =
       subst (λ o. ChangesAt (places_of o) slots arena (by a (length_at slots a)) arena) (found-base a block e base)
-      (rw (sym base) (subst (λ n. ChangesAt (places_of (Some block)) slots arena (by block.base n) arena) (ap length_of e ∙ ap (λ x. length_at slots x) (sym base)) (among block.base block.length)))
+      (rw (sym base) (subst (λ n. ChangesAt (places_of (Some block)) slots arena (by block.base n) arena)
+      (ap length_of e ∙ ap (λ x. length_at slots x) (sym base)) (among block.base block.length)))
 
   pub released-change : (a : ℕ) (block : Block) → Some block ≡ block_at slots a → block.base ≡ a
       → ChangesAt (places_in slots arena (Release a)) slots arena (fill slots a (length_at slots a) None) arena
   released-change = block-change (λ base n. fill slots base n None) (λ base n. filled slots arena base n None)
 
   pub reset-change : (a : ℕ) (block : Block) → Some block ≡ block_at slots a → block.base ≡ a
-      → ChangesAt (places_in slots arena (Reset a)) slots arena (change_each (with_cell Empty) slots a (length_at slots a)) arena
-  reset-change = block-change (λ base n. change_each (with_cell Empty) slots base n) (λ base n. changed_each slots arena base n)
+      → ChangesAt (places_in slots arena (Reset a)) slots arena
+      (change_each (with_cell Empty) slots a (length_at slots a)) arena
+  reset-change = block-change (λ base n. change_each (with_cell Empty) slots base n)
+      (λ base n. changed_each slots arena base n)
 
   -- an access of a cell that may not be made, or of one in this state
   pub data Look (kind : Kind) (a : ℕ) : Type 0 where
     refused : (reply : Reply) → access_in kind (slot_at slots a) ≡ Err reply
         → ((by : CellState → Places) → places_at kind by (held_at cells a) ≡ nowhere)
-        → ((serve : CellState → Served) → at_cell kind serve cells a (held_at cells a) ≡ only_tells cells reply) → Look kind a
+        → ((serve : CellState → Served) → at_cell kind serve cells a (held_at cells a) ≡ only_tells cells reply)
+        → Look kind a
     there : (slot : Slot) → slot_at slots a ≡ Some slot
-        → ((by : CellState → Places) → places_at kind by (held_at cells a) ≡ by (state_of slot.cell (list_at arena.held a)))
-        → ((serve : CellState → Served) → at_cell kind serve cells a (held_at cells a) ≡ serve_cell cells a slot.block (serve (state_of slot.cell (list_at arena.held a)))) → Look kind a
+        → ((by : CellState → Places) → places_at kind by (held_at cells a)
+        ≡ by (state_of slot.cell (list_at arena.held a)))
+        → ((serve : CellState → Served) → at_cell kind serve cells a (held_at cells a)
+        ≡ serve_cell cells a slot.block (serve (state_of slot.cell (list_at arena.held a)))) → Look kind a
 
   pub look : (kind : Kind) (a : ℕ) → Look kind a
   look kind a = at_slot (slot_at slots a) refl
     where
-      at_kind : (slot : Slot) → slot_at slots a ≡ Some slot → (b : Bool) → same_kind kind slot.block.kind ≡ b → Look kind a
+      at_kind : (slot : Slot) → slot_at slots a ≡ Some slot → (b : Bool) → same_kind kind slot.block.kind ≡ b
+          → Look kind a
       at_kind slot e true same =
-          let here : held_at cells a ≡ held_of (Some slot) (list_at arena.held a) = held_at-cells slots arena a ∙ ap (λ o. held_of o (list_at arena.held a)) e in
+          let here : held_at cells a ≡ held_of (Some slot) (list_at arena.held a) = held_at-cells slots arena a
+          ∙ ap (λ o. held_of o (list_at arena.held a)) e in
           there slot e
-          (λ by. ap (places_at kind by) here ∙ ap (λ t. cond t (by (state_of slot.cell (list_at arena.held a))) nowhere) same)
-          (λ serve. ap (at_cell kind serve cells a) here ∙ ap (λ t. cond t (serve_cell cells a slot.block (serve (state_of slot.cell (list_at arena.held a)))) (only_tells cells WrongKind)) same)
+          (λ by. ap (places_at kind by) here
+          ∙ ap (λ t. cond t (by (state_of slot.cell (list_at arena.held a))) nowhere) same)
+          (λ serve. ap (at_cell kind serve cells a) here
+          ∙ ap (λ t. cond t (serve_cell cells a slot.block (serve (state_of slot.cell (list_at arena.held a))))
+          (only_tells cells WrongKind)) same)
       at_kind slot e false same =
-          let here : held_at cells a ≡ held_of (Some slot) (list_at arena.held a) = held_at-cells slots arena a ∙ ap (λ o. held_of o (list_at arena.held a)) e in
+          let here : held_at cells a ≡ held_of (Some slot) (list_at arena.held a) = held_at-cells slots arena a
+          ∙ ap (λ o. held_of o (list_at arena.held a)) e in
           refused WrongKind (ap (access_in kind) e ∙ ap (λ t. cond t (Ok slot.cell) (Err WrongKind)) same)
-          (λ by. ap (places_at kind by) here ∙ ap (λ t. cond t (by (state_of slot.cell (list_at arena.held a))) nowhere) same)
-          (λ serve. ap (at_cell kind serve cells a) here ∙ ap (λ t. cond t (serve_cell cells a slot.block (serve (state_of slot.cell (list_at arena.held a)))) (only_tells cells WrongKind)) same)
+          (λ by. ap (places_at kind by) here
+          ∙ ap (λ t. cond t (by (state_of slot.cell (list_at arena.held a))) nowhere) same)
+          (λ serve. ap (at_cell kind serve cells a) here
+          ∙ ap (λ t. cond t (serve_cell cells a slot.block (serve (state_of slot.cell (list_at arena.held a))))
+          (only_tells cells WrongKind)) same)
 
       at_slot : (o : Option Slot) → slot_at slots a ≡ o → Look kind a
       at_slot None e =
-          let here : held_at cells a ≡ None = held_at-cells slots arena a ∙ ap (λ o. held_of o (list_at arena.held a)) e in
-          refused NoCell (ap (access_in kind) e) (λ by. ap (places_at kind by) here) (λ serve. ap (at_cell kind serve cells a) here)
+          let here : held_at cells a ≡ None = held_at-cells slots arena a
+          ∙ ap (λ o. held_of o (list_at arena.held a)) e in
+          refused NoCell (ap (access_in kind) e) (λ by. ap (places_at kind by) here)
+          (λ serve. ap (at_cell kind serve cells a) here)
       at_slot (Some slot) e = at_kind slot e (same_kind kind slot.block.kind) refl
 
 -- one cell changes, and the links don't
-cell-change : (a : ℕ) (p : Places) (slots slots2 : List (Option Slot)) (arena arena2 : Shown) → ((b : ℕ) → b ≢ a → slice_get slots2 b ≡ slice_get slots b) → arena2 ≡ arena
+cell-change : (a : ℕ) (p : Places) (slots slots2 : List (Option Slot)) (arena arena2 : Shown)
+    → ((b : ℕ) → b ≢ a → slice_get slots2 b ≡ slice_get slots b) → arena2 ≡ arena
     → p.cells ≡ a ∷ [] → ChangesAt p slots arena slots2 arena2
 cell-change a p slots slots2 arena arena2 others same is = record {
   cells = λ b o. others b (subst (λ xs. IsOther xs b) is o).0;
@@ -196,7 +237,8 @@ by_put-cells first a (IsEmpty (taker ∷ takers)) = refl
 by_put-cells first a (IsFull v) = refl
 by_put-cells first a (IsClashed v) = refl
 
-by_store-cells : (nodes : List NodeRecord) (first a : ℕ) (state : CellState) → (by_store nodes first a state).cells ≡ a ∷ []
+by_store-cells : (nodes : List NodeRecord) (first a : ℕ) (state : CellState) → (by_store nodes first a state).cells
+    ≡ a ∷ []
 by_store-cells nodes first a (IsEmpty readers) = refl
 by_store-cells nodes first a (IsFull v) = refl
 by_store-cells nodes first a (IsClashed v) = refl
@@ -205,7 +247,8 @@ not_deferred : (reply : Reply) → Answered reply ≡ Deferred → ⊥
 not_deferred reply e = cc
 
 -- a fetch and a take
-module _ (slots slots2 : List (Option Slot)) (arena arena2 : Shown) (agree : Agree slots arena) (a : ℕ) (who : Waiter) (entry : Entry)
+module _ (slots slots2 : List (Option Slot)) (arena arena2 : Shown) (agree : Agree slots arena) (a : ℕ)
+    (who : Waiter) (entry : Entry)
     (others : (b : ℕ) → b ≢ a → slice_get slots2 b ≡ slice_get slots b) (links : LeavesLinks entry a arena arena2) where
   abbrev was : List (Option Held)
   was = cells_of slots arena
@@ -256,7 +299,8 @@ module _ (slots slots2 : List (Option Slot)) (arena arena2 : Shown) (agree : Agr
 
   module _ (same : entry ≢ Deferred → slots2 ≡ slots) where
     told_same : (p : Places) (reply : Reply) → entry ≡ Answered reply → ChangesAt p slots arena slots2 arena2
-    told_same p reply e = same-change p slots slots2 arena arena2 (same (λ d. not_deferred reply (sym e ∙ d))) (linked reply e)
+    told_same p reply e = same-change p slots slots2 arena arena2 (same (λ d. not_deferred reply (sym e ∙ d)))
+        (linked reply e)
 
     fetch_state : (cell : Cell) → entry ≡ (fetch who (state_of cell (list_at arena.held a))).entry
         → ChangesAt (by_fetch arena.links.spare last a (state_of cell (list_at arena.held a))) slots arena slots2 arena2
@@ -265,7 +309,8 @@ module _ (slots slots2 : List (Option Slot)) (arena arena2 : Shown) (agree : Agr
     fetch_state (Full v) e = told_same nowhere _ e
     fetch_state (Clashed v) e = told_same nowhere _ e
 
-    pub fetch-change : entry ≡ (at_cell I (fetch who) was a (held_at was a)).entry → ChangesAt (places_in slots arena (Fetch a)) slots arena slots2 arena2
+    pub fetch-change : entry ≡ (at_cell I (fetch who) was a (held_at was a)).entry
+        → ChangesAt (places_in slots arena (Fetch a)) slots arena slots2 arena2
     fetch-change e = elim (look slots arena I a) [
       | refused reply refuses nothing tells ↦
           told_same (places_in slots arena (Fetch a)) reply (e ∙ ap (λ (x : ActedCells). x.entry) (tells (fetch who)))
@@ -275,15 +320,18 @@ module _ (slots slots2 : List (Option Slot)) (arena arena2 : Shown) (agree : Agr
     ]
 
 -- a store
-module _ (slots slots2 : List (Option Slot)) (arena : Shown) (a v : ℕ) (others : (b : ℕ) → b ≢ a → slice_get slots2 b ≡ slice_get slots b)
+module _ (slots slots2 : List (Option Slot)) (arena : Shown) (a v : ℕ)
+    (others : (b : ℕ) → b ≢ a → slice_get slots2 b ≡ slice_get slots b)
     (same : (reply : Reply) → access_in I (slot_at slots a) ≡ Err reply → slots2 ≡ slots) where
   pub store-change : ChangesAt (places_in slots arena (Store a v)) slots arena slots2 arena
   store-change = elim (look slots arena I a) [
-    | refused reply refuses nothing tells ↦ same-change (places_in slots arena (Store a v)) slots slots2 arena arena (same reply refuses) refl
+    | refused reply refuses nothing tells ↦ same-change (places_in slots arena (Store a v)) slots slots2 arena arena
+        (same reply refuses) refl
     | there slot is by does ↦
         let first = first_at (rows_of slots arena) a in
         cell-change a (places_in slots arena (Store a v)) slots slots2 arena arena others refl
-        (ap (λ (p : Places). p.cells) (by (by_store arena.links.records first a)) ∙ by_store-cells arena.links.records first a (state_of slot.cell (list_at arena.held a)))
+        (ap (λ (p : Places). p.cells) (by (by_store arena.links.records first a))
+        ∙ by_store-cells arena.links.records first a (state_of slot.cell (list_at arena.held a)))
   ]
 
 -- the nodes on a list are those at its places
@@ -300,20 +348,26 @@ not_stored kind (Some slot) e = by_kind (same_kind kind slot.block.kind) e
     by_kind true e = cc
     by_kind false e = cc
 
-module _ (slots : List (Option Slot)) (arena : Shown) (agree : Agree slots arena) (a v : ℕ) (e : Answered Stored ≡ (at_cell I (store v) (cells_of slots arena) a (held_at (cells_of slots arena) a)).entry) where
+module _ (slots : List (Option Slot)) (arena : Shown) (agree : Agree slots arena) (a v : ℕ)
+    (e : Answered Stored ≡
+    (at_cell I (store v) (cells_of slots arena) a (held_at (cells_of slots arena) a)).entry) where
   abbrev first : ℕ
   first = first_at (rows_of slots arena) a
 
   -- a node that is none of those of the list is away from it
-  away_from : (waiters : List Waiter) → list_at arena.held a ≡ waiters → (n : ℕ) → IsOther (nodes_from arena.links.records first (length waiters)) n → IsAway arena a n
+  away_from : (waiters : List Waiter) → list_at arena.held a ≡ waiters → (n : ℕ)
+      → IsOther (nodes_from arena.links.records first (length waiters)) n → IsAway arena a n
   away_from [] is n other i lt = let none = ap length is in absurd (omega arith)
   away_from (w ∷ ws) is n other i lt =
       let begins = (named slots arena agree a w ws is).0 in
-      λ here. along-node (next_at arena.links.records) first (length (w ∷ ws)) n i other (let all = ap length is in omega arith)
-      (here ∙ ap (λ at. place_from (next_in arena.links) at i) (sym begins) ∙ place_from-same (next_at arena.links.records) (next_in arena.links) first i (λ j below. refl))
+      λ here. along-node (next_at arena.links.records) first (length (w ∷ ws)) n i other
+      (let all = ap length is in omega arith)
+      (here ∙ ap (λ at. place_from (next_in arena.links) at i) (sym begins)
+      ∙ place_from-same (next_at arena.links.records) (next_in arena.links) first i (λ j below. refl))
 
   among_state : (cell : Cell) → Answered Stored ≡ (store v (state_of cell (list_at arena.held a))).entry
-      → (n : ℕ) → IsOther (by_store arena.links.records first a (state_of cell (list_at arena.held a))).nodes n → IsAway arena a n
+      → (n : ℕ) → IsOther (by_store arena.links.records first a (state_of cell (list_at arena.held a))).nodes n
+      → IsAway arena a n
   among_state Empty stored n other = away_from (list_at arena.held a) refl n other
   among_state Waiting stored n other = away_from (list_at arena.held a) refl n other
   among_state (Full w) stored n other = absurd (cc)
@@ -328,13 +382,15 @@ module _ (slots : List (Option Slot)) (arena : Shown) (agree : Agree slots arena
         absurd (not_stored I (slot_at slots a) (refuses ∙ ap (λ x. Err x) same))
     | there slot is by does ↦
         subst (λ p. AreAmong p (Readers a v) arena) (sym (by (by_store arena.links.records first a))) (
-          λ b o. (subst (λ xs. IsOther xs b) (by_store-cells arena.links.records first a (state_of slot.cell (list_at arena.held a))) o).0,
+          λ b o. (subst (λ xs. IsOther xs b)
+              (by_store-cells arena.links.records first a (state_of slot.cell (list_at arena.held a))) o).0,
           among_state slot.cell (e ∙ ap (λ (x : ActedCells). x.entry) (does (store v))),
         )
   ]
 
 -- a put
-module _ (slots slots2 : List (Option Slot)) (arena arena2 : Shown) (agree : Agree slots arena) (a v : ℕ) (others : (b : ℕ) → b ≢ a → slice_get slots2 b ≡ slice_get slots b)
+module _ (slots slots2 : List (Option Slot)) (arena arena2 : Shown) (agree : Agree slots arena) (a v : ℕ)
+    (others : (b : ℕ) → b ≢ a → slice_get slots2 b ≡ slice_get slots b)
     (same : (reply : Reply) → access_in M (slot_at slots a) ≡ Err reply → slots2 ≡ slots) where
   abbrev begins : ℕ
   begins = first_at (rows_of slots arena) a
@@ -342,15 +398,20 @@ module _ (slots slots2 : List (Option Slot)) (arena arena2 : Shown) (agree : Agr
   -- nobody is served
   pub put-change : arena2 ≡ arena → ChangesAt (places_in slots arena (Put a v)) slots arena slots2 arena2
   put-change still = elim (look slots arena M a) [
-    | refused reply refuses nothing tells ↦ same-change (places_in slots arena (Put a v)) slots slots2 arena arena2 (same reply refuses) still
+    | refused reply refuses nothing tells ↦ same-change (places_in slots arena (Put a v)) slots slots2 arena arena2
+        (same reply refuses) still
     | there slot is by does ↦
         cell-change a (places_in slots arena (Put a v)) slots slots2 arena arena2 others still
-        (ap (λ (p : Places). p.cells) (by (by_put begins a)) ∙ by_put-cells begins a (state_of slot.cell (list_at arena.held a)))
+        (ap (λ (p : Places). p.cells) (by (by_put begins a))
+        ∙ by_put-cells begins a (state_of slot.cell (list_at arena.held a)))
   ]
 
   -- the first taker is served
-  module _ (taker : Waiter) (told : (at_cell M (put v) (cells_of slots arena) a (held_at (cells_of slots arena) a)).resumed ≡ replies_to (taker ∷ []) v) (popped : IsPopped a arena arena2) where
-    at_list : (waiters : List Waiter) → list_at arena.held a ≡ waiters → (put v (IsEmpty waiters)).resumed ≡ replies_to (taker ∷ []) v
+  module _ (taker : Waiter)
+      (told : (at_cell M (put v) (cells_of slots arena) a (held_at (cells_of slots arena) a)).resumed
+      ≡ replies_to (taker ∷ []) v) (popped : IsPopped a arena arena2) where
+    at_list : (waiters : List Waiter) → list_at arena.held a ≡ waiters → (put v (IsEmpty waiters)).resumed
+        ≡ replies_to (taker ∷ []) v
         → ChangesAt (by_put begins a (IsEmpty waiters)) slots arena slots2 arena2
     at_list [] is served = absurd (cc)
     at_list (w ∷ ws) is served = record {
@@ -377,7 +438,8 @@ module _ (slots slots2 : List (Option Slot)) (arena arena2 : Shown) (agree : Agr
     ]
 
 -- the first reader is gone
-module _ (a : ℕ) (old new : Shown) (popped : IsPopped a old new) (some : 0 < length (list_at old.held a)) (rest : list_at new.held a ≡ drop 1 (list_at old.held a)) where
+module _ (a : ℕ) (old new : Shown) (popped : IsPopped a old new) (some : 0 < length (list_at old.held a))
+    (rest : list_at new.held a ≡ drop 1 (list_at old.held a)) where
   length-rest : (ws : List Waiter) → 0 < length ws → length (drop 1 ws) + 1 ≡ length ws
   length-rest [] lt = absurd (omega arith)
   length-rest (w ∷ ws) lt = omega arith
@@ -393,9 +455,12 @@ module _ (a : ℕ) (old new : Shown) (popped : IsPopped a old new) (some : 0 < l
 
 -- what an operation changes, and then the readers that are resumed
 pub resumed-change : (p : Places) (slots slots2 : List (Option Slot)) (arena arena2 arena3 : Shown) (resumed : Resumed)
-    → ChangesAt p slots arena slots2 arena2 → AreAmong p resumed arena2 → LeavesOthers resumed arena2 arena3 → ChangesAt p slots arena slots2 arena3
-resumed-change p slots slots2 arena arena2 arena3 Nobody changes among same = subst (λ (x : Shown). ChangesAt p slots arena slots2 x) (sym same) changes
-resumed-change p slots slots2 arena arena2 arena3 (Taker who v) changes among same = subst (λ (x : Shown). ChangesAt p slots arena slots2 x) (sym same) changes
+    → ChangesAt p slots arena slots2 arena2 → AreAmong p resumed arena2 → LeavesOthers resumed arena2 arena3
+    → ChangesAt p slots arena slots2 arena3
+resumed-change p slots slots2 arena arena2 arena3 Nobody changes among same = subst
+    (λ (x : Shown). ChangesAt p slots arena slots2 x) (sym same) changes
+resumed-change p slots slots2 arena arena2 arena3 (Taker who v) changes among same = subst
+    (λ (x : Shown). ChangesAt p slots arena slots2 x) (sym same) changes
 resumed-change p slots slots2 arena arena2 arena3 (Readers a v) changes among drained = record {
   cells = changes.cells;
   ends = λ b o. drained.ends b (among.0 b o) ∙ changes.ends b o;
@@ -407,14 +472,17 @@ abbrev ends_in : Option (Option Ends) → Option Ends
 ends_in None = None
 ends_in (Some e) = e
 
-slice_get-cell_records : (slots : List (Option Slot)) (ends : List (Option Ends)) (b : ℕ) → slice_get (cell_records slots ends) b ≡ option_map (λ slot. cell_record slot (ends_in (slice_get ends b))) (slice_get slots b)
+slice_get-cell_records : (slots : List (Option Slot)) (ends : List (Option Ends)) (b : ℕ)
+    → slice_get (cell_records slots ends) b
+    ≡ option_map (λ slot. cell_record slot (ends_in (slice_get ends b))) (slice_get slots b)
 slice_get-cell_records [] ends b = refl
 slice_get-cell_records (slot ∷ slots) [] zero = refl
 slice_get-cell_records (slot ∷ slots) [] (suc b) = slice_get-cell_records slots [] b
 slice_get-cell_records (slot ∷ slots) (e ∷ ends) zero = refl
 slice_get-cell_records (slot ∷ slots) (e ∷ ends) (suc b) = slice_get-cell_records slots ends b
 
-cell-record_same : (slots slots2 : List (Option Slot)) (ends ends2 : List (Option Ends)) (b : ℕ) → slice_get slots2 b ≡ slice_get slots b → slice_get ends2 b ≡ slice_get ends b
+cell-record_same : (slots slots2 : List (Option Slot)) (ends ends2 : List (Option Ends)) (b : ℕ) → slice_get slots2 b
+    ≡ slice_get slots b → slice_get ends2 b ≡ slice_get ends b
     → slice_get (cell_records slots2 ends2) b ≡ slice_get (cell_records slots ends) b
 cell-record_same slots slots2 ends ends2 b ss es =
     slice_get-cell_records slots2 ends2 b
@@ -423,23 +491,33 @@ cell-record_same slots slots2 ends ends2 b ss es =
     ∙ sym (slice_get-cell_records slots ends b)
 
 -- windows of other elements stay
-pub window-other : (windows : List Window) (element : ℕ) (change : Window → Window) (e : ℕ) → e ≢ element → slice_get (with_window windows element change) e ≡ slice_get windows e
-window-other windows element change e other = slice_get-set_other windows element e (change (get_or windows element new_window)) other
+pub window-other : (windows : List Window) (element : ℕ) (change : Window → Window) (e : ℕ) → e ≢ element
+    → slice_get (with_window windows element change) e ≡ slice_get windows e
+window-other windows element change e other = slice_get-set_other windows element e
+    (change (get_or windows element new_window)) other
 
-answered-other : (replies : List (Waiter × Reply)) (windows : List Window) (e : ℕ) → IsOther (map (λ (r : Waiter × Reply). r.0.element) replies) e → slice_get (answer_each windows replies) e ≡ slice_get windows e
+answered-other : (replies : List (Waiter × Reply)) (windows : List Window) (e : ℕ)
+    → IsOther (map (λ (r : Waiter × Reply). r.0.element) replies) e → slice_get (answer_each windows replies) e
+    ≡ slice_get windows e
 answered-other [] windows e other = refl
 answered-other (r ∷ replies) windows e other =
     answered-other replies (answer windows r.0 r.1) e other.1
     ∙ window-other windows r.0.element (answer_in r.0.number r.1) e other.0
 
 -- the records after a new request
-pub served-change : (op : Op) (slots slots2 : List (Option Slot)) (arena arena2 : Shown) (windows windows1 windows2 : List Window) (element : ℕ) (change : Window → Window) (replies : List (Waiter × Reply))
-    → ChangesAt (places_in slots arena op) slots arena slots2 arena2 → windows1 ≡ with_window windows element change → windows2 ≡ answer_each windows1 replies
-    → ChangesOnly (touched_in (places (cells_of slots arena) (records_of slots arena windows) arena.links.spare op) (elements_told element replies)) (records_of slots arena windows) (records_of slots2 arena2 windows2)
+pub served-change : (op : Op) (slots slots2 : List (Option Slot)) (arena arena2 : Shown)
+    (windows windows1 windows2 : List Window) (element : ℕ) (change : Window → Window) (replies : List (Waiter × Reply))
+    → ChangesAt (places_in slots arena op) slots arena slots2 arena2 → windows1 ≡ with_window windows element change
+    → windows2 ≡ answer_each windows1 replies
+    → ChangesOnly (touched_in (places (cells_of slots arena) (records_of slots arena windows) arena.links.spare op)
+    (elements_told element replies)) (records_of slots arena windows) (records_of slots2 arena2 windows2)
 served-change op slots slots2 arena arena2 windows windows1 windows2 element change replies changes noted answered =
-    subst (λ p. ChangesOnly (touched_in p (elements_told element replies)) (records_of slots arena windows) (records_of slots2 arena2 windows2)) (sym (places-rows slots arena windows op))
+    subst (λ p. ChangesOnly (touched_in p (elements_told element replies)) (records_of slots arena windows)
+    (records_of slots2 arena2 windows2)) (sym (places-rows slots arena windows op))
     (record {
-      cells = λ b o. cell-record_same slots slots2 arena.links.ends arena2.links.ends b (changes.cells b o) (changes.ends b o);
+      cells = λ b o. cell-record_same slots slots2 arena.links.ends arena2.links.ends b (changes.cells b o)
+          (changes.ends b o);
       nodes = λ n o. changes.nodes n o;
-      windows = λ e o. ap (λ ws. slice_get ws e) answered ∙ answered-other replies windows1 e o.1 ∙ ap (λ ws. slice_get ws e) noted ∙ window-other windows element change e o.0;
+      windows = λ e o. ap (λ ws. slice_get ws e) answered ∙ answered-other replies windows1 e o.1
+          ∙ ap (λ ws. slice_get ws e) noted ∙ window-other windows element change e o.0;
     })

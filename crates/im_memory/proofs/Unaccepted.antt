@@ -8,7 +8,8 @@ use Rattle.im_types.specs.Step.{is_accepted, step_confirm}
 use Rattle.im_laws.proofs.AcceptLemmas.{unaccepted-leaves}
 
 pub windows_stay : {T : Type 0} (m : Contents) (element upto : ℕ) (new : List Window) (result : Result T Refusal)
-    → OnOk result ((w : Window) × (confirm_window upto (slice_get m.windows element) ≡ Ok w) × (new ≡ slice_set m.windows element w))
+    → OnOk result ((w : Window) × (confirm_window upto (slice_get m.windows element) ≡ Ok w)
+    × (new ≡ slice_set m.windows element w))
     → IfErr result (λ refusal. (confirm_window upto (slice_get m.windows element) ≡ Err refusal) × (new ≡ m.windows))
     → is_accepted m (Confirm element upto) ≡ false → new ≡ m.windows
 windows_stay m element upto new (Ok done) ok err un =

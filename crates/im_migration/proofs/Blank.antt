@@ -22,37 +22,46 @@ beside_blank at n c d beside but blank = (
     second (inr behind) = inl (omega (arith, behind))
 
 module _ {D : Type 0} (now : D → Moment) (past : D → List Moment) where
-  pub blank_write : (at n : ℕ) (old new : D) → IsBeside at n → at + n ≤ length (now old).bytes → MayTick (Torn at n) (now old) (now new) (past old) (past new) → StaysBlank now past old new
+  pub blank_write : (at n : ℕ) (old new : D) → IsBeside at n → at + n ≤ length (now old).bytes
+      → MayTick (Torn at n) (now old) (now new) (past old) (past new) → StaysBlank now past old new
   blank_write at n old new beside fits tick blank =
       record {
-        within = leaves_step (now old) (now old) (now new) (past old) (past old) (past new) IsBlank (Torn at n) (leaves_start (now old) (past old) IsBlank) tick (λ c left. by_tick c tick left);
+        within = leaves_step (now old) (now old) (now new) (past old) (past old) (past new) IsBlank (Torn at n)
+            (leaves_start (now old) (past old) IsBlank) tick (λ c left. by_tick c tick left);
         after = λ c left. by_tick c tick left;
       }
     where
       -- the write is torn, or nothing has happened
-      by_tick : (c : List ℕ) → MayTick (Torn at n) (now old) (now new) (past old) (past new) → Left (now new) c → IsBlank c
+      by_tick : (c : List ℕ) → MayTick (Torn at n) (now old) (now new) (past old) (past new) → Left (now new) c
+          → IsBlank c
       by_tick c (inl same) left = blank c (subst (λ (x : Moment). Left x c) same.0 left)
       by_tick c (inr torn) left =
-          let from : (d : List ℕ) × Left (now old) d × SameBut at n d c = left_torn at n (now old) (now new) fits torn.now c left in
+          let from : (d : List ℕ) × Left (now old) d
+          × SameBut at n d c = left_torn at n (now old) (now new) fits torn.now c left in
           beside_blank at n from.0 c beside from.2 (blank from.0 from.1)
 
-  pub blank_then : (old mid new : D) → StaysBlank now past old mid → StaysBlank now past mid new → StaysBlank now past old new
+  pub blank_then : (old mid new : D) → StaysBlank now past old mid → StaysBlank now past mid new
+      → StaysBlank now past old new
   blank_then old mid new first second blank =
       let a : LeavesOnly now past old mid IsBlank = first blank in
       let b : LeavesOnly now past mid new IsBlank = second a.after in
       record {
-        within = leaves_then (now old) (now mid) (now new) (past old) (past mid) (past new) IsBlank IsBlank IsBlank a.within b.within (λ c is. is) (λ c is. is);
+        within = leaves_then (now old) (now mid) (now new) (past old) (past mid)
+            (past new) IsBlank IsBlank IsBlank a.within b.within (λ c is. is) (λ c is. is);
         after = b.after;
       }
 
 -- a run that leaves no file more leaves only what has any property, those aside that could be left before
-pub leaves_none : (old new : Moment) (past past' : List Moment) (P : List ℕ → Type 0) → Leaves old new past past' (Left old) → Leaves old new past past' P
+pub leaves_none : (old new : Moment) (past past' : List Moment) (P : List ℕ → Type 0)
+    → Leaves old new past past' (Left old) → Leaves old new past past' P
 leaves_none old new past past' P leaves = record {
   later = leaves.later;
   each = λ t c le left. ⊎_elim (λ earlier. inl earlier) (λ here. inl (inl (le, here))) (leaves.each t c le left);
 }
 
 -- and then a run that leaves only what has a property
-pub leaves_after : (old mid new : Moment) (past past_mid past_new : List Moment) (P : List ℕ → Type 0) → Leaves old mid past past_mid (Left old) → Leaves mid new past_mid past_new P → Leaves old new past past_new P
+pub leaves_after : (old mid new : Moment) (past past_mid past_new : List Moment) (P : List ℕ → Type 0)
+    → Leaves old mid past past_mid (Left old) → Leaves mid new past_mid past_new P → Leaves old new past past_new P
 leaves_after old mid new past past_mid past_new P first second =
-    leaves_then old mid new past past_mid past_new P P P (leaves_none old mid past past_mid P first) second (λ c is. is) (λ c is. is)
+    leaves_then old mid new past past_mid past_new P P P (leaves_none old mid past past_mid P first) second
+    (λ c is. is) (λ c is. is)

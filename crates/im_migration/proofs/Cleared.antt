@@ -1,5 +1,6 @@
 -- Zeros over a file, piece by piece.
-use Rattle.std.proofs.Common.{◌≡◌, ◌⊎◌, inl, ⊎_elim, ℕ, zero, suc, ◌+◌, ◌-◌, ◌*◌, ◌<◌, ◌≤◌, List, [], ◌∷◌, length, take, replicate, get_or, refl, ◌∙◌, arith}
+use Rattle.std.proofs.Common.{◌≡◌, ◌⊎◌, inl, ⊎_elim, ℕ, zero, suc, ◌+◌, ◌-◌, ◌*◌, ◌<◌, ◌≤◌, List, [], ◌∷◌, length}
+use Rattle.std.proofs.Common.{take, replicate, get_or, refl, ◌∙◌, arith}
 use Rattle.std.proofs.lemmas.Bool.{cases_lt}
 use Rattle.im_disk.specs.Moment.{overlaid}
 use Rattle.im_disk.proofs.OverlayLemmas.{overlaid_inside, overlaid_outside}
@@ -21,7 +22,8 @@ taken (suc m) (x ∷ xs) all zero = all 0
 taken (suc m) (x ∷ xs) all (suc i) = taken m xs (λ k. all (suc k)) i
 
 -- The next page: from its first byte, or the one behind it where that is a gate, up to its end, or that of the file.
-pub cleared_more : (page at end size : ℕ) (z c : List ℕ) → AreZeros z → at + length z ≡ end → end ≤ length c → length c ≡ size
+pub cleared_more : (page at end size : ℕ) (z c : List ℕ) → AreZeros z → at + length z ≡ end → end ≤ length c
+    → length c ≡ size
     → at ≤ 4096 * page + 1 → (2 ≤ page → at ≡ 4096 * page) → ((end ≡ 4096 * (page + 1)) ⊎ (end ≡ size))
     → AreCleared page size c → AreCleared (page + 1) size (overlaid c at z)
 cleared_more page at end size z c zeros ends fits long from gate to before k some low inside apart = ⊎_elim
@@ -33,13 +35,16 @@ cleared_more page at end size z c zeros ends fits long from gate to before k som
     room = omega (arith, ends, fits)
 
     high : k < end
-    high = ⊎_elim (λ (e : end ≡ 4096 * (page + 1)). omega (arith, e, low)) (λ (e : end ≡ size). omega (arith, e, inside)) to
+    high = ⊎_elim (λ (e : end ≡ 4096 * (page + 1)). omega (arith, e, low))
+        (λ (e : end ≡ size). omega (arith, e, inside)) to
 
     -- where the piece begins behind a gate, the byte before it is that gate
     lower : k < at → k < 4096 * page
-    lower below = ⊎_elim (λ (few : page < 2). few_pages few) (λ (many : 2 ≤ page). omega (arith, gate many, below)) (cases_lt page 2)
+    lower below = ⊎_elim (λ (few : page < 2). few_pages few) (λ (many : 2 ≤ page). omega (arith, gate many, below))
+        (cases_lt page 2)
       where
         few_pages : page < 2 → k < 4096 * page
         few_pages few = ⊎_elim (λ (none : page < 1). absurd (omega (arith, none, below, from, some)))
-            (λ (one : 1 ≤ page). ⊎_elim (λ (l : k < 4096). omega (arith, one, l)) (λ (h : 4096 ≤ k). absurd (apart (omega (arith, h, few, below, from)))) (cases_lt k 4096))
+            (λ (one : 1 ≤ page). ⊎_elim (λ (l : k < 4096). omega (arith, one, l))
+            (λ (h : 4096 ≤ k). absurd (apart (omega (arith, h, few, below, from)))) (cases_lt k 4096))
             (cases_lt page 1)

@@ -1,5 +1,7 @@
 -- What was laid down is an image once its header's gate is open.
-use Rattle.std.proofs.Common.{◌≡◌, ◌≢◌, ◌⊎◌, inl, inr, ⊎_elim, ℕ, ◌+◌, ◌-◌, ◌*◌, ◌%◌, ◌<◌, ◌≤◌, ◌==◌, ◌&&◌, nat_le, Bool, true, false, List, [], ◌∷◌, length, take, drop, get_or, slice_range, Some, Ok, refl, sym, ◌∙◌, ap, subst, arith, length-drop, get_or-take, get_or-drop, if◌then◌else◌}
+use Rattle.std.proofs.Common.{◌≡◌, ◌≢◌, ◌⊎◌, inl, inr, ⊎_elim, ℕ, ◌+◌, ◌-◌, ◌*◌, ◌%◌, ◌<◌, ◌≤◌, ◌==◌, ◌&&◌, nat_le}
+use Rattle.std.proofs.Common.{Bool, true, false, List, [], ◌∷◌, length, take, drop, get_or, slice_range, Some, Ok}
+use Rattle.std.proofs.Common.{refl, sym, ◌∙◌, ap, subst, arith, length-drop, get_or-take, get_or-drop, if◌then◌else◌}
 use Rattle.std.proofs.Math.Nat.{mod-lt}
 use Rattle.std.proofs.lemmas.Bool.{cases_lt, cases_eq}
 use Rattle.std.proofs.lemmas.Bool.Decides.{nat_tests}
@@ -7,9 +9,11 @@ use Rattle.std.proofs.lemmas.List.{ext_get_or}
 use Rattle.im_types.specs.declared.TheConstants.{LAST}
 use Rattle.im_types.specs.Bytes.{open_gate}
 use Rattle.im_types.specs.Contents.{Contents}
-use Rattle.im_types.specs.Header.{Header, header_body, header_in, header_place, is_open_header, is_header, spells_header}
+use Rattle.im_types.specs.Header.{Header, header_body, header_in, header_place, is_open_header, is_header}
+use Rattle.im_types.specs.Header.{spells_header}
 use Rattle.im_types.specs.Journal.{Ring, run, slot, closed_from, are_stale, commands_in, tail}
-use Rattle.im_types.specs.Layout.{Sizes, layout_in_use, are_sizes, area_bytes, area_of, area_pages, page_bytes, record_at, ring_of}
+use Rattle.im_types.specs.Layout.{Sizes, layout_in_use, are_sizes, area_bytes, area_of, area_pages, page_bytes}
+use Rattle.im_types.specs.Layout.{record_at, ring_of}
 use Rattle.im_types.specs.Meaning.{Reads}
 use Rattle.im_types.specs.Pages.{Records, Shows, ShowsRecords}
 use Rattle.im_types.specs.Sizes.{AreLimits}
@@ -51,7 +55,8 @@ module _ (r : Ring) (first : ℕ) (file : List ℕ) (some : 0 < r.slots) (closed
   gates = closed_from r (r.slots - 0) (first + 0) file
 
   all : gates ≡ r.slots
-  all = ap (λ (n : ℕ). closed_from r n (first + 0) file) whole ∙ all_closed r r.slots (first + 0) file (λ i low high. shut i)
+  all = ap (λ (n : ℕ). closed_from r n (first + 0) file) whole
+      ∙ all_closed r r.slots (first + 0) file (λ i low high. shut i)
     where
       whole : r.slots - 0 ≡ r.slots
       whole = omega arith
@@ -72,9 +77,11 @@ module _ (r : Ring) (first : ℕ) (file : List ℕ) (some : 0 < r.slots) (closed
 
 -- the byte of the second header's gate
 second_gate : (file : List ℕ) → is_open_header (header_place 1 file) ≡ (get_or file 4096 0 == open_gate)
-second_gate file = ap (λ (b : ℕ). b == open_gate) (get_or-take 64 (drop 4096 file) 0 0 (omega arith) ∙ get_or-drop 4096 file 0 0)
+second_gate file = ap (λ (b : ℕ). b == open_gate)
+    (get_or-take 64 (drop 4096 file) 0 0 (omega arith) ∙ get_or-drop 4096 file 0 0)
 
-moved_fits : (s : Sizes) (count : ℕ) → AreLimits s.cells s.elements s.slots → count ≤ LAST → FitsHeader (moved_header s count)
+moved_fits : (s : Sizes) (count : ℕ) → AreLimits s.cells s.elements s.slots → count ≤ LAST
+    → FitsHeader (moved_header s count)
 moved_fits s count limits last = record {
   version = omega arith;
   generation = omega arith;
@@ -84,13 +91,16 @@ moved_fits s count limits last = record {
   slots = omega (arith, limits.few_slots);
 }
 
-moved_is_header : (s : Sizes) (count : ℕ) → AreLimits s.cells s.elements s.slots → count ≤ LAST → is_header layout_in_use 0 (moved_header s count) ≡ true
-moved_is_header s count limits last = ap (λ (b : Bool). b && are_sizes layout_in_use s) (is_least count LAST last) ∙ sizes_are s limits
+moved_is_header : (s : Sizes) (count : ℕ) → AreLimits s.cells s.elements s.slots → count ≤ LAST
+    → is_header layout_in_use 0 (moved_header s count) ≡ true
+moved_is_header s count limits last = ap (λ (b : Bool). b && are_sizes layout_in_use s) (is_least count LAST last)
+    ∙ sizes_are s limits
   where
     is_least : (m n : ℕ) → m ≤ n → nat_le m n ≡ true
     is_least m n le = grind (arith, nat_tests)
 
-module _ (s : Sizes) (limits : AreLimits s.cells s.elements s.slots) (count : ℕ) (last : count ≤ LAST) (r : Records) (m : Contents) (counted : AreCounted s r) (shows : ShowsRecords s r m)
+module _ (s : Sizes) (limits : AreLimits s.cells s.elements s.slots) (count : ℕ) (last : count ≤ LAST) (r : Records)
+    (m : Contents) (counted : AreCounted s r) (shows : ShowsRecords s r m)
     (file : List ℕ) (laid : IsLaid s r (area_pages layout_in_use s) s.slots file) (apart : IsShut 4096 file) where
   abbrev h : Header
   h = moved_header s count
@@ -119,7 +129,8 @@ module _ (s : Sizes) (limits : AreLimits s.cells s.elements s.slots) (count : �
   place = overlaid_part file 0 spelled fits
 
   below : is_open_header (header_place 1 opened) ≡ false
-  below = second_gate opened ∙ other_number (get_or opened 4096 0) open_gate (λ is. apart (sym (but.same 4096 (inr (omega arith))) ∙ is))
+  below = second_gate opened
+      ∙ other_number (get_or opened 4096 0) open_gate (λ is. apart (sym (but.same 4096 (inr (omega arith))) ∙ is))
 
   in_force : InForce layout_in_use h opened
   in_force = record {
@@ -127,7 +138,9 @@ module _ (s : Sizes) (limits : AreLimits s.cells s.elements s.slots) (count : �
     size = still.size;
     opened = ap is_open_header place;
     fields = ap header_in place ∙ header_in-spelled open_gate h (moved_fits s count limits last);
-    spelled = ap (λ (l : List ℕ). spells_header layout_in_use 0 l) place ∙ spells_header-spelled layout_in_use 0 open_gate h (moved_fits s count limits last) (moved_is_header s count limits last);
+    spelled = ap (λ (l : List ℕ). spells_header layout_in_use 0 l) place
+        ∙ spells_header-spelled layout_in_use 0 open_gate h (moved_fits s count limits last)
+        (moved_is_header s count limits last);
     below = inl below;
   }
 
@@ -146,14 +159,16 @@ module _ (s : Sizes) (limits : AreLimits s.cells s.elements s.slots) (count : �
       less a b = omega arith
 
   area_long : length area ≡ area_bytes layout_in_use s
-  area_long = length_of_take (area_pages layout_in_use s) (drop (page_bytes * 2) opened) (omega (arith, length-drop (page_bytes * 2) opened, still.size, length_is s, journal_is s))
+  area_long = length_of_take (area_pages layout_in_use s) (drop (page_bytes * 2) opened)
+      (omega (arith, length-drop (page_bytes * 2) opened, still.size, length_is s, journal_is s))
 
   page_is : (i : ℕ) → i < area_pages layout_in_use s → record_at page_bytes area i ≡ record_at page_bytes opened (2 + i)
   page_is i lt = page_of_take (area_pages layout_in_use s) i (drop (page_bytes * 2) opened) lt ∙ page_of_drop 2 i opened
 
   shown : Shows layout_in_use s (area_of layout_in_use s 0 opened) m
   shown = subst (λ (l : List ℕ). Shows layout_in_use s l m) (sym area_is)
-      (area-shows s r m area counted shows area_long (λ i lt. subst (IsAreaPage s r i) (sym (page_is i lt)) (still.paged i lt)))
+      (area-shows s r m area counted shows area_long
+      (λ i lt. subst (IsAreaPage s r i) (sym (page_is i lt)) (still.paged i lt)))
 
   image : IsImage layout_in_use h m [] (whole_room s.slots count) opened
   image = record {
@@ -168,7 +183,8 @@ module _ (s : Sizes) (limits : AreLimits s.cells s.elements s.slots) (count : �
     means = (
       whole_room s.slots count,
       omega arith,
-      subst (λ (n : ℕ). Reads layout_in_use opened (Ok (record { contents = m; count = n; room = whole_room s.slots count }))) (omega arith)
+      subst (λ (n : ℕ). Reads layout_in_use opened
+          (Ok (record { contents = m; count = n; room = whole_room s.slots count }))) (omega arith)
           (image_reads layout_in_use h m m [] (whole_room s.slots count) opened image refl),
     );
   }
@@ -188,9 +204,12 @@ module _ (s : Sizes) (limits : AreLimits s.cells s.elements s.slots) (count : �
 
   -- a file that agrees with it but for the gate, which is open
   by_gate : (c : List ℕ) → SameBut 0 1 staged c → get_or c 0 0 ≡ open_gate → c ≡ overlaid staged 0 (open_gate ∷ [])
-  by_gate c same is = ext_get_or 0 c (overlaid staged 0 (open_gate ∷ [])) (same.size ∙ sym (length-overlaid staged 0 (open_gate ∷ []) room)) (λ i lt. ⊎_elim
+  by_gate c same is = ext_get_or 0 c (overlaid staged 0 (open_gate ∷ []))
+      (same.size ∙ sym (length-overlaid staged 0 (open_gate ∷ []) room)) (λ i lt. ⊎_elim
       (λ (first : i < 1). let zero_is : i ≡ 0 = omega (arith, first) in
-      ap (λ (n : ℕ). get_or c n 0) zero_is ∙ is ∙ sym (ap (λ (n : ℕ). get_or (overlaid staged 0 (open_gate ∷ [])) n 0) zero_is ∙ overlaid_inside staged 0 (open_gate ∷ []) room 0 (omega arith) (omega arith)))
+      ap (λ (n : ℕ). get_or c n 0) zero_is ∙ is
+      ∙ sym (ap (λ (n : ℕ). get_or (overlaid staged 0 (open_gate ∷ [])) n 0) zero_is
+      ∙ overlaid_inside staged 0 (open_gate ∷ []) room 0 (omega arith) (omega arith)))
       (λ (later : 1 ≤ i). same.same i (inr later) ∙ sym (overlaid_outside staged 0 (open_gate ∷ []) room i (inr later)))
       (cases_lt i 1))
     where
@@ -201,18 +220,26 @@ module _ (s : Sizes) (limits : AreLimits s.cells s.elements s.slots) (count : �
   pub blank_or_laid : (c : List ℕ) → SameBut 0 1 staged c → IsBlank c ⊎ IsLaidDown h m c
   blank_or_laid c same = ⊎_elim
       (λ (is : get_or c 0 0 ≡ open_gate). inr (subst (IsLaidDown h m) (sym (by_gate c same is)) laid_open))
-      (λ (shut_here : get_or c 0 0 ≢ open_gate). inl (shut_here, λ is. apart (sym (same.same 4096 (inr (omega arith)) ∙ overlaid_outside file 1 (header_body h) (omega (arith, long)) 4096 (inr (omega arith))) ∙ is)))
+      (λ (shut_here : get_or c 0 0 ≢ open_gate). inl (
+        shut_here,
+        λ is. apart
+            (sym (same.same 4096 (inr (omega arith))
+            ∙ overlaid_outside file 1 (header_body h) (omega (arith, long)) 4096 (inr (omega arith))) ∙ is),
+      ))
       (cases_eq (get_or c 0 0) open_gate)
 
   -- the same of a disk on which the header stands behind its closed gate, while that is opened
-  module _ {D : Type 0} (now : D → Moment) (past : D → List Moment) (old mid new : D) (is : (now mid).bytes ≡ staged) (first : LeavesOnly now past old mid IsBlank) (opens : LeavesOnly now past mid new (MayOpen 0 (now mid))) where
+  module _ {D : Type 0} (now : D → Moment) (past : D → List Moment) (old mid new : D) (is : (now mid).bytes ≡ staged)
+      (first : LeavesOnly now past old mid IsBlank) (opens : LeavesOnly now past mid new (MayOpen 0 (now mid))) where
     by_opening : (c : List ℕ) → MayOpen 0 (now mid) c → IsBlank c ⊎ IsLaidDown h m c
     by_opening c (inl left) = inl (first.after c left)
     by_opening c (inr same) = blank_or_laid c (subst (λ (l : List ℕ). SameBut 0 1 l c) is same)
 
     pub leaves_laid : LeavesOnly now past old new (λ file. IsBlank file ⊎ IsLaidDown h m file)
     leaves_laid = record {
-      within = leaves_then (now old) (now mid) (now new) (past old) (past mid) (past new) IsBlank (MayOpen 0 (now mid)) (λ file. IsBlank file ⊎ IsLaidDown h m file) first.within opens.within (λ c blank. inl blank) by_opening;
+      within = leaves_then (now old) (now mid) (now new) (past old) (past mid) (past new) IsBlank
+          (MayOpen 0 (now mid)) (λ file. IsBlank file ⊎ IsLaidDown h m file) first.within opens.within
+          (λ c blank. inl blank) by_opening;
       after = λ c left. by_opening c (opens.after c left);
     }
 

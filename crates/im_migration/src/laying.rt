@@ -70,8 +70,8 @@ fn clear_page<N: Disk>(new: &mut N, page: usize, whole: usize) -> Result<(), Dev
     write_beside(new, from, &zeros[..end - from])
 }
 
-// Writes zeros over the whole file but the gates of the two headers, so that no byte of it has still to find its place on
-// the disk.
+// Writes zeros over the whole file but the gates of the two headers, so that no byte of it has still to find its
+// place on the disk.
 fn clear<N: Disk>(new: &mut N, limits: Limits) -> Result<(), DeviceFault>
     requires size { N.honest new.old
         → length (N.now new.old).bytes ≡ layout.image_length layout_in_use (sizes_of limits) }
@@ -162,8 +162,8 @@ fn write_header<N: Disk>(new: &mut N, header: &Header) -> Result<(), DeviceFault
 
 /// Lays a memory down as a new image, with this header, in a file of its length in which no header is open.
 ///
-/// A crash at any moment of it leaves a file in which no header is open, or the image. Once it has answered `Ok`, the image
-/// is on the disk.
+/// A crash at any moment of it leaves a file in which no header is open, or the image. Once it has answered `Ok`, the
+/// image is on the disk.
 pub(crate) fn lay_down<N: Disk, F: Follower>(
     new: &mut N,
     header: &Header,

@@ -9,7 +9,8 @@ ghost use Rattle.im_disk.specs.Moment.{Faults};
 ghost use Rattle.im_disk.specs.Since.{LeavesNow, LeavesWithin, OnlyReads};
 ghost use Rattle.im_image.specs.Headers.{seen, MayRefuseImage};
 ghost use Rattle.im_image.specs.Reading.{AreParts};
-ghost use Rattle.im_migration.specs.Migration.{BlankOrSame, FaultOfTwo, HasCount, IsBlank, IsNoPlace, IsPlace, IsRefused};
+ghost use Rattle.im_migration.specs.Migration.{BlankOrSame, FaultOfTwo, HasCount, IsBlank, IsNoPlace, IsPlace};
+ghost use Rattle.im_migration.specs.Migration.{IsRefused};
 ghost use Rattle.im_migration.specs.Migration.{IsUnwritten, MayRefuseMigration, MeansSame, moved_header};
 ghost use Rattle.im_migration.specs.Laying.{IsMoved};
 
@@ -62,11 +63,12 @@ fn put<N: Disk, F: Follower>(new: &mut N, image: &Image, follower: &F) -> Result
 }
 
 /// Moves an image of the first version on: puts the memory that it means, after its journal's run, into the new file as
-/// an image of the layout in use, at generation 1 and with all its commands counted in area 0. The old file is only read.
-/// Answers the new file, and the count. The follower is told how far it has come.
+/// an image of the layout in use, at generation 1 and with all its commands counted in area 0. The old file is only
+/// read. Answers the new file, and the count. The follower is told how far it has come.
 ///
-/// Each file that a crash may leave since the start, those aside that it could leave before, has both headers closed, or
-/// means what the old file means. So a migration that was stopped is begun again. Each refusal gives the new file back.
+/// Each file that a crash may leave since the start, those aside that it could leave before, has both headers closed,
+/// or means what the old file means. So a migration that was stopped is begun again. Each refusal gives the new file
+/// back.
 ///
 /// - `WrongLength`, `NoHeader`, `BadHeader`, `BadPage`, `BadRecord`: the first fault of the old file by the rules of the
 ///   first version. An image of the layout in use is `BadHeader`. Nothing was written.

@@ -20,8 +20,8 @@ fn is_blank<N: Disk>(new: &mut N) -> Result<bool, DeviceFault>
     ensures honest { N.honest new.new → N.honest new.old }
     ensures failures { Counts result (N.failures new.old) (N.failures new.new) }
 {
-    // A crash after a write that wasn't synced may leave a gate that reads closed: a sync makes it sure. A stop in it, or
-    // in the reads behind it, leaves what a stop before it leaves.
+    // A crash after a write that wasn't synced may leave a gate that reads closed: a sync makes it sure. A stop in
+    // it, or in the reads behind it, leaves what a stop before it leaves.
     new.sync()?;
     let mut zero = [OPEN; 1];
     let mut one = [OPEN; 1];

@@ -74,13 +74,14 @@ pub fn send_twice<D: Disk>(
     (first, second)
 }
 
-/// Sends a request; runs any events, whose disk may fail at any call; crashes the disk, opens what is left, and sends the
-/// request again. The first answer is that to the request at first. Nothing is asked of the memory that the engine had.
+/// Sends a request; runs any events, whose disk may fail at any call; crashes the disk, opens what is left, and sends
+/// the request again. The first answer is that to the request at first. Nothing is asked of the memory that the
+/// engine had.
 ///
-/// Where the request was told an entry, it is told it again, or the answer that it has got since, or `Forgotten` where an
-/// event confirmed it; and it has acted once: the memory is that after it, and after the events that were acknowledged.
-/// The second is `NoMemory` or `Device` then, where `alloc` or the record of the disk in memory refused room; never a
-/// fault of the image.
+/// Where the request was told an entry, it is told it again, or the answer that it has got since, or `Forgotten`
+/// where an event confirmed it; and it has acted once: the memory is that after it, and after the events that were
+/// acknowledged. The second is `NoMemory` or `Device` then, where `alloc` or the record of the disk in memory refused
+/// room; never a fault of the image.
 pub fn ask_over_a_crash(
     alloc: Global,
     mut engine: Engine<FuseDisk>,
@@ -119,9 +120,9 @@ pub fn ask_over_a_crash(
     }
 }
 
-/// Sends a request, which the disk may fail at any call, so that nobody knows whether it is there; crashes the disk, opens
-/// what is left, and sends the request again. Once it is told an entry then, it has acted once, whatever it was answered at
-/// first, and wherever the disk stopped.
+/// Sends a request, which the disk may fail at any call, so that nobody knows whether it is there; crashes the disk,
+/// opens what is left, and sends the request again. Once it is told an entry then, it has acted once, whatever it was
+/// answered at first, and wherever the disk stopped.
 pub fn send_over_a_crash(
     alloc: Global,
     mut engine: Engine<FuseDisk>,

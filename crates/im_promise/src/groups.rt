@@ -73,13 +73,14 @@ pub fn ask_group_again<D: Disk>(
     engine.serve_group(members, served)
 }
 
-/// Serves a group of requests; runs any events, whose disk may fail at any call; crashes the disk, opens what is left, and
-/// sends the group again. The answers go into `served` and `again`, in the members' order. Nothing is asked of the memory
-/// that the engine had.
+/// Serves a group of requests; runs any events, whose disk may fail at any call; crashes the disk, opens what is
+/// left, and sends the group again. The answers go into `served` and `again`, in the members' order. Nothing is asked
+/// of the memory that the engine had.
 ///
-/// Where no member was answered `Device`, the group is there once, and each member that was told an entry is told it again,
-/// or the answer that it has got since, or `Forgotten` where an event confirmed it. It is refused with `NoMemory` or
-/// `Device` then, where `alloc` or the record of the disk in memory refused room; never for a fault of the image.
+/// Where no member was answered `Device`, the group is there once, and each member that was told an entry is told it
+/// again, or the answer that it has got since, or `Forgotten` where an event confirmed it. It is refused with
+/// `NoMemory` or `Device` then, where `alloc` or the record of the disk in memory refused room; never for a fault of
+/// the image.
 pub fn ask_group_over_a_crash(
     alloc: Global,
     mut engine: Engine<FuseDisk>,

@@ -24,8 +24,8 @@ pub struct Recovered {
     pub engine: Engine<MemDisk>,
 }
 
-/// Runs commands, groups, turns and sweeps on an engine, whose disk may fail at any call; crashes the disk, and opens what
-/// is left.
+/// Runs commands, groups, turns and sweeps on an engine, whose disk may fail at any call; crashes the disk, and opens
+/// what is left.
 ///
 /// `NoMemory` and `Device`, where `alloc` or the record of the disk in memory refused room; never a fault of the image.
 pub fn recover(

@@ -225,7 +225,8 @@ joined_is_area s r page fit pages = area_of_pages s r fit (joined (area_pages la
           (two (cell_pages s) (node_pages layout_in_use s) (session_pages layout_in_use s) i lt))) (pages.nodes i lt);
       sessions = λ i lt. subst (IsSessionPage r i)
           (sym (at (cell_pages s + node_pages layout_in_use s + i)
-          (three (cell_pages s + node_pages layout_in_use s) (session_pages layout_in_use s) i lt))) (pages.sessions i lt);
+          (three (cell_pages s + node_pages layout_in_use s) (session_pages layout_in_use s) i lt)))
+          (pages.sessions i lt);
     })
   where
     long : (i : ℕ) → i < area_pages layout_in_use s → length (page i) ≡ page_bytes

@@ -138,7 +138,8 @@ fn windows_of(
 ) -> Result<Vec<WindowRecord>, Refusal>
     requires { length part.now ≡ layout.page_bytes * layout.session_pages (layout_of version) (sizes_of limits) }
     ensures found { IfOk result (λ row. AreSessions (layout_of version) limits.elements part.now row.items) }
-    ensures bad { IsErrOf result Refusal.BadPage → (row : List Window) → AreSessions (layout_of version) limits.elements part.now row → ⊥ }
+    ensures bad { IsErrOf result Refusal.BadPage → (row : List Window)
+        → AreSessions (layout_of version) limits.elements part.now row → ⊥ }
     ensures only { IfErr result (λ e. (e ≡ Refusal.BadPage) ⊎ (e ≡ Refusal.NoMemory)) }
 {
     read_sessions(alloc, version, limits.elements, part)
@@ -210,7 +211,8 @@ pub fn read_area(
 ) -> Result<AreaRecords, Refusal>
     requires { length area.now ≡ layout.area_bytes (layout_of version) (sizes_of limits) }
     ensures found { IfOk result (λ r. SpellsArea (layout_of version) (sizes_of limits) area.now r) }
-    ensures bad { IsErrOf result Refusal.BadPage → (r : Records) → SpellsArea (layout_of version) (sizes_of limits) area.now r
+    ensures bad { IsErrOf result Refusal.BadPage → (r : Records)
+        → SpellsArea (layout_of version) (sizes_of limits) area.now r
         → ⊥ }
     ensures only { IfErr result (λ e. (e ≡ Refusal.BadPage) ⊎ (e ≡ Refusal.NoMemory)) }
 {

@@ -138,9 +138,9 @@ fn begin_free<D: Disk + Drop, R: Wait>(
     }
 }
 
-/// Makes room for what the elements ask for, before any thread starts. `NoElement` where one of them isn't there, and then,
-/// where it is planned, `BadPlan` where their requests are no plan: a request is no fetch or store, two store to one address,
-/// a cell that one names isn't empty or is waited for, or a number lies past the last one.
+/// Makes room for what the elements ask for, before any thread starts. `NoElement` where one of them isn't there, and
+/// then, where it is planned, `BadPlan` where their requests are no plan: a request is no fetch or store, two store
+/// to one address, a cell that one names isn't empty or is waited for, or a number lies past the last one.
 pub fn begin<D: Disk + Drop, R: Wait>(
     rt: &R,
     alloc: Global,

@@ -26,10 +26,10 @@ use std::thread::Threads;
 /// The status of a run in which servers waited for each other, and nothing else was refused.
 pub const STALLED: u8 = 3;
 
-// How many lines the trace has room for, which are as many as servers leave: for each request one as it is asked for and
-// one as it is found answered, and before it, where its window is full, a confirmation and an entry that still waits; and
-// for each entry that an element's window had before, one as it is found answered. Glances, which leave none, are counted
-// too.
+// How many lines the trace has room for, which are as many as servers leave: for each request one as it is asked for
+// and one as it is found answered, and before it, where its window is full, a confirmation and an entry that still
+// waits; and for each entry that an element's window had before, one as it is found answered. Glances, which leave
+// none, are counted too.
 fn trace_room(orders: &[Order], elements: u16) -> usize {
     let mut room = (elements as usize).saturating_mul(WINDOW as usize);
     for order in orders {
@@ -243,33 +243,35 @@ fn run_engine<
     }
 }
 
-/// Serves a script, which may have glances, on the image of a disk, each element's requests by a server of its own, all at once, and gives the
-/// disk back. What it prints goes to `out`: the lines `0.N REPLY` of the setup, which is served first; then for each
-/// element from the least its requests in order as `K.N REPLY`, K being its element and N its number, each with its
-/// final entry, and among them each glance in its place as `K glance A value V` or `K glance A none`; and at last
-/// `refused N NAME` where something was refused. A request that wasn't sent, or a glance not made, has no line.
+/// Serves a script, which may have glances, on the image of a disk, each element's requests by a server of its own,
+/// all at once, and gives the disk back. What it prints goes to `out`: the lines `0.N REPLY` of the setup, which is
+/// served first; then for each element from the least its requests in order as `K.N REPLY`, K being its element and N
+/// its number, each with its final entry, and among them each glance in its place as `K glance A value V` or `K
+/// glance A none`; and at last `refused N NAME` where something was refused. A request that wasn't sent, or a glance
+/// not made, has no line.
 ///
 /// A server waits for what its element asked for, and confirms it as its window fills. The gate is called round each
-/// request. Where the journal is full servers make turns of a checkpoint, beside the thread that keeps them, which tells
-/// the watcher how many servers wait and what room there is.
+/// request. Where the journal is full servers make turns of a checkpoint, beside the thread that keeps them, which
+/// tells the watcher how many servers wait and what room there is.
 ///
 /// The status is 0; or 3, with `refused 19 Stalled`, where servers that wait for each other are all that was refused;
 /// or 1: the image is refused at opening; a block of the setup can't be made, or a place lies past the last address
-/// (`BadScript`), or an element isn't there (`NoElement`), and then no element's request is served; `NoMemory`; a call of
-/// the disk failed; a write of the output failed; or a server was refused something else than `Stalled`: the least such
-/// element's refusal is printed, and the others went on. The observer is told why; where that refusal is `Failed`, as its
-/// request came behind a call of the disk that failed, for another element or for a checkpoint, that call is told of.
+/// (`BadScript`), or an element isn't there (`NoElement`), and then no element's request is served; `NoMemory`; a
+/// call of the disk failed; a write of the output failed; or a server was refused something else than `Stalled`: the
+/// least such element's refusal is printed, and the others went on. The observer is told why; where that refusal is
+/// `Failed`, as its request came behind a call of the disk that failed, for another element or for a checkpoint, that
+/// call is told of.
 ///
 /// Where the image isn't opened, a crash leaves nothing that it couldn't leave before. From the opening on, a crash at
-/// any moment leaves the memory after a beginning of the accepted commands that were put on the image, those of the setup
-/// first, then those of all servers in the order of the lock; and at the end after all that were acknowledged, and where
-/// a call of the disk failed those too that it left in doubt, all of them or none. What was written is at each return a
-/// beginning of the lines: each line of the setup is of a command, and each entry of an element's is in a memory, that
-/// every file has which a crash leaves, or was told to a server that confirmed it.
+/// any moment leaves the memory after a beginning of the accepted commands that were put on the image, those of the
+/// setup first, then those of all servers in the order of the lock; and at the end after all that were acknowledged,
+/// and where a call of the disk failed those too that it left in doubt, all of them or none. What was written is at
+/// each return a beginning of the lines: each line of the setup is of a command, and each entry of an element's is in
+/// a memory, that every file has which a crash leaves, or was told to a server that confirmed it.
 ///
-/// Where the status is 0 or 3, each file that a crash may leave at the return means one memory; where it is 0, all lines
-/// are written, and the elements' tell the entries that this memory keeps, or what a server was told of an entry that it
-/// confirmed, and what was seen at glances.
+/// Where the status is 0 or 3, each file that a crash may leave at the return means one memory; where it is 0, all
+/// lines are written, and the elements' tell the entries that this memory keeps, or what a server was told of an
+/// entry that it confirmed, and what was seen at glances.
 pub fn run_on<
     D: Disk + Drop + Send,
     W: Write,

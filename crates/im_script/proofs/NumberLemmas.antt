@@ -1,23 +1,27 @@
 -- Numbers read digit by digit. (Own.)
-use Rattle.std.proofs.Common.{◌≡◌, ◌∙◌, ℕ, ◌+◌, ◌*◌, ◌-◌, ◌^◌, ◌<◌, ◌≤◌, true, false, ◌&&◌, nat_le, List, [], ◌∷◌, arith, refl, sym, ap, length, drop, get_or, inl, inr}
+use Rattle.std.proofs.Common.{◌≡◌, ◌∙◌, ℕ, ◌+◌, ◌*◌, ◌-◌, ◌^◌, ◌<◌, ◌≤◌, true, false, ◌&&◌, nat_le, List, [], ◌∷◌}
+use Rattle.std.proofs.Common.{arith, refl, sym, ap, length, drop, get_or, inl, inr}
 use Rattle.std.specs.Prelude.{Option, Some, None, if◌then◌else◌}
 use Rattle.std.specs.Char.{digit_value, is_ascii_digit}
 use Rattle.std.specs.Option.{option_and_then}
 use Rattle.std.specs.Str.{all_ascii_digits}
 use Rattle.std.specs.Str.Parse.{digits_value_after}
-use Rattle.std.proofs.lemmas.Bool.{cases_Bool, cases_lt, leb-true, and_parts, lt-ltb, le-ltb, lt-leb, and_right, cond-false}
+use Rattle.std.proofs.lemmas.Bool.{cases_Bool, cases_lt, leb-true, and_parts, lt-ltb, le-ltb, lt-leb, and_right}
+use Rattle.std.proofs.lemmas.Bool.{cond-false}
 use Rattle.std.proofs.lemmas.List.{at_drop_more}
 use Rattle.std.proofs.lemmas.Str.{digit_value_digit}
 use Rattle.im_script.specs.Grammar.{digit_after, number_up_to}
 
 -- what the digits of bs make of n, where it is at most `most`
 abbrev pub number_past : ℕ → ℕ → List ℕ → Option ℕ
-number_past most n bs = if all_ascii_digits bs && nat_le (digits_value_after 10 n bs) most then Some (digits_value_after 10 n bs) else None
+number_past most n bs = if all_ascii_digits bs && nat_le (digits_value_after 10 n bs) most then Some
+    (digits_value_after 10 n bs) else None
 
 -- digits only add
 grows : (n : ℕ) (bs : List ℕ) → n ≤ digits_value_after 10 n bs
 grows n [] = omega arith
-grows n (b ∷ bs) = let h : n * 10 + digit_value b ≤ digits_value_after 10 (n * 10 + digit_value b) bs = grows (n * 10 + digit_value b) bs in omega arith
+grows n (b ∷ bs) = let h : n * 10 + digit_value b ≤ digits_value_after 10 (n * 10 + digit_value b) bs = grows
+    (n * 10 + digit_value b) bs in omega arith
 
 digit_minus : (b : ℕ) → is_ascii_digit b ≡ true → digit_value b ≡ b - 48
 digit_minus b h =
@@ -35,24 +39,29 @@ too_large most n bs h =
 no_digit : (most n b : ℕ) (bs : List ℕ) → is_ascii_digit b ≡ false → number_past most n (b ∷ bs) ≡ None
 no_digit most n b bs h = rw h refl
 
-a_digit : (most n b : ℕ) (bs : List ℕ) → is_ascii_digit b ≡ true → number_past most n (b ∷ bs) ≡ number_past most (n * 10 + (b - 48)) bs
+a_digit : (most n b : ℕ) (bs : List ℕ) → is_ascii_digit b ≡ true → number_past most n (b ∷ bs)
+    ≡ number_past most (n * 10 + (b - 48)) bs
 a_digit most n b bs h = rw (h, digit_minus b h) refl
 
 after_none : (n b : ℕ) → is_ascii_digit b ≡ false → digit_after n b ≡ None
 after_none n b h = rw h refl
 
-after_small : (n b : ℕ) → is_ascii_digit b ≡ true → n * 10 + (b - 48) < 2 ^ 64 → digit_after n b ≡ Some (n * 10 + (b - 48))
+after_small : (n b : ℕ) → is_ascii_digit b ≡ true → n * 10 + (b - 48) < 2 ^ 64 → digit_after n b
+    ≡ Some (n * 10 + (b - 48))
 after_small n b h small = rw (h, lt-ltb (n * 10 + (b - 48)) (2 ^ 64) small) refl
 
 after_large : (n b : ℕ) → is_ascii_digit b ≡ true → 2 ^ 64 ≤ n * 10 + (b - 48) → digit_after n b ≡ None
 after_large n b h large = rw (h, le-ltb (n * 10 + (b - 48)) (2 ^ 64) large) refl
 
 -- one digit more
-number_step : (most n b : ℕ) (bs : List ℕ) → most < 2 ^ 64 → number_past most n (b ∷ bs) ≡ option_and_then (λ m. number_past most m bs) (digit_after n b)
+number_step : (most n b : ℕ) (bs : List ℕ) → most < 2 ^ 64 → number_past most n (b ∷ bs)
+    ≡ option_and_then (λ m. number_past most m bs) (digit_after n b)
 number_step most n b bs limit = elim (cases_Bool (is_ascii_digit b)) [
   | inl is ↦ elim (cases_lt (n * 10 + (b - 48)) (2 ^ 64)) [
-    | inl small ↦ a_digit most n b bs is ∙ sym (ap (option_and_then (λ m. number_past most m bs)) (after_small n b is small))
-    | inr large ↦ a_digit most n b bs is ∙ too_large most (n * 10 + (b - 48)) bs (omega arith) ∙ sym (ap (option_and_then (λ m. number_past most m bs)) (after_large n b is large))
+    | inl small ↦ a_digit most n b bs is
+        ∙ sym (ap (option_and_then (λ m. number_past most m bs)) (after_small n b is small))
+    | inr large ↦ a_digit most n b bs is ∙ too_large most (n * 10 + (b - 48)) bs (omega arith)
+        ∙ sym (ap (option_and_then (λ m. number_past most m bs)) (after_large n b is large))
   ]
   | inr isnt ↦ no_digit most n b bs isnt ∙ sym (ap (option_and_then (λ m. number_past most m bs)) (after_none n b isnt))
 ]
@@ -62,7 +71,10 @@ entry : (most : ℕ) (text : List ℕ) → 0 < length text → number_up_to most
 entry most text h = rw (lt-ltb 0 (length text) h) refl
 
 -- the loop stops at a byte
-pub number_stops : (most n i : ℕ) (text : List ℕ) → most < 2 ^ 64 → i < length text → number_past most n (drop i text) ≡ number_past most 0 text → digit_after n (get_or text i 0) ≡ None → number_up_to most text ≡ None
+pub number_stops : (most n i : ℕ) (text : List ℕ) → most < 2 ^ 64 → i < length text
+    → number_past most n (drop i text) ≡ number_past most 0 text → digit_after n (get_or text i 0) ≡ None
+    → number_up_to most text ≡ None
 number_stops most n i text limit inside so_far none =
-    entry most text (omega arith) ∙ sym so_far ∙ at_drop_more (number_past most n) text i 0 inside ∙ number_step most n (get_or text i 0) (drop (i + 1) text) limit
+    entry most text (omega arith) ∙ sym so_far ∙ at_drop_more (number_past most n) text i 0 inside
+    ∙ number_step most n (get_or text i 0) (drop (i + 1) text) limit
     ∙ ap (option_and_then (λ m. number_past most m (drop (i + 1) text))) none

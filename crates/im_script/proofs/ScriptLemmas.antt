@@ -1,5 +1,6 @@
 -- A script read line by line. (Own.)
-use Rattle.std.proofs.Common.{Bool, ◌≡◌, ◌∙◌, eq-eqb, ◌++◌, ◌==◌, true, false, All, ℕ, ◌+◌, ◌<◌, ◌≤◌, List, [], ◌∷◌, arith, refl, sym, ap, subst, length, take, drop, get_or, inl, inr}
+use Rattle.std.proofs.Common.{Bool, ◌≡◌, ◌∙◌, eq-eqb, ◌++◌, ◌==◌, true, false, All, ℕ, ◌+◌, ◌<◌, ◌≤◌, List, [], ◌∷◌}
+use Rattle.std.proofs.Common.{arith, refl, sym, ap, subst, length, take, drop, get_or, inl, inr}
 use Rattle.std.specs.Prelude.{◌⊎◌, Option, Some, None, Result, Ok, Err, IfErr, IfSome, IsSome}
 use Rattle.std.specs.Option.{option_map, option_and_then}
 use Rattle.std.proofs.lemmas.List.{take_more, take_all, take-append-drop, length-take-le, drop_more}
@@ -15,36 +16,46 @@ use Rattle.im_script.specs.Faults.{IsFirstFault, is_of_size, line_of}
 
 -- with glances, or without
 module _ (g : Bool) where
-  lines_past : (o : Option (Draft × Heard)) (xs ys : List (List ℕ)) → ((e : Draft) → lines_after g e (xs ++ ys) ≡ option_and_then (λ f. lines_after g f ys) (lines_after g e xs))
-      → option_and_then (λ r. lines_after g r.0 (xs ++ ys)) o ≡ option_and_then (λ f. lines_after g f ys) (option_and_then (λ r. lines_after g r.0 xs) o)
+  lines_past : (o : Option (Draft × Heard)) (xs ys : List (List ℕ))
+      → ((e : Draft) → lines_after g e (xs ++ ys) ≡ option_and_then (λ f. lines_after g f ys) (lines_after g e xs))
+      → option_and_then (λ r. lines_after g r.0 (xs ++ ys)) o
+      ≡ option_and_then (λ f. lines_after g f ys) (option_and_then (λ r. lines_after g r.0 xs) o)
   lines_past None xs ys h = refl
   lines_past (Some r) xs ys h = h r.0
 
   -- lines behind others
-  lines_append : (d : Draft) (xs ys : List (List ℕ)) → lines_after g d (xs ++ ys) ≡ option_and_then (λ e. lines_after g e ys) (lines_after g d xs)
+  lines_append : (d : Draft) (xs ys : List (List ℕ)) → lines_after g d (xs ++ ys)
+      ≡ option_and_then (λ e. lines_after g e ys) (lines_after g d xs)
   lines_append d [] ys = refl
   lines_append d (x ∷ xs) ys = lines_past (heard g d x) xs ys (λ e. lines_append e xs ys)
 
   -- the lines up to the one at i, behind those before it
-  line_at : (d : Draft) (all : List (List ℕ)) (i : ℕ) (line : List ℕ) → i < length all → line ≡ get_or all i line → lines_after g new_draft (take i all) ≡ Some d
+  line_at : (d : Draft) (all : List (List ℕ)) (i : ℕ) (line : List ℕ) → i < length all → line ≡ get_or all i line
+      → lines_after g new_draft (take i all) ≡ Some d
       → lines_after g new_draft (take (i + 1) all) ≡ option_and_then (λ r. Some r.0) (heard g d line)
   line_at d all i line inside is so_far =
-      ap (lines_after g new_draft) (take_more all i line inside) ∙ ap (λ (l : List ℕ). lines_after g new_draft (take i all ++ l ∷ [])) (sym is)
-      ∙ lines_append new_draft (take i all) (line ∷ []) ∙ ap (option_and_then (λ (e : Draft). lines_after g e (line ∷ []))) so_far
+      ap (lines_after g new_draft) (take_more all i line inside)
+      ∙ ap (λ (l : List ℕ). lines_after g new_draft (take i all ++ l ∷ [])) (sym is)
+      ∙ lines_append new_draft (take i all) (line ∷ [])
+      ∙ ap (option_and_then (λ (e : Draft). lines_after g e (line ∷ []))) so_far
 
   -- a line was read
-  pub line_follows : (d e : Draft) (said : Heard) (all : List (List ℕ)) (i j : ℕ) (line : List ℕ) → i < length all → line ≡ get_or all i line → j ≡ i + 1 → lines_after g new_draft (take i all) ≡ Some d
+  pub line_follows : (d e : Draft) (said : Heard) (all : List (List ℕ)) (i j : ℕ) (line : List ℕ) → i < length all
+      → line ≡ get_or all i line → j ≡ i + 1 → lines_after g new_draft (take i all) ≡ Some d
       → heard g d line ≡ Some (e, said) → lines_after g new_draft (take j all) ≡ Some e
   line_follows d e said all i j line inside is next so_far read =
-      ap (λ (k : ℕ). lines_after g new_draft (take k all)) next ∙ line_at d all i line inside is so_far ∙ ap (option_and_then (λ (r : Draft × Heard). Some r.0)) read
+      ap (λ (k : ℕ). lines_after g new_draft (take k all)) next ∙ line_at d all i line inside is so_far
+      ∙ ap (option_and_then (λ (r : Draft × Heard). Some r.0)) read
 
   some_mapped : {A B : Type 0} (o : Option A) (f : A → B) → IsSome o → IsSome (option_map f o)
   some_mapped None f h = h
   some_mapped (Some x) f h = refl
 
   -- lines that are all in the grammar say something
-  say_more : (o : Option (Draft × Heard)) (e : Draft) (lines : List (List ℕ)) → ((d : Draft) → lines_after g d lines ≡ Some e → IsSome (lines_say g d lines))
-      → option_and_then (λ r. lines_after g r.0 lines) o ≡ Some e → IsSome (option_and_then (λ r. option_map (λ rest. r.1 ∷ rest) (lines_say g r.0 lines)) o)
+  say_more : (o : Option (Draft × Heard)) (e : Draft) (lines : List (List ℕ))
+      → ((d : Draft) → lines_after g d lines ≡ Some e → IsSome (lines_say g d lines))
+      → option_and_then (λ r. lines_after g r.0 lines) o ≡ Some e
+      → IsSome (option_and_then (λ r. option_map (λ rest. r.1 ∷ rest) (lines_say g r.0 lines)) o)
   say_more None e lines h is = absurd (cc)
   say_more (Some r) e lines h is = some_mapped (lines_say g r.0 lines) (λ rest. r.1 ∷ rest) (h r.0 is)
 
@@ -53,8 +64,10 @@ module _ (g : Bool) where
   they_say d e (line ∷ lines) is = say_more (heard g d line) e lines (λ f. they_say f e lines) is
 
   -- lines that aren't say nothing
-  none_past : (o : Option (Draft × Heard)) (lines : List (List ℕ)) → ((d : Draft) → lines_after g d lines ≡ None → lines_say g d lines ≡ None)
-      → option_and_then (λ r. lines_after g r.0 lines) o ≡ None → option_and_then (λ r. option_map (λ rest. r.1 ∷ rest) (lines_say g r.0 lines)) o ≡ None
+  none_past : (o : Option (Draft × Heard)) (lines : List (List ℕ))
+      → ((d : Draft) → lines_after g d lines ≡ None → lines_say g d lines ≡ None)
+      → option_and_then (λ r. lines_after g r.0 lines) o ≡ None
+      → option_and_then (λ r. option_map (λ rest. r.1 ∷ rest) (lines_say g r.0 lines)) o ≡ None
   none_past None lines h is = refl
   none_past (Some r) lines h is = ap (option_map (λ (rest : List Heard). r.1 ∷ rest)) (h r.0 is)
 
@@ -63,13 +76,15 @@ module _ (g : Bool) where
   they_say_none d (line ∷ lines) is = none_past (heard g d line) lines (λ e. they_say_none e lines) is
 
   -- the lines of a text, taken apart at one of them
-  split_at : (all : List (List ℕ)) (i : ℕ) (line : List ℕ) → i < length all → line ≡ get_or all i line → all ≡ take i all ++ line ∷ drop (i + 1) all
+  split_at : (all : List (List ℕ)) (i : ℕ) (line : List ℕ) → i < length all → line ≡ get_or all i line → all
+      ≡ take i all ++ line ∷ drop (i + 1) all
   split_at all i line inside is =
       sym (take-append-drop i all) ∙ ap (λ (rest : List (List ℕ)). take i all ++ rest) (drop_more all i line inside)
       ∙ ap (λ (l : List ℕ). take i all ++ l ∷ drop (i + 1) all) (sym is)
 
   -- a line isn't in the grammar, though all before it are
-  pub first_fault : (text : List ℕ) (d : Draft) (i n : ℕ) (line : List ℕ) → i < length (lines_of text) → line ≡ get_or (lines_of text) i line → lines_after g new_draft (take i (lines_of text)) ≡ Some d
+  pub first_fault : (text : List ℕ) (d : Draft) (i n : ℕ) (line : List ℕ) → i < length (lines_of text) → line
+      ≡ get_or (lines_of text) i line → lines_after g new_draft (take i (lines_of text)) ≡ Some d
       → heard g d line ≡ None → n ≡ i + 1 → IsFirstFault g text n
   first_fault text d i n line inside is so_far none number = record {
     before = take i (lines_of text);
@@ -85,62 +100,82 @@ module _ (g : Bool) where
   -- and then the text is no script
   pub no_lines : (text : List ℕ) (n : ℕ) → IsFirstFault g text n → lines_say g new_draft (lines_of text) ≡ None
   no_lines text n f = they_say_none new_draft (lines_of text)
-      (ap (lines_after g new_draft) f.lines ∙ lines_append new_draft f.before (f.line ∷ f.rest) ∙ ap (option_and_then (λ (e : Draft). lines_after g e (f.line ∷ f.rest))) f.read
+      (ap (lines_after g new_draft) f.lines ∙ lines_append new_draft f.before (f.line ∷ f.rest)
+      ∙ ap (option_and_then (λ (e : Draft). lines_after g e (f.line ∷ f.rest))) f.read
       ∙ ap (option_and_then (λ (r : Draft × Heard). lines_after g r.0 f.rest)) f.bad)
 
   pub no_script : (text : List ℕ) (n : ℕ) → is_few text ≡ true → IsFirstFault g text n → script_of g text ≡ None
   no_script text n few f = rw few (no_lines text n f)
 
-  all_said : (text : List ℕ) (d : Draft) (i : ℕ) → length (lines_of text) ≤ i → lines_after g new_draft (take i (lines_of text)) ≡ Some d → IsSome (lines_say g new_draft (lines_of text))
-  all_said text d i past so_far = they_say new_draft d (lines_of text) (ap (lines_after g new_draft) (sym (take_all i (lines_of text) past)) ∙ so_far)
+  all_said : (text : List ℕ) (d : Draft) (i : ℕ) → length (lines_of text) ≤ i
+      → lines_after g new_draft (take i (lines_of text)) ≡ Some d → IsSome (lines_say g new_draft (lines_of text))
+  all_said text d i past so_far = they_say new_draft d (lines_of text)
+      (ap (lines_after g new_draft) (sym (take_all i (lines_of text) past)) ∙ so_far)
 
   -- no line is left
-  pub script_is : (text : List ℕ) (d : Draft) (i : ℕ) → is_few text ≡ true → length (lines_of text) ≤ i → lines_after g new_draft (take i (lines_of text)) ≡ Some d → IsSome (script_of g text)
+  pub script_is : (text : List ℕ) (d : Draft) (i : ℕ) → is_few text ≡ true → length (lines_of text) ≤ i
+      → lines_after g new_draft (take i (lines_of text)) ≡ Some d → IsSome (script_of g text)
   script_is text d i few past so_far = rw few (all_said text d i past so_far)
 
   -- what a line's fault says of the text
-  first_told : (text : List ℕ) (d : Draft) (i n : ℕ) (line : List ℕ) (f : ScriptFault) → i < length (lines_of text) → line ≡ get_or (lines_of text) i line → lines_after g new_draft (take i (lines_of text)) ≡ Some d
-      → n ≡ i + 1 → IfSome (line_of f) (λ at. (at ≡ n) × (heard g d line ≡ None)) → IfSome (line_of f) (IsFirstFault g text)
+  first_told : (text : List ℕ) (d : Draft) (i n : ℕ) (line : List ℕ) (f : ScriptFault) → i < length (lines_of text)
+      → line ≡ get_or (lines_of text) i line → lines_after g new_draft (take i (lines_of text)) ≡ Some d
+      → n ≡ i + 1 → IfSome (line_of f) (λ at. (at ≡ n) × (heard g d line ≡ None))
+      → IfSome (line_of f) (IsFirstFault g text)
   first_told text d i n line NoMemory inside is so_far number h = h
   first_told text d i n line TooLarge inside is so_far number h = h
-  first_told text d i n line (BadLine at fault) inside is so_far number h = first_fault text d i at line inside is so_far h.1 (h.0 ∙ number)
+  first_told text d i n line
+      (BadLine at fault) inside is so_far number h = first_fault text d i at line inside is so_far h.1 (h.0 ∙ number)
 
   -- the same, of the answer that passes it on
-  pub passes_first : (text : List ℕ) (d : Draft) (i n : ℕ) (line : List ℕ) (f : ScriptFault) (r : Result Heard ScriptFault) (s : Result Script ScriptFault) → i < length (lines_of text) → line ≡ get_or (lines_of text) i line
-      → lines_after g new_draft (take i (lines_of text)) ≡ Some d → n ≡ i + 1 → r ≡ Err f → s ≡ Err f → IfErr r (λ fault. IfSome (line_of fault) (λ at. (at ≡ n) × (heard g d line ≡ None)))
+  pub passes_first : (text : List ℕ) (d : Draft) (i n : ℕ) (line : List ℕ) (f : ScriptFault)
+      (r : Result Heard ScriptFault) (s : Result Script ScriptFault) → i < length (lines_of text) → line
+      ≡ get_or (lines_of text) i line
+      → lines_after g new_draft (take i (lines_of text)) ≡ Some d → n ≡ i + 1 → r ≡ Err f → s ≡ Err f
+      → IfErr r (λ fault. IfSome (line_of fault) (λ at. (at ≡ n) × (heard g d line ≡ None)))
       → IfErr s (λ fault. IfSome (line_of fault) (IsFirstFault g text))
   passes_first text d i n line f r s inside is so_far number was now h =
-      let P : Result Heard ScriptFault → Type 0 = λ t. IfErr t (λ fault. IfSome (line_of fault) (λ at. (at ≡ n) × (heard g d line ≡ None))) in
-      let Q : Result Script ScriptFault → Type 0 = λ t. IfErr t (λ fault. IfSome (line_of fault) (IsFirstFault g text)) in
+      let P : Result Heard ScriptFault
+      → Type 0 = λ t. IfErr t (λ fault. IfSome (line_of fault) (λ at. (at ≡ n) × (heard g d line ≡ None))) in
+      let Q : Result Script ScriptFault
+      → Type 0 = λ t. IfErr t (λ fault. IfSome (line_of fault) (IsFirstFault g text)) in
       subst Q (sym now) (first_told text d i n line f inside is so_far number (subst P was h))
 
   -- nor is it told of the text's size
-  pub passes_size : (f : ScriptFault) (r : Result Heard ScriptFault) (s : Result Script ScriptFault) → r ≡ Err f → s ≡ Err f → IfErr r (λ fault. is_of_size fault ≡ false) → IfErr s (λ fault. is_of_size fault ≡ false)
+  pub passes_size : (f : ScriptFault) (r : Result Heard ScriptFault) (s : Result Script ScriptFault) → r ≡ Err f → s
+      ≡ Err f → IfErr r (λ fault. is_of_size fault ≡ false) → IfErr s (λ fault. is_of_size fault ≡ false)
   passes_size f r s was now h =
       let P : Result Heard ScriptFault → Type 0 = λ t. IfErr t (λ fault. is_of_size fault ≡ false) in
       let Q : Result Script ScriptFault → Type 0 = λ t. IfErr t (λ fault. is_of_size fault ≡ false) in
       subst Q (sym now) (subst P was h)
 
-  told_bad : (text : List ℕ) (f : ScriptFault) → is_few text ≡ true → is_of_size f ≡ false → IfSome (line_of f) (IsFirstFault g text) → (f ≡ NoMemory) ⊎ (script_of g text ≡ None)
+  told_bad : (text : List ℕ) (f : ScriptFault) → is_few text ≡ true → is_of_size f ≡ false
+      → IfSome (line_of f) (IsFirstFault g text) → (f ≡ NoMemory) ⊎ (script_of g text ≡ None)
   told_bad text NoMemory few size h = inl refl
   told_bad text TooLarge few size h = absurd (cc)
   told_bad text (BadLine at fault) few size h = inr (no_script text at few h)
 
   -- whose text is no script
-  pub passes_bad : (text : List ℕ) (s : Result Script ScriptFault) → is_few text ≡ true → IfErr s (λ fault. is_of_size fault ≡ false) → IfErr s (λ fault. IfSome (line_of fault) (IsFirstFault g text))
+  pub passes_bad : (text : List ℕ) (s : Result Script ScriptFault) → is_few text ≡ true
+      → IfErr s (λ fault. is_of_size fault ≡ false) → IfErr s (λ fault. IfSome (line_of fault) (IsFirstFault g text))
       → IfErr s (λ fault. (fault ≡ NoMemory) ⊎ (script_of g text ≡ None))
   passes_bad text (Ok script) few size h = h
   passes_bad text (Err fault) few size h = told_bad text fault few size h
 
 -- a line ends at the first line feed
-pub line_ends : (text : List ℕ) (i : ℕ) → i < length text → get_or text i 0 ≡ 10 → All (λ byte. (byte == 10) ≡ false) (take i text) → lines_of text ≡ take i text ∷ lines_of (drop (i + 1) text)
+pub line_ends : (text : List ℕ) (i : ℕ) → i < length text → get_or text i 0 ≡ 10
+    → All (λ byte. (byte == 10) ≡ false) (take i text) → lines_of text ≡ take i text ∷ lines_of (drop (i + 1) text)
 line_ends text i inside is none =
-    ap lines_of (sym (take-append-drop i text) ∙ ap (λ (rest : List ℕ). take i text ++ rest) (drop_more text i 0 inside))
-    ∙ slice_split_at (λ byte. byte == 10) (take i text) (get_or text i 0) (drop (i + 1) text) none (eq-eqb (get_or text i 0) 10 is)
+    ap lines_of (sym (take-append-drop i text)
+    ∙ ap (λ (rest : List ℕ). take i text ++ rest) (drop_more text i 0 inside))
+    ∙ slice_split_at (λ byte. byte == 10) (take i text) (get_or text i 0) (drop (i + 1) text) none
+    (eq-eqb (get_or text i 0) 10 is)
 
 -- one byte more that ends no line
-pub no_end : (text : List ℕ) (i : ℕ) → i < length text → (get_or text i 0 ≡ 10 → ⊥) → All (λ byte. (byte == 10) ≡ false) (take i text) → All (λ byte. (byte == 10) ≡ false) (take (i + 1) text)
+pub no_end : (text : List ℕ) (i : ℕ) → i < length text → (get_or text i 0 ≡ 10 → ⊥)
+    → All (λ byte. (byte == 10) ≡ false) (take i text) → All (λ byte. (byte == 10) ≡ false) (take (i + 1) text)
 no_end text i inside other none =
     subst (All (λ byte. (byte == 10) ≡ false)) (sym (take_more text i 0 inside))
     (All-append (λ byte. (byte == 10) ≡ false) (take i text) (get_or text i 0 ∷ []) none
-    (All-cons (λ byte. (byte == 10) ≡ false) (get_or text i 0) [] (ne_eqb (get_or text i 0) 10 other) (All-nil (λ byte. (byte == 10) ≡ false))))
+    (All-cons (λ byte. (byte == 10) ≡ false) (get_or text i 0) [] (ne_eqb (get_or text i 0) 10 other)
+    (All-nil (λ byte. (byte == 10) ≡ false))))

@@ -5,7 +5,8 @@ use Rattle.std.proofs.lemmas.Bool.{cases_lt}
 use Rattle.std.proofs.lemmas.List.{length-take, length-take-le, take_all}
 
 -- what was read of so many bytes at most and one, and has so many at most, is all of them
-pub read_whole : (o : Option (List ℕ)) (text : List ℕ) (most : ℕ) → IfSome o (λ xs. text ≡ take (most + 1) xs) → length text ≤ most → IfSome o (λ xs. text ≡ xs)
+pub read_whole : (o : Option (List ℕ)) (text : List ℕ) (most : ℕ) → IfSome o (λ xs. text ≡ take (most + 1) xs)
+    → length text ≤ most → IfSome o (λ xs. text ≡ xs)
 read_whole None text most is few = tt
 read_whole (Some xs) text most is few = elim (cases_lt most (length xs)) [
   | inl more ↦
@@ -15,6 +16,7 @@ read_whole (Some xs) text most is few = elim (cases_lt most (length xs)) [
 ]
 
 -- and what has more than so many is of more
-pub read_more : (o : Option (List ℕ)) (text : List ℕ) (most : ℕ) → IfSome o (λ xs. text ≡ take (most + 1) xs) → most < length text → IfSome o (λ xs. most < length xs)
+pub read_more : (o : Option (List ℕ)) (text : List ℕ) (most : ℕ) → IfSome o (λ xs. text ≡ take (most + 1) xs)
+    → most < length text → IfSome o (λ xs. most < length xs)
 read_more None text most is more = tt
 read_more (Some xs) text most is more = omega (arith, more, ap length is, length-take (most + 1) xs)

@@ -1,5 +1,6 @@
 -- The words of a script, as functions from the bytes to what they say. (Own.)
-use Rattle.std.specs.Prelude.{ℕ, ◌+◌, ◌-◌, ◌*◌, ◌^◌, ◌==◌, ◌&&◌, ◌||◌, Bool, not, nat_le, nat_lt, List, [], ◌∷◌, length, map, drop, Option, Some, None, if◌then◌else◌, codes, slice_index_or}
+use Rattle.std.specs.Prelude.{ℕ, ◌+◌, ◌-◌, ◌*◌, ◌^◌, ◌==◌, ◌&&◌, ◌||◌, Bool, not, nat_le, nat_lt, List, [], ◌∷◌}
+use Rattle.std.specs.Prelude.{length, map, drop, Option, Some, None, if◌then◌else◌, codes, slice_index_or}
 use Rattle.std.specs.Borrow.{Bor}
 use Rattle.std.specs.Char.{is_ascii, is_ascii_digit, is_ascii_lowercase}
 use Rattle.std.specs.List.{filter, list_all, slice_split, before_first, position, position_or_len}

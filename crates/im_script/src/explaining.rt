@@ -188,8 +188,8 @@ pub fn bytes_fault(words: &[&[u8]]) -> Option<LineFault>
     }
 }
 
-/// Where a line goes wrong that is refused where it stands though it isn't too long, by its words and the names that were
-/// given before, and by whether glances may stand in the script.
+/// Where a line goes wrong that is refused where it stands though it isn't too long, by its words and the names that
+/// were given before, and by whether glances may stand in the script.
 pub fn explain(stage: Stage, names: &IndexSet<&[u8]>, words: &[&[u8]], glances: bool) -> LineFault
     ensures { is_of_length result ≡ false }
 {

@@ -4,7 +4,8 @@ ghost use Rattle.std.specs.List.{before_first, list_all, list_any, position, pos
 ghost use Rattle.std.specs.Char.{is_ascii};
 ghost use Rattle.std.specs.Option.{option_and_then, option_map};
 ghost use Rattle.std.specs.Str.{bytes_eq};
-ghost use Rattle.im_script.specs.Grammar.{digit_after, is_line, is_name, is_name_byte, kind_of, number_up_to, offset_of};
+ghost use Rattle.im_script.specs.Grammar.{digit_after, is_line, is_name, is_name_byte, kind_of, number_up_to};
+ghost use Rattle.im_script.specs.Grammar.{offset_of};
 ghost use Rattle.im_script.specs.Grammar.{place_of, place_past, texts, words_of};
 
 use crate::places::Place;

@@ -42,8 +42,8 @@ fn read_up_to<I: Read>(input: &mut I, most: u64, text: &mut Vec<u8>) -> Result<(
 }
 
 /// Reads the text of a script, to its end: all that the reader gives, where that is 256 MiB at most. Of a longer one no
-/// more is read than shows it, one byte, and it is `TooLarge`. Where a growth was refused it is `NoMemory`, and where the
-/// reader failed `Unread`.
+/// more is read than shows it, one byte, and it is `TooLarge`. Where a growth was refused it is `NoMemory`, and where
+/// the reader failed `Unread`.
 pub fn read_text<I: Read>(alloc: Global, input: &mut I) -> Result<Vec<u8>, TextFault>
     ensures few { IfOk result (λ text. length text.items ≤ MAX_SCRIPT) }
     ensures found { IfOk result (λ text. IfSome (I.remaining input.old) (λ bytes. text.items ≡ bytes)) }

@@ -1,5 +1,6 @@
 //! Scripts, read line by line.
-ghost use Rattle.std.specs.Prelude.{◌≡◌, ◌⊎◌, ◌↔◌, ◌<◌, ◌∷◌, [], ℕ, List, None, Some, IfOk, IfErr, IfSome, IsSome, OnOk};
+ghost use Rattle.std.specs.Prelude.{◌≡◌, ◌⊎◌, ◌↔◌, ◌<◌, ◌∷◌, [], ℕ, List, None, Some, IfOk, IfErr, IfSome, IsSome};
+ghost use Rattle.std.specs.Prelude.{OnOk};
 ghost use Rattle.std.specs.Prelude.{Err, false, length, not, true};
 ghost use Rattle.im_script.specs.declared.faults.ScriptFault.TheVariants.{NoMemory, TooLarge};
 ghost use Rattle.im_script.specs.Faults.{IsFirstFault, is_of_size, line_of, tells_length};
@@ -61,8 +62,8 @@ pub enum Heard {
     Glances(u16, Place),
 }
 
-/// A text that is a script, with glances or without: each of its lines is in the grammar where it stands. It borrows the text, and keeps nothing
-/// of it.
+/// A text that is a script, with glances or without: each of its lines is in the grammar where it stands. It borrows
+/// the text, and keeps nothing of it.
 #[derive(Debug, Drop)]
 pub struct Script<'a> {
     text: &'a [u8],
@@ -222,8 +223,8 @@ impl<'a> Reader<'a> {
     }
 
     /// Reads the line with this number, from 1: what it says where it stands. Its fault has the number, and where in
-    /// the line it is, which is `TooLong` exactly where it has more than 4,096 bytes; `NoMemory` comes where a growth was refused. A reader that answered a fault is of no use any
-    /// more.
+    /// the line it is, which is `TooLong` exactly where it has more than 4,096 bytes; `NoMemory` comes where a growth
+    /// was refused. A reader that answered a fault is of no use any more.
     pub fn read(
         &mut self,
         alloc: Global,
@@ -389,9 +390,9 @@ fn read_any(alloc: Global, text: &[u8], glances: bool) -> Result<Script<'_>, Scr
     read_lines(alloc, text, glances)
 }
 
-/// Reads a text, and answers that it is a script without glances. The fault of a text that is none is `TooLarge` where it
-/// has more than 256 MiB, and else its first line that isn't in the grammar where it stands; `NoMemory` comes where a
-/// growth was refused. Beside the setup's names no memory is kept.
+/// Reads a text, and answers that it is a script without glances. The fault of a text that is none is `TooLarge`
+/// where it has more than 256 MiB, and else its first line that isn't in the grammar where it stands; `NoMemory`
+/// comes where a growth was refused. Beside the setup's names no memory is kept.
 pub fn read_script(alloc: Global, text: &[u8]) -> Result<Script<'_>, ScriptFault>
     ensures text { IfOk result (λ script. script ≡ text.now) }
     ensures ok { OnOk result (IsSome (script_of false text.now)) }

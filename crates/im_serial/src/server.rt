@@ -258,9 +258,9 @@ impl<D: Disk> Server<D> {
         }
     }
 
-    /// Makes a block of the setup, prints what it was answered, and keeps its base. Where element 0's window is full its
-    /// entries before the first that still waits are confirmed first, and turns of a checkpoint are taken while there
-    /// is no room for a command. What is accepted is on the disk before its line is kept for printing.
+    /// Makes a block of the setup, prints what it was answered, and keeps its base. Where element 0's window is full
+    /// its entries before the first that still waits are confirmed first, and turns of a checkpoint are taken while
+    /// there is no room for a command. What is accepted is on the disk before its line is kept for printing.
     ///
     /// Refused is what the engine refuses, `Block` where the block isn't made, `Memory`, or a write of the output.
     pub fn make_block<W: Write, N: Observer>(

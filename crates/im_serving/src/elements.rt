@@ -27,8 +27,8 @@ use std::thread::{JoinHandle, Promise, PromisedHandle, Scope, Threads};
 /// How many messages a pipe holds.
 pub const PIPE: usize = 8;
 
-/// An element's port, what is known of its numbers, its reader, and what it is to serve. Contracts see what was done for
-/// the element, and what it asks for.
+/// An element's port, what is known of its numbers, its reader, and what it is to serve. Contracts see what was done
+/// for the element, and what it asks for.
 #[derive(Drop)]
 pub struct Part<K: Name> {
     /// The port.
@@ -58,8 +58,8 @@ impl<K: Name> Model for Part<K> {
     } };
 }
 
-/// A port that has served, with what its requests came to, and what was refused, if anything was. Contracts see what was
-/// done for the element, and the refusal.
+/// A port that has served, with what its requests came to, and what was refused, if anything was. Contracts see what
+/// was done for the element, and the refusal.
 #[derive(Drop)]
 pub struct Done<K: Name> {
     /// The port, which is retired.
@@ -568,12 +568,12 @@ fn serve_within<
 }
 
 /// Serves all elements at once, each by a thread that sends what it asks for and one that serves it, beside the thread
-/// that keeps checkpoints, which tells the watcher how things stand. The ports come back in the order of the parts, each
-/// retired. An element one of whose threads can't be made is refused with `NoMemory`, and nothing of it is served.
-/// Without a thread that keeps checkpoints the servers make the turns that they need.
+/// that keeps checkpoints, which tells the watcher how things stand. The ports come back in the order of the parts,
+/// each retired. An element one of whose threads can't be made is refused with `NoMemory`, and nothing of it is
+/// served. Without a thread that keeps checkpoints the servers make the turns that they need.
 ///
-/// Each port comes back with what was done of what its part asks for, which is a beginning of it, in its order: an entry
-/// for each request, and each glance in its place. It is all of it where nothing was refused.
+/// Each port comes back with what was done of what its part asks for, which is a beginning of it, in its order: an
+/// entry for each request, and each glance in its place. It is all of it where nothing was refused.
 ///
 /// `AllocError` where there is no room for a list of the elements: then no thread began, and the ports are gone with
 /// the parts, not retired.

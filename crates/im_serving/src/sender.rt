@@ -31,8 +31,8 @@ fn send_each<R: Wait>(rt: &R, inlet: &mut Inlet<Intent>, intents: &[Intent]) -> 
     true
 }
 
-/// Sends what an element asks for in its order, and then the end mark. It ends early where one is handed back, and waits while the
-/// pipe is full.
+/// Sends what an element asks for in its order, and then the end mark. It ends early where one is handed back, and
+/// waits while the pipe is full.
 pub fn send_all<R: Wait>(rt: &R, inlet: Inlet<Intent>, intents: &[Intent]) -> Sent
     requires { inlet.items ≡ [] }
     ensures same { result.finished.pipe ≡ inlet.pipe }

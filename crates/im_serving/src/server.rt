@@ -234,8 +234,8 @@ fn first_waiting<D: Disk, K: Name, R: Wait>(
     Ok(served.next())
 }
 
-// Has a place in the window for the next request: where it is full, the oldest entry is awaited, and all before the first
-// that still waits are confirmed.
+// Has a place in the window for the next request: where it is full, the oldest entry is awaited, and all before the
+// first that still waits are confirmed.
 fn make_place<D: Disk, K: Name, R: Wait>(
     rt: &R,
     controller: &Controller<D, K>,
@@ -448,19 +448,19 @@ fn serve_to_end<D: Disk, K: Name, G: Gate, R: Wait>(
 
 /// Serves what an element asks for as it comes out of a pipe: its operations through its port, each under the next
 /// number, and its glances in their place among them. The gate is called round each operation. Before a request that
-/// finds its window full it waits for the oldest entry that is kept, and confirms all before the first that still waits;
-/// where the journal is full it makes a turn of a checkpoint and asks again. After the last one it waits, in order, for
-/// each of its requests that is still kept. At the end its port is retired.
+/// finds its window full it waits for the oldest entry that is kept, and confirms all before the first that still
+/// waits; where the journal is full it makes a turn of a checkpoint and asks again. After the last one it waits, in
+/// order, for each of its requests that is still kept. At the end its port is retired.
 ///
 /// It leaves at most four lines in the trace for each request, and one for each entry that was kept before the first.
 ///
-/// A glance waits for nobody. What it tells was so after all that was shown when the element's last request was answered,
-/// and maybe after more.
+/// A glance waits for nobody. What it tells was so after all that was shown when the element's last request was
+/// answered, and maybe after more.
 ///
 /// Refused with what the port refuses, `JournalFull` where no turn makes room, `PaneGone` where nothing is shown any
 /// more, and `NoMemory` where there is no room for one answer more: then it serves nothing more, but receives until the
-/// pipe ends, so that its sender returns. `NoMemory` too where the pipe ends without an end mark, as where its sender is
-/// gone. What was done then is a beginning of what was received.
+/// pipe ends, so that its sender returns. `NoMemory` too where the pipe ends without an end mark, as where its sender
+/// is gone. What was done then is a beginning of what was received.
 pub fn serve_element<D: Disk, K: Name, G: Gate, R: Wait>(
     rt: &R,
     controller: &Controller<D, K>,

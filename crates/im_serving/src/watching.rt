@@ -2,8 +2,8 @@
 
 use im_controller::{Standing, Teller};
 
-/// Who is told how things stand while all elements are served. It is asked and told by the thread that keeps checkpoints,
-/// with no lock held.
+/// Who is told how things stand while all elements are served. It is asked and told by the thread that keeps
+/// checkpoints, with no lock held.
 pub trait Watcher {
     /// Whether it wants to be told after this turn of that thread, counted from 0.
     fn listens(&self, turn: u64) -> bool;

@@ -1,5 +1,5 @@
-//! An engine beside the plain memory, which has what was answered: random commands, groups, turns and sweeps, a stop at any
-//! call of the disk, and what an opening finds then.
+//! An engine beside the plain memory, which has what was answered: random commands, groups, turns and sweeps, a stop
+//! at any call of the disk, and what an opening finds then.
 
 use crate::alike::are_alike;
 use crate::groups::are_refused;
@@ -169,7 +169,8 @@ fn goes(engine: &mut Engine<FuseDisk>, known: &mut Answered, walk: &mut Walk) ->
     }
 }
 
-/// So many commands, groups, turns and sweeps, as chance has it. Whether the disk still works; after its stop nothing is done.
+/// So many commands, groups, turns and sweeps, as chance has it. Whether the disk still works; after its stop nothing
+/// is done.
 pub fn goes_on(
     engine: &mut Engine<FuseDisk>,
     known: &mut Answered,

@@ -78,8 +78,9 @@ fn is_failed(answer: &Answer) -> bool {
     }
 }
 
-// Runs the events on a new image whose disk passes so many calls, and opens what a crash leaves: all that was acknowledged
-// is there, and the command in doubt or not. How many commands are found, or none where the disk didn't stop.
+// Runs the events on a new image whose disk passes so many calls, and opens what a crash leaves: all that was
+// acknowledged is there, and the command in doubt or not. How many commands are found, or none where the disk didn't
+// stop.
 fn found(
     alloc: Global,
     limits: Limits,

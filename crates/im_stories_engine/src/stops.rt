@@ -18,8 +18,8 @@ use im_plain::PlainMemory;
 use im_types::{LAST, Refusal};
 use std::alloc::Global;
 
-// What is stopped: an opening of what has the whole script, or of what was stopped in its last command; or the script as
-// one group.
+// What is stopped: an opening of what has the whole script, or of what was stopped in its last command; or the script
+// as one group.
 #[derive(Clone, Copy)]
 enum Act {
     Opening,
@@ -166,8 +166,8 @@ impl Sweep<'_> {
         Ok(engine.close().into_inner())
     }
 
-    // Serves the script as one group on a new image, which has to be stopped: each member is answered `Device`, and then
-    // `Failed`. The disk, or none where the group has passed.
+    // Serves the script as one group on a new image, which has to be stopped: each member is answered `Device`, and
+    // then `Failed`. The disk, or none where the group has passed.
     fn stopped_group(&self, passes: u64, mode: Mode) -> Result<Option<FuseDisk>> {
         let members = all_of(self.script)?;
         if !are_apart(members.as_slice()) {

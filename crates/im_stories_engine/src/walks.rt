@@ -119,8 +119,8 @@ impl Walk {
         Command::Request(self.asked(plain, asker, cells))
     }
 
-    /// One request for each element of a memory at most, each of another element of it, or of one more. Memories have six
-    /// or sixteen elements here: seven and seventeen are prime numbers, so any step goes through all of them.
+    /// One request for each element of a memory at most, each of another element of it, or of one more. Memories have
+    /// six or sixteen elements here: seven and seventeen are prime numbers, so any step goes through all of them.
     pub fn group(&mut self, plain: &PlainMemory, cells: u32) -> ArrayVec<Request, 16> {
         let mut members = ArrayVec::new();
         let elements = if plain.elements() == 6 { 6 } else { 16 };

@@ -3,7 +3,8 @@ use Rattle.im_c.specs.Group.{requests_of}
 use Rattle.im_c.proofs.group.gather.Given as goal
 
 abbrev pub invariant-loop-command : goal.invariant-loop-command
-invariant-loop-command l = (l.members.items ++ requests_of l.rest ≡ requests_of l.commands) × (length l.members.items + length l.rest ≤ length l.commands)
+invariant-loop-command l = (l.members.items ++ requests_of l.rest ≡ requests_of l.commands)
+    × (length l.members.items + length l.rest ≤ length l.commands)
 
 abbrev pub decreases-loop-command : goal.decreases-loop-command
 decreases-loop-command l = length l.rest

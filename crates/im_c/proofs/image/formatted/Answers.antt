@@ -5,4 +5,5 @@ use Rattle.im_c.proofs.Boxes.{in_box}
 use Rattle.im_c.proofs.image.formatted.Goals as goal
 
 pub returns-in-Ok-clause-means : goal.returns-in-Ok-clause-means
-returns-in-Ok-clause-means c = in_box c.boxed.result (λ b. b.value) c.in-Ok.image (λ (i : ImageState). LeavesNow i.engine.disk.now (MeansState i.engine)) c.boxed.ensures.same c.in-Ok.ensures.means
+returns-in-Ok-clause-means c = in_box c.boxed.result (λ b. b.value) c.in-Ok.image
+    (λ (i : ImageState). LeavesNow i.engine.disk.now (MeansState i.engine)) c.boxed.ensures.same c.in-Ok.ensures.means

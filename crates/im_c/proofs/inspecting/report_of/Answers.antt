@@ -7,5 +7,6 @@ use Rattle.im_c.proofs.inspecting.report_of.Goals as goal
 pub returns-clause-fault : goal.returns-clause-fault
 returns-clause-fault c =
     let copied : c.in-Ok.copy.items ≡ c.args.bytes.now = search rules in
-    let same = ap (λ (m : Moment). m.bytes) (c.inspect_on-status.ensures.reads tt).now ∙ ap (λ (d : Listing). d.now.bytes) c.new.ensures.over ∙ copied in
+    let same = ap (λ (m : Moment). m.bytes) (c.inspect_on-status.ensures.reads tt).now
+    ∙ ap (λ (d : Listing). d.now.bytes) c.new.ensures.over ∙ copied in
     subst (λ (file : List ℕ). IsFlawOf file c.fault_of.result) same c.fault_of.ensures

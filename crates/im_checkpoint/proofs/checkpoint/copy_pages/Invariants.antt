@@ -4,7 +4,8 @@ use Rattle.im_checkpoint.proofs.Copying.{HasCopied}
 use Rattle.im_checkpoint.proofs.checkpoint.copy_pages.Given as goal
 
 abbrev pub invariant-loop-page : goal.invariant-loop-page
-invariant-loop-page l = HasCopied (sizes_of l.limits) l.memory.records l.named l.left l.recent l.from l.at l.initial.copies l.copies
+invariant-loop-page l = HasCopied
+    (sizes_of l.limits) l.memory.records l.named l.left l.recent l.from l.at l.initial.copies l.copies
 
 abbrev pub decreases-loop-page : goal.decreases-loop-page
 decreases-loop-page l = length l.named - l.at

@@ -13,10 +13,15 @@ on_ok (Err e) p then = tt
 pub returns-clause-leaves : goal.returns-clause-leaves
 returns-clause-leaves g c = λ h old n x m j is kept.
     let long : length c.spell-bytes.result ≡ 64 = search rules in
-    only_weaker g.D.Disk.now g.D.Disk.past c.args.disk.now c.write_behind_gate.new.disk (MayWrite (4096 * c.args.next.now.area) c.spell-bytes.result (g.D.Disk.now c.args.disk.now)) (MeansWith m j) (c.write_behind_gate.ensures.leaves h)
-    (opening_means (seen c.args.next.now) c.spell-bytes.result c.spell-bytes.ensures long old n is x m j (g.D.Disk.now c.args.disk.now) kept)
+    only_weaker g.D.Disk.now g.D.Disk.past c.args.disk.now c.write_behind_gate.new.disk
+    (MayWrite (4096 * c.args.next.now.area) c.spell-bytes.result (g.D.Disk.now c.args.disk.now)) (MeansWith m j)
+    (c.write_behind_gate.ensures.leaves h)
+    (opening_means (seen c.args.next.now) c.spell-bytes.result c.spell-bytes.ensures long old n is x m j
+    (g.D.Disk.now c.args.disk.now) kept)
 
 pub returns-clause-kept : goal.returns-clause-kept
-returns-clause-kept g c = on_ok c.write_behind_gate.result c.write_behind_gate.ensures.written (λ done h old n x m j is kept later.
+returns-clause-kept g c = on_ok c.write_behind_gate.result c.write_behind_gate.ensures.written
+    (λ done h old n x m j is kept later.
     let long : length c.spell-bytes.result ≡ 64 = search rules in
-    opening_done (seen c.args.next.now) c.spell-bytes.result c.spell-bytes.ensures long old n is x m j (g.D.Disk.now c.args.disk.now) kept later (g.D.Disk.now c.write_behind_gate.new.disk) (done h))
+    opening_done (seen c.args.next.now) c.spell-bytes.result c.spell-bytes.ensures long old n is x m j
+    (g.D.Disk.now c.args.disk.now) kept later (g.D.Disk.now c.write_behind_gate.new.disk) (done h))

@@ -9,13 +9,15 @@ on_ok (Err e) p then = tt
 pub returns-in_err-write_at-clause-leaves : goal.returns-in_err-write_at-clause-leaves
 returns-in_err-write_at-clause-leaves g c = λ h1.
     let h0 = c.write_at.ensures.honest h1 in
-    write1 g.D.Disk.now g.D.Disk.past c.args.disk.now (record { is = behind_first c.args.bytes.now c.requires.gate; closed = c.requires.closed h0 }) c.write_at.new.self (c.write_at.ensures.moment h1)
+    write1 g.D.Disk.now g.D.Disk.past c.args.disk.now
+    (record { is = behind_first c.args.bytes.now c.requires.gate; closed = c.requires.closed h0 }) c.write_at.new.self (c.write_at.ensures.moment h1)
 
 pub returns-clause-leaves : goal.returns-clause-leaves
 returns-clause-leaves g c = λ h2.
     let h1 = c.open_gate.ensures.honest h2 in
     let h0 = c.write_at.ensures.honest h1 in
-    write2 g.D.Disk.now g.D.Disk.past c.args.disk.now (record { is = behind_first c.args.bytes.now c.requires.gate; closed = c.requires.closed h0 }) c.write_at.new.self (c.write_at.ensures.moment h1)
+    write2 g.D.Disk.now g.D.Disk.past c.args.disk.now
+    (record { is = behind_first c.args.bytes.now c.requires.gate; closed = c.requires.closed h0 }) c.write_at.new.self (c.write_at.ensures.moment h1)
     (c.in_ok-write_at.ensures.tick h1).now c.open_gate.new.disk (c.open_gate.ensures.leaves h2)
 
 pub returns-clause-written : goal.returns-clause-written
@@ -23,4 +25,5 @@ returns-clause-written g c = on_ok c.open_gate.result c.open_gate.ensures.opened
     let h1 = c.open_gate.ensures.honest h2 in
     let h0 = c.write_at.ensures.honest h1 in
     written_by (record { is = behind_first c.args.bytes.now c.requires.gate; closed = c.requires.closed h0 })
-    (g.D.Disk.now c.write_at.new.self) (g.D.Disk.now c.open_gate.new.disk) (c.in_ok-write_at.ensures.tick h1).now (opened h2))
+    (g.D.Disk.now c.write_at.new.self) (g.D.Disk.now c.open_gate.new.disk) (c.in_ok-write_at.ensures.tick h1).now
+    (opened h2))

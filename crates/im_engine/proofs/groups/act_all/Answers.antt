@@ -13,10 +13,12 @@ loop-member-preserved c =
     let left = c.loop-member.left in
     let rs = c.args.members.now in
     let i = c.loop-member.member-index in
-    let more = map as_served (answers_with c.act_one-answer.new.memory.contents c.act_one-answer.new.left (drop (i + 1) rs)) in
+    let more = map as_served
+    (answers_with c.act_one-answer.new.memory.contents c.act_one-answer.new.left (drop (i + 1) rs)) in
     record {
       size = search rules;
-      answers = ap (λ (l : List Served). l ++ more) (c.push.ensures.items ∙ ap (λ (s : Served). c.loop-member.served.items ++ s ∷ []) c.as_served.ensures)
+      answers = ap (λ (l : List Served). l ++ more)
+          (c.push.ensures.items ∙ ap (λ (s : Served). c.loop-member.served.items ++ s ∷ []) c.as_served.ensures)
           ∙ answers_next m left c.loop-member.served.items rs i _ c.act_one-answer.result c.act_one-answer.new.memory.contents c.act_one-answer.new.left c.loop-member-test.true e.answer e.contents e.left ∙ inv.answers;
       contents = contents_next m left rs i _ c.act_one-answer.new.memory.contents c.act_one-answer.new.left c.loop-member-test.true e.contents e.left ∙ inv.contents;
       sizes = e.sizes;

@@ -11,9 +11,13 @@ use Rattle.im_engine.proofs.groups.act_all.Given as goal
 abbrev pub invariant-loop-member : goal.invariant-loop-member
 invariant-loop-member l = record {
   size : length l.served.items ≡ l.member-index;
-  answers : l.served.items ++ map as_served (answers_with l.memory.contents l.left (drop l.member-index l.members)) ≡ map as_served (answers_with l.fn.memory.contents l.places l.members);
-  contents : contents_after l.memory.contents l.left (drop l.member-index l.members) ≡ contents_after l.fn.memory.contents l.places l.members;
+  answers : l.served.items ++ map as_served (answers_with l.memory.contents l.left (drop l.member-index l.members))
+      ≡ map as_served (answers_with l.fn.memory.contents l.places l.members);
+  contents : contents_after l.memory.contents l.left (drop l.member-index l.members)
+      ≡ contents_after l.fn.memory.contents l.places l.members;
   sizes : HasSizes l.checkpoint.state.header.sizes l.memory.contents;
   state : l.checkpoint.state ≡ l.fn.checkpoint.state;
-  kept : (m : Contents) (j : JournalState) (now : Moment) → IsKept l.fn.checkpoint.state (paged l.fn.checkpoint l.fn.memory) m j now → IsKept l.checkpoint.state (paged l.checkpoint l.memory) m j now;
+  kept : (m : Contents) (j : JournalState) (now : Moment)
+      → IsKept l.fn.checkpoint.state (paged l.fn.checkpoint l.fn.memory) m j now
+      → IsKept l.checkpoint.state (paged l.checkpoint l.memory) m j now;
 }

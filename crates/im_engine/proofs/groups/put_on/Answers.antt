@@ -1,4 +1,5 @@
-use Rattle.std.proofs.Common.{◌≡◌, inl, ℕ, List, [], length, Some, Result, Ok, Err, OnOk, MatchResult, rules, sym, subst}
+use Rattle.std.proofs.Common.{◌≡◌, inl, ℕ, List, [], length, Some, Result, Ok, Err, OnOk, MatchResult, rules, sym}
+use Rattle.std.proofs.Common.{subst}
 use Rattle.std.proofs.lemmas.List.{nil_from_length}
 use Rattle.im_types.specs.declared.commands.Command.{Command}
 use Rattle.im_types.specs.Contents.{Contents}
@@ -11,7 +12,8 @@ use Rattle.im_engine.proofs.Keeping.{all_mean, may_append_means, kept_longer}
 use Rattle.im_engine.proofs.Members.{longer_none}
 use Rattle.im_engine.proofs.groups.put_on.Goals as goal
 
-both_ok : {T E P Q R : Type 0} (N : E → Type 0) (r : Result T E) → OnOk r P → MatchResult r (λ _. Q) N → (P → Q → R) → OnOk r R
+both_ok : {T E P Q R : Type 0} (N : E → Type 0) (r : Result T E) → OnOk r P → MatchResult r (λ _. Q) N → (P → Q → R)
+    → OnOk r R
 both_ok N (Ok x) p q then = then p q
 both_ok N (Err e) p q then = tt
 
@@ -30,15 +32,19 @@ returns-then-is_empty-clause-kept g c = λ h k x m after accepts kept.
 pub returns-then-is_empty-clause-state : goal.returns-then-is_empty-clause-state
 returns-then-is_empty-clause-state g c =
     let none : length c.args.commands.now ≡ 0 = search rules in
-    subst (λ (n : ℕ). c.args.journal.now ≡ longer n c.args.journal.now) (sym none) (sym (longer_none c.args.journal.now c.requires.fits.known))
+    subst (λ (n : ℕ). c.args.journal.now ≡ longer n c.args.journal.now) (sym none)
+    (sym (longer_none c.args.journal.now c.requires.fits.known))
 
 pub returns-clause-leaves : goal.returns-clause-leaves
 returns-clause-leaves g c = λ h k x m after accepts kept.
-    only_weaker g.D.Disk.now g.D.Disk.past c.args.disk.now c.append_group.new.disk (MayAppend c.args.journal.now c.args.commands.now (g.D.Disk.now c.args.disk.now)) _ (c.append_group.ensures.leaves h)
+    only_weaker g.D.Disk.now g.D.Disk.past c.args.disk.now c.append_group.new.disk
+    (MayAppend c.args.journal.now c.args.commands.now (g.D.Disk.now c.args.disk.now)) _
+    (c.append_group.ensures.leaves h)
     (may_append_means k x m c.args.journal.now (g.D.Disk.now c.args.disk.now) kept c.args.commands.now after accepts)
 
 pub returns-clause-kept : goal.returns-clause-kept
-returns-clause-kept g c = both_ok _ c.append_group.result c.append_group.ensures.added c.append_group.ensures.state (λ adds state h k x m after accepts kept.
+returns-clause-kept g c = both_ok _ c.append_group.result c.append_group.ensures.added c.append_group.ensures.state
+    (λ adds state h k x m after accepts kept.
     let j = c.args.journal.now in
     let new = g.D.Disk.now c.append_group.new.disk in
     let added = adds h in

@@ -3,4 +3,5 @@ use Rattle.im_engine.specs.Groups.{all_refused}
 use Rattle.im_engine.proofs.groups.refuse_all.Given as goal
 
 abbrev pub invariant-loop-member : goal.invariant-loop-member
-invariant-loop-member l = l.served.items ++ all_refused l.refusal (drop l._member-index l.members) ≡ all_refused l.refusal l.members
+invariant-loop-member l = l.served.items ++ all_refused l.refusal (drop l._member-index l.members)
+    ≡ all_refused l.refusal l.members

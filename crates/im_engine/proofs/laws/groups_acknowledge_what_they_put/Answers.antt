@@ -1,4 +1,5 @@
-use Rattle.im_engine.proofs.Acknowledging.{acknowledged-puts, answers-no_device, refused-none, some-device, failed-no_device}
+use Rattle.im_engine.proofs.Acknowledging.{acknowledged-puts, answers-no_device, refused-none, some-device}
+use Rattle.im_engine.proofs.Acknowledging.{failed-no_device}
 use Rattle.im_engine.proofs.laws.groups_acknowledge_what_they_put.Goals as goal
 
 pub returns : goal.returns

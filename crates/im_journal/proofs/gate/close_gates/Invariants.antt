@@ -6,6 +6,7 @@ use Rattle.im_journal.proofs.gate.close_gates.Given as goal
 abbrev pub invariant-loop-i : goal.invariant-loop-i
 invariant-loop-i g l = record {
   honest : g.D.Disk.honest l.disk → g.D.Disk.honest l.fn.disk;
-  closing : g.D.Disk.honest l.disk → IsClosing g.D.Disk.now g.D.Disk.past (ring_at l.base l.slots) l.«from» l.count l.i l.fn.disk l.disk;
+  closing : g.D.Disk.honest l.disk
+      → IsClosing g.D.Disk.now g.D.Disk.past (ring_at l.base l.slots) l.«from» l.count l.i l.fn.disk l.disk;
   failures : g.D.Disk.failures l.disk ≡ g.D.Disk.failures l.fn.disk;
 }

@@ -1,4 +1,5 @@
-use Rattle.std.proofs.Common.{◌≡◌, ◌∙◌, ◌+◌, ◌<◌, ◌∷◌, ◌++◌, ℕ, suc, List, [], length, get_or, take, ap, refl, arith, length-take}
+use Rattle.std.proofs.Common.{◌≡◌, ◌∙◌, ◌+◌, ◌<◌, ◌∷◌, ◌++◌, ℕ, suc, List, [], length, get_or, take, ap, refl, arith}
+use Rattle.std.proofs.Common.{length-take}
 use Rattle.std.proofs.Math.Seq.{take-suc}
 use Rattle.std.proofs.lemmas.List.{take_all}
 use Rattle.im_types.specs.declared.commands.Command.{Command}
@@ -7,13 +8,16 @@ use Rattle.im_journal.proofs.Spelling.{counted_body, spelled_long}
 use Rattle.im_journal.proofs.Writing.{writing_start, torn_leaves, writing_next, all_written}
 use Rattle.im_journal.proofs.group.write_bodies.Goals as goal
 
-next_taken : (commands : List Command) (i : ℕ) (d : Command) → i < length commands → take (i + 1) commands ≡ take i commands ++ get_or commands i d ∷ []
-next_taken commands i d low = let next : i + 1 ≡ suc i = omega arith in ap (λ (m : ℕ). take m commands) next ∙ take-suc commands i d low
+next_taken : (commands : List Command) (i : ℕ) (d : Command) → i < length commands → take (i + 1) commands
+    ≡ take i commands ++ get_or commands i d ∷ []
+next_taken commands i d low = let next : i + 1 ≡ suc i = omega arith in ap (λ (m : ℕ). take m commands) next
+    ∙ take-suc commands i d low
 
 pub loop-i-init : goal.loop-i-init
 loop-i-init g c = record {
   honest = λ h. h;
-  writing = λ h. writing_start g.D.Disk.now g.D.Disk.past (ring_at c.args.base c.args.slots) c.args.«from» (length c.args.commands.now) c.args.disk.now;
+  writing = λ h. writing_start g.D.Disk.now g.D.Disk.past (ring_at c.args.base c.args.slots) c.args.«from»
+      (length c.args.commands.now) c.args.disk.now;
   failures = refl;
 }
 
@@ -21,9 +25,13 @@ pub returns-in_err-write_at-clause-leaves : goal.returns-in_err-write_at-clause-
 returns-in_err-write_at-clause-leaves g c = λ h1.
     let h = c.write_at.ensures.honest h1 in
     let h0 = c.loop-i.invariant.honest h in
-    let so_many : length (take c.loop-i.i c.args.commands.now) ≡ c.loop-i.i = omega (arith, length-take c.loop-i.i c.args.commands.now, c.loop-i-test.true) in
-    torn_leaves g.D.Disk.now g.D.Disk.past (ring_at c.args.base c.args.slots) c.args.«from» (length c.args.commands.now) c.args.disk.now (take c.loop-i.i c.args.commands.now) c.loop-i.i so_many c.loop-i-test.true c.requires.fits.once_round c.requires.fits.ring.0 c.loop-i.disk
-    (c.requires.inside h0) (c.loop-i.invariant.writing h) _ (spelled_long _ _ _ _ c.spell_in-slot.ensures.bytes) c.write_at.new.self (c.write_at.ensures.moment h1)
+    let so_many : length (take c.loop-i.i c.args.commands.now)
+    ≡ c.loop-i.i = omega (arith, length-take c.loop-i.i c.args.commands.now, c.loop-i-test.true) in
+    torn_leaves g.D.Disk.now g.D.Disk.past (ring_at c.args.base c.args.slots) c.args.«from»
+    (length c.args.commands.now) c.args.disk.now
+    (take c.loop-i.i c.args.commands.now) c.loop-i.i so_many c.loop-i-test.true c.requires.fits.once_round c.requires.fits.ring.0 c.loop-i.disk
+    (c.requires.inside h0) (c.loop-i.invariant.writing h) _
+    (spelled_long _ _ _ _ c.spell_in-slot.ensures.bytes) c.write_at.new.self (c.write_at.ensures.moment h1)
 
 pub loop-i-preserved : goal.loop-i-preserved
 loop-i-preserved g c = record {
@@ -32,14 +40,22 @@ loop-i-preserved g c = record {
       let h = c.write_at.ensures.honest h1 in
       let h0 = c.loop-i.invariant.honest h in
       let tick = c.in_ok-write_at.ensures.tick h1 in
-      let so_many : length (take c.loop-i.i c.args.commands.now) ≡ c.loop-i.i = omega (arith, length-take c.loop-i.i c.args.commands.now, c.loop-i-test.true) in
-      writing_next g.D.Disk.now g.D.Disk.past (ring_at c.args.base c.args.slots) c.args.«from» (length c.args.commands.now) c.args.disk.now (take c.loop-i.i c.args.commands.now) c.loop-i.i so_many c.loop-i-test.true c.requires.fits.once_round c.requires.fits.ring.0 c.loop-i.disk
-      (c.requires.inside h0) (c.loop-i.invariant.writing h) _ (spelled_long _ _ _ _ c.spell_in-slot.ensures.bytes) c.write_at.new.self
-      _ c.spell_in-slot.ensures.fits (counted_body _ _ _ _ _ _ c.spell_in-slot.ensures.bytes c.count_at.ensures (omega arith)) tick.now (c.write_at.ensures.moment h1) tick.past
+      let so_many : length (take c.loop-i.i c.args.commands.now)
+      ≡ c.loop-i.i = omega (arith, length-take c.loop-i.i c.args.commands.now, c.loop-i-test.true) in
+      writing_next g.D.Disk.now g.D.Disk.past (ring_at c.args.base c.args.slots) c.args.«from»
+      (length c.args.commands.now) c.args.disk.now
+      (take c.loop-i.i c.args.commands.now) c.loop-i.i so_many c.loop-i-test.true c.requires.fits.once_round c.requires.fits.ring.0 c.loop-i.disk
+      (c.requires.inside h0) (c.loop-i.invariant.writing h) _
+      (spelled_long _ _ _ _ c.spell_in-slot.ensures.bytes) c.write_at.new.self
+      _ c.spell_in-slot.ensures.fits
+      (counted_body _ _ _ _ _ _ c.spell_in-slot.ensures.bytes c.count_at.ensures (omega arith)) tick.now
+      (c.write_at.ensures.moment h1) tick.past
       (take (c.loop-i.i + 1) c.args.commands.now) (next_taken c.args.commands.now c.loop-i.i _ c.loop-i-test.true);
   failures = c.in_ok-write_at.ensures.failures ∙ c.loop-i.invariant.failures;
 }
 
 pub returns-clause-written : goal.returns-clause-written
-returns-clause-written g c = λ h. all_written g.D.Disk.now g.D.Disk.past (ring_at c.args.base c.args.slots) c.args.«from» (length c.args.commands.now) c.args.commands.now (take c.loop-i.i c.args.commands.now) c.args.disk.now c.loop-i.disk refl
+returns-clause-written g c = λ h. all_written g.D.Disk.now g.D.Disk.past
+    (ring_at c.args.base c.args.slots) c.args.«from» (length c.args.commands.now) c.args.commands.now
+    (take c.loop-i.i c.args.commands.now) c.args.disk.now c.loop-i.disk refl
     (take_all c.loop-i.i c.args.commands.now (omega (arith, c.loop-i-test.false))) (c.loop-i.invariant.writing h)

@@ -6,6 +6,8 @@ use Rattle.im_journal.proofs.group.write_bodies.Given as goal
 abbrev pub invariant-loop-i : goal.invariant-loop-i
 invariant-loop-i g l = record {
   honest : g.D.Disk.honest l.disk → g.D.Disk.honest l.fn.disk;
-  writing : g.D.Disk.honest l.disk → IsWriting g.D.Disk.now g.D.Disk.past (ring_at l.base l.slots) l.«from» (length l.commands) (take l.i l.commands) l.fn.disk l.disk;
+  writing : g.D.Disk.honest l.disk
+      → IsWriting g.D.Disk.now g.D.Disk.past (ring_at l.base l.slots) l.«from» (length l.commands)
+      (take l.i l.commands) l.fn.disk l.disk;
   failures : g.D.Disk.failures l.disk ≡ g.D.Disk.failures l.fn.disk;
 }

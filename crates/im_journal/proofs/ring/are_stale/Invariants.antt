@@ -4,4 +4,5 @@ use Rattle.im_journal.specs.Holding.{ring_alone}
 use Rattle.im_journal.proofs.ring.are_stale.Given as goal
 
 abbrev pub invariant-loop-i : goal.invariant-loop-i
-invariant-loop-i l = are_stale (ring_alone l.slots) l.count l.«from» l.first l.ring ≡ are_stale (ring_alone l.slots) (l.count - l.i) (l.«from» + l.i) l.first l.ring
+invariant-loop-i l = are_stale (ring_alone l.slots) l.count l.«from» l.first l.ring
+    ≡ are_stale (ring_alone l.slots) (l.count - l.i) (l.«from» + l.i) l.first l.ring

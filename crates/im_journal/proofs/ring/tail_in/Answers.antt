@@ -16,7 +16,8 @@ returns-then-not-are_stale-clause-bad c = λ e.
     let n : c.len.result ≡ length c.in-Ok.commands.items = search rules in
     let m : c.len-2.result ≡ length c.in-Ok.commands.items = search rules in
     tail_found (ring_alone c.args.slots) c.args.first c.args.ring.now c.in-Ok.commands.items c.in-Ok.ensures.commands c.len.result c.len-2.result c.closed_in-closed.result (if c.args.first + c.len.result == LAST then 0 else c.closed_in-closed.result) c.are_stale.result n m c.closed_in-closed.ensures.closed c.are_stale.ensures refl
-    ∙ ap (λ (b : Bool). tail_if b (if c.args.first + c.len.result == LAST then 0 else c.closed_in-closed.result) c.in-Ok.commands.items) c.if-not-are_stale.true
+    ∙ ap (λ (b : Bool). tail_if b
+    (if c.args.first + c.len.result == LAST then 0 else c.closed_in-closed.result) c.in-Ok.commands.items) c.if-not-are_stale.true
 
 pub returns-clause-tail : goal.returns-clause-tail
 returns-clause-tail c =

@@ -27,7 +27,8 @@ returns-in-None-clause-acted c = rw c.told.ensures (record {
 pub returns-in-Some-clause-changes : goal.returns-in-Some-clause-changes
 returns-in-Some-clause-changes c =
     put-served c.args.table.now c.put-reply.new.table c.args.arena.now c.put-reply.new.arena c.requires c.args.a c.args.value c.put-reply.ensures.kept.others c.put-reply.ensures.kept.refused
-    c.in-Some.taker (rw c.in-Some.is at (c.put-reply.ensures.taker anyone)) (rw c.in-Some.is at c.put-reply.ensures.links)
+    c.in-Some.taker (rw c.in-Some.is at (c.put-reply.ensures.taker anyone))
+    (rw c.in-Some.is at c.put-reply.ensures.links)
 
 pub returns-in-None-clause-changes : goal.returns-in-None-clause-changes
 returns-in-None-clause-changes c =

@@ -29,7 +29,8 @@ returns-in_default-clause-acted c = rw c.told.ensures (record {
 
 pub returns-in-Stored-clause-among : goal.returns-in-Stored-clause-among
 returns-in-Stored-clause-among c =
-    store-among c.args.table.now c.args.arena.now c.requires c.args.a c.args.value (ap (λ (r : Reply). Answered r) (sym c.in-Stored.is) ∙ c.store-reply.ensures.reply anyone)
+    store-among c.args.table.now c.args.arena.now c.requires c.args.a c.args.value
+    (ap (λ (r : Reply). Answered r) (sym c.in-Stored.is) ∙ c.store-reply.ensures.reply anyone)
 
 pub returns-in-Stored-clause-changes : goal.returns-in-Stored-clause-changes
 returns-in-Stored-clause-changes c =

@@ -21,7 +21,8 @@ returns-clause-memory c =
     let agree = c.act-acted.ensures.acted.agree in
     makes-served c.args.table.now c.args.arena.now c.args.sessions.now c.requires.memory c.args.request.now c.requires.fresh acted c.act-acted.new.table c.act-acted.new.arena c.act-acted.ensures.acted
     c.resume.new.arena c.resume.new.sessions (c.resume.ensures.cells c.act-acted.new.table agree)
-    (c.resume.ensures.windows ∙ ap (λ windows. answer_each windows (replies_of acted.resumed c.act-acted.new.arena)) c.note.ensures)
+    (c.resume.ensures.windows
+    ∙ ap (λ windows. answer_each windows (replies_of acted.resumed c.act-acted.new.arena)) c.note.ensures)
     (c.resume.ensures.agree c.act-acted.new.table agree) (c.resume.ensures.nodes ∙ c.act-acted.ensures.nodes)
 
 pub returns-clause-changes : goal.returns-clause-changes

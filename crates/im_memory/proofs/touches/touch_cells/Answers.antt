@@ -5,4 +5,5 @@ use Rattle.im_memory.proofs.touches.touch_cells.Goals as goal
 
 pub returns-clause-cells : goal.returns-clause-cells
 returns-clause-cells c =
-    AreIn-addresses _ c.args.base c.args.n (λ b lo hi. c.add_range.ensures.found (page_of_cell b) (omega arith) (omega arith))
+    AreIn-addresses _ c.args.base c.args.n
+    (λ b lo hi. c.add_range.ensures.found (page_of_cell b) (omega arith) (omega arith))

@@ -22,7 +22,8 @@ returns-in-Fetch-clause-alone c =
 pub returns-in-Store-clause-alone : goal.returns-in-Store-clause-alone
 returns-in-Store-clause-alone c =
     rw c.in-Store.is (λ who e.
-    let found = no_cell I c.args.table.now c.args.arena.now c.in-Store.a (store c.in-Store.value) (store-tells c.in-Store.value) e in
+    let found = no_cell I c.args.table.now c.args.arena.now c.in-Store.a (store c.in-Store.value)
+    (store-tells c.in-Store.value) e in
     c.touch_store.ensures.refused found.0 found.1)
 
 pub returns-in-Take-clause-alone : goal.returns-in-Take-clause-alone
@@ -34,5 +35,6 @@ returns-in-Take-clause-alone c =
 pub returns-in-Put-clause-alone : goal.returns-in-Put-clause-alone
 returns-in-Put-clause-alone c =
     rw c.in-Put.is (λ who e.
-    let found = no_cell M c.args.table.now c.args.arena.now c.in-Put.a (put c.in-Put.value) (put-tells c.in-Put.value) e in
+    let found = no_cell M c.args.table.now c.args.arena.now c.in-Put.a (put c.in-Put.value)
+    (put-tells c.in-Put.value) e in
     c.touch_put.ensures.refused found.0 found.1)

@@ -6,27 +6,37 @@ use Rattle.im_types.specs.Act.{put}
 use Rattle.im_pages.specs.Places.{page_of_session}
 use Rattle.im_memory.specs.State.{rows_of}
 use Rattle.im_memory.specs.Touched.{by_put, first_at}
-use Rattle.im_memory.proofs.CoverLemmas.{HasPlaces-err, HasPlaces-ok, resumed-err, resumed-ok, most-ok, nobody, somebody, put-taker, other-cell, quiet-state, told-none, told-taker, quiet-cell}
+use Rattle.im_memory.proofs.CoverLemmas.{HasPlaces-err, HasPlaces-ok, resumed-err, resumed-ok, most-ok, nobody}
+use Rattle.im_memory.proofs.CoverLemmas.{somebody, put-taker, other-cell, quiet-state, told-none, told-taker}
+use Rattle.im_memory.proofs.CoverLemmas.{quiet-cell}
 use Rattle.im_memory.proofs.touches.touch_put.Goals as goal
 
 pub returns-in_default-clause-places : goal.returns-in_default-clause-places
-returns-in_default-clause-places c = HasPlaces-err M c.args.table.now c.args.arena.now c.args.a _ (by_put (first_at (rows_of c.args.table.now c.args.arena.now) c.args.a) c.args.a) _ _ (sym c.in_default.ensures)
+returns-in_default-clause-places c = HasPlaces-err M c.args.table.now c.args.arena.now c.args.a _
+    (by_put (first_at (rows_of c.args.table.now c.args.arena.now) c.args.a) c.args.a) _ _ (sym c.in_default.ensures)
 
 pub returns-in_default-clause-sessions : goal.returns-in_default-clause-sessions
 returns-in_default-clause-sessions c =
-    told-none (page_of_session (length c.args.arena.now.held.lists) c.args.elements) _ _ (resumed-err M c.args.table.now c.args.arena.now c.args.a (put c.args.value) _ (sym c.in_default.ensures))
+    told-none (page_of_session (length c.args.arena.now.held.lists) c.args.elements) _ _
+    (resumed-err M c.args.table.now c.args.arena.now c.args.a (put c.args.value) _ (sym c.in_default.ensures))
 
 pub returns-in-Waiting-clause-places : goal.returns-in-Waiting-clause-places
 returns-in-Waiting-clause-places c =
-    HasPlaces-ok M c.args.table.now c.args.arena.now c.args.a _ (by_put (first_at (rows_of c.args.table.now c.args.arena.now) c.args.a) c.args.a) _ Waiting (sym c.in-Ok.ensures ∙ ap (λ x. Ok x) c.in-Waiting.is)
-    (put-taker c.args.table.now c.args.arena.now c.requires c.args.a _ _ (c.touch_taker.ensures.kept _ c.touch_cell.ensures.cell) c.touch_taker.ensures.node)
+    HasPlaces-ok M c.args.table.now c.args.arena.now c.args.a _
+    (by_put (first_at (rows_of c.args.table.now c.args.arena.now) c.args.a) c.args.a) _ Waiting
+    (sym c.in-Ok.ensures ∙ ap (λ x. Ok x) c.in-Waiting.is)
+    (put-taker c.args.table.now c.args.arena.now c.requires c.args.a _ _
+    (c.touch_taker.ensures.kept _ c.touch_cell.ensures.cell) c.touch_taker.ensures.node)
 
 pub returns-in-Waiting-clause-sessions : goal.returns-in-Waiting-clause-sessions
 returns-in-Waiting-clause-sessions c =
     let waits = sym c.in-Ok.ensures ∙ ap (λ x. Ok x) c.in-Waiting.is in
     let some = somebody M c.args.table.now c.args.arena.now c.args.a waits c.requires in
-    let told = resumed-ok M c.args.table.now c.args.arena.now c.args.a (put c.args.value) Waiting waits ∙ ap (λ ws. (put c.args.value (IsEmpty ws)).resumed) some.2 in
-    told-taker (page_of_session (length c.args.arena.now.held.lists) c.args.elements) _ _ some.0 some.1 c.args.value told (c.touch_taker.ensures.session some.0 some.1 some.2)
+    let told = resumed-ok M c.args.table.now c.args.arena.now c.args.a (put c.args.value) Waiting waits
+    ∙ ap (λ ws. (put c.args.value (IsEmpty ws)).resumed) some.2 in
+    told-taker (page_of_session
+    (length c.args.arena.now.held.lists) c.args.elements) _ _ some.0 some.1 c.args.value told
+    (c.touch_taker.ensures.session some.0 some.1 some.2)
 
 pub returns-in-Waiting-clause-few : goal.returns-in-Waiting-clause-few
 returns-in-Waiting-clause-few c =
@@ -35,15 +45,22 @@ returns-in-Waiting-clause-few c =
 
 pub returns-in_default-cell-clause-places : goal.returns-in_default-cell-clause-places
 returns-in_default-cell-clause-places c =
-    let none = nobody M c.args.table.now c.args.arena.now c.args.a c.in-Ok.cell (sym c.in-Ok.ensures) c.requires (quiet-cell c.in-Ok.cell c.in_default-cell.not-Waiting) in
-    HasPlaces-ok M c.args.table.now c.args.arena.now c.args.a _ (by_put (first_at (rows_of c.args.table.now c.args.arena.now) c.args.a) c.args.a) _ _ (sym c.in-Ok.ensures)
-    (other-cell c.args.table.now c.args.arena.now c.requires c.args.a _ _ c.touch_cell.ensures.cell (by_put (first_at (rows_of c.args.table.now c.args.arena.now) c.args.a) c.args.a) refl (λ v. refl) (λ v. refl) c.in-Ok.cell c.in_default-cell.not-Waiting none)
+    let none = nobody M c.args.table.now c.args.arena.now c.args.a c.in-Ok.cell (sym c.in-Ok.ensures) c.requires
+    (quiet-cell c.in-Ok.cell c.in_default-cell.not-Waiting) in
+    HasPlaces-ok M c.args.table.now c.args.arena.now c.args.a _
+    (by_put (first_at (rows_of c.args.table.now c.args.arena.now) c.args.a) c.args.a) _ _ (sym c.in-Ok.ensures)
+    (other-cell c.args.table.now c.args.arena.now c.requires c.args.a _ _ c.touch_cell.ensures.cell
+    (by_put (first_at (rows_of c.args.table.now c.args.arena.now) c.args.a) c.args.a) refl (λ v. refl)
+    (λ v. refl) c.in-Ok.cell c.in_default-cell.not-Waiting none)
 
 pub returns-in_default-cell-clause-sessions : goal.returns-in_default-cell-clause-sessions
 returns-in_default-cell-clause-sessions c =
-    let none = nobody M c.args.table.now c.args.arena.now c.args.a c.in-Ok.cell (sym c.in-Ok.ensures) c.requires (quiet-cell c.in-Ok.cell c.in_default-cell.not-Waiting) in
-    let told = resumed-ok M c.args.table.now c.args.arena.now c.args.a (put c.args.value) c.in-Ok.cell (sym c.in-Ok.ensures)
-    ∙ quiet-state (λ state. (put c.args.value state).resumed ≡ []) c.in-Ok.cell _ c.in_default-cell.not-Waiting none refl (λ v. refl) (λ v. refl) in
+    let none = nobody M c.args.table.now c.args.arena.now c.args.a c.in-Ok.cell (sym c.in-Ok.ensures) c.requires
+    (quiet-cell c.in-Ok.cell c.in_default-cell.not-Waiting) in
+    let told = resumed-ok M c.args.table.now c.args.arena.now c.args.a (put c.args.value) c.in-Ok.cell
+    (sym c.in-Ok.ensures)
+    ∙ quiet-state (λ state. (put c.args.value state).resumed
+    ≡ []) c.in-Ok.cell _ c.in_default-cell.not-Waiting none refl (λ v. refl) (λ v. refl) in
     told-none (page_of_session (length c.args.arena.now.held.lists) c.args.elements) _ _ told
 
 pub returns-in_default-cell-clause-few : goal.returns-in_default-cell-clause-few

@@ -11,8 +11,10 @@ use Rattle.im_memory.proofs.touches.touch_readers.Given as goal
 abbrev pub invariant-loop-reader : goal.invariant-loop-reader
 invariant-loop-reader l = record {
   nodes : (set : List Bool) → IsWithin l.pages set
-      → AreIn (page_of_node (length l.arena.held.lists)) set (nodes_from l.arena.links.records l.at (length l.reader-iterator))
-      → AreIn (page_of_node (length l.arena.held.lists)) set (nodes_from l.arena.links.records (first_in (ends_at l.arena.links l.a)) (length (list_at l.arena.held l.a)));
+      → AreIn (page_of_node (length l.arena.held.lists)) set
+      (nodes_from l.arena.links.records l.at (length l.reader-iterator))
+      → AreIn (page_of_node (length l.arena.held.lists)) set
+      (nodes_from l.arena.links.records (first_in (ends_at l.arena.links l.a)) (length (list_at l.arena.held l.a)));
   sessions : (set : List Bool) → IsWithin l.pages set
       → AreIn (page_of_session (length l.arena.held.lists) l.elements) set (elements_of l.reader-iterator)
       → AreIn (page_of_session (length l.arena.held.lists) l.elements) set (elements_of (list_at l.arena.held l.a));

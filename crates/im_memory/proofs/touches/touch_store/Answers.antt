@@ -9,51 +9,76 @@ use Rattle.im_pages.specs.Places.{page_of_session}
 use Rattle.im_memory.specs.State.{rows_of}
 use Rattle.im_memory.specs.Touched.{by_store, first_at}
 use Rattle.im_memory.specs.Covering.{most_at, most_by_store}
-use Rattle.im_memory.proofs.CoverLemmas.{HasPlaces-err, HasPlaces-ok, resumed-err, resumed-ok, most-ok, nobody, somebody, store-readers, other-cell, quiet-state, quiet-cell, told-none, told-readers, size-length}
+use Rattle.im_memory.proofs.CoverLemmas.{HasPlaces-err, HasPlaces-ok, resumed-err, resumed-ok, most-ok, nobody}
+use Rattle.im_memory.proofs.CoverLemmas.{somebody, store-readers, other-cell, quiet-state, quiet-cell, told-none}
+use Rattle.im_memory.proofs.CoverLemmas.{told-readers, size-length}
 use Rattle.im_memory.proofs.touches.touch_store.Goals as goal
 
 pub returns-in-Err-clause-places : goal.returns-in-Err-clause-places
-returns-in-Err-clause-places c = HasPlaces-err I c.args.table.now c.args.arena.now c.args.a _ (by_store c.args.arena.now.links.records (first_at (rows_of c.args.table.now c.args.arena.now) c.args.a) c.args.a) _ _ (sym c.in-Err.ensures)
+returns-in-Err-clause-places c = HasPlaces-err I c.args.table.now c.args.arena.now c.args.a _
+    (by_store c.args.arena.now.links.records
+    (first_at (rows_of c.args.table.now c.args.arena.now) c.args.a) c.args.a) _ _ (sym c.in-Err.ensures)
 
 pub returns-in-Err-clause-sessions : goal.returns-in-Err-clause-sessions
 returns-in-Err-clause-sessions c =
-    told-none (page_of_session (length c.args.arena.now.held.lists) c.args.elements) _ _ (resumed-err I c.args.table.now c.args.arena.now c.args.a (store c.args.value) _ (sym c.in-Err.ensures))
+    told-none (page_of_session (length c.args.arena.now.held.lists) c.args.elements) _ _
+    (resumed-err I c.args.table.now c.args.arena.now c.args.a (store c.args.value) _ (sym c.in-Err.ensures))
 
 pub returns-in-Waiting-clause-places : goal.returns-in-Waiting-clause-places
 returns-in-Waiting-clause-places c =
-    HasPlaces-ok I c.args.table.now c.args.arena.now c.args.a _ (by_store c.args.arena.now.links.records (first_at (rows_of c.args.table.now c.args.arena.now) c.args.a) c.args.a) _ Waiting (sym c.in-Ok.ensures ∙ ap (λ x. Ok x) c.in-Waiting.is)
-    (store-readers c.args.table.now c.args.arena.now c.requires.agree c.args.a _ _ (c.touch_readers.ensures.kept _ c.touch_cell.ensures.cell) c.touch_readers.ensures.nodes)
+    HasPlaces-ok I c.args.table.now c.args.arena.now c.args.a _
+    (by_store c.args.arena.now.links.records
+    (first_at (rows_of c.args.table.now c.args.arena.now) c.args.a) c.args.a) _ Waiting
+    (sym c.in-Ok.ensures ∙ ap (λ x. Ok x) c.in-Waiting.is)
+    (store-readers c.args.table.now c.args.arena.now c.requires.agree c.args.a _ _
+    (c.touch_readers.ensures.kept _ c.touch_cell.ensures.cell) c.touch_readers.ensures.nodes)
 
 pub returns-in-Waiting-clause-sessions : goal.returns-in-Waiting-clause-sessions
 returns-in-Waiting-clause-sessions c =
-    let told = resumed-ok I c.args.table.now c.args.arena.now c.args.a (store c.args.value) Waiting (sym c.in-Ok.ensures ∙ ap (λ x. Ok x) c.in-Waiting.is) in
-    told-readers (page_of_session (length c.args.arena.now.held.lists) c.args.elements) _ _ (list_at c.args.arena.now.held c.args.a) c.args.value told c.touch_readers.ensures.sessions
+    let told = resumed-ok I c.args.table.now c.args.arena.now c.args.a (store c.args.value) Waiting
+    (sym c.in-Ok.ensures ∙ ap (λ x. Ok x) c.in-Waiting.is) in
+    told-readers (page_of_session (length c.args.arena.now.held.lists) c.args.elements) _ _
+    (list_at c.args.arena.now.held c.args.a) c.args.value told c.touch_readers.ensures.sessions
 
 pub returns-in-Waiting-clause-few : goal.returns-in-Waiting-clause-few
 returns-in-Waiting-clause-few c =
     let waits = sym c.in-Ok.ensures ∙ ap (λ x. Ok x) c.in-Waiting.is in
     let some = somebody I c.args.table.now c.args.arena.now c.args.a waits c.requires.agree in
     let all = length c.args.pages.now in
-    let most : most_at I (most_by_store all) (held_at (cells_of c.args.table.now c.args.arena.now) c.args.a) ≡ all = most-ok I c.args.table.now c.args.arena.now c.args.a (most_by_store all) Waiting waits ∙ ap (λ ws. most_by_store all (IsEmpty ws)) some.2 in
+    let most : most_at I (most_by_store all) (held_at (cells_of c.args.table.now c.args.arena.now) c.args.a)
+    ≡ all = most-ok I c.args.table.now c.args.arena.now c.args.a (most_by_store all) Waiting waits
+    ∙ ap (λ ws. most_by_store all (IsEmpty ws)) some.2 in
     omega (arith, size-length c.touch_readers.new.pages)
 
 pub returns-in_default-clause-places : goal.returns-in_default-clause-places
 returns-in_default-clause-places c =
-    let none = nobody I c.args.table.now c.args.arena.now c.args.a c.in-Ok.cell (sym c.in-Ok.ensures) c.requires.agree (quiet-cell c.in-Ok.cell c.in_default.not-Waiting) in
-    HasPlaces-ok I c.args.table.now c.args.arena.now c.args.a _ (by_store c.args.arena.now.links.records (first_at (rows_of c.args.table.now c.args.arena.now) c.args.a) c.args.a) _ _ (sym c.in-Ok.ensures)
-    (other-cell c.args.table.now c.args.arena.now c.requires.agree c.args.a _ _ c.touch_cell.ensures.cell (by_store c.args.arena.now.links.records (first_at (rows_of c.args.table.now c.args.arena.now) c.args.a) c.args.a) refl (λ v. refl) (λ v. refl) c.in-Ok.cell c.in_default.not-Waiting none)
+    let none = nobody I c.args.table.now c.args.arena.now c.args.a c.in-Ok.cell
+    (sym c.in-Ok.ensures) c.requires.agree (quiet-cell c.in-Ok.cell c.in_default.not-Waiting) in
+    HasPlaces-ok I c.args.table.now c.args.arena.now c.args.a _
+    (by_store c.args.arena.now.links.records
+    (first_at (rows_of c.args.table.now c.args.arena.now) c.args.a) c.args.a) _ _ (sym c.in-Ok.ensures)
+    (other-cell c.args.table.now c.args.arena.now c.requires.agree c.args.a _ _ c.touch_cell.ensures.cell
+    (by_store c.args.arena.now.links.records
+    (first_at (rows_of c.args.table.now c.args.arena.now) c.args.a) c.args.a) refl (λ v. refl)
+    (λ v. refl) c.in-Ok.cell c.in_default.not-Waiting none)
 
 pub returns-in_default-clause-sessions : goal.returns-in_default-clause-sessions
 returns-in_default-clause-sessions c =
-    let none = nobody I c.args.table.now c.args.arena.now c.args.a c.in-Ok.cell (sym c.in-Ok.ensures) c.requires.agree (quiet-cell c.in-Ok.cell c.in_default.not-Waiting) in
-    let told = resumed-ok I c.args.table.now c.args.arena.now c.args.a (store c.args.value) c.in-Ok.cell (sym c.in-Ok.ensures)
-    ∙ quiet-state (λ state. (store c.args.value state).resumed ≡ []) c.in-Ok.cell _ c.in_default.not-Waiting none refl (λ v. refl) (λ v. refl) in
+    let none = nobody I c.args.table.now c.args.arena.now c.args.a c.in-Ok.cell
+    (sym c.in-Ok.ensures) c.requires.agree (quiet-cell c.in-Ok.cell c.in_default.not-Waiting) in
+    let told = resumed-ok I c.args.table.now c.args.arena.now c.args.a (store c.args.value) c.in-Ok.cell
+    (sym c.in-Ok.ensures)
+    ∙ quiet-state (λ state. (store c.args.value state).resumed
+    ≡ []) c.in-Ok.cell _ c.in_default.not-Waiting none refl (λ v. refl) (λ v. refl) in
     told-none (page_of_session (length c.args.arena.now.held.lists) c.args.elements) _ _ told
 
 pub returns-in_default-clause-few : goal.returns-in_default-clause-few
 returns-in_default-clause-few c =
-    let none = nobody I c.args.table.now c.args.arena.now c.args.a c.in-Ok.cell (sym c.in-Ok.ensures) c.requires.agree (quiet-cell c.in-Ok.cell c.in_default.not-Waiting) in
+    let none = nobody I c.args.table.now c.args.arena.now c.args.a c.in-Ok.cell
+    (sym c.in-Ok.ensures) c.requires.agree (quiet-cell c.in-Ok.cell c.in_default.not-Waiting) in
     let all = length c.args.pages.now in
-    let most = most-ok I c.args.table.now c.args.arena.now c.args.a (most_by_store all) c.in-Ok.cell (sym c.in-Ok.ensures)
-    ∙ quiet-state (λ state. most_by_store all state ≡ 1) c.in-Ok.cell _ c.in_default.not-Waiting none refl (λ v. refl) (λ v. refl) in
+    let most = most-ok I c.args.table.now c.args.arena.now c.args.a (most_by_store all) c.in-Ok.cell
+    (sym c.in-Ok.ensures)
+    ∙ quiet-state (λ state. most_by_store all state ≡ 1) c.in-Ok.cell _ c.in_default.not-Waiting none refl
+    (λ v. refl) (λ v. refl) in
     omega arith

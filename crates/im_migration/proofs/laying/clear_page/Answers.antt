@@ -1,4 +1,5 @@
-use Rattle.std.proofs.Common.{◌≡◌, ◌+◌, ◌-◌, ◌≤◌, List, ℕ, length, take, replicate, subst, sym, arith, length-take, Result, Ok, Err, OnOk}
+use Rattle.std.proofs.Common.{◌≡◌, ◌+◌, ◌-◌, ◌≤◌, List, ℕ, length, take, replicate, subst, sym, arith, length-take}
+use Rattle.std.proofs.Common.{Result, Ok, Err, OnOk}
 use Rattle.std.proofs.lemmas.List.{length-replicate}
 use Rattle.im_migration.specs.Laying.{AreCleared}
 use Rattle.im_migration.proofs.Cleared.{cleared_more, replicated, taken}
@@ -17,8 +18,10 @@ returns-clause-cleared g c = on_ok c.write_beside.result c.write_beside.ensures.
     let whole : length file ≡ c.args.whole = c.requires.size (c.write_beside.ensures.honest h) in
     let zeros : List ℕ = replicate 4096 0 in
     let long : length zeros ≡ 4096 = length-replicate {A = ℕ} 4096 0 in
-    let ends : from + length (take (end - from) zeros) ≡ end = omega (arith, length-take (end - from) zeros, long, order.0, order.1) in
+    let ends : from + length (take (end - from) zeros)
+    ≡ end = omega (arith, length-take (end - from) zeros, long, order.0, order.1) in
     let fits : end ≤ length file = omega (arith, whole, order.2) in
     subst (λ (b : List ℕ). AreCleared (c.args.page + 1) c.args.whole b) (sym (w h))
-    (cleared_more c.args.page from end c.args.whole (take (end - from) zeros) file (taken (end - from) zeros (replicated 4096))
+    (cleared_more c.args.page from end c.args.whole (take (end - from) zeros) file
+    (taken (end - from) zeros (replicated 4096))
     ends fits whole c.piece-from.ensures.from.0 c.piece-from.ensures.from.1 c.piece-from.ensures.all before))

@@ -8,4 +8,5 @@ on_ok (Err e) p then = tt
 
 pub returns-clause-written : goal.returns-clause-written
 returns-clause-written g c = on_ok c.write_beside.result c.write_beside.ensures.written (λ w h.
-    subst (λ (b : List ℕ). (g.N.Disk.now c.write_beside.new.new).bytes ≡ overlaid (g.N.Disk.now c.args.new.now).bytes 1 (take 63 (drop 1 b))) c.spell-bytes.ensures (w h))
+    subst (λ (b : List ℕ). (g.N.Disk.now c.write_beside.new.new).bytes
+    ≡ overlaid (g.N.Disk.now c.args.new.now).bytes 1 (take 63 (drop 1 b))) c.spell-bytes.ensures (w h))

@@ -14,8 +14,12 @@ loop-i-preserved g c = record {
       let before = c.write_beside.ensures.honest h in
       let long : length c.encode_page.new.page ≡ 4096 = search rules in
       subst (λ (l : List ℕ). IsLaid s r (c.loop-i.i + 1) 0 l) (sym (c.in_ok-write_beside.ensures.written h))
-      (laid_page s r c.loop-i.i _ c.encode_page.new.page (g.N.Disk.now c.loop-i.new).bytes (omega (arith, c.area_at.ensures.at)) long (omega (arith, c.loop-i-test.true, c.area_pages-i-end.ensures.pages)) c.encode_page.ensures (c.loop-i.invariant.laid before));
+      (laid_page s r c.loop-i.i _ c.encode_page.new.page (g.N.Disk.now c.loop-i.new).bytes
+      (omega (arith, c.area_at.ensures.at)) long
+      (omega (arith, c.loop-i-test.true, c.area_pages-i-end.ensures.pages)) c.encode_page.ensures
+      (c.loop-i.invariant.laid before));
   blank = λ h.
-      blank_then g.N.Disk.now g.N.Disk.past c.args.new.now c.loop-i.new c.write_beside.new.new (c.loop-i.invariant.blank (c.write_beside.ensures.honest h)) (c.write_beside.ensures.blank h);
+      blank_then g.N.Disk.now g.N.Disk.past c.args.new.now c.loop-i.new c.write_beside.new.new
+      (c.loop-i.invariant.blank (c.write_beside.ensures.honest h)) (c.write_beside.ensures.blank h);
   failures = c.in_ok-write_beside.ensures.failures ∙ c.loop-i.invariant.failures;
 }

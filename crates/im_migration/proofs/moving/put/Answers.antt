@@ -10,24 +10,32 @@ pub returns-in-Ok-clause-leaves : goal.returns-in-Ok-clause-leaves
 returns-in-Ok-clause-leaves g c = λ h2.
     let h1 = c.lay_down.ensures.honest h2 in
     let i = c.args.image.now in
-    let is = c.header_for.ensures ∙ ap (λ (n : ℕ). moved_header (sizes_of i.header.limits) n) c.count-count.ensures.count in
-    leaves_after (g.N.Disk.now c.args.new.now) (g.N.Disk.now c.find_place.new.new) (g.N.Disk.now c.lay_down.new.new) (g.N.Disk.past c.args.new.now) (g.N.Disk.past c.find_place.new.new) (g.N.Disk.past c.lay_down.new.new)
+    let is = c.header_for.ensures
+    ∙ ap (λ (n : ℕ). moved_header (sizes_of i.header.limits) n) c.count-count.ensures.count in
+    leaves_after (g.N.Disk.now c.args.new.now) (g.N.Disk.now c.find_place.new.new) (g.N.Disk.now c.lay_down.new.new)
+    (g.N.Disk.past c.args.new.now) (g.N.Disk.past c.find_place.new.new) (g.N.Disk.past c.lay_down.new.new)
     (λ file. IsBlank file ⊎ IsLaidDown (moved_header (sizes_of i.header.limits) i.journal.count) i.memory.contents file)
     (c.find_place.ensures.leaves h1)
-    (subst (λ (h : Header). LeavesWithin g.N.Disk.now g.N.Disk.past c.find_place.new.new c.lay_down.new.new (λ file. IsBlank file ⊎ IsLaidDown h i.memory.contents file)) is (c.lay_down.ensures.leaves h2).within)
+    (subst (λ (h : Header). LeavesWithin g.N.Disk.now g.N.Disk.past c.find_place.new.new c.lay_down.new.new
+    (λ file. IsBlank file ⊎ IsLaidDown h i.memory.contents file)) is (c.lay_down.ensures.leaves h2).within)
 
 pub returns-in-Ok-clause-moved : goal.returns-in-Ok-clause-moved
 returns-in-Ok-clause-moved g c =
     let i = c.args.image.now in
-    let is = c.header_for.ensures ∙ ap (λ (n : ℕ). moved_header (sizes_of i.header.limits) n) c.count-count.ensures.count in
-    λ h2. subst (λ (h : Header). LeavesNow (g.N.Disk.now c.lay_down.new.new) (IsLaidDown h i.memory.contents)) is (c.in-Ok.ensures.laid h2)
+    let is = c.header_for.ensures
+    ∙ ap (λ (n : ℕ). moved_header (sizes_of i.header.limits) n) c.count-count.ensures.count in
+    λ h2. subst (λ (h : Header). LeavesNow (g.N.Disk.now c.lay_down.new.new) (IsLaidDown h i.memory.contents)) is
+    (c.in-Ok.ensures.laid h2)
 
 pub returns-in-Err-clause-leaves : goal.returns-in-Err-clause-leaves
 returns-in-Err-clause-leaves g c = λ h2.
     let h1 = c.lay_down.ensures.honest h2 in
     let i = c.args.image.now in
-    let is = c.header_for.ensures ∙ ap (λ (n : ℕ). moved_header (sizes_of i.header.limits) n) c.count-count.ensures.count in
-    leaves_after (g.N.Disk.now c.args.new.now) (g.N.Disk.now c.find_place.new.new) (g.N.Disk.now c.lay_down.new.new) (g.N.Disk.past c.args.new.now) (g.N.Disk.past c.find_place.new.new) (g.N.Disk.past c.lay_down.new.new)
+    let is = c.header_for.ensures
+    ∙ ap (λ (n : ℕ). moved_header (sizes_of i.header.limits) n) c.count-count.ensures.count in
+    leaves_after (g.N.Disk.now c.args.new.now) (g.N.Disk.now c.find_place.new.new) (g.N.Disk.now c.lay_down.new.new)
+    (g.N.Disk.past c.args.new.now) (g.N.Disk.past c.find_place.new.new) (g.N.Disk.past c.lay_down.new.new)
     (λ file. IsBlank file ⊎ IsLaidDown (moved_header (sizes_of i.header.limits) i.journal.count) i.memory.contents file)
     (c.find_place.ensures.leaves h1)
-    (subst (λ (h : Header). LeavesWithin g.N.Disk.now g.N.Disk.past c.find_place.new.new c.lay_down.new.new (λ file. IsBlank file ⊎ IsLaidDown h i.memory.contents file)) is (c.lay_down.ensures.leaves h2).within)
+    (subst (λ (h : Header). LeavesWithin g.N.Disk.now g.N.Disk.past c.find_place.new.new c.lay_down.new.new
+    (λ file. IsBlank file ⊎ IsLaidDown h i.memory.contents file)) is (c.lay_down.ensures.leaves h2).within)

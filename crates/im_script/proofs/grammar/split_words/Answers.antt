@@ -6,5 +6,6 @@ use Rattle.im_script.proofs.grammar.split_words.Goals as goal
 
 pub returns : goal.returns
 returns c = map_from_collect _ c.collect.ensures.ran (YieldsList-from_filter _ (λ w. not (length w == 0))
-    (YieldsList-from_slice_split _ (λ b. b == 32) c.args.line.now (search rules) (search rules) c.split.ensures.closure (λ x b q k. search (rules, tests)))
+    (YieldsList-from_slice_split _ (λ b. b == 32) c.args.line.now (search rules)
+    (search rules) c.split.ensures.closure (λ x b q k. search (rules, tests)))
     c.filter.ensures.closure (λ x b q k. search (rules, tests)))

@@ -10,11 +10,17 @@ use Rattle.im_script.proofs.script.read_lines.Goals as goal
 
 first : goal.returns-in_err-hear-clause-first
 first c =
-    let turn = YieldsList-turn (YieldsList-from_slice_split {s = c.into_iter-line-iterator.result} _ (λ byte. byte == 10) c.args.text.now (search rules) (search rules) (ap split_callee c.into_iter-line-iterator.ensures.into_iter_gives ∙ c.split-line-items.ensures.closure) (λ x b q k. search (rules, tests)))
+    let turn = YieldsList-turn
+    (YieldsList-from_slice_split {s = c.into_iter-line-iterator.result} _ (λ byte. byte == 10) c.args.text.now
+    (search rules) (search rules)
+    (ap split_callee c.into_iter-line-iterator.ensures.into_iter_gives ∙ c.split-line-items.ensures.closure)
+    (λ x b q k. search (rules, tests)))
     c.loop-line.yielded c.loop-line.line-iterator c.loop-line.yielded_by c.next.result c.next.new.self c.in-Some.line c.in-Some.is c.next.ensures.steps in
     let was : c.hear.result ≡ Err c.in_err-hear.field-0.0 = first_of (cc, search rules, grind arith) in
     let now : c.from_residual.result ≡ Err c.in_err-hear.field-0.0 = first_of (cc, search rules, grind arith) in
-    passes_first c.args.glances c.args.text.now (draft_of c.loop-line.reader) (length c.loop-line.yielded) _ c.in-Some.line.now _ _ _ turn.0 turn.1 c.loop-line.invariant.1 (omega (arith, c.loop-line.invariant.0)) was now c.hear.ensures.bad
+    passes_first c.args.glances c.args.text.now (draft_of c.loop-line.reader)
+    (length c.loop-line.yielded) _ c.in-Some.line.now _ _ _ turn.0 turn.1 c.loop-line.invariant.1
+    (omega (arith, c.loop-line.invariant.0)) was now c.hear.ensures.bad
 
 size : goal.returns-in_err-hear-clause-size
 size c =
@@ -33,15 +39,27 @@ returns-in_err-hear-clause-bad c = passes_bad c.args.glances c.args.text.now _ c
 
 pub loop-line-preserved : goal.loop-line-preserved
 loop-line-preserved c =
-    let turn = YieldsList-turn (YieldsList-from_slice_split {s = c.into_iter-line-iterator.result} _ (λ byte. byte == 10) c.args.text.now (search rules) (search rules) (ap split_callee c.into_iter-line-iterator.ensures.into_iter_gives ∙ c.split-line-items.ensures.closure) (λ x b q k. search (rules, tests)))
+    let turn = YieldsList-turn
+    (YieldsList-from_slice_split {s = c.into_iter-line-iterator.result} _ (λ byte. byte == 10) c.args.text.now
+    (search rules) (search rules)
+    (ap split_callee c.into_iter-line-iterator.ensures.into_iter_gives ∙ c.split-line-items.ensures.closure)
+    (λ x b q k. search (rules, tests)))
     c.loop-line.yielded c.loop-line.line-iterator c.loop-line.yielded_by c.next.result c.next.new.self c.in-Some.line c.in-Some.is c.next.ensures.steps in (
       omega (arith, length-append c.loop-line.yielded (c.in-Some.line ∷ []), c.loop-line.invariant.0),
-      line_follows c.args.glances (draft_of c.loop-line.reader) (draft_of c.hear.new.self) c.in_ok-hear.field-0 (lines_of c.args.text.now) (length c.loop-line.yielded) (length (c.loop-line.yielded ++ c.in-Some.line ∷ [])) c.in-Some.line.now
-          turn.0 turn.1 (length-append c.loop-line.yielded (c.in-Some.line ∷ [])) c.loop-line.invariant.1 c.in_ok-hear.ensures.ok,
+      line_follows c.args.glances (draft_of c.loop-line.reader) (draft_of c.hear.new.self) c.in_ok-hear.field-0
+          (lines_of c.args.text.now) (length c.loop-line.yielded)
+          (length (c.loop-line.yielded ++ c.in-Some.line ∷ [])) c.in-Some.line.now
+          turn.0 turn.1 (length-append c.loop-line.yielded
+          (c.in-Some.line ∷ [])) c.loop-line.invariant.1 c.in_ok-hear.ensures.ok,
     )
 
 pub returns-clause-ok : goal.returns-clause-ok
 returns-clause-ok c =
-    let end = YieldsList-end (YieldsList-from_slice_split {s = c.into_iter-line-iterator.result} _ (λ byte. byte == 10) c.args.text.now (search rules) (search rules) (ap split_callee c.into_iter-line-iterator.ensures.into_iter_gives ∙ c.split-line-items.ensures.closure) (λ x b q k. search (rules, tests)))
+    let end = YieldsList-end
+    (YieldsList-from_slice_split {s = c.into_iter-line-iterator.result} _ (λ byte. byte == 10) c.args.text.now
+    (search rules) (search rules)
+    (ap split_callee c.into_iter-line-iterator.ensures.into_iter_gives ∙ c.split-line-items.ensures.closure)
+    (λ x b q k. search (rules, tests)))
     c.loop-line.yielded c.loop-line.line-iterator c.loop-line.yielded_by c.next.result c.next.new.self c.in-None.is c.next.ensures.steps in
-    script_is c.args.glances c.args.text.now (draft_of c.loop-line.reader) (length c.loop-line.yielded) c.requires.few (omega (arith, end.1)) c.loop-line.invariant.1
+    script_is c.args.glances c.args.text.now (draft_of c.loop-line.reader)
+    (length c.loop-line.yielded) c.requires.few (omega (arith, end.1)) c.loop-line.invariant.1

@@ -5,4 +5,5 @@ use Rattle.im_script.proofs.script.read_lines.Given as goal
 
 -- as many lines were read as were counted, and the reader has what they say
 abbrev pub invariant-loop-line : goal.invariant-loop-line
-invariant-loop-line l = (l.number ≡ length l.yielded) × (lines_after l.glances new_draft (take (length l.yielded) (lines_of l.text)) ≡ Some (draft_of l.reader))
+invariant-loop-line l = (l.number ≡ length l.yielded)
+    × (lines_after l.glances new_draft (take (length l.yielded) (lines_of l.text)) ≡ Some (draft_of l.reader))

@@ -12,14 +12,18 @@ returns-in_default c =
     let e = c.self.inside in
     let m = c.args.memory.now in
     let recent : e.recent ≡ c.args.self.now.recent = ap (λ (s : PagedCheckpoint). s.recent) c.self.view_is in
-    let none : left_in c.args.self.now.state.step ≡ [] = sym (ap (λ (s : PagedCheckpoint). left_in s.state.step) c.self.view_is) ∙ left_none e.step e.count (pages_from e.next e.left) c.in_default.not-PagesLeft in
+    let none : left_in c.args.self.now.state.step
+    ≡ [] = sym (ap (λ (s : PagedCheckpoint). left_in s.state.step) c.self.view_is)
+    ∙ left_none e.step e.count (pages_from e.next e.left) c.in_default.not-PagesLeft in
     record {
       state = ap (λ (s : PagedCheckpoint). s.state) c.self.view_is;
       older = ap (λ (s : PagedCheckpoint). s.older) c.self.view_is;
       size = c.touches.ensures.length ∙ ap length recent;
       kept = subst (λ (s : List Bool). IsWithin s c.touches.new.pages) recent c.touches.ensures.kept;
-      few = subst (λ (s : List Bool). size_of c.touches.new.pages ≤ size_of s + most_pages (length s) m.contents c.args.command.now) recent c.touches.ensures.few;
+      few = subst (λ (s : List Bool). size_of c.touches.new.pages ≤ size_of s + most_pages
+          (length s) m.contents c.args.command.now) recent c.touches.ensures.few;
       others = c.touches.ensures.others;
-      copied = λ page lt among fresh there. let it = subst (λ (l : List ℕ). Contains l page) none among in absurd (omega (arith, it.1));
+      copied = λ page lt among fresh there. let it = subst (λ (l : List ℕ). Contains l page) none among in absurd
+          (omega (arith, it.1));
       stay = λ page lt there. ap (λ (s : PagedCheckpoint). copy_of s.copies page) c.self.view_is;
     }

@@ -1,4 +1,5 @@
-use Rattle.std.proofs.Common.{◌≡◌, ◌+◌, ◌<◌, ◌≤◌, ℕ, List, Bool, true, false, length, replicate, sym, ◌∙◌, ap, subst, arith}
+use Rattle.std.proofs.Common.{◌≡◌, ◌+◌, ◌<◌, ◌≤◌, ℕ, List, Bool, true, false, length, replicate, sym, ◌∙◌, ap, subst}
+use Rattle.std.proofs.Common.{arith}
 use Rattle.std.specs.List.{Contains}
 use Rattle.std.proofs.lemmas.List.{length-replicate}
 use Rattle.im_types.specs.Layout.{layout_in_use, area_pages}
@@ -19,7 +20,9 @@ invariant_of-self c =
     let e = c.self.inside in
     let m = c.args.memory.now in
     let named : List Bool = c.touches.new.pages in
-    let named_size : length c.touches.new.pages ≡ area_pages layout_in_use (seen e.header).sizes = c.touches.ensures.length ∙ ap length c.clear.ensures ∙ length-replicate (length e.named) false ∙ c.self.invariant.named_size in
+    let named_size : length c.touches.new.pages
+    ≡ area_pages layout_in_use (seen e.header).sizes = c.touches.ensures.length ∙ ap length c.clear.ensures
+    ∙ length-replicate (length e.named) false ∙ c.self.invariant.named_size in
     let same : length e.recent ≡ length c.touches.new.pages = c.self.invariant.recent_size ∙ sym named_size in
     record {
       number = c.self.invariant.number;
@@ -38,32 +41,52 @@ returns c =
     let e = c.self.inside in
     let m = c.args.memory.now in
     let named : List Bool = c.touches.new.pages in
-    let named_size : length c.touches.new.pages ≡ area_pages layout_in_use (seen e.header).sizes = c.touches.ensures.length ∙ ap length c.clear.ensures ∙ length-replicate (length e.named) false ∙ c.self.invariant.named_size in
+    let named_size : length c.touches.new.pages
+    ≡ area_pages layout_in_use (seen e.header).sizes = c.touches.ensures.length ∙ ap length c.clear.ensures
+    ∙ length-replicate (length e.named) false ∙ c.self.invariant.named_size in
     let same : length e.recent ≡ length c.touches.new.pages = c.self.invariant.recent_size ∙ sym named_size in
-    let header : seen e.header ≡ c.args.self.now.state.header = header_is c.args.self.now (seen e.header) e.step e.count (pages_from e.next e.left) e.recent e.older e.copies c.self.view_is in
+    let header : seen e.header
+    ≡ c.args.self.now.state.header = header_is c.args.self.now (seen e.header) e.step e.count
+    (pages_from e.next e.left) e.recent e.older e.copies c.self.view_is in
     let recent : e.recent ≡ c.args.self.now.recent = ap (λ (s : PagedCheckpoint). s.recent) c.self.view_is in
-    let few : size_of c.touches.new.pages ≤ 0 + most_pages (length c.args.self.now.recent) m.contents c.args.command.now =
-    subst (λ (n : ℕ). size_of c.touches.new.pages ≤ 0 + most_pages n m.contents c.args.command.now) (c.self.invariant.named_size ∙ sym c.self.invariant.recent_size ∙ ap length recent)
-    (subst (λ (n : ℕ). size_of c.touches.new.pages ≤ n + most_pages (length e.named) m.contents c.args.command.now) (size_none (length e.named))
-    (subst (λ (n : ℕ). size_of c.touches.new.pages ≤ size_of (replicate (length e.named) false) + most_pages n m.contents c.args.command.now) (length-replicate (length e.named) false)
-    (subst (λ (s : List Bool). size_of c.touches.new.pages ≤ size_of s + most_pages (length s) m.contents c.args.command.now) c.clear.ensures c.touches.ensures.few))) in
-    let left : left_in c.args.self.now.state.step ≡ pages_from e.next e.left = ap left_in (step_left c.args.self.now (seen e.header) e.step e.count (pages_from e.next e.left) e.recent e.older e.copies c.self.view_is c.requires.step) in
+    let few : size_of c.touches.new.pages ≤ 0 + most_pages
+    (length c.args.self.now.recent) m.contents c.args.command.now =
+    subst (λ (n : ℕ). size_of c.touches.new.pages ≤ 0 + most_pages n m.contents c.args.command.now)
+    (c.self.invariant.named_size ∙ sym c.self.invariant.recent_size ∙ ap length recent)
+    (subst (λ (n : ℕ). size_of c.touches.new.pages ≤ n + most_pages (length e.named) m.contents c.args.command.now)
+    (size_none (length e.named))
+    (subst (λ (n : ℕ). size_of c.touches.new.pages ≤ size_of
+    (replicate (length e.named) false) + most_pages n m.contents c.args.command.now)
+    (length-replicate (length e.named) false)
+    (subst (λ (s : List Bool). size_of c.touches.new.pages ≤ size_of s + most_pages
+    (length s) m.contents c.args.command.now) c.clear.ensures c.touches.ensures.few))) in
+    let left : left_in c.args.self.now.state.step
+    ≡ pages_from e.next e.left = ap left_in
+    (step_left c.args.self.now (seen e.header) e.step e.count
+    (pages_from e.next e.left) e.recent e.older e.copies c.self.view_is c.requires.step) in
     record {
       state = ap (λ (s : PagedCheckpoint). s.state) c.self.view_is;
       older = ap (λ (s : PagedCheckpoint). s.older) c.self.view_is;
       size = ap length c.union_with.ensures ∙ length-union e.recent named ∙ ap length recent;
-      kept = λ page there. ap (λ (s : List Bool). has s page) c.union_with.ensures ∙ within_union e.recent named same page (ap (λ (s : List Bool). has s page) recent ∙ there);
+      kept = λ page there. ap (λ (s : List Bool). has s page) c.union_with.ensures
+          ∙ within_union e.recent named same page (ap (λ (s : List Bool). has s page) recent ∙ there);
       few = omega (arith, ap size_of c.union_with.ensures, size_union e.recent named, few, ap size_of recent);
-      others = λ after changes page out. c.touches.ensures.others after changes page (out_of_union e.recent named same page (sym (ap (λ (s : List Bool). has s page) c.union_with.ensures) ∙ out));
+      others = λ after changes page out. c.touches.ensures.others after changes page
+          (out_of_union e.recent named same page (sym (ap (λ (s : List Bool). has s page) c.union_with.ensures) ∙ out));
       copied = λ page lt among fresh there.
-          let low : page < area_pages layout_in_use (seen e.header).sizes = subst (λ (h : Header). page < area_pages layout_in_use h.sizes) (sym header) lt in
+          let low : page < area_pages layout_in_use (seen e.header).sizes = subst
+          (λ (h : Header). page < area_pages layout_in_use h.sizes) (sym header) lt in
           let unchanged : has e.recent page ≡ false = ap (λ (s : List Bool). has s page) recent ∙ fresh in
           let it = listed e.left e.next page (subst (λ (l : List ℕ). Contains l page) left among) in
-          let is_named : has named page ≡ true = new_in_union e.recent named same page (omega (arith, low, c.self.invariant.recent_size)) unchanged (sym (ap (λ (s : List Bool). has s page) c.union_with.ensures) ∙ there) in
+          let is_named : has named page
+          ≡ true = new_in_union e.recent named same page
+          (omega (arith, low, c.self.invariant.recent_size)) unchanged
+          (sym (ap (λ (s : List Bool). has s page) c.union_with.ensures) ∙ there) in
           subst (λ (h : Header). IsAreaPage h.sizes m.records page (copy_of c.copy_pages.new.copies page)) header
           (c.copy_pages.ensures.copied page it.from low is_named it.there unchanged);
       stay = λ page lt there.
-          let low : page < area_pages layout_in_use (seen e.header).sizes = subst (λ (h : Header). page < area_pages layout_in_use h.sizes) (sym header) lt in
+          let low : page < area_pages layout_in_use (seen e.header).sizes = subst
+          (λ (h : Header). page < area_pages layout_in_use h.sizes) (sym header) lt in
           c.copy_pages.ensures.stay page low (ap (λ (s : List Bool). has s page) recent ∙ there)
           ∙ ap (λ (s : PagedCheckpoint). copy_of s.copies page) c.self.view_is;
     }

@@ -10,23 +10,30 @@ use Rattle.im_checkpoint.proofs.checkpoint.Checkpoint.sweep.Goals as goal
 pub returns-in-NoCheckpoint-clause-keeps : goal.returns-in-NoCheckpoint-clause-keeps
 returns-in-NoCheckpoint-clause-keeps g c = λ h x m kept.
     let e = c.self.inside in
-    let is : c.args.self.now.state.step ≡ NoCheckpoint = ap (λ (s : PagedCheckpoint). s.state.step) (sym c.self.view_is) ∙ ap (λ (p : Mark). step_of p e.count (pages_from e.next e.left)) c.in-NoCheckpoint.is in
+    let is : c.args.self.now.state.step
+    ≡ NoCheckpoint = ap (λ (s : PagedCheckpoint). s.state.step) (sym c.self.view_is)
+    ∙ ap (λ (p : Mark). step_of p e.count (pages_from e.next e.left)) c.in-NoCheckpoint.is in
     c.sweep_more.ensures.keeps h c.args.self.now.state x m is kept
 
 pub returns-in-NoCheckpoint-clause-calls : goal.returns-in-NoCheckpoint-clause-calls
 returns-in-NoCheckpoint-clause-calls g c = λ h.
     let e = c.self.inside in
-    let is : c.args.self.now.state.step ≡ NoCheckpoint = ap (λ (s : PagedCheckpoint). s.state.step) (sym c.self.view_is) ∙ ap (λ (p : Mark). step_of p e.count (pages_from e.next e.left)) c.in-NoCheckpoint.is in
-    subst (λ (s : Step). CallsBy g.D.Disk.past c.args.disk.now c.sweep_more.new.disk (calls_to_sweep s c.args.journal.now c.args.most) c.sweep_more.result) (sym is) (c.sweep_more.ensures.calls h)
+    let is : c.args.self.now.state.step
+    ≡ NoCheckpoint = ap (λ (s : PagedCheckpoint). s.state.step) (sym c.self.view_is)
+    ∙ ap (λ (p : Mark). step_of p e.count (pages_from e.next e.left)) c.in-NoCheckpoint.is in
+    subst (λ (s : Step). CallsBy g.D.Disk.past c.args.disk.now c.sweep_more.new.disk
+    (calls_to_sweep s c.args.journal.now c.args.most) c.sweep_more.result) (sym is) (c.sweep_more.ensures.calls h)
 
 pub returns-in_default : goal.returns-in_default
 returns-in_default g c =
     let e = c.self.inside in
-    let none = none_under_way (λ s. calls_to_sweep s c.args.journal.now c.args.most) (λ count left. refl) (λ count. refl) (λ count. refl) e.step e.count (pages_from e.next e.left) c.in_default.not-NoCheckpoint
+    let none = none_under_way (λ s. calls_to_sweep s c.args.journal.now c.args.most) (λ count left. refl)
+    (λ count. refl) (λ count. refl) e.step e.count (pages_from e.next e.left) c.in_default.not-NoCheckpoint
     ∙ ap (λ (s : PagedCheckpoint). calls_to_sweep s.state.step c.args.journal.now c.args.most) c.self.view_is in
     record {
       swept = (
-        none_under_way (λ s. swept_at_once s c.args.journal.now c.args.most) (λ count left. refl) (λ count. refl) (λ count. refl) e.step e.count (pages_from e.next e.left) c.in_default.not-NoCheckpoint
+        none_under_way (λ s. swept_at_once s c.args.journal.now c.args.most) (λ count left. refl) (λ count. refl)
+            (λ count. refl) e.step e.count (pages_from e.next e.left) c.in_default.not-NoCheckpoint
             ∙ ap (λ (s : PagedCheckpoint). swept_at_once s.state.step c.args.journal.now c.args.most) c.self.view_is,
         none_more c.args.journal.now,
       );

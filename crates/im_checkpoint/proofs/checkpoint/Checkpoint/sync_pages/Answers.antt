@@ -6,7 +6,9 @@ use Rattle.im_checkpoint.proofs.checkpoint.Checkpoint.sync_pages.Goals as goal
 pub returns-in-Err-clause-keeps : goal.returns-in-Err-clause-keeps
 returns-in-Err-clause-keeps g c = λ h n m j kept.
     let e = c.self.inside in
-    let before = kept_done c.args.self.now (seen e.header) e.step e.count (pages_from e.next e.left) e.recent e.older e.copies c.self.view_is n m j (g.D.Disk.now c.args.disk.now) kept c.requires.step in
+    let before = kept_done c.args.self.now (seen e.header) e.step e.count
+    (pages_from e.next e.left) e.recent e.older e.copies c.self.view_is n m j
+    (g.D.Disk.now c.args.disk.now) kept c.requires.step in
     record {
       leaves = record {
         within = c.close_other.ensures.leaves h e.count _ m j before;
@@ -18,7 +20,9 @@ returns-in-Err-clause-keeps g c = λ h n m j kept.
 pub returns-clause-keeps : goal.returns-clause-keeps
 returns-clause-keeps g c = λ h n m j kept.
     let e = c.self.inside in
-    let before = kept_done c.args.self.now (seen e.header) e.step e.count (pages_from e.next e.left) e.recent e.older e.copies c.self.view_is n m j (g.D.Disk.now c.args.disk.now) kept c.requires.step in
+    let before = kept_done c.args.self.now (seen e.header) e.step e.count
+    (pages_from e.next e.left) e.recent e.older e.copies c.self.view_is n m j
+    (g.D.Disk.now c.args.disk.now) kept c.requires.step in
     record {
       leaves = record {
         within = c.close_other.ensures.leaves h e.count _ m j before;

@@ -15,7 +15,8 @@ use Rattle.im_checkpoint.proofs.checkpoint.Checkpoint.turn.Goals as goal
 pub returns-in-NoCheckpoint-clause-turned : goal.returns-in-NoCheckpoint-clause-turned
 returns-in-NoCheckpoint-clause-turned g c =
     let e = c.self.inside in
-    let is = ap (λ (s : PagedCheckpoint). s.state.step) (sym c.self.view_is) ∙ ap (λ (p : Mark). step_of p e.count (pages_from e.next e.left)) c.in-NoCheckpoint.is in
+    let is = ap (λ (s : PagedCheckpoint). s.state.step) (sym c.self.view_is)
+    ∙ ap (λ (p : Mark). step_of p e.count (pages_from e.next e.left)) c.in-NoCheckpoint.is in
     once_more c.rest.result c.rest.ensures.turned (λ answer it.
     comes_rest c.args.self.now c.args.journal.now c.args.memory.now.contents answer c.rest.new.self c.rest.new.journal it.0 it.1 c.requires.fits is)
 
@@ -23,8 +24,12 @@ pub returns-in-PagesLeft-clause-turned : goal.returns-in-PagesLeft-clause-turned
 returns-in-PagesLeft-clause-turned g c =
     let e = c.self.inside in
     let is : IsPagesLeft c.args.self.now.state.step = search rules in
-    let mark = mark_left c.args.self.now (seen e.header) e.step e.count (pages_from e.next e.left) e.recent e.older e.copies c.self.view_is is in
-    let step = step_left c.args.self.now (seen e.header) e.step e.count (pages_from e.next e.left) e.recent e.older e.copies c.self.view_is is ∙ ap (PagesLeft e.count) (step_in e.left e.next (c.self.invariant.next_low mark) (c.self.invariant.next_left mark)) in
+    let mark = mark_left c.args.self.now (seen e.header) e.step e.count
+    (pages_from e.next e.left) e.recent e.older e.copies c.self.view_is is in
+    let step = step_left c.args.self.now (seen e.header) e.step e.count
+    (pages_from e.next e.left) e.recent e.older e.copies c.self.view_is is
+    ∙ ap (PagesLeft e.count)
+    (step_in e.left e.next (c.self.invariant.next_low mark) (c.self.invariant.next_left mark)) in
     once_more c.write_page.result c.write_page.ensures.turned (λ answer it.
     comes_page c.args.self.now c.args.journal.now c.args.memory.now.contents answer c.write_page.new.self c.args.journal.now (it.0 c.args.journal.now) it.1 c.requires.fits e.count e.next (pages_from (e.next + 1) e.left) step)
 
@@ -45,9 +50,12 @@ pub put_in_force-requires-clause-closed : goal.put_in_force-requires-clause-clos
 put_in_force-requires-clause-closed g c = λ h.
     let e = c.self.inside in
     let is : IsSynced c.args.self.now.state.step = search rules in
-    subst (λ (y : Header). IsClosed (4096 * other y) 64 (g.D.Disk.now c.args.disk.now)) (header_is c.args.self.now (seen e.header) e.step e.count (pages_from e.next e.left) e.recent e.older e.copies c.self.view_is)
+    subst (λ (y : Header). IsClosed (4096 * other y) 64 (g.D.Disk.now c.args.disk.now))
+    (header_is c.args.self.now (seen e.header) e.step e.count
+    (pages_from e.next e.left) e.recent e.older e.copies c.self.view_is)
     (other_closed (seen e.header) e.count _ c.args.memory.now.contents c.args.journal.now (g.D.Disk.now c.args.disk.now)
-    (kept_synced c.args.self.now (seen e.header) e.step e.count (pages_from e.next e.left) e.recent e.older e.copies c.self.view_is c.args.memory.now c.args.memory.now.contents c.args.journal.now (g.D.Disk.now c.args.disk.now) (c.requires.kept h) is))
+    (kept_synced c.args.self.now (seen e.header) e.step e.count
+    (pages_from e.next e.left) e.recent e.older e.copies c.self.view_is c.args.memory.now c.args.memory.now.contents c.args.journal.now (g.D.Disk.now c.args.disk.now) (c.requires.kept h) is))
 
 pub returns-in-Synced-clause-turned : goal.returns-in-Synced-clause-turned
 returns-in-Synced-clause-turned g c =
@@ -57,4 +65,5 @@ returns-in-Synced-clause-turned g c =
     comes_in_force c.args.self.now c.args.journal.now c.args.memory.now.contents answer c.put_in_force.new.self c.put_in_force.new.journal it.0 it.1 c.requires.fits e.count (step_synced c.args.self.now (seen e.header) e.step e.count (pages_from e.next e.left) e.recent e.older e.copies c.self.view_is is))
 
 pub returns-in-Synced-clause-keeps : goal.returns-in-Synced-clause-keeps
-returns-in-Synced-clause-keeps g c = λ h. c.put_in_force.ensures.keeps h c.args.memory.now c.args.memory.now.contents (c.requires.kept (c.put_in_force.ensures.honest h))
+returns-in-Synced-clause-keeps g c = λ h. c.put_in_force.ensures.keeps h c.args.memory.now c.args.memory.now.contents
+    (c.requires.kept (c.put_in_force.ensures.honest h))

@@ -11,5 +11,6 @@ returns-in-Err-clause-moment g c = λ honest.
     let before = at c.args.self.now.ledger.events in
     inr (record {
       past = ap (λ (l : List Event). (at l).past) c.note-in-Err.ensures;
-      now = subst (Shaken before.now) (sym (ap (λ (l : List Event). (at l).now) c.note-in-Err.ensures)) (shaken_by_outcome (first_outcome before.outcomes) before.now);
+      now = subst (Shaken before.now) (sym (ap (λ (l : List Event). (at l).now) c.note-in-Err.ensures))
+          (shaken_by_outcome (first_outcome before.outcomes) before.now);
     })

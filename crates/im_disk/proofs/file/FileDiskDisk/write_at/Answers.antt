@@ -12,6 +12,8 @@ returns-in-Err-clause-moment g c = λ honest.
     let was = subst (λ (l : List Event). IsTrue (after l).agrees) c.note-in-Err.ensures honest in
     inr (record {
       past = ap (λ (l : List Event). (after l).past) c.note-in-Err.ensures;
-      now = subst (Torn c.args.at (length c.args.bytes.now) before.now) (sym (ap (λ (l : List Event). (after l).now) c.note-in-Err.ensures))
-          (torn_by_outcome c.args.at (length c.args.bytes.now) (first_outcome before.outcomes) before.now (c.requires was));
+      now = subst (Torn c.args.at (length c.args.bytes.now) before.now)
+          (sym (ap (λ (l : List Event). (after l).now) c.note-in-Err.ensures))
+          (torn_by_outcome c.args.at (length c.args.bytes.now) (first_outcome before.outcomes) before.now
+          (c.requires was));
     })

@@ -30,7 +30,8 @@ returns-clause-kind c =
     let whole : c.deref.result.now ≡ calls = search rules in
     let is = c.leave.ensures ∙ ap (λ l. left_by c.args.crash b (reverse l)) whole in
     subst (λ (r : Recording). LeftBy c.args.crash r c.leave.new.bytes.items) c.self.view_is
-    (subst (LeftBy c.args.crash (shown b calls c.self.inside.begun c.self.inside.failures)) (sym is) (left_by_kind b calls c.self.invariant.within c.args.crash c.self.inside.begun c.self.inside.failures))
+    (subst (LeftBy c.args.crash (shown b calls c.self.inside.begun c.self.inside.failures)) (sym is)
+    (left_by_kind b calls c.self.invariant.within c.args.crash c.self.inside.begun c.self.inside.failures))
 
 pub returns-clause-after : goal.returns-clause-after
 returns-clause-after c =

@@ -12,7 +12,8 @@ returns-in-Some-clause-record c =
     let counted = c.fault-failure.new.failures in
     let size = ap (λ (r : Recording). length r.moment.bytes) c.self.view_is in
     let fits : c.args.at + c.args.len ≤ length b = omega arith in
-    inl (subst (λ (r : Recording). shown c.fill.new.bytes.items more c.self.inside.begun counted ≡ failed (ticked (scarred c.args.at c.args.len c.args.byte r.moment) r)) c.self.view_is
+    inl (subst (λ (r : Recording). shown c.fill.new.bytes.items more c.self.inside.begun counted
+    ≡ failed (ticked (scarred c.args.at c.args.len c.args.byte r.moment) r)) c.self.view_is
     (fails_scarred b c.self.inside.calls.items more c.self.inside.begun c.self.inside.failures counted c.args.at c.args.len c.in-Ok.old c.self.invariant.begun_among fits (search rules) c.in_default-add.ensures.ok c.fault-failure.ensures.count
     c.args.byte c.in-Some.byte c.fill.new.bytes.items c.in-Some.is c.fill.ensures))
 
@@ -23,7 +24,8 @@ returns-in_default-byte-clause-record c =
     let counted = c.fault-failure.new.failures in
     let size = ap (λ (r : Recording). length r.moment.bytes) c.self.view_is in
     let fits : c.args.at + c.args.len ≤ length b = omega arith in
-    inl (subst (λ (r : Recording). shown b more c.self.inside.begun counted ≡ failed (ticked (scarred c.args.at c.args.len c.args.byte r.moment) r)) c.self.view_is
+    inl (subst (λ (r : Recording). shown b more c.self.inside.begun counted
+    ≡ failed (ticked (scarred c.args.at c.args.len c.args.byte r.moment) r)) c.self.view_is
     (fails_unscarred b c.self.inside.calls.items more c.self.inside.begun c.self.inside.failures counted c.args.at c.args.len c.in-Ok.old c.self.invariant.begun_among fits (search rules) c.in_default-add.ensures.ok c.fault-failure.ensures.count
     c.args.byte c.in_default-byte.is))
 
@@ -35,4 +37,5 @@ returns-in-Some-clause-moment c =
 pub returns-in_default-byte-clause-moment : goal.returns-in_default-byte-clause-moment
 returns-in_default-byte-clause-moment c =
     let after = shown c.self.inside.bytes.items c.add.new.calls.items c.self.inside.begun c.fault-failure.new.failures in
-    may_tick_torn c.args.at c.args.len c.args.byte c.args.self.now after c.requires (returns-in_default-byte-clause-record c)
+    may_tick_torn c.args.at c.args.len c.args.byte c.args.self.now after c.requires
+    (returns-in_default-byte-clause-record c)

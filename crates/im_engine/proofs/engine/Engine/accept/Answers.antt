@@ -14,65 +14,99 @@ pub returns-then-room-eq0-clause-leaves : goal.returns-then-room-eq0-clause-leav
 returns-then-room-eq0-clause-leaves g c =
     let e = c.self.inside in
     let alive : e.failed ≡ false = ap (λ (s : EngineState g.row.D.Denot). s.failed) c.self.view_is ∙ c.requires.alive in
-    subst (λ (s : EngineState g.row.D.Denot). g.D.Disk.honest s.disk → LeavesOnly g.D.Disk.now g.D.Disk.past s.disk s.disk (MeansEither s c.args.command.now)) c.self.view_is (λ h. record {
+    subst (λ (s : EngineState g.row.D.Denot). g.D.Disk.honest s.disk
+    → LeavesOnly g.D.Disk.now g.D.Disk.past s.disk s.disk (MeansEither s c.args.command.now)) c.self.view_is
+    (λ h. record {
       within = leaves_start (g.D.Disk.now e.disk) (g.D.Disk.past e.disk) _;
-      after = λ file left. inl (all_mean e.checkpoint.state (paged e.checkpoint e.memory) e.memory.contents e.journal (g.D.Disk.now e.disk) (c.self.invariant.1 h alive) file left);
+      after = λ file left. inl
+          (all_mean e.checkpoint.state (paged e.checkpoint e.memory) e.memory.contents e.journal
+          (g.D.Disk.now e.disk) (c.self.invariant.1 h alive) file left);
     })
 
 pub returns-then-room-eq0-clause-means : goal.returns-then-room-eq0-clause-means
 returns-then-room-eq0-clause-means g c =
     let e = c.self.inside in
-    subst (λ (s : EngineState g.row.D.Denot). g.D.Disk.honest s.disk → s.failed ≡ false → LeavesNow (g.D.Disk.now s.disk) (MeansState s)) c.self.view_is
-    (λ h f. all_mean e.checkpoint.state (paged e.checkpoint e.memory) e.memory.contents e.journal (g.D.Disk.now e.disk) (c.self.invariant.1 h f))
+    subst (λ (s : EngineState g.row.D.Denot). g.D.Disk.honest s.disk → s.failed ≡ false
+    → LeavesNow (g.D.Disk.now s.disk) (MeansState s)) c.self.view_is
+    (λ h f. all_mean e.checkpoint.state (paged e.checkpoint e.memory) e.memory.contents e.journal
+    (g.D.Disk.now e.disk) (c.self.invariant.1 h f))
 
 pub append-requires : goal.append-requires
 append-requires g c =
     let e = c.self.inside in
     let alive : e.failed ≡ false = ap (λ (s : EngineState g.row.D.Denot). s.failed) c.self.view_is ∙ c.requires.alive in
-    record { holds = λ h. all_hold e.checkpoint.state (paged e.checkpoint e.memory) e.memory.contents e.journal (g.D.Disk.now e.disk) (c.self.invariant.1 h alive) }
+    record {
+      holds = λ h. all_hold e.checkpoint.state (paged e.checkpoint e.memory) e.memory.contents e.journal
+          (g.D.Disk.now e.disk) (c.self.invariant.1 h alive);
+    }
 
 pub returns-in-Err-clause-leaves : goal.returns-in-Err-clause-leaves
 returns-in-Err-clause-leaves g c = λ h.
     let e = c.self.inside in
     let alive : e.failed ≡ false = ap (λ (s : EngineState g.row.D.Denot). s.failed) c.self.view_is ∙ c.requires.alive in
-    let accepted : is_accepted e.memory.contents c.args.command.now ≡ true = ap (λ (s : EngineState g.row.D.Denot). is_accepted s.memory c.args.command.now) c.self.view_is ∙ c.requires.accepted in
-    let means = may_append_means e.checkpoint.state (paged e.checkpoint e.memory) e.memory.contents e.journal (g.D.Disk.now e.disk) (c.self.invariant.1 (c.append.ensures.honest h) alive) (c.args.command.now ∷ []) (step e.memory.contents c.args.command.now).contents (accept_one e.memory.contents c.args.command.now accepted) in
-    subst (λ (s : EngineState g.row.D.Denot). LeavesOnly g.D.Disk.now g.D.Disk.past s.disk c.append.new.disk (MeansEither s c.args.command.now)) c.self.view_is
-    (only_weaker g.D.Disk.now g.D.Disk.past e.disk c.append.new.disk (MayAppend e.journal (c.args.command.now ∷ []) (g.D.Disk.now e.disk)) _ (c.append.ensures.leaves h) means)
+    let accepted : is_accepted e.memory.contents c.args.command.now
+    ≡ true = ap (λ (s : EngineState g.row.D.Denot). is_accepted s.memory c.args.command.now) c.self.view_is
+    ∙ c.requires.accepted in
+    let means = may_append_means e.checkpoint.state (paged e.checkpoint e.memory) e.memory.contents e.journal
+    (g.D.Disk.now e.disk) (c.self.invariant.1 (c.append.ensures.honest h) alive) (c.args.command.now ∷ [])
+    (step e.memory.contents c.args.command.now).contents
+    (accept_one e.memory.contents c.args.command.now accepted) in
+    subst (λ (s : EngineState g.row.D.Denot). LeavesOnly g.D.Disk.now g.D.Disk.past s.disk c.append.new.disk
+    (MeansEither s c.args.command.now)) c.self.view_is
+    (only_weaker g.D.Disk.now g.D.Disk.past e.disk c.append.new.disk
+    (MayAppend e.journal (c.args.command.now ∷ []) (g.D.Disk.now e.disk)) _ (c.append.ensures.leaves h) means)
 
 pub invariant_of-self-2 : goal.invariant_of-self-2
 invariant_of-self-2 g c =
     let e = c.self.inside in
-    let accepted : is_accepted e.memory.contents c.args.command.now ≡ true = ap (λ (s : EngineState g.row.D.Denot). is_accepted s.memory c.args.command.now) c.self.view_is ∙ c.requires.accepted in
+    let accepted : is_accepted e.memory.contents c.args.command.now
+    ≡ true = ap (λ (s : EngineState g.row.D.Denot). is_accepted s.memory c.args.command.now) c.self.view_is
+    ∙ c.requires.accepted in
     let done = c.in_default.ensures in (
       subst (λ (s : CheckpointState). Fits s c.step.new.self.contents c.append.new.self) (sym c.before-2.ensures.state)
           (fits_longer e.checkpoint.state e.memory.contents c.step.new.self.contents e.journal c.append.new.self c.args.command.now c.self.invariant.0 c.step.ensures.contents done.state),
       λ h f. kept_prepared e.checkpoint c.before-2.new.self e.memory c.step.new.self c.args.command.now c.before-2.ensures
           (record { cells = c.self.invariant.0.cells; elements = c.self.invariant.0.elements }) c.step.ensures.changes
           c.step.new.self.contents c.append.new.self (g.D.Disk.now c.append.new.disk)
-          (kept_with_it e.checkpoint.state (paged e.checkpoint e.memory) e.memory.contents e.journal (g.D.Disk.now e.disk) (c.self.invariant.1 (c.append.ensures.honest h) f) c.args.command.now accepted
-          c.step.new.self.contents c.step.ensures.contents c.append.new.self done.state (g.D.Disk.now c.append.new.disk) (done.added h).kept (done.added h).calm (done.added h).added (done.added h).holds),
+          (kept_with_it e.checkpoint.state (paged e.checkpoint e.memory) e.memory.contents e.journal
+          (g.D.Disk.now e.disk) (c.self.invariant.1 (c.append.ensures.honest h) f) c.args.command.now accepted
+          c.step.new.self.contents c.step.ensures.contents c.append.new.self done.state
+          (g.D.Disk.now c.append.new.disk) (done.added h).kept (done.added h).calm (done.added h).added
+          (done.added h).holds),
     )
 
 pub returns-clause-leaves : goal.returns-clause-leaves
 returns-clause-leaves g c = λ h.
     let e = c.self.inside in
     let alive : e.failed ≡ false = ap (λ (s : EngineState g.row.D.Denot). s.failed) c.self.view_is ∙ c.requires.alive in
-    let accepted : is_accepted e.memory.contents c.args.command.now ≡ true = ap (λ (s : EngineState g.row.D.Denot). is_accepted s.memory c.args.command.now) c.self.view_is ∙ c.requires.accepted in
-    let means = may_append_means e.checkpoint.state (paged e.checkpoint e.memory) e.memory.contents e.journal (g.D.Disk.now e.disk) (c.self.invariant.1 (c.append.ensures.honest h) alive) (c.args.command.now ∷ []) (step e.memory.contents c.args.command.now).contents (accept_one e.memory.contents c.args.command.now accepted) in
-    subst (λ (s : EngineState g.row.D.Denot). LeavesOnly g.D.Disk.now g.D.Disk.past s.disk c.append.new.disk (MeansEither s c.args.command.now)) c.self.view_is
-    (only_weaker g.D.Disk.now g.D.Disk.past e.disk c.append.new.disk (MayAppend e.journal (c.args.command.now ∷ []) (g.D.Disk.now e.disk)) _ (c.append.ensures.leaves h) means)
+    let accepted : is_accepted e.memory.contents c.args.command.now
+    ≡ true = ap (λ (s : EngineState g.row.D.Denot). is_accepted s.memory c.args.command.now) c.self.view_is
+    ∙ c.requires.accepted in
+    let means = may_append_means e.checkpoint.state (paged e.checkpoint e.memory) e.memory.contents e.journal
+    (g.D.Disk.now e.disk) (c.self.invariant.1 (c.append.ensures.honest h) alive) (c.args.command.now ∷ [])
+    (step e.memory.contents c.args.command.now).contents
+    (accept_one e.memory.contents c.args.command.now accepted) in
+    subst (λ (s : EngineState g.row.D.Denot). LeavesOnly g.D.Disk.now g.D.Disk.past s.disk c.append.new.disk
+    (MeansEither s c.args.command.now)) c.self.view_is
+    (only_weaker g.D.Disk.now g.D.Disk.past e.disk c.append.new.disk
+    (MayAppend e.journal (c.args.command.now ∷ []) (g.D.Disk.now e.disk)) _ (c.append.ensures.leaves h) means)
 
 pub returns-clause-calls : goal.returns-clause-calls
 returns-clause-calls g c = λ h.
     subst (λ (s : EngineState g.row.D.Denot). CallsBy g.D.Disk.past s.disk c.append.new.disk 4 c.step.result) c.self.view_is
-    (calls_after g.D.Disk.past c.self.inside.disk c.append.new.disk 4 c.append.result _ c.step.result c.in_default.is (c.append.ensures.calls h))
+    (calls_after g.D.Disk.past c.self.inside.disk c.append.new.disk 4 c.append.result _ c.step.result c.in_default.is
+    (c.append.ensures.calls h))
 
 pub returns-clause-means : goal.returns-clause-means
 returns-clause-means g c = λ h f.
     let e = c.self.inside in
-    let accepted : is_accepted e.memory.contents c.args.command.now ≡ true = ap (λ (s : EngineState g.row.D.Denot). is_accepted s.memory c.args.command.now) c.self.view_is ∙ c.requires.accepted in
+    let accepted : is_accepted e.memory.contents c.args.command.now
+    ≡ true = ap (λ (s : EngineState g.row.D.Denot). is_accepted s.memory c.args.command.now) c.self.view_is
+    ∙ c.requires.accepted in
     let done = c.in_default.ensures in
-    all_mean e.checkpoint.state (paged e.checkpoint e.memory) c.step.new.self.contents c.append.new.self (g.D.Disk.now c.append.new.disk)
-    (kept_with_it e.checkpoint.state (paged e.checkpoint e.memory) e.memory.contents e.journal (g.D.Disk.now e.disk) (c.self.invariant.1 (c.append.ensures.honest h) f) c.args.command.now accepted
-    c.step.new.self.contents c.step.ensures.contents c.append.new.self done.state (g.D.Disk.now c.append.new.disk) (done.added h).kept (done.added h).calm (done.added h).added (done.added h).holds)
+    all_mean e.checkpoint.state (paged e.checkpoint e.memory) c.step.new.self.contents c.append.new.self
+    (g.D.Disk.now c.append.new.disk)
+    (kept_with_it e.checkpoint.state (paged e.checkpoint e.memory) e.memory.contents e.journal (g.D.Disk.now e.disk)
+    (c.self.invariant.1 (c.append.ensures.honest h) f) c.args.command.now accepted
+    c.step.new.self.contents c.step.ensures.contents c.append.new.self done.state (g.D.Disk.now c.append.new.disk)
+    (done.added h).kept (done.added h).calm (done.added h).added (done.added h).holds)

@@ -8,5 +8,7 @@ use Rattle.im_engine.proofs.engine.Engine.failed.Goals as goal
 pub returns-clause-means : goal.returns-clause-means
 returns-clause-means g c =
     let e = c.self.inside in
-    subst (λ (s : EngineState g.row.D.Denot). g.D.Disk.honest s.disk → s.failed ≡ false → LeavesNow (g.D.Disk.now s.disk) (MeansState s)) c.self.view_is
-    (λ h f. all_mean e.checkpoint.state (paged e.checkpoint e.memory) e.memory.contents e.journal (g.D.Disk.now e.disk) (c.self.invariant.1 h f))
+    subst (λ (s : EngineState g.row.D.Denot). g.D.Disk.honest s.disk → s.failed ≡ false
+    → LeavesNow (g.D.Disk.now s.disk) (MeansState s)) c.self.view_is
+    (λ h f. all_mean e.checkpoint.state (paged e.checkpoint e.memory) e.memory.contents e.journal
+    (g.D.Disk.now e.disk) (c.self.invariant.1 h f))

@@ -18,5 +18,8 @@ started-requires-clause-kept g c = λ h.
 
 pub returns-in-Ok-clause-image : goal.returns-in-Ok-clause-image
 returns-in-Ok-clause-image g c =
-    subst (λ (s : EngineState g.row.D.Denot). g.D.Disk.honest s.disk → LeavesNow (g.D.Disk.now s.disk) (λ file. file ≡ new_image 0xA5 (sizes_of c.args.limits))) (sym c.started.ensures.state)
-    (λ h file left. left_settled (g.D.Disk.now c.lay_down.new.disk) file (c.in-Ok.ensures.calm h) left ∙ c.in-Ok.ensures.written h)
+    subst (λ (s : EngineState g.row.D.Denot). g.D.Disk.honest s.disk
+    → LeavesNow (g.D.Disk.now s.disk) (λ file. file ≡ new_image 0xA5 (sizes_of c.args.limits)))
+    (sym c.started.ensures.state)
+    (λ h file left. left_settled (g.D.Disk.now c.lay_down.new.disk) file (c.in-Ok.ensures.calm h) left
+    ∙ c.in-Ok.ensures.written h)

@@ -12,12 +12,16 @@ pub returns-in-Ok-idle-clause-found : goal.returns-in-Ok-idle-clause-found
 returns-in-Ok-idle-clause-found g c =
     let i = c.in-Ok.image in
     subst (λ (s : EngineState g.row.D.Denot). g.D.Disk.honest s.disk → LeavesNow (g.D.Disk.now s.disk) (IsFound s)) (sym c.started.ensures.state)
-    (λ h. subst (λ (x : CheckpointState). LeavesNow (g.D.Disk.now c.read_synced.new.disk) (λ file. (x.header ≡ header_of file) × Reads layout_in_use file (Ok (record { contents = i.memory.contents; count = i.journal.count; room = i.journal.room }))))
+    (λ h. subst (λ (x : CheckpointState). LeavesNow (g.D.Disk.now c.read_synced.new.disk)
+    (λ file. (x.header ≡ header_of file)
+    × Reads layout_in_use file
+    (Ok (record { contents = i.memory.contents; count = i.journal.count; room = i.journal.room }))))
     (sym c.in-Ok-idle.ensures.idle.state) (c.in-Ok.ensures.found h))
 
 pub started-requires-clause-kept : goal.started-requires-clause-kept
 started-requires-clause-kept g c = λ h.
     let i = c.in-Ok.image in
     let idle = c.in-Ok-idle.ensures.idle in
-    subst (λ (s : CheckpointState). IsKept s (paged c.in-Ok-idle.checkpoint i.memory) i.memory.contents i.journal (g.D.Disk.now c.read_synced.new.disk)) (sym idle.state)
+    subst (λ (s : CheckpointState). IsKept s (paged c.in-Ok-idle.checkpoint i.memory) i.memory.contents i.journal
+    (g.D.Disk.now c.read_synced.new.disk)) (sym idle.state)
     (c.in-Ok.ensures.kept h (paged c.in-Ok-idle.checkpoint i.memory) idle.recent)

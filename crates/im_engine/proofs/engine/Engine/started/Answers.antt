@@ -6,4 +6,6 @@ pub invariant_of-result : goal.invariant_of-result
 invariant_of-result g c = (c.requires.fits, λ h f. c.requires.kept h)
 
 pub returns-clause-means : goal.returns-clause-means
-returns-clause-means g c = λ h. all_mean c.args.checkpoint.state (paged c.args.checkpoint c.args.memory) c.args.memory.contents c.args.journal (g.D.Disk.now c.args.disk) (c.requires.kept h)
+returns-clause-means g c = λ h. all_mean c.args.checkpoint.state
+    (paged c.args.checkpoint c.args.memory) c.args.memory.contents c.args.journal (g.D.Disk.now c.args.disk)
+    (c.requires.kept h)

@@ -11,5 +11,6 @@ returns-in-Command-clause-leaves g c = λ h f.
 
 pub returns-in-Group-clause-leaves : goal.returns-in-Group-clause-leaves
 returns-in-Group-clause-leaves g c = λ h f.
-    subst (λ (event : Event). LeavesWithin g.D.Disk.now g.D.Disk.past c.args.self.now.disk c.take_group.new.self.disk (MeansBy c.args.self.now event)) (sym c.in-Group.is)
+    subst (λ (event : Event). LeavesWithin g.D.Disk.now g.D.Disk.past c.args.self.now.disk c.take_group.new.self.disk
+    (MeansBy c.args.self.now event)) (sym c.in-Group.is)
     (c.take_group.ensures.leaves h f)

@@ -7,7 +7,8 @@ use Rattle.im_engine.proofs.engine.Engine.take_group.Goals as goal
 
 pub returns-clause-faults : goal.returns-clause-faults
 returns-clause-faults g c =
-    group_causes c.args.self.now c.serve_group.new.self c.requests.result.now.items c.serve_group.new.served.items (g.D.Disk.failures c.args.self.now.disk) (g.D.Disk.failures c.serve_group.new.self.disk)
+    group_causes c.args.self.now c.serve_group.new.self c.requests.result.now.items c.serve_group.new.served.items
+    (g.D.Disk.failures c.args.self.now.disk) (g.D.Disk.failures c.serve_group.new.self.disk)
     c.serve_group.ensures.answered c.serve_group.ensures.faults
 
 pub returns-clause-leaves : goal.returns-clause-leaves
@@ -17,5 +18,6 @@ returns-clause-leaves g c = λ h f.
 
 pub returns-clause-doubt : goal.returns-clause-doubt
 returns-clause-doubt g c = λ h f.
-    subst (λ (l : List Request). LeavesNow (g.D.Disk.now c.serve_group.new.self.disk) (MeansGroup c.args.self.now l)) c.requests.ensures.found
+    subst (λ (l : List Request). LeavesNow (g.D.Disk.now c.serve_group.new.self.disk)
+    (MeansGroup c.args.self.now l)) c.requests.ensures.found
     (c.serve_group.ensures.doubt h f)

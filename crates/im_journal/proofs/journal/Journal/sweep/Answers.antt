@@ -7,7 +7,9 @@ returns-in-Err-clause-leaves g c = λ h.
     let h0 = c.close_gates.ensures.honest h in
     sweep_leaves g.D.Disk.now g.D.Disk.past c.args.disk.now c.close_gates.new.disk
     (turn_of (state_of c.self.inside.base c.self.inside.slots c.self.inside.first c.self.inside.count c.self.inside.room) c.args.self.now c.at_once-swept.result (g.D.Disk.now c.args.disk.now)
-    c.self.view_is c.self.invariant c.requires.some (c.requires.holds h0) (no_more c.at_once-swept.result c.args.most c.to_sweep.result (to_sweep c.args.self.now) c.at_once-swept.ensures c.to_sweep.ensures))
+    c.self.view_is c.self.invariant c.requires.some (c.requires.holds h0)
+    (no_more c.at_once-swept.result c.args.most c.to_sweep.result
+    (to_sweep c.args.self.now) c.at_once-swept.ensures c.to_sweep.ensures))
     (c.close_gates.ensures.leaves h)
 
 pub returns-clause-leaves : goal.returns-clause-leaves
@@ -15,7 +17,9 @@ returns-clause-leaves g c = λ h.
     let h0 = c.close_gates.ensures.honest h in
     sweep_leaves g.D.Disk.now g.D.Disk.past c.args.disk.now c.close_gates.new.disk
     (turn_of (state_of c.self.inside.base c.self.inside.slots c.self.inside.first c.self.inside.count c.self.inside.room) c.args.self.now c.at_once-swept.result (g.D.Disk.now c.args.disk.now)
-    c.self.view_is c.self.invariant c.requires.some (c.requires.holds h0) (no_more c.at_once-swept.result c.args.most c.to_sweep.result (to_sweep c.args.self.now) c.at_once-swept.ensures c.to_sweep.ensures))
+    c.self.view_is c.self.invariant c.requires.some (c.requires.holds h0)
+    (no_more c.at_once-swept.result c.args.most c.to_sweep.result
+    (to_sweep c.args.self.now) c.at_once-swept.ensures c.to_sweep.ensures))
     (c.close_gates.ensures.leaves h)
 
 pub returns-clause-swept : goal.returns-clause-swept
@@ -23,5 +27,7 @@ returns-clause-swept g c = λ h.
     let h0 = c.close_gates.ensures.honest h in
     sweeps
     (turn_of (state_of c.self.inside.base c.self.inside.slots c.self.inside.first c.self.inside.count c.self.inside.room) c.args.self.now c.at_once-swept.result (g.D.Disk.now c.args.disk.now)
-    c.self.view_is c.self.invariant c.requires.some (c.requires.holds h0) (no_more c.at_once-swept.result c.args.most c.to_sweep.result (to_sweep c.args.self.now) c.at_once-swept.ensures c.to_sweep.ensures))
+    c.self.view_is c.self.invariant c.requires.some (c.requires.holds h0)
+    (no_more c.at_once-swept.result c.args.most c.to_sweep.result
+    (to_sweep c.args.self.now) c.at_once-swept.ensures c.to_sweep.ensures))
     (g.D.Disk.now c.close_gates.new.disk) (c.in_default.ensures.closed h)

@@ -10,7 +10,8 @@ pub invariant_of-self : goal.invariant_of-self
 invariant_of-self c = λ is.
     let on : c.self.inside.engine.failed ≡ false = c.self.invariant c.if-self.false in
     alive_after c.empty_list.new.self c.serve-answer.new.self c.args.command.now c.serve-answer.result c.serve-answer.ensures.answered
-    (ap (λ (t : EngineState Listing). t.failed) c.empty_list.ensures.emptied ∙ on) (sym c.tells_device-self-inside.ensures ∙ is)
+    (ap (λ (t : EngineState Listing). t.failed) c.empty_list.ensures.emptied ∙ on)
+    (sym c.tells_device-self-inside.ensures ∙ is)
 
 pub returns-clause-carried : goal.returns-clause-carried
 returns-clause-carried c = λ alive.
@@ -19,12 +20,18 @@ returns-clause-carried c = λ alive.
     let on : e.failed ≡ false = c.self.invariant c.if-self.false in
     let here : s.failed ≡ false = ap (λ (t : EngineState Listing). t.failed) c.empty_list.ensures.emptied ∙ on in
     let new : ImageState = record { engine = c.serve-answer.new.self; lost = c.tells_device-self-inside.result } in
-    let calm : new.lost ≡ false → tells_device c.serve-answer.result ≡ false = λ is. sym c.tells_device-self-inside.ensures ∙ is in
-    carries_on c.args.self.now new (λ (t : EngineState Listing) (file : List ℕ). MeansEither t c.args.command.now file) s
+    let calm : new.lost ≡ false → tells_device c.serve-answer.result
+    ≡ false = λ is. sym c.tells_device-self-inside.ensures ∙ is in
+    carries_on c.args.self.now new
+    (λ (t : EngineState Listing) (file : List ℕ). MeansEither t c.args.command.now file) s
     (c.empty_list.ensures.emptied ∙ ap (λ (i : ImageState). begun_in i) c.self.view_is) (record {
-      same = λ is. steady_after c.serve-answer.result (told s.disk.failed s.disk.begun) (told new.engine.disk.failed new.engine.disk.begun) c.serve-answer.ensures.faults (calm is);
+      same = λ is. steady_after c.serve-answer.result (told s.disk.failed s.disk.begun)
+          (told new.engine.disk.failed new.engine.disk.begun) c.serve-answer.ensures.faults (calm is);
       leaves = c.serve-answer.ensures.leaves tt here;
-      start = λ file left. inl (start_of e s c.empty_list.ensures.emptied (c.known-self-inside.ensures.means on) file left);
+      start = λ file left. inl
+          (start_of e s c.empty_list.ensures.emptied (c.known-self-inside.ensures.means on) file left);
       account = c.known-self-inside-2.ensures.account;
-      means = λ is. c.known-self-inside-2.ensures.means (alive_after s new.engine c.args.command.now c.serve-answer.result c.serve-answer.ensures.answered here (calm is));
+      means = λ is. c.known-self-inside-2.ensures.means
+          (alive_after s new.engine c.args.command.now c.serve-answer.result c.serve-answer.ensures.answered here
+          (calm is));
     })

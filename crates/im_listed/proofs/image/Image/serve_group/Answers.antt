@@ -14,11 +14,13 @@ returns-clause-carried c = λ alive.
     let here : s.failed ≡ false = ap (λ (t : EngineState Listing). t.failed) c.empty_list.ensures.emptied ∙ on in
     let new : ImageState = record { engine = c.serve_group.new.self; lost = c.known-self-inside-2.result } in
     let calm : new.lost ≡ false → new.engine.failed ≡ false = λ is. sym c.known-self-inside-2.ensures.failed ∙ is in
-    carries_on c.args.self.now new (λ (t : EngineState Listing) (file : List ℕ). MeansGroup t c.args.members.now.items file) s
+    carries_on c.args.self.now new
+    (λ (t : EngineState Listing) (file : List ℕ). MeansGroup t c.args.members.now.items file) s
     (c.empty_list.ensures.emptied ∙ ap (λ (i : ImageState). begun_in i) c.self.view_is) (record {
       same = λ is. c.serve_group.ensures.faults.steady (calm is ∙ sym here);
       leaves = c.serve_group.ensures.leaves tt here;
-      start = λ file left. inl (start_of e s c.empty_list.ensures.emptied (c.known-self-inside.ensures.means on) file left);
+      start = λ file left. inl
+          (start_of e s c.empty_list.ensures.emptied (c.known-self-inside.ensures.means on) file left);
       account = c.known-self-inside-2.ensures.account;
       means = λ is. c.known-self-inside-2.ensures.means (calm is);
     })

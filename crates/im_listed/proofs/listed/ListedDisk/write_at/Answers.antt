@@ -8,7 +8,8 @@ pub invariant_of-self-2 : goal.invariant_of-self-2
 invariant_of-self-2 c =
     let at = c.args.at in
     let part = c.args.bytes.now in
-    subst (λ (es : List Event). Agrees c.put.new.bytes.items c.add_write.new.steps.items false (history_of es)) (sym c.note.ensures)
+    subst (λ (es : List Event). Agrees c.put.new.bytes.items c.add_write.new.steps.items false (history_of es))
+    (sym c.note.ensures)
     (agrees_more c.self.inside.bytes.items c.put.new.bytes.items c.self.inside.steps.items c.add_write.new.steps.items c.self.inside.calm (history_of c.self.inside.ledger.events) (Puts at part) c.self.invariant
     c.in_default.ensures.ok
     (c.put.ensures ∙ ap (λ (l : List ℕ). take at l ++ part ++ drop (at + length part) l) c.self.invariant.same))

@@ -8,4 +8,6 @@ use Rattle.im_memory.proofs.memory.Memory.block.Goals as goal
 pub returns : goal.returns
 returns c =
     let m = c.self.inside in
-    c.block_of.ensures.block ∙ ap (block_in_slots m.table) (omega arith) ∙ sym (block_at-cells m.table m.arena c.args.a) ∙ ap (λ (m : MemoryState). block_at m.contents.cells c.args.a) c.self.view_is
+    c.block_of.ensures.block ∙ ap (block_in_slots m.table) (omega arith)
+    ∙ sym (block_at-cells m.table m.arena c.args.a)
+    ∙ ap (λ (m : MemoryState). block_at m.contents.cells c.args.a) c.self.view_is

@@ -15,6 +15,9 @@ pub returns-clause-unaccepted : goal.returns-clause-unaccepted
 returns-clause-unaccepted c = λ un.
     let m = c.self.inside in
     let was : MemoryState = state_of m.table m.arena m.sessions in
-    let still : is_accepted was.contents (Confirm c.args.element c.args.upto) ≡ false = ap (λ (s : MemoryState). is_accepted s.contents (Confirm c.args.element c.args.upto)) c.self.view_is ∙ un in
-    ap (λ windows. state_of m.table m.arena windows) (windows_stay was.contents c.args.element c.args.upto c.confirm.new.self c.confirm.result c.confirm.ensures.ok c.confirm.ensures.err still)
+    let still : is_accepted was.contents (Confirm c.args.element c.args.upto)
+    ≡ false = ap (λ (s : MemoryState). is_accepted s.contents
+    (Confirm c.args.element c.args.upto)) c.self.view_is ∙ un in
+    ap (λ windows. state_of m.table m.arena windows)
+    (windows_stay was.contents c.args.element c.args.upto c.confirm.new.self c.confirm.result c.confirm.ensures.ok c.confirm.ensures.err still)
     ∙ c.self.view_is

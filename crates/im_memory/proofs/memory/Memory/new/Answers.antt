@@ -12,7 +12,8 @@ invariant_of-result c =
 
 pub returns-clause-empty : goal.returns-clause-empty
 returns-clause-empty c =
-    rw (c.in-Ok.ensures.free, c.in-Ok-new-2.ensures.ok) (contents_of-empty c.args.limits.cells c.args.limits.elements c.in-Ok-new.arena c.in-Ok-new.ensures.empty)
+    rw (c.in-Ok.ensures.free, c.in-Ok-new-2.ensures.ok)
+    (contents_of-empty c.args.limits.cells c.args.limits.elements c.in-Ok-new.arena c.in-Ok-new.ensures.empty)
 
 pub returns-clause-memory : goal.returns-clause-memory
 returns-clause-memory c =
@@ -23,4 +24,5 @@ pub returns-clause-records : goal.returns-clause-records
 returns-clause-records c =
     let limits = c.args.limits in
     rw (c.in-Ok.ensures.free, c.in-Ok-new-2.ensures.ok)
-    (empty-records limits.cells limits.elements c.in-Ok-new.arena c.are_threaded.ensures c.in-Ok-new.ensures.empty (omega (arith, c.in-Ok-new.ensures.nodes)))
+    (empty-records limits.cells limits.elements c.in-Ok-new.arena c.are_threaded.ensures c.in-Ok-new.ensures.empty
+    (omega (arith, c.in-Ok-new.ensures.nodes)))

@@ -8,6 +8,7 @@ use Rattle.im_memory.proofs.memory.Memory.waiter.Goals as goal
 pub returns : goal.returns
 returns c =
     sym (option_map_id c.nth.result)
-    ∙ nth_from_yields_List c.nth.result c.nth.new.self _ c.nth.ensures.ran (YieldsList-from_first (λ (w : Waiter). w) (λ (left : List Waiter). left) c.waiters.result refl)
+    ∙ nth_from_yields_List c.nth.result c.nth.new.self _ c.nth.ensures.ran
+    (YieldsList-from_first (λ (w : Waiter). w) (λ (left : List Waiter). left) c.waiters.result refl)
     ∙ ap (slice_get c.waiters.result) (omega arith)
     ∙ ap (λ waiters. slice_get waiters c.args.place) c.waiters.ensures

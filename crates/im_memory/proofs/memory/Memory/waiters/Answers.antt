@@ -8,4 +8,6 @@ use Rattle.im_memory.proofs.memory.Memory.waiters.Goals as goal
 pub returns : goal.returns
 returns c =
     let m = c.self.inside in
-    c.waiters.ensures ∙ ap (list_at m.arena.held) (omega arith) ∙ sym (waiters_at-cells m.table m.arena c.args.a c.self.invariant.agree) ∙ ap (λ (m : MemoryState). waiters_at m.contents.cells c.args.a) c.self.view_is
+    c.waiters.ensures ∙ ap (list_at m.arena.held) (omega arith)
+    ∙ sym (waiters_at-cells m.table m.arena c.args.a c.self.invariant.agree)
+    ∙ ap (λ (m : MemoryState). waiters_at m.contents.cells c.args.a) c.self.view_is

@@ -7,4 +7,5 @@ use Rattle.im_memory.proofs.records.MemoryRecords.window.Goals as goal
 
 pub returns-clause-within : goal.returns-clause-within
 returns-clause-within c =
-    subst (λ (r : Records). (e : ℕ) (w : Window) → slice_get r.windows e ≡ Some w → IsWindow w) c.self.view_is c.self.invariant.makes.memory.windows
+    subst (λ (r : Records). (e : ℕ) (w : Window) → slice_get r.windows e ≡ Some w
+    → IsWindow w) c.self.view_is c.self.invariant.makes.memory.windows

@@ -12,7 +12,9 @@ in_room-requires-clause-blocks c =
 pub invariant_of-result : goal.invariant_of-result
 invariant_of-result c =
     let i = c.self.inside in
-    subst (λ slots. MakesMemory slots i.arena i.sessions) (sym c.in_room.ensures) (restored-makes i.cells i.arena i.sessions (subst AreComplete (sym c.self.view_is) c.requires) _ c.self.invariant)
+    subst (λ slots. MakesMemory slots i.arena i.sessions) (sym c.in_room.ensures)
+    (restored-makes i.cells i.arena i.sessions
+    (subst AreComplete (sym c.self.view_is) c.requires) _ c.self.invariant)
 
 pub returns : goal.returns
 returns c =
