@@ -1,7 +1,8 @@
 //! What is done by the note beside a file: whether the file is opened, and when a note is left.
-ghost use Rattle.std.specs.Prelude.{◌≡◌, ◌≢◌, false, true, not, IfOk, OnErr};
+ghost use Rattle.std.specs.Prelude.{◌≡◌, ◌≢◌, false, true, not, IfErr, IfOk, OnErr};
 ghost use Rattle.im_disk.specs.File.{has_failed_sync};
 ghost use Rattle.im_files.specs.Notes.{is_unneeded};
+ghost use Rattle.im_files.specs.declared.image.FileFault.TheVariants.{Unsynced};
 ghost use Rattle.im_files.specs.declared.notes.Noting.TheVariants.{Left};
 ghost use Rattle.im_files.specs.declared.notes.Sight.TheVariants.{Standing};
 
@@ -17,7 +18,7 @@ pub fn admit<R: Files<File = File>, D: Drop, N: Notes>(
     notes: &mut N,
 ) -> Result<D, FileFault>
     ensures found { IfOk result (λ d. (d ≡ opened) × (N.sight notes.old ≢ Standing)) }
-    ensures refused { OnErr result (N.sight notes.old ≡ Standing) }
+    ensures refused { IfErr result (λ fault. (fault ≡ Unsynced) × (N.sight notes.old ≡ Standing)) }
     ensures same { OnErr result (N.sight notes.new ≡ N.sight notes.old) }
 {
     match notes.look() {
