@@ -7,7 +7,7 @@ mod writers;
 
 use anyhow::{Result, anyhow};
 use gates::After;
-use im_disk::{Disk, MemDisk};
+use im_disk::{Disk, FuseDisk, MemDisk, Mode};
 use im_engine::Engine;
 use im_report::inspect_on;
 use im_run::run_on;
@@ -15,11 +15,11 @@ use im_script::read_script_with_glances;
 use im_serving::{Gate, Open, Unwatched};
 use im_story::old_image;
 use im_types::layout::image_length;
-use im_types::{Limits, WINDOW};
+use im_types::{LAST, Limits, Refusal, WINDOW};
 use std::alloc::Global;
 use std::sync::Wait;
 use std::thread::Threads;
-use writers::{Nobody, Paper};
+use writers::{Nobody, Paper, Told};
 
 // A fetch comes without its store.
 const WAITS: &str = "setup
@@ -133,6 +133,22 @@ element 16
 fetch 0
 ";
 
+// An element that isn't there, behind a setup and one that stores.
+const NO_READER: &str = "setup
+alloc x i 1
+element 1
+store x 5
+element 16
+fetch x
+";
+
+// One that isn't there and only glances.
+const NO_GLANCER: &str = "element 1
+fetch 0
+element 63
+glance 0
+";
+
 // The numbers of element 0 go on after those of the setup. A cell has nobody to store to it.
 const GOES_ON: &str = "setup
 alloc x i 2
@@ -141,6 +157,18 @@ store x+1 8
 fetch x+1
 glance x+1
 fetch x
+";
+
+// Requests of three elements.
+const ASKS: &str = "element 1
+fetch 0
+fetch 1
+element 2
+fetch 0
+fetch 1
+element 3
+fetch 0
+fetch 1
 ";
 
 // An image of the usual limits, with nothing in it.
@@ -245,6 +273,49 @@ fn report_lines(
 // The lines of cells and of entries.
 fn report(alloc: Global, disk: MemDisk, said: &mut String) -> Result<MemDisk> {
     report_lines(alloc, disk, false, said)
+}
+
+// An element that isn't there is refused behind the setup, before a request of any element.
+fn tell_missing<R: Threads + Wait + Sync>(rt: &R, alloc: Global, said: &mut String) -> Result<()> {
+    said.push_str("# an element that is not there is refused before any is served\n")?;
+    let disk = new_image(alloc)?;
+    let disk = run(rt, alloc, disk, NO_READER, &Open, said)?;
+    let _disk = report(alloc, disk, said)?;
+    said.push_str("# one that only glances, too\n")?;
+    let disk = new_image(alloc)?;
+    let disk = run(rt, alloc, disk, NO_GLANCER, &Open, said)?;
+    let _disk = report(alloc, disk, said)?;
+    Ok(())
+}
+
+// A call of the disk that fails once the image is open ends a run, and whoever is refused then, the observer is told of
+// the disk.
+fn tell_fault<R: Threads + Wait + Sync>(rt: &R, alloc: Global, said: &mut String) -> Result<()> {
+    said.push_str("# a call of the disk fails: the observer is told of it\n")?;
+    let Ok(script) = read_script_with_glances(alloc, ASKS.as_bytes()) else {
+        return Err(anyhow!("this is no script"));
+    };
+    let opening = opening_calls(alloc)?;
+    let mut out = Paper::new(alloc);
+    let mut told = Told { reason: None };
+    let disk = FuseDisk::new(new_image(alloc)?, opening, Mode::Stop);
+    let (status, _disk) = run_on(
+        rt, alloc, disk, &script, &Open, &Unwatched, &mut out, &mut told, false,
+    );
+    let is_told = match told.reason {
+        Some(reason) => reason.refusal() == Some(Refusal::Device),
+        None => false,
+    };
+    writeln!(said, "told of it: {is_told}\nstatus {status}")?;
+    Ok(())
+}
+
+// How many calls an opening makes.
+fn opening_calls(alloc: Global) -> Result<u64> {
+    match Engine::open(alloc, FuseDisk::new(new_image(alloc)?, LAST, Mode::Stop)) {
+        Ok(engine) => Ok(engine.close().calls()),
+        Err(_) => Err(anyhow!("no image was opened")),
+    }
 }
 
 // A server that waits for a store which nobody sends is stalled; the store of a later run answers it.
@@ -358,6 +429,8 @@ fn tell_all<R: Threads + Wait + Sync>(rt: &R, alloc: Global, said: &mut String) 
     said.push_str("# the store is held until the fetch is answered, which waits\n")?;
     tell_held(rt, alloc, 1, 2, false, said)?;
     tell_glances(rt, alloc, said)?;
+    tell_missing(rt, alloc, said)?;
+    tell_fault(rt, alloc, said)?;
     tell_plans(rt, alloc, said)?;
     said.push_str("# an image of the first version is not run on\n")?;
     let disk = image_of_old(alloc)?;

@@ -1,4 +1,4 @@
-//! A writer in memory, and an observer who notes nothing.
+//! A writer in memory, and observers who note nothing, or why the work is refused.
 
 use anyhow::{Result, anyhow};
 use im_text::{Observer, Progress, Reason};
@@ -51,4 +51,21 @@ impl Observer for Nobody {
     fn progressed(&mut self, _progress: Progress) {}
 
     fn refused(&mut self, _reason: Reason) {}
+}
+
+/// Who notes why the work is refused.
+#[derive(Drop)]
+pub struct Told {
+    /// Why, if it is.
+    pub reason: Option<Reason>,
+}
+
+impl Observer for Told {
+    fn answered(&mut self, _element: u16, _number: u64, _entry: Entry) {}
+
+    fn progressed(&mut self, _progress: Progress) {}
+
+    fn refused(&mut self, reason: Reason) {
+        self.reason = Some(reason);
+    }
 }
