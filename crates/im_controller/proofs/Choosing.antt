@@ -1,5 +1,7 @@
 -- The members that are lent: those that were looked at, and what the others add.
-use Rattle.std.proofs.Common.{◌≡◌, ℕ, suc, ◌+◌, ◌<◌, ◌≤◌, Bool, true, false, List, [], ◌∷◌, ◌++◌, refl, sym, ap, ◌∙◌, subst, length, length-append, length-drop, map, drop, get_or, append_assoc, append-nil, arith}
+use Rattle.std.proofs.Common.{◌≡◌, ℕ, suc, ◌+◌, ◌<◌, ◌≤◌, Bool, true, false, List, [], ◌∷◌, ◌++◌, refl, sym, ap, ◌∙◌}
+use Rattle.std.proofs.Common.{subst, length, length-append, length-drop, map, drop, get_or, append_assoc, append-nil}
+use Rattle.std.proofs.Common.{arith}
 use Rattle.std.proofs.Math.Seq.{drop-cons}
 use Rattle.std.proofs.lemmas.List.{drop_all}
 use Rattle.im_types.specs.declared.commands.Command.TheVariants.{Request as Asks}
@@ -11,35 +13,43 @@ use Rattle.im_types.specs.Groups.{AreOthers, AreApart}
 use Rattle.im_laws.proofs.Tests.{true_false}
 use Rattle.im_engine.specs.Groups.{left_with}
 use Rattle.im_glass.specs.Panes.{PaneView}
-use Rattle.im_controller.specs.Groups.{those, AreRoomless, changes_put_all, next_answer, answers_left, spread, answer_in, MayFollow, IsCut, lines_left}
+use Rattle.im_controller.specs.Groups.{those, AreRoomless, changes_put_all, next_answer, answers_left, spread}
+use Rattle.im_controller.specs.Groups.{answer_in, MayFollow, IsCut, lines_left}
 use Rattle.im_controller.specs.Lines.{lines_of}
 use Rattle.im_controller.specs.Lends.{is_taken}
 use Rattle.im_controller.proofs.GroupLemmas.{Fits, few_lines}
 use Rattle.im_controller.proofs.PutLemmas.{lines_all, taken-none, left-none}
 
 -- what was chosen so far, after which all is as from the start
-pub record Chooses (m : Contents) (left0 : ℕ) (rs0 : List Request) (p0 : PaneView) (left : ℕ) (rs : List Request) (roomy : List Bool) (lent : List Request) (p : PaneView) : Type 0 where
+pub record Chooses (m : Contents) (left0 : ℕ) (rs0 : List Request) (p0 : PaneView) (left : ℕ) (rs : List Request)
+    (roomy : List Bool) (lent : List Request) (p : PaneView) : Type 0 where
   pub roomless : (bs : List Bool) → AreRoomless m left bs rs → AreRoomless m left0 (roomy ++ bs) rs0
   pub chosen : (bs : List Bool) → lent ++ those bs rs ≡ those (roomy ++ bs) rs0
-  pub puts : (qs : List Request) → p.ahead ++ changes_put_all m left qs ≡ p0.ahead ++ changes_put_all m left0 (lent ++ qs)
+  pub puts : (qs : List Request) → p.ahead ++ changes_put_all m left qs
+      ≡ p0.ahead ++ changes_put_all m left0 (lent ++ qs)
   pub pane : p ≡ record p0 { ahead = p.ahead }
   pub many : length roomy + length rs ≡ length rs0
   pub few : length lent ≤ length roomy
 
 -- and at the end
-module _ (m : Contents) (left0 : ℕ) (rs0 : List Request) (p0 : PaneView) (left : ℕ) (roomy : List Bool) (lent : List Request) (p : PaneView) (i : ℕ) (past : length rs0 ≤ i) (k : Chooses m left0 rs0 p0 left (drop i rs0) roomy lent p) where
+module _ (m : Contents) (left0 : ℕ) (rs0 : List Request) (p0 : PaneView) (left : ℕ) (roomy : List Bool)
+    (lent : List Request) (p : PaneView) (i : ℕ) (past : length rs0 ≤ i)
+    (k : Chooses m left0 rs0 p0 left (drop i rs0) roomy lent p) where
   pub chosen-roomless : AreRoomless m left0 roomy rs0
-  chosen-roomless = subst (λ (xs : List Bool). AreRoomless m left0 xs rs0) (append-nil roomy) (k.roomless [] (drop_all i rs0 past))
+  chosen-roomless = subst (λ (xs : List Bool). AreRoomless m left0 xs rs0) (append-nil roomy)
+      (k.roomless [] (drop_all i rs0 past))
 
   pub chosen-lent : lent ≡ those roomy rs0
   chosen-lent = sym (append-nil lent) ∙ k.chosen [] ∙ ap (λ xs. those xs rs0) (append-nil roomy)
 
   pub chosen-ahead : p ≡ record p0 { ahead = p0.ahead ++ changes_put_all m left0 lent }
-  chosen-ahead = k.pane ∙ ap (λ xs. record p0 { ahead = xs }) (sym (append-nil p.ahead) ∙ k.puts [] ∙ ap (λ xs. p0.ahead ++ changes_put_all m left0 xs) (append-nil lent))
+  chosen-ahead = k.pane ∙ ap (λ xs. record p0 { ahead = xs })
+      (sym (append-nil p.ahead) ∙ k.puts [] ∙ ap (λ xs. p0.ahead ++ changes_put_all m left0 xs) (append-nil lent))
 
 -- ---- those that are lent
 
-pub those-others : (element : ℕ) (bs : List Bool) (rs : List Request) → AreOthers element rs → AreOthers element (those bs rs)
+pub those-others : (element : ℕ) (bs : List Bool) (rs : List Request) → AreOthers element rs
+    → AreOthers element (those bs rs)
 those-others element [] rs others = tt
 those-others element (b ∷ bs) [] others = tt
 those-others element (true ∷ bs) (r ∷ rs) others = (others.0, those-others element bs rs others.1)
@@ -72,7 +82,8 @@ few-served ss n is = omega (arith, few_lines (map answer_in ss), many ss, is)
     many [] = refl
     many (s ∷ ss) = omega (arith, many ss)
 
-pub spread-fits : (bs : List Bool) (rs : List Request) (ss : List Served) (m n c : Contents) (left : ℕ) → AreRoomless c left bs rs → Fits m (those bs rs) ss n → Fits m rs (spread bs ss) n
+pub spread-fits : (bs : List Bool) (rs : List Request) (ss : List Served) (m n c : Contents) (left : ℕ)
+    → AreRoomless c left bs rs → Fits m (those bs rs) ss n → Fits m rs (spread bs ss) n
 spread-fits [] rs ss m n c left none fits = rw none (record {
   whole = refl;
   are_so = tt;
@@ -90,36 +101,49 @@ spread-fits (false ∷ bs) (r ∷ rs) ss m n c left none fits =
 spread-fits (true ∷ bs) (r ∷ rs) [] m n c left none fits = absurd fits.are_so
 spread-fits (true ∷ bs) (r ∷ rs) (s ∷ ss) m n c left none fits =
     let so = fits.are_so in
-    let rest = spread-fits bs rs ss _ n c (left_with c left r) none (record { whole = omega (arith, fits.whole); are_so = so.1; ends = fits.ends; few = few-served ss (length (those bs rs)) (omega (arith, fits.whole)) }) in record {
+    let rest = spread-fits bs rs ss _ n c (left_with c left r) none
+    (record {
+      whole = omega (arith, fits.whole);
+      are_so = so.1;
+      ends = fits.ends;
+      few = few-served ss
+          (length (those bs rs)) (omega (arith, fits.whole));
+    }) in record {
       whole = omega (arith, rest.whole);
       are_so = (so.0, rest.are_so);
       ends = rest.ends;
       few = few-served (spread (true ∷ bs) (s ∷ ss)) (length (r ∷ rs)) (omega (arith, rest.whole));
     }
 
-pub spread-lines : (bs : List Bool) (rs : List Request) (ss : List Served) (c : Contents) (left : ℕ) → AreRoomless c left bs rs → length ss ≡ length (those bs rs)
+pub spread-lines : (bs : List Bool) (rs : List Request) (ss : List Served) (c : Contents) (left : ℕ)
+    → AreRoomless c left bs rs → length ss ≡ length (those bs rs)
     → lines_all rs (map answer_in (spread bs ss)) ≡ lines_all (those bs rs) (map answer_in ss)
 spread-lines [] rs ss c left none whole = rw none refl
 spread-lines (b ∷ bs) [] ss c left none whole = absurd none
 spread-lines (false ∷ bs) (r ∷ rs) ss c left none whole = spread-lines bs rs ss c left none.1 whole
 spread-lines (true ∷ bs) (r ∷ rs) [] c left none whole = absurd (omega (arith, whole))
 spread-lines (true ∷ bs) (r ∷ rs) (s ∷ ss) c left none whole =
-    ap (λ l. lines_of (Commands (Asks r)) (answer_in s) ++ l) (spread-lines bs rs ss c (left_with c left r) none (omega (arith, whole)))
+    ap (λ l. lines_of (Commands (Asks r)) (answer_in s) ++ l)
+    (spread-lines bs rs ss c (left_with c left r) none (omega (arith, whole)))
 
 -- where there is no place, all are lent
-pub all-lent : (bs : List Bool) (rs : List Request) (ss : List Served) (c : Contents) (left : ℕ) → left ≡ 0 → AreRoomless c left bs rs → length ss ≡ length (those bs rs) → (those bs rs ≡ rs) × (spread bs ss ≡ ss)
+pub all-lent : (bs : List Bool) (rs : List Request) (ss : List Served) (c : Contents) (left : ℕ) → left ≡ 0
+    → AreRoomless c left bs rs → length ss ≡ length (those bs rs) → (those bs rs ≡ rs) × (spread bs ss ≡ ss)
 all-lent [] rs [] c left zero none whole = (sym none, refl)
 all-lent [] rs (s ∷ ss) c left zero none whole = absurd (omega (arith, whole))
 all-lent (b ∷ bs) [] ss c left zero none whole = absurd none
-all-lent (false ∷ bs) (r ∷ rs) ss c left zero none whole = absurd (true_false (sym none.0 ∙ ap (λ n. is_taken c n (Asks r)) zero ∙ taken-none c r))
+all-lent (false ∷ bs) (r ∷ rs) ss c left zero none whole = absurd
+    (true_false (sym none.0 ∙ ap (λ n. is_taken c n (Asks r)) zero ∙ taken-none c r))
 all-lent (true ∷ bs) (r ∷ rs) [] c left zero none whole = absurd (omega (arith, whole))
 all-lent (true ∷ bs) (r ∷ rs) (s ∷ ss) c left zero none whole =
-    let rest = all-lent bs rs ss c (left_with c left r) (ap (λ n. left_with c n r) zero ∙ left-none c r) none (omega (arith, whole)) in
+    let rest = all-lent bs rs ss c (left_with c left r) (ap (λ n. left_with c n r) zero ∙ left-none c r) none
+    (omega (arith, whole)) in
     (ap (λ l. r ∷ l) rest.0, ap (λ l. s ∷ l) rest.1)
 
 -- an answer more for the next member
 pub spread-next : (xs : List Served) (bs : List Bool) (ss : List Served) (i : ℕ) (d : Bool) → i < length bs
-    → (xs ++ next_answer (get_or bs i d) ss ∷ []) ++ spread (drop (i + 1) bs) (answers_left (get_or bs i d) ss) ≡ xs ++ spread (drop i bs) ss
+    → (xs ++ next_answer (get_or bs i d) ss ∷ []) ++ spread (drop (i + 1) bs) (answers_left (get_or bs i d) ss)
+    ≡ xs ++ spread (drop i bs) ss
 spread-next xs bs ss i d within =
     let next : i + 1 ≡ suc i = omega arith in let b = get_or bs i d in
     append_assoc xs (next_answer b ss ∷ []) (spread (drop (i + 1) bs) (answers_left b ss))
@@ -130,15 +154,26 @@ pub spread-length : (bs : List Bool) (ss : List Served) → length (spread bs ss
 spread-length [] ss = refl
 spread-length (b ∷ bs) ss = omega (arith, spread-length bs (answers_left b ss))
 
-pub spread-room : (xs : List Served) (bs : List Bool) (ss ss0 : List Served) (i : ℕ) → xs ++ spread (drop i bs) ss ≡ spread bs ss0 → i < length bs → length bs ≤ 16 → length xs < 16
+pub spread-room : (xs : List Served) (bs : List Bool) (ss ss0 : List Served) (i : ℕ) → xs ++ spread (drop i bs) ss
+    ≡ spread bs ss0 → i < length bs → length bs ≤ 16 → length xs < 16
 spread-room xs bs ss ss0 i all within few =
-    omega (arith, ap length all, length-append xs (spread (drop i bs) ss), spread-length (drop i bs) ss, spread-length bs ss0, length-drop i bs)
+    omega (
+      arith,
+      ap length all,
+      length-append xs (spread (drop i bs) ss),
+      spread-length
+          (drop i bs) ss,
+      spread-length bs ss0,
+      length-drop i bs,
+    )
 
-pub spread-left : (bs : List Bool) (rs : List Request) (ss : List Served) (c : Contents) (left : ℕ) → AreRoomless c left bs rs → length ss ≡ length (those bs rs)
+pub spread-left : (bs : List Bool) (rs : List Request) (ss : List Served) (c : Contents) (left : ℕ)
+    → AreRoomless c left bs rs → length ss ≡ length (those bs rs)
     → lines_left (map answer_in (spread bs ss)) ≡ lines_left (map answer_in ss)
 spread-left [] rs [] c left none whole = refl
 spread-left [] rs (s ∷ ss) c left none whole = absurd (omega (arith, whole))
 spread-left (b ∷ bs) [] ss c left none whole = absurd none
 spread-left (false ∷ bs) (r ∷ rs) ss c left none whole = omega (arith, spread-left bs rs ss c left none.1 whole)
 spread-left (true ∷ bs) (r ∷ rs) [] c left none whole = absurd (omega (arith, whole))
-spread-left (true ∷ bs) (r ∷ rs) (s ∷ ss) c left none whole = omega (arith, spread-left bs rs ss c (left_with c left r) none (omega (arith, whole)))
+spread-left (true ∷ bs) (r ∷ rs) (s ∷ ss) c left none whole = omega
+    (arith, spread-left bs rs ss c (left_with c left r) none (omega (arith, whole)))

@@ -1,5 +1,6 @@
 -- A group, gathered element by element.
-use Rattle.std.proofs.Common.{◌≡◌, ◌≢◌, ℕ, ◌+◌, ◌<◌, true, List, [], ◌∷◌, ◌++◌, Option, None, Some, sym, subst, slice_get, arith}
+use Rattle.std.proofs.Common.{◌≡◌, ◌≢◌, ℕ, ◌+◌, ◌<◌, true, List, [], ◌∷◌, ◌++◌, Option, None, Some, sym, subst}
+use Rattle.std.proofs.Common.{slice_get, arith}
 use Rattle.im_types.specs.declared.operations.Op.{Op}
 use Rattle.im_types.specs.declared.commands.Request.{Request}
 use Rattle.im_types.specs.Groups.{AreOthers, AreApart}
@@ -20,13 +21,19 @@ others_push e (q ∷ rs) r others is = (others.0, others_push e rs r others.1 is
 
 apart_push : (rs : List Request) (r : Request) → AreApart rs → AreBelow r.element rs → AreApart (rs ++ r ∷ [])
 apart_push [] r apart below = (tt, tt)
-apart_push (q ∷ rs) r apart below = (others_push q.element rs r apart.0 (λ same. absurd (omega (arith, below.0, same))), apart_push rs r apart.1 below.1)
+apart_push (q ∷ rs) r apart below = (
+  others_push q.element rs r apart.0
+      (λ same. absurd (omega (arith, below.0, same))),
+  apart_push rs r apart.1 below.1,
+)
 
-free_push : (places : List (Option UnclaimedState)) (rs : List Request) (r : Request) → AreFreeFor places rs → slice_get places r.element ≡ Some None → AreFreeFor places (rs ++ r ∷ [])
+free_push : (places : List (Option UnclaimedState)) (rs : List Request) (r : Request) → AreFreeFor places rs
+    → slice_get places r.element ≡ Some None → AreFreeFor places (rs ++ r ∷ [])
 free_push places [] r free is = (is, tt)
 free_push places (q ∷ rs) r free is = (free.0, free_push places rs r free.1 is)
 
-follow_push : (op : Op) (rs : List Request) (r : Request) → MayFollow op rs → are_together op r.op ≡ true → MayFollow op (rs ++ r ∷ [])
+follow_push : (op : Op) (rs : List Request) (r : Request) → MayFollow op rs → are_together op r.op ≡ true
+    → MayFollow op (rs ++ r ∷ [])
 follow_push op [] r may is = (is, tt)
 follow_push op (q ∷ rs) r may is = (may.0, follow_push op rs r may.1 is)
 
@@ -34,10 +41,12 @@ cut_push : (rs : List Request) (r : Request) → IsCut rs → MayJoin r.op rs �
 cut_push [] r cut may = (tt, tt)
 cut_push (q ∷ rs) r cut may = (follow_push q.op rs r cut.0 may.0, cut_push rs r cut.1 may.1)
 
-pub gathers_weaker : (places : List (Option UnclaimedState)) (e : ℕ) (rs : List Request) → Gathers places e rs → Gathers places (e + 1) rs
+pub gathers_weaker : (places : List (Option UnclaimedState)) (e : ℕ) (rs : List Request) → Gathers places e rs
+    → Gathers places (e + 1) rs
 gathers_weaker places e rs g = record { apart = g.apart; free = g.free; below = below_weaker e rs g.below; cut = g.cut }
 
-pub gathers_push : (places : List (Option UnclaimedState)) (e : ℕ) (rs : List Request) (r : Request) → Gathers places e rs → r.element ≡ e → slice_get places e ≡ Some None → MayJoin r.op rs
+pub gathers_push : (places : List (Option UnclaimedState)) (e : ℕ) (rs : List Request) (r : Request)
+    → Gathers places e rs → r.element ≡ e → slice_get places e ≡ Some None → MayJoin r.op rs
     → Gathers places (e + 1) (rs ++ r ∷ [])
 gathers_push places e rs r g is free may = record {
   apart = apart_push rs r g.apart (subst (λ (n : ℕ). AreBelow n rs) (sym is) g.below);

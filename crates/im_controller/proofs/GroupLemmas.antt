@@ -1,5 +1,6 @@
 -- The answers to a group's members are the memory's, one after another, and come to the engine's memory.
-use Rattle.std.proofs.Common.{◌≡◌, ◌⊎◌, inl, inr, ⊎_elim, ℕ, zero, suc, ◌<◌, ◌≤◌, ◌&&◌, ◌==◌, Bool, true, false, List, [], ◌∷◌, refl, sym, ap, ◌∙◌, subst, Result, Ok, Err, length, map, arith, if◌then◌else◌}
+use Rattle.std.proofs.Common.{◌≡◌, ◌⊎◌, inl, inr, ⊎_elim, ℕ, zero, suc, ◌<◌, ◌≤◌, ◌&&◌, ◌==◌, Bool, true, false, List}
+use Rattle.std.proofs.Common.{[], ◌∷◌, refl, sym, ap, ◌∙◌, subst, Result, Ok, Err, length, map, arith, if◌then◌else◌}
 use Rattle.std.specs.Prelude.{nat_lt}
 use Rattle.std.proofs.lemmas.Bool.Decides.{nat_tests}
 use Rattle.im_types.specs.declared.commands.Command.{Command}
@@ -14,14 +15,16 @@ use Rattle.im_types.specs.Contents.{Contents}
 use Rattle.im_types.specs.Meaning.{Reached}
 use Rattle.im_types.specs.Run.{after}
 use Rattle.im_types.specs.Step.{step}
-use Rattle.im_types.specs.Groups.{as_served, is_new, with_request, answer_of, reached_by_one, reached_by_all, answers_of}
+use Rattle.im_types.specs.Groups.{as_served, is_new, with_request, answer_of, reached_by_one, reached_by_all}
+use Rattle.im_types.specs.Groups.{answers_of}
 use Rattle.im_laws.proofs.Tests.{true_false}
 use Rattle.im_laws.proofs.AcceptLemmas.{unaccepted-leaves, accepted-ok}
 use Rattle.im_laws.proofs.GroupLemmas.{puts-after}
 use Rattle.im_engine.specs.State.{EngineState}
 use Rattle.im_engine.specs.Groups.{reached_in, group_put, after_group, all_refused, answers_in, GroupAnswered}
 use Rattle.im_controller.specs.Lines.{leaves_line, memory_after}
-use Rattle.im_controller.specs.Groups.{answer_in, IsAnswerTo, AreAnswersTo, memory_after_all, lines_left, MembersAnswered}
+use Rattle.im_controller.specs.Groups.{answer_in, IsAnswerTo, AreAnswersTo, memory_after_all, lines_left}
+use Rattle.im_controller.specs.Groups.{MembersAnswered}
 use Rattle.im_controller.proofs.LendLemmas.{ok-leaves, same_by}
 
 -- what the log asks of the answers to a group, from one memory to another
@@ -45,7 +48,8 @@ module _ (e : Refusal) (lineless : leaves_line (Err e) ≡ false) where
 
   alike_ends : (m : Contents) (rs : List Request) → memory_after_all m rs (map answer_in (all_refused e rs)) ≡ m
   alike_ends m [] = refl
-  alike_ends m (r ∷ rs) = ap (λ n. memory_after_all n rs (map answer_in (all_refused e rs))) (stays m r) ∙ alike_ends m rs
+  alike_ends m (r ∷ rs) = ap (λ n. memory_after_all n rs (map answer_in (all_refused e rs))) (stays m r)
+      ∙ alike_ends m rs
 
   pub alike_none : (rs : List Request) → lines_left (map answer_in (all_refused e rs)) ≡ 0
   alike_none [] = refl
@@ -58,7 +62,13 @@ module _ (e : Refusal) (lineless : leaves_line (Err e) ≡ false) where
   alike_whole (r ∷ rs) = omega (arith, alike_whole rs)
 
   pub alike_fits : (m : Contents) (rs : List Request) → Fits m rs (all_refused e rs) m
-  alike_fits m rs = record { whole = alike_whole rs; are_so = alike_so m rs; ends = alike_ends m rs; few = omega (arith, alike_none rs) }
+  alike_fits m rs = record {
+    whole = alike_whole rs;
+    are_so = alike_so m rs;
+    ends = alike_ends m rs;
+    few = omega
+        (arith, alike_none rs);
+  }
 
 -- a member's answer, and what it reaches
 module _ (s : Reached) (r : Request) where
@@ -72,11 +82,14 @@ module _ (s : Reached) (r : Request) where
 
   after_by : (b some none : Bool) → is_new s r ≡ b → (some ≡ true → none ≡ false) → (some ≡ false → none ≡ true)
       → (if b && some then with_request s r else s).contents
-      ≡ memory_after s.contents (Commands (Asks r)) (if b && none then Err JournalFull else (step s.contents (Asks r)).answer)
-  after_by false some none new f g = same_by (leaves_line (step s.contents (Asks r)).answer) s.contents (step s.contents (Asks r)).contents (unaccepted-leaves s.contents (Asks r) new)
+      ≡ memory_after s.contents (Commands (Asks r))
+      (if b && none then Err JournalFull else (step s.contents (Asks r)).answer)
+  after_by false some none new f g = same_by (leaves_line (step s.contents (Asks r)).answer) s.contents
+      (step s.contents (Asks r)).contents (unaccepted-leaves s.contents (Asks r) new)
   after_by true true true new f g = absurd (true_false (f refl))
   after_by true true false new f g =
-      sym (ap (λ b. if b then (step s.contents (Asks r)).contents else s.contents) (ok-leaves (step s.contents (Asks r)).answer (accepted-ok s.contents (Asks r) new)))
+      sym (ap (λ b. if b then (step s.contents (Asks r)).contents else s.contents)
+      (ok-leaves (step s.contents (Asks r)).answer (accepted-ok s.contents (Asks r) new)))
   after_by true false true new f g = refl
   after_by true false false new f g = absurd (true_false (sym (g refl)))
 
@@ -93,13 +106,16 @@ members-so : (s : Reached) (rs : List Request) → AreAnswersTo s.contents rs (a
 members-so s [] = tt
 members-so s (r ∷ rs) = (
   member-so s r,
-  subst (λ (m : Contents). AreAnswersTo m rs (answers_of (reached_by_one s r) rs)) (member-after s r) (members-so (reached_by_one s r) rs),
+  subst (λ (m : Contents). AreAnswersTo m rs (answers_of (reached_by_one s r) rs)) (member-after s r)
+      (members-so (reached_by_one s r) rs),
 )
 
-members-after : (s : Reached) (rs : List Request) → memory_after_all s.contents rs (answers_of s rs) ≡ (reached_by_all s rs).contents
+members-after : (s : Reached) (rs : List Request) → memory_after_all s.contents rs (answers_of s rs)
+    ≡ (reached_by_all s rs).contents
 members-after s [] = refl
 members-after s (r ∷ rs) =
-    ap (λ (m : Contents). memory_after_all m rs (answers_of (reached_by_one s r) rs)) (sym (member-after s r)) ∙ members-after (reached_by_one s r) rs
+    ap (λ (m : Contents). memory_after_all m rs (answers_of (reached_by_one s r) rs)) (sym (member-after s r))
+    ∙ members-after (reached_by_one s r) rs
 
 answer_served : (a : Result Outcome Refusal) → answer_in (as_served a) ≡ a
 answer_served (Ok outcome) = refl
@@ -107,7 +123,8 @@ answer_served (Err refusal) = refl
 
 pub answers_served : (xs : List (Result Outcome Refusal)) → map answer_in (map as_served xs) ≡ xs
 answers_served [] = refl
-answers_served (x ∷ xs) = ap (λ y. y ∷ map answer_in (map as_served xs)) (answer_served x) ∙ ap (λ ys. x ∷ ys) (answers_served xs)
+answers_served (x ∷ xs) = ap (λ y. y ∷ map answer_in (map as_served xs)) (answer_served x)
+    ∙ ap (λ ys. x ∷ ys) (answers_served xs)
 
 whole_served : (xs : List (Result Outcome Refusal)) → length (map as_served xs) ≡ length xs
 whole_served [] = refl
@@ -125,18 +142,21 @@ few_lines (x ∷ xs) = omega (arith, few_lines xs, at_most (leaves_line x))
     at_most true = omega arith
     at_most false = omega arith
 
-members_fit : (s : Reached) (rs : List Request) → Fits s.contents rs (map as_served (answers_of s rs)) (reached_by_all s rs).contents
+members_fit : (s : Reached) (rs : List Request)
+    → Fits s.contents rs (map as_served (answers_of s rs)) (reached_by_all s rs).contents
 members_fit s rs =
     let xs = answers_of s rs in let same = answers_served xs in
     record {
       whole = whole_served xs ∙ whole_answers s rs;
-      are_so = subst (λ (ys : List (Result Outcome Refusal)). AreAnswersTo s.contents rs ys) (sym same) (members-so s rs);
+      are_so = subst (λ (ys : List (Result Outcome Refusal)). AreAnswersTo s.contents rs ys) (sym same)
+          (members-so s rs);
       ends = ap (λ ys. memory_after_all s.contents rs ys) same ∙ members-after s rs;
       few = omega (arith, few_lines xs, ap lines_left same, whole_answers s rs);
     }
 
 module _ {D : Type 0} (e f : EngineState D) (rs : List Request) (ss : List Served) where
-  fits_alike : (refusal : Refusal) → leaves_line (Err refusal) ≡ false → ss ≡ all_refused refusal rs → f.memory ≡ e.memory → Fits e.memory rs ss f.memory
+  fits_alike : (refusal : Refusal) → leaves_line (Err refusal) ≡ false → ss ≡ all_refused refusal rs → f.memory
+      ≡ e.memory → Fits e.memory rs ss f.memory
   fits_alike refusal lineless same stay =
       subst (λ (m : Contents). Fits e.memory rs ss m) (sym stay)
       (subst (λ (ts : List Served). Fits e.memory rs ts e.memory) (sym same) (alike_fits refusal lineless e.memory rs))
@@ -144,7 +164,8 @@ module _ {D : Type 0} (e f : EngineState D) (rs : List Request) (ss : List Serve
   fits_done : ss ≡ answers_in e rs → f.memory ≡ (after_group e rs).memory → Fits e.memory rs ss f.memory
   fits_done same ends =
       subst (λ (m : Contents). Fits e.memory rs ss m) (sym ends)
-      (subst (λ (ts : List Served). Fits e.memory rs ts (after_group e rs).memory) (sym same) (members_fit (reached_in e) rs))
+      (subst (λ (ts : List Served). Fits e.memory rs ts (after_group e rs).memory) (sym same)
+      (members_fit (reached_in e) rs))
 
   memory-of : {a b : EngineState D} → a ≡ b → a.memory ≡ b.memory
   memory-of same = ap (λ (x : EngineState D). x.memory) same
@@ -152,7 +173,8 @@ module _ {D : Type 0} (e f : EngineState D) (rs : List Request) (ss : List Serve
   group_stays : group_put e rs ≡ [] → e.memory ≡ (after_group e rs).memory
   group_stays none = sym (puts-after (reached_in e) rs ∙ ap (λ (cs : List Command). after e.memory cs) none)
 
-  fits_alive : GroupAnswered e rs ss f → e.failed ≡ false → (puts : List Command) → group_put e rs ≡ puts → Fits e.memory rs ss f.memory
+  fits_alive : GroupAnswered e rs ss f → e.failed ≡ false → (puts : List Command) → group_put e rs ≡ puts
+      → Fits e.memory rs ss f.memory
   fits_alive a alive [] none = let is = a.none alive none in fits_done is.0 (memory-of is.1 ∙ group_stays none)
   fits_alive a alive (command ∷ commands) put = ⊎_elim
       (λ done. fits_done done.0 (memory-of done.1))
@@ -164,22 +186,28 @@ module _ {D : Type 0} (e f : EngineState D) (rs : List Request) (ss : List Serve
   fits_by false alive a = fits_alive a alive (group_put e rs) refl
 
   -- whichever way a group is answered
-  members_by : (b : Bool) (room n : ℕ) → e.failed ≡ b → room ≡ n → MembersAnswered e room rs ss f → Fits e.memory rs ss f.memory
+  members_by : (b : Bool) (room n : ℕ) → e.failed ≡ b → room ≡ n → MembersAnswered e room rs ss f
+      → Fits e.memory rs ss f.memory
   members_by true room n dead is a = fits_by true dead (a.dead dead)
-  members_by false room zero alive is a = let full = a.full alive is in fits_alike TraceFull refl full.0 (memory-of full.1)
+  members_by false room zero alive is a = let full = a.full alive is in fits_alike TraceFull refl full.0
+      (memory-of full.1)
   members_by false room (suc n) alive is a = fits_by false alive (a.served (omega (arith, is)))
 
   pub members-fit : (room : ℕ) → MembersAnswered e room rs ss f → Fits e.memory rs ss f.memory
   members-fit room a = members_by e.failed room room refl refl a
 
-  none_left : (refusal : Refusal) → leaves_line (Err refusal) ≡ false → ss ≡ all_refused refusal rs → lines_left (map answer_in ss) ≡ 0
+  none_left : (refusal : Refusal) → leaves_line (Err refusal) ≡ false → ss ≡ all_refused refusal rs
+      → lines_left (map answer_in ss) ≡ 0
   none_left refusal lineless same = ap (λ ts. lines_left (map answer_in ts)) same ∙ alike_none refusal lineless rs
 
-  room_by : (b : Bool) (room n : ℕ) → e.failed ≡ b → room ≡ n → MembersAnswered e room rs ss f → (lines_left (map answer_in ss) ≡ 0) ⊎ ((0 < room) × (lines_left (map answer_in ss) ≤ length rs))
+  room_by : (b : Bool) (room n : ℕ) → e.failed ≡ b → room ≡ n → MembersAnswered e room rs ss f
+      → (lines_left (map answer_in ss) ≡ 0) ⊎ ((0 < room) × (lines_left (map answer_in ss) ≤ length rs))
   room_by true room n dead is a = inl (none_left Failed refl ((a.dead dead).dead dead).0)
   room_by false room zero alive is a = inl (none_left TraceFull refl (a.full alive is).0)
-  room_by false room (suc n) alive is a = inr (omega (arith, is), (fits_by false alive (a.served (omega (arith, is)))).few)
+  room_by false room (suc n) alive is a = inr
+      (omega (arith, is), (fits_by false alive (a.served (omega (arith, is)))).few)
 
   -- no line is left, or there is room for as many as there are members
-  pub members-room : (room : ℕ) → MembersAnswered e room rs ss f → (lines_left (map answer_in ss) ≡ 0) ⊎ ((0 < room) × (lines_left (map answer_in ss) ≤ length rs))
+  pub members-room : (room : ℕ) → MembersAnswered e room rs ss f → (lines_left (map answer_in ss) ≡ 0)
+      ⊎ ((0 < room) × (lines_left (map answer_in ss) ≤ length rs))
   members-room room a = room_by e.failed room room refl refl a

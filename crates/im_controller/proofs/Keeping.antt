@@ -1,5 +1,7 @@
 -- The members of a group whose answers are still to be kept.
-use Rattle.std.proofs.Common.{◌≡◌, ◌≢◌, ℕ, suc, ◌+◌, ◌<◌, ◌≤◌, Bool, true, false, List, [], ◌∷◌, refl, sym, ap, ◌∙◌, subst, Option, None, Some, Result, length, length-append, slice_get, slice_set, get_or, map, drop, arith, if◌then◌else◌}
+use Rattle.std.proofs.Common.{◌≡◌, ◌≢◌, ℕ, suc, ◌+◌, ◌<◌, ◌≤◌, Bool, true, false, List, [], ◌∷◌, refl, sym, ap, ◌∙◌}
+use Rattle.std.proofs.Common.{subst, Option, None, Some, Result, length, length-append, slice_get, slice_set, get_or}
+use Rattle.std.proofs.Common.{map, drop, arith, if◌then◌else◌}
 use Rattle.std.proofs.Math.Seq.{drop-cons}
 use Rattle.std.proofs.lemmas.List.{get_or-set_other, length-set}
 use Rattle.std.proofs.lemmas.Option.{slice_get_within, slice_get-get_or, get_or_from_slice_get}
@@ -16,26 +18,32 @@ use Rattle.im_controller.specs.Log.{UnclaimedState, LogState, with_unclaimed}
 use Rattle.im_controller.specs.Groups.{AreFreeFor, with_all_unclaimed, AreAnswersTo, memory_after_all, lines_left}
 use Rattle.im_controller.proofs.LogLemmas.{lines_by, end-lines}
 
-get-set_other : {X : Type 0} (xs : List X) (i j : ℕ) (x y : X) → i ≢ j → slice_get xs j ≡ Some y → slice_get (slice_set xs i x) j ≡ Some y
+get-set_other : {X : Type 0} (xs : List X) (i j : ℕ) (x y : X) → i ≢ j → slice_get xs j ≡ Some y
+    → slice_get (slice_set xs i x) j ≡ Some y
 get-set_other xs i j x y apart there =
     let within = slice_get_within xs j y there in
     slice_get-get_or (slice_set xs i x) j y (omega (arith, within, length-set xs i x))
     ∙ ap Some (get_or-set_other xs i j x y (λ e. apart (sym e)) ∙ get_or_from_slice_get xs j y y there)
 
 -- other places stay free
-pub free_after : (places : List (Option UnclaimedState)) (e : ℕ) (w : Option UnclaimedState) (rs : List Request) → AreOthers e rs → AreFreeFor places rs → AreFreeFor (slice_set places e w) rs
+pub free_after : (places : List (Option UnclaimedState)) (e : ℕ) (w : Option UnclaimedState) (rs : List Request)
+    → AreOthers e rs → AreFreeFor places rs → AreFreeFor (slice_set places e w) rs
 free_after places e w [] others free = tt
-free_after places e w (r ∷ rs) others free = (get-set_other places e r.element w None others.0 free.0, free_after places e w rs others.1 free.1)
+free_after places e w (r ∷ rs) others free =
+    (get-set_other places e r.element w None others.0 free.0, free_after places e w rs others.1 free.1)
 
-left_by : (b : Bool) (r : Request) (x : Result Outcome Refusal) → length (lines_by b (Commands (Asks r)) x) ≡ (if b then 1 else 0)
+left_by : (b : Bool) (r : Request) (x : Result Outcome Refusal) → length (lines_by b (Commands (Asks r)) x)
+    ≡ (if b then 1 else 0)
 left_by true r x = refl
 left_by false r x = refl
 
-left_is : (r : Request) (x : Result Outcome Refusal) → length (lines_of (Commands (Asks r)) x) ≡ (if leaves_line x then 1 else 0)
+left_is : (r : Request) (x : Result Outcome Refusal) → length (lines_of (Commands (Asks r)) x)
+    ≡ (if leaves_line x then 1 else 0)
 left_is r x = left_by (leaves_line x) r x
 
 -- the members that are left, after which all is as it would be from the start
-pub record Keeps (m : Contents) (l0 : LogState) (rs0 : List Request) (xs0 : List (Result Outcome Refusal)) (l : LogState) (rs : List Request) (xs : List (Result Outcome Refusal)) : Type 0 where
+pub record Keeps (m : Contents) (l0 : LogState) (rs0 : List Request) (xs0 : List (Result Outcome Refusal))
+    (l : LogState) (rs : List Request) (xs : List (Result Outcome Refusal)) : Type 0 where
   pub log_is : with_all_unclaimed l rs xs ≡ with_all_unclaimed l0 rs0 xs0
   pub end_is : memory_after_all (end_of m l.trace) rs xs ≡ memory_after_all (end_of m l0.trace) rs0 xs0
   pub are_so : AreAnswersTo (end_of m l.trace) rs xs
@@ -44,7 +52,9 @@ pub record Keeps (m : Contents) (l0 : LogState) (rs0 : List Request) (xs0 : List
   pub room : length l.trace + lines_left xs ≤ l.limit
 
 module _ (m : Contents) (l0 : LogState) (rs0 : List Request) (xs0 : List (Result Outcome Refusal)) where
-  pub keeps_next : (l : LogState) (r : Request) (x : Result Outcome Refusal) (rs : List Request) (xs : List (Result Outcome Refusal)) → Keeps m l0 rs0 xs0 l (r ∷ rs) (x ∷ xs) → Keeps m l0 rs0 xs0 (with_unclaimed l r x) rs xs
+  pub keeps_next : (l : LogState) (r : Request) (x : Result Outcome Refusal) (rs : List Request)
+      (xs : List (Result Outcome Refusal)) → Keeps m l0 rs0 xs0 l (r ∷ rs) (x ∷ xs)
+      → Keeps m l0 rs0 xs0 (with_unclaimed l r x) rs xs
   keeps_next l r x rs xs k =
       let now = end-lines m l.trace (Commands (Asks r)) x in
       record {
@@ -57,8 +67,10 @@ module _ (m : Contents) (l0 : LogState) (rs0 : List Request) (xs0 : List (Result
       }
 
   -- the same, by the place of the next member
-  pub keeps_cons : {X : Type 0} (f : X → Result Outcome Refusal) (l : LogState) (rs : List Request) (ss : List X) (i : ℕ) (d : Request) (e : X) → i < length rs → i < length ss
-      → Keeps m l0 rs0 xs0 l (drop i rs) (map f (drop i ss)) → Keeps m l0 rs0 xs0 l (get_or rs i d ∷ drop (i + 1) rs) (f (get_or ss i e) ∷ map f (drop (i + 1) ss))
+  pub keeps_cons : {X : Type 0} (f : X → Result Outcome Refusal) (l : LogState) (rs : List Request) (ss : List X)
+      (i : ℕ) (d : Request) (e : X) → i < length rs → i < length ss
+      → Keeps m l0 rs0 xs0 l (drop i rs) (map f (drop i ss))
+      → Keeps m l0 rs0 xs0 l (get_or rs i d ∷ drop (i + 1) rs) (f (get_or ss i e) ∷ map f (drop (i + 1) ss))
   keeps_cons {X = X} f l rs ss i d e within there k =
       let next : suc i ≡ i + 1 = omega arith in
       let these = drop-cons rs i d within ∙ ap (λ n. get_or rs i d ∷ drop n rs) next in

@@ -1,5 +1,7 @@
 -- What a crash leaves, with a command, a group or a turn more.
-use Rattle.std.proofs.Common.{◌≡◌, ◌⊎◌, inl, inr, ⊎_elim, ℕ, zero, suc, ◌+◌, ◌≤◌, Bool, true, false, ◌&&◌, List, [], ◌∷◌, ◌++◌, length, length-append, append_assoc, map, refl, sym, ap, ◌∙◌, subst, arith, if◌then◌else◌, Result, Ok, Err}
+use Rattle.std.proofs.Common.{◌≡◌, ◌⊎◌, inl, inr, ⊎_elim, ℕ, zero, suc, ◌+◌, ◌≤◌, Bool, true, false, ◌&&◌, List, []}
+use Rattle.std.proofs.Common.{◌∷◌, ◌++◌, length, length-append, append_assoc, map, refl, sym, ap, ◌∙◌, subst, arith}
+use Rattle.std.proofs.Common.{if◌then◌else◌, Result, Ok, Err}
 use Rattle.std.specs.Prelude.{Some, nat_lt, ◌==◌, IfErr}
 use Rattle.std.proofs.lemmas.Bool.Decides.{nat_tests}
 use Rattle.std.proofs.lemmas.List.{append-nil, take_all, take-append-le}
@@ -32,7 +34,8 @@ use Rattle.im_checkpoint.specs.declared.checkpoint.TurnDone.TheVariants.{Idle, B
 use Rattle.im_checkpoint.proofs.Fitting.{none_or_some}
 use Rattle.im_engine.specs.State.{EngineState, MeansState, MeansEither, with_command}
 use Rattle.im_engine.specs.Run.{Answered, TurnAnswered, SweepAnswered}
-use Rattle.im_engine.specs.Groups.{reached_in, group_put, after_group, answers_in, all_refused, GroupAnswered, GroupFaults, MeansGroup}
+use Rattle.im_engine.specs.Groups.{reached_in, group_put, after_group, answers_in, all_refused, GroupAnswered}
+use Rattle.im_engine.specs.Groups.{GroupFaults, MeansGroup}
 use Rattle.im_engine.proofs.Keeping.{accept_both, accept_one}
 use Rattle.im_engine.proofs.Running.{Failures, failures_more, failures_turned}
 use Rattle.im_controller.specs.Lines.{leaves_line, line_of, lines_of}
@@ -52,8 +55,11 @@ pub record IsQuiet {D : Type 0} (failures : D → ℕ) (e f : EngineState D) : T
   pub counts : e.failed ≡ false → Failures failures e f
 
 -- no engine that has failed works again
-pub quiet_alive : {D : Type 0} (failures : D → ℕ) (e f : EngineState D) → IsQuiet failures e f → f.failed ≡ false → e.failed ≡ false
-quiet_alive {D} failures e f quiet living = ⊎_elim (λ dead. sym (ap (λ (x : EngineState D). x.failed) (quiet.dead dead)) ∙ living) (λ alive. alive) (true_or_false e.failed)
+pub quiet_alive : {D : Type 0} (failures : D → ℕ) (e f : EngineState D) → IsQuiet failures e f → f.failed ≡ false
+    → e.failed ≡ false
+quiet_alive {D} failures e f quiet living = ⊎_elim
+    (λ dead. sym (ap (λ (x : EngineState D). x.failed) (quiet.dead dead)) ∙ living) (λ alive. alive)
+    (true_or_false e.failed)
 
 same_both : {D : Type 0} (e f : EngineState D) → f ≡ e → (f.memory ≡ e.memory) × (f.count ≡ e.count)
 same_both {D} e f is = (ap (λ (x : EngineState D). x.memory) is, ap (λ (x : EngineState D). x.count) is)
@@ -62,23 +68,29 @@ module _ {D : Type 0} (failures : D → ℕ) (e f : EngineState D) where
   none_failed : e.failed ≡ false → Failures failures e e
   none_failed alive = record { rose = λ dead. absurd (true_false (sym dead ∙ alive)); stayed = λ _. refl }
 
-  pub turn_quiet : (a : Result TurnDone Refusal) → TurnAnswered e a f → Faults (λ r. Unit {0}) a (failures e.disk) (failures f.disk) → IsQuiet failures e f
+  pub turn_quiet : (a : Result TurnDone Refusal) → TurnAnswered e a f
+      → Faults (λ r. Unit {0}) a (failures e.disk) (failures f.disk) → IsQuiet failures e f
   turn_quiet a answered cause = record {
     dead = λ dead. (answered.dead dead).1;
     stays = ⊎_elim
         (λ dead. same_both e f (answered.dead dead).1)
-        (λ alive. ⊎_elim (λ done. (done.2.memory, done.2.count)) (λ doubt. (ap (λ (x : EngineState D). x.memory) doubt.1, ap (λ (x : EngineState D). x.count) doubt.1)) (answered.alive alive))
+        (λ alive. ⊎_elim (λ done. (done.2.memory, done.2.count))
+        (λ doubt. (ap (λ (x : EngineState D). x.memory) doubt.1, ap (λ (x : EngineState D). x.count) doubt.1))
+        (answered.alive alive))
         (true_or_false e.failed);
     counts = λ alive. failures_turned failures e e f a answered cause (none_failed alive);
   }
 
-  pub sweep_quiet : (most : ℕ) (a : Result ℕ Refusal) → SweepAnswered e most a f → Faults (λ r. Unit {0}) a (failures e.disk) (failures f.disk) → IsQuiet failures e f
+  pub sweep_quiet : (most : ℕ) (a : Result ℕ Refusal) → SweepAnswered e most a f
+      → Faults (λ r. Unit {0}) a (failures e.disk) (failures f.disk) → IsQuiet failures e f
   sweep_quiet most a answered cause = record {
     dead = λ dead. (answered.dead dead).1;
     stays = ⊎_elim
         (λ dead. same_both e f (answered.dead dead).1)
-        (λ alive. ⊎_elim (λ done. (ap (λ (x : EngineState D). x.memory) done.1, ap (λ (x : EngineState D). x.count) done.1))
-        (λ doubt. (ap (λ (x : EngineState D). x.memory) doubt.1, ap (λ (x : EngineState D). x.count) doubt.1)) (answered.alive alive))
+        (λ alive. ⊎_elim (λ done.
+        (ap (λ (x : EngineState D). x.memory) done.1, ap (λ (x : EngineState D). x.count) done.1))
+        (λ doubt. (ap (λ (x : EngineState D). x.memory) doubt.1, ap (λ (x : EngineState D). x.count) doubt.1))
+        (answered.alive alive))
         (true_or_false e.failed);
     counts = λ alive. ⊎_elim
         (λ done. let living : f.failed ≡ false = ap (λ (x : EngineState D). x.failed) done.1 ∙ alive in
@@ -94,15 +106,18 @@ module _ {D : Type 0} (failures : D → ℕ) (e f : EngineState D) where
 
 -- ---- the accepted commands of a trace
 
-commands-append : (earlier later : List Line) → commands_of (earlier ++ later) ≡ commands_of earlier ++ commands_of later
+commands-append : (earlier later : List Line) → commands_of (earlier ++ later)
+    ≡ commands_of earlier ++ commands_of later
 commands-append [] later = refl
-commands-append (line ∷ earlier) later = ap (λ l. command_in line.call ++ l) (commands-append earlier later) ∙ sym (append_assoc (command_in line.call) (commands_of earlier) (commands_of later))
+commands-append (line ∷ earlier) later = ap (λ l. command_in line.call ++ l) (commands-append earlier later)
+    ∙ sym (append_assoc (command_in line.call) (commands_of earlier) (commands_of later))
 
 pub accepted-after : (m : Contents) (trace : List Line) → after m (accepted_in m trace) ≡ end_of m trace
 accepted-after m trace = after-accepted m (commands_of trace) ∙ sym (end_of-commands m trace)
 
 -- of a longer one
-pub accepted-more : (m e : Contents) (trace more : List Line) → end_of m trace ≡ e → accepted_in m (trace ++ more) ≡ accepted_in m trace ++ accepted_in e more
+pub accepted-more : (m e : Contents) (trace more : List Line) → end_of m trace ≡ e → accepted_in m (trace ++ more)
+    ≡ accepted_in m trace ++ accepted_in e more
 accepted-more m e trace more ends =
     ap (accepted m) (commands-append trace more) ∙ accepted-append m (commands_of trace) (commands_of more)
     ∙ ap (λ n. accepted_in m trace ++ accepted n (commands_of more)) (sym (end_of-commands m trace) ∙ ends)
@@ -120,16 +135,22 @@ module _ (m : Contents) (c : Command) (a : Result Outcome Refusal) where
       by_line false = refl
 
   lined : leaves_line a ≡ true → is_accepted m c ≡ true → accepted_in m (lines_of (Commands c) a) ≡ c ∷ []
-  lined some is = ap (λ b. accepted_in m (if b then line_of (Commands c) a ∷ [] else [])) some ∙ ap (λ b. if b then c ∷ [] else []) is
+  lined some is = ap (λ b. accepted_in m (if b then line_of (Commands c) a ∷ [] else [])) some
+      ∙ ap (λ b. if b then c ∷ [] else []) is
 
 -- of a group's members
-one_put : (s : Reached) (r : Request) → accepted_in s.contents (lines_of (Commands (Asks r)) (answer_of s r)) ≡ (if is_put s r then Asks r ∷ [] else [])
+one_put : (s : Reached) (r : Request) → accepted_in s.contents (lines_of (Commands (Asks r)) (answer_of s r))
+    ≡ (if is_put s r then Asks r ∷ [] else [])
 one_put s r = by_tests (is_new s r) (nat_lt 0 s.room) refl refl
   where
-    answer_is : (c : Bool) → is_new s r ≡ true → (s.room == 0) ≡ c → answer_of s r ≡ (if c then Err JournalFull else (step s.contents (Asks r)).answer)
-    answer_is c new none = ap (λ x. if x && (s.room == 0) then Err JournalFull else (step s.contents (Asks r)).answer) new ∙ ap (λ x. if x then Err JournalFull else (step s.contents (Asks r)).answer) none
+    answer_is : (c : Bool) → is_new s r ≡ true → (s.room == 0) ≡ c → answer_of s r
+        ≡ (if c then Err JournalFull else (step s.contents (Asks r)).answer)
+    answer_is c new none = ap
+        (λ x. if x && (s.room == 0) then Err JournalFull else (step s.contents (Asks r)).answer) new
+        ∙ ap (λ x. if x then Err JournalFull else (step s.contents (Asks r)).answer) none
 
-    by_tests : (b c : Bool) → is_new s r ≡ b → nat_lt 0 s.room ≡ c → accepted_in s.contents (lines_of (Commands (Asks r)) (answer_of s r)) ≡ (if b && c then Asks r ∷ [] else [])
+    by_tests : (b c : Bool) → is_new s r ≡ b → nat_lt 0 s.room ≡ c
+        → accepted_in s.contents (lines_of (Commands (Asks r)) (answer_of s r)) ≡ (if b && c then Asks r ∷ [] else [])
     by_tests false c new some = unaccepted s.contents (Asks r) (answer_of s r) new
     by_tests true false new some =
         let none : (s.room == 0) ≡ true = grind (arith, nat_tests) in
@@ -137,13 +158,15 @@ one_put s r = by_tests (is_new s r) (nat_lt 0 s.room) refl refl
     by_tests true true new some =
         let none : (s.room == 0) ≡ false = grind (arith, nat_tests) in
         lined s.contents (Asks r) (answer_of s r)
-        (ap leaves_line (answer_is false new none) ∙ ok-leaves (step s.contents (Asks r)).answer (accepted-ok s.contents (Asks r) new)) new
+        (ap leaves_line (answer_is false new none)
+        ∙ ok-leaves (step s.contents (Asks r)).answer (accepted-ok s.contents (Asks r) new)) new
 
 all_put : (s : Reached) (rs : List Request) → accepted_in s.contents (lines_all rs (answers_of s rs)) ≡ puts_of s rs
 all_put s [] = refl
 all_put s (r ∷ rs) =
     let t = reached_by_one s r in
-    accepted-more s.contents t.contents (lines_of (Commands (Asks r)) (answer_of s r)) (lines_all rs (answers_of t rs)) (one-end s r)
+    accepted-more s.contents t.contents (lines_of (Commands (Asks r)) (answer_of s r))
+    (lines_all rs (answers_of t rs)) (one-end s r)
     ∙ ap (λ l. l ++ accepted_in t.contents (lines_all rs (answers_of t rs))) (one_put s r)
     ∙ ap (λ l. (if is_put s r then Asks r ∷ [] else []) ++ l) (all_put t rs)
 
@@ -152,12 +175,14 @@ all_put s (r ∷ rs) =
 meant : {D : Type 0} (e : EngineState D) (file : List ℕ) → MeansState e file → Means e.memory e.count 0 file
 meant e file it = (it.0, omega arith, it.2)
 
-longer : (m : Contents) (count : ℕ) (told more : List Command) (file : List ℕ) → MeansSome m count told file → MeansSome m count (told ++ more) file
+longer : (m : Contents) (count : ℕ) (told more : List Command) (file : List ℕ) → MeansSome m count told file
+    → MeansSome m count (told ++ more) file
 longer m count told more file means =
     let within : means.0 ≤ length told = means.1 in (
       means.0,
       omega (arith, length-append told more),
-      subst (λ (k : List Command). Means (after m k) (count + means.0) 0 file) (sym (take-append-le means.0 told more within)) means.2,
+      subst (λ (k : List Command). Means (after m k) (count + means.0) 0 file)
+          (sym (take-append-le means.0 told more within)) means.2,
     )
 
 -- the file means what the engine is before these commands, or after all of them
@@ -165,10 +190,13 @@ abbrev pub MeansBoth : {D : Type 0} → EngineState D → List Command → List 
 MeansBoth e cs file = Means e.memory e.count 0 file ⊎ Means (after e.memory cs) (e.count + length cs) 0 file
 
 module _ (m : Contents) (count : ℕ) (told : List Command) where
-  all_told : (n : Contents) (c : ℕ) (file : List ℕ) → n ≡ after m told → c ≡ count + length told → Means n c 0 file → MeansAll m count told file
+  all_told : (n : Contents) (c : ℕ) (file : List ℕ) → n ≡ after m told → c ≡ count + length told → Means n c 0 file
+      → MeansAll m count told file
   all_told n c file same counted means =
-      subst (λ (k : List Command). Means (after m k) (count + length told) 0 file) (sym (take_all (length told) told (omega arith)))
-      (subst (λ (x : Contents). Means x (count + length told) 0 file) same (subst (λ (k : ℕ). Means n k 0 file) counted means))
+      subst (λ (k : List Command). Means (after m k) (count + length told) 0 file)
+      (sym (take_all (length told) told (omega arith)))
+      (subst (λ (x : Contents). Means x (count + length told) 0 file) same
+      (subst (λ (k : ℕ). Means n k 0 file) counted means))
 
   some_told : (file : List ℕ) → MeansAll m count told file → MeansSome m count told file
   some_told file means = (length told, omega arith, means)
@@ -179,12 +207,17 @@ module _ {D : Type 0} (now : D → Moment) (past : D → List Moment) (failures 
 
   -- nothing was done
   pub kept_same : (told told' : List Command) (e f : EngineState D) → f ≡ e → told' ≡ told → Has told e → Has told' f
-  kept_same told told' e f same lines it = subst (λ (x : EngineState D). Has told' x) (sym same) (subst (λ (l : List Command). Has l e) (sym lines) it)
+  kept_same told told' e f same lines it = subst (λ (x : EngineState D). Has told' x) (sym same)
+      (subst (λ (l : List Command). Has l e) (sym lines) it)
 
-  module _ (told cs : List Command) (e f : EngineState D) (it : Has told e) (alive : e.failed ≡ false) (ends : e.memory ≡ after m told) (takes : accept_each e.memory cs ≡ Some (after e.memory cs))
-      (leaves : Leaves (now e.disk) (now f.disk) (past e.disk) (past f.disk) (MeansBoth e cs)) (last : LeavesNow (now f.disk) (MeansBoth e cs))
-      (far : f.failed ≡ false → (f.memory ≡ after e.memory cs) × (f.count ≡ e.count + length cs)) (means : f.failed ≡ false → LeavesNow (now f.disk) (MeansState f))
-      (rose : f.failed ≡ true → Rises (failures e.disk) (failures f.disk)) (stayed : f.failed ≡ false → failures f.disk ≡ failures e.disk) where
+  module _ (told cs : List Command) (e f : EngineState D) (it : Has told e) (alive : e.failed ≡ false)
+      (ends : e.memory ≡ after m told) (takes : accept_each e.memory cs ≡ Some (after e.memory cs))
+      (leaves : Leaves (now e.disk) (now f.disk) (past e.disk) (past f.disk) (MeansBoth e cs))
+      (last : LeavesNow (now f.disk) (MeansBoth e cs))
+      (far : f.failed ≡ false → (f.memory ≡ after e.memory cs) × (f.count ≡ e.count + length cs))
+      (means : f.failed ≡ false → LeavesNow (now f.disk) (MeansState f))
+      (rose : f.failed ≡ true → Rises (failures e.disk) (failures f.disk))
+      (stayed : f.failed ≡ false → failures f.disk ≡ failures e.disk) where
     no_doubt : told ++ it.doubt ≡ told
     no_doubt = ap (λ l. told ++ l) (it.sure alive) ∙ append-nil told
 
@@ -194,7 +227,8 @@ module _ {D : Type 0} (now : D → Moment) (past : D → List Moment) (failures 
     takes_all : accept_each m (told ++ cs) ≡ Some (after m (told ++ cs))
     takes_all =
         accept_both m e.memory (after e.memory cs) told cs
-        (subst (λ (l : List Command). accept_each m l ≡ Some (after m l)) no_doubt it.accepts ∙ ap Some (sym ends)) takes
+        (subst (λ (l : List Command). accept_each m l ≡ Some (after m l)) no_doubt it.accepts
+        ∙ ap Some (sym ends)) takes
         ∙ ap Some (ap (λ n. after n cs) ends ∙ sym (after-append m told cs))
 
     counted : e.count ≡ b.count + length told
@@ -202,15 +236,21 @@ module _ {D : Type 0} (now : D → Moment) (past : D → List Moment) (failures 
 
     both : (file : List ℕ) → MeansBoth e cs file → MeansAll m b.count told file ⊎ MeansAll m b.count (told ++ cs) file
     both file (inl image) = inl (all_told m b.count told e.memory e.count file ends counted image)
-    both file (inr image) = inr (all_told m b.count (told ++ cs) (after e.memory cs) (e.count + length cs) file (ap (λ n. after n cs) ends ∙ sym (after-append m told cs)) (omega (arith, counted, length-append told cs)) image)
+    both file (inr image) = inr
+        (all_told m b.count (told ++ cs) (after e.memory cs) (e.count + length cs) file
+        (ap (λ n. after n cs) ends ∙ sym (after-append m told cs))
+        (omega (arith, counted, length-append told cs)) image)
 
     some_both : (file : List ℕ) → MeansBoth e cs file → MeansSome m b.count (told ++ cs) file
-    some_both file image = ⊎_elim (λ old. longer m b.count told cs file (some_told m b.count told file old)) (λ new. some_told m b.count (told ++ cs) file new) (both file image)
+    some_both file image = ⊎_elim (λ old. longer m b.count told cs file (some_told m b.count told file old))
+        (λ new. some_told m b.count (told ++ cs) file new) (both file image)
 
     leaves_all : Leaves b.now (now f.disk) b.past (past f.disk) (MeansSome m b.count (told ++ cs))
     leaves_all =
-        leaves_then b.now (now e.disk) (now f.disk) b.past (past e.disk) (past f.disk) (MeansSome m b.count told) (MeansBoth e cs) (MeansSome m b.count (told ++ cs))
-        (subst (λ (l : List Command). Leaves b.now (now e.disk) b.past (past e.disk) (MeansSome m b.count l)) no_doubt it.leaves) leaves (longer m b.count told cs) some_both
+        leaves_then b.now (now e.disk) (now f.disk) b.past (past e.disk) (past f.disk) (MeansSome m b.count told)
+        (MeansBoth e cs) (MeansSome m b.count (told ++ cs))
+        (subst (λ (l : List Command). Leaves b.now (now e.disk) b.past (past e.disk)
+        (MeansSome m b.count l)) no_doubt it.leaves) leaves (longer m b.count told cs) some_both
 
     by_failed : (dead : Bool) → f.failed ≡ dead → Has (told ++ (if dead then [] else cs)) f
     by_failed true is = subst (λ (l : List Command). Has l f) (sym (append-nil told)) (record {
@@ -226,10 +266,15 @@ module _ {D : Type 0} (now : D → Moment) (past : D → List Moment) (failures 
     by_failed false is = record {
       doubt = [];
       sure = λ _. refl;
-      accepts = subst (λ (l : List Command). accept_each m l ≡ Some (after m l)) (sym (append-nil (told ++ cs))) takes_all;
+      accepts = subst (λ (l : List Command). accept_each m l ≡ Some (after m l))
+          (sym (append-nil (told ++ cs))) takes_all;
       count = λ living. omega (arith, (far living).1, counted, length-append told cs);
-      leaves = subst (λ (l : List Command). Leaves b.now (now f.disk) b.past (past f.disk) (MeansSome m b.count l)) (sym (append-nil (told ++ cs))) leaves_all;
-      last = λ file left. inl (all_told m b.count (told ++ cs) f.memory f.count file ((far is).0 ∙ ap (λ n. after n cs) ends ∙ sym (after-append m told cs)) (omega (arith, (far is).1, counted, length-append told cs))
+      leaves = subst (λ (l : List Command). Leaves b.now (now f.disk) b.past (past f.disk) (MeansSome m b.count l))
+          (sym (append-nil (told ++ cs))) leaves_all;
+      last = λ file left. inl
+          (all_told m b.count (told ++ cs) f.memory f.count file
+          ((far is).0 ∙ ap (λ n. after n cs) ends ∙ sym (after-append m told cs))
+          (omega (arith, (far is).1, counted, length-append told cs))
           (meant f file (means is file left)));
       rose = λ dead. absurd (true_false (sym dead ∙ is));
       stayed = λ living. stayed living ∙ it.stayed alive;
@@ -240,7 +285,8 @@ module _ {D : Type 0} (now : D → Moment) (past : D → List Moment) (failures 
     kept_more = by_failed f.failed refl
 
   -- where nothing was acknowledged yet
-  pub kept_start : (e : EngineState D) → begun_in now past failures e ≡ b → e.memory ≡ m → e.failed ≡ false → LeavesNow (now e.disk) (MeansState e) → Has [] e
+  pub kept_start : (e : EngineState D) → begun_in now past failures e ≡ b → e.memory ≡ m → e.failed ≡ false
+      → LeavesNow (now e.disk) (MeansState e) → Has [] e
   kept_start e is same alive means =
       subst (λ (x : Begun). HasKept now past failures x m [] e) is (record {
         doubt = [];
@@ -248,7 +294,8 @@ module _ {D : Type 0} (now : D → Moment) (past : D → List Moment) (failures 
         accepts = refl;
         count = λ _. omega arith;
         leaves = leaves_start (now e.disk) (past e.disk) (MeansSome m e.count []);
-        last = λ file left. inl (all_told m e.count [] e.memory e.count file same (omega arith) (meant e file (means file left)));
+        last = λ file left. inl
+            (all_told m e.count [] e.memory e.count file same (omega arith) (meant e file (means file left)));
         rose = λ dead. absurd (true_false (sym dead ∙ alive));
         stayed = λ _. refl;
       })
@@ -264,8 +311,11 @@ module _ {D : Type 0} (now : D → Moment) (past : D → List Moment) (failures 
     either c file (inr image) = inr (meant (with_command e c) file image)
 
     module _ (told : List Command) (it : Has told e) (ends : e.memory ≡ after m told) where
-      module _ (c : Command) (a : Result Outcome Refusal) (answered : Answered e c a f) (cause : Faults (λ r. Unit {0}) a (failures e.disk) (failures f.disk))
-          (leaves : Leaves (now e.disk) (now f.disk) (past e.disk) (past f.disk) (MeansEither e c)) (last : LeavesNow (now f.disk) (MeansEither e c)) (means : f.failed ≡ false → LeavesNow (now f.disk) (MeansState f)) where
+      module _ (c : Command) (a : Result Outcome Refusal) (answered : Answered e c a f)
+          (cause : Faults (λ r. Unit {0}) a (failures e.disk) (failures f.disk))
+          (leaves : Leaves (now e.disk) (now f.disk) (past e.disk) (past f.disk) (MeansEither e c))
+          (last : LeavesNow (now f.disk) (MeansEither e c))
+          (means : f.failed ≡ false → LeavesNow (now f.disk) (MeansState f)) where
         abbrev Next : Type 0
         Next = Has (told ++ accepted_in e.memory (lines_of (Commands c) a)) f
 
@@ -275,27 +325,36 @@ module _ {D : Type 0} (now : D → Moment) (past : D → List Moment) (failures 
         counts : Failures failures e f
         counts = failures_more failures e e f c a answered cause none_yet
 
-        goes : is_accepted e.memory c ≡ true → (f.failed ≡ false → (f.memory ≡ (step e.memory c).contents) × (f.count ≡ e.count + 1)) → accepted_in e.memory (lines_of (Commands c) a) ≡ (if f.failed then [] else c ∷ []) → Next
+        goes : is_accepted e.memory c ≡ true
+            → (f.failed ≡ false → (f.memory ≡ (step e.memory c).contents) × (f.count ≡ e.count + 1))
+            → accepted_in e.memory (lines_of (Commands c) a) ≡ (if f.failed then [] else c ∷ []) → Next
         goes is far lines =
             subst (λ (l : List Command). Has (told ++ l) f) (sym lines)
             (kept_more told (c ∷ []) e f it alive ends (accept_one e.memory c is)
-            (leaves_weaker (now e.disk) (now f.disk) (past e.disk) (past f.disk) (MeansEither e c) (MeansBoth e (c ∷ [])) leaves (either c))
+            (leaves_weaker (now e.disk) (now f.disk) (past e.disk) (past f.disk) (MeansEither e c)
+            (MeansBoth e (c ∷ [])) leaves (either c))
             (λ file left. either c file (last file left)) far means counts.rose counts.stayed)
 
-        put : is_accepted e.memory c ≡ true → ((a ≡ (step e.memory c).answer) × (f ≡ record (with_command e c) { disk = f.disk })) ⊎ ((a ≡ Err Device) × (f ≡ record e { disk = f.disk; failed = true })) → Next
+        put : is_accepted e.memory c ≡ true
+            → ((a ≡ (step e.memory c).answer) × (f ≡ record (with_command e c) { disk = f.disk }))
+            ⊎ ((a ≡ Err Device) × (f ≡ record e { disk = f.disk; failed = true })) → Next
         put is (inl done) =
             let living : f.failed ≡ false = ap (λ (x : EngineState D). x.failed) done.1 ∙ alive in
             goes is (λ _. (ap (λ (x : EngineState D). x.memory) done.1, ap (λ (x : EngineState D). x.count) done.1))
-            (lined e.memory c a (ap leaves_line done.0 ∙ ok-leaves (step e.memory c).answer (accepted-ok e.memory c is)) is ∙ sym (ap (λ x. if x then [] else c ∷ []) living))
+            (lined e.memory c a
+            (ap leaves_line done.0 ∙ ok-leaves (step e.memory c).answer (accepted-ok e.memory c is)) is
+            ∙ sym (ap (λ x. if x then [] else c ∷ []) living))
         put is (inr doubt) =
             let dead : f.failed ≡ true = ap (λ (x : EngineState D). x.failed) doubt.1 in
-            goes is (λ living. absurd (true_false (sym dead ∙ living))) (lineless e.memory c a (ap leaves_line doubt.0) ∙ sym (ap (λ x. if x then [] else c ∷ []) dead))
+            goes is (λ living. absurd (true_false (sym dead ∙ living)))
+            (lineless e.memory c a (ap leaves_line doubt.0) ∙ sym (ap (λ x. if x then [] else c ∷ []) dead))
 
         -- a command was lent
         pub kept_lent : Next
         kept_lent = ⊎_elim
             (λ is. ⊎_elim
-            (λ none. let full = answered.full alive is none in stays full.1 (lineless e.memory c a (ap leaves_line full.0)))
+            (λ none. let full = answered.full alive is none in stays full.1
+            (lineless e.memory c a (ap leaves_line full.0)))
             (λ some. put is (answered.put alive is some))
             (none_or_some e.room))
             (λ un. stays (answered.unaccepted alive un).1 (unaccepted e.memory c a un))
@@ -303,19 +362,26 @@ module _ {D : Type 0} (now : D → Moment) (past : D → List Moment) (failures 
 
       -- what leaves the memory was done
       kept_alive : (f.memory ≡ e.memory) × (f.count ≡ e.count) → Failures failures e f
-          → Leaves (now e.disk) (now f.disk) (past e.disk) (past f.disk) (MeansState e) → LeavesNow (now f.disk) (MeansState e) → (f.failed ≡ false → LeavesNow (now f.disk) (MeansState f)) → Has told f
+          → Leaves (now e.disk) (now f.disk) (past e.disk) (past f.disk) (MeansState e)
+          → LeavesNow (now f.disk) (MeansState e) → (f.failed ≡ false → LeavesNow (now f.disk) (MeansState f))
+          → Has told f
       kept_alive stays counts leaves last means =
           subst (λ (l : List Command). Has l f) (none_by f.failed)
           (kept_more told [] e f it alive ends refl
-          (leaves_weaker (now e.disk) (now f.disk) (past e.disk) (past f.disk) (MeansState e) (MeansBoth e []) leaves (λ file image. inl (meant e file image)))
-          (λ file left. inl (meant e file (last file left))) (λ _. (stays.0, omega (arith, stays.1))) means counts.rose counts.stayed)
+          (leaves_weaker (now e.disk) (now f.disk) (past e.disk) (past f.disk) (MeansState e) (MeansBoth e []) leaves
+          (λ file image. inl (meant e file image)))
+          (λ file left. inl (meant e file (last file left)))
+          (λ _. (stays.0, omega (arith, stays.1))) means counts.rose counts.stayed)
         where
           none_by : (dead : Bool) → told ++ (if dead then [] else []) ≡ told
           none_by true = append-nil told
           none_by false = append-nil told
 
-      module _ (rs : List Request) (ss : List Served) (answered : GroupAnswered e rs ss f) (cause : GroupFaults e.failed f.failed (failures e.disk) (failures f.disk))
-          (leaves : Leaves (now e.disk) (now f.disk) (past e.disk) (past f.disk) (MeansGroup e rs)) (last : LeavesNow (now f.disk) (MeansGroup e rs)) (means : f.failed ≡ false → LeavesNow (now f.disk) (MeansState f)) where
+      module _ (rs : List Request) (ss : List Served) (answered : GroupAnswered e rs ss f)
+          (cause : GroupFaults e.failed f.failed (failures e.disk) (failures f.disk))
+          (leaves : Leaves (now e.disk) (now f.disk) (past e.disk) (past f.disk) (MeansGroup e rs))
+          (last : LeavesNow (now f.disk) (MeansGroup e rs))
+          (means : f.failed ≡ false → LeavesNow (now f.disk) (MeansState f)) where
         abbrev puts : List Command
         puts = group_put e rs
 
@@ -332,30 +398,41 @@ module _ {D : Type 0} (now : D → Moment) (past : D → List Moment) (failures 
         group_either file (inl image) = inl (meant e file image)
         group_either file (inr image) =
             inr (subst (λ (x : Contents). Means x (e.count + length puts) 0 file) group_after
-            (subst (λ (n : ℕ). Means (after_group e rs).memory n 0 file) group_count (meant (after_group e rs) file image)))
+            (subst (λ (n : ℕ). Means (after_group e rs).memory n 0 file) group_count
+            (meant (after_group e rs) file image)))
 
         lines_done : ss ≡ answers_in e rs → accepted_in e.memory (lines_all rs (map answer_in ss)) ≡ puts
         lines_done is =
             ap (λ xs. accepted_in e.memory (lines_all rs (map answer_in xs))) is
-            ∙ ap (λ xs. accepted_in e.memory (lines_all rs xs)) (answers_served (answers_of (reached_in e) rs)) ∙ all_put (reached_in e) rs
+            ∙ ap (λ xs. accepted_in e.memory (lines_all rs xs)) (answers_served (answers_of (reached_in e) rs))
+            ∙ all_put (reached_in e) rs
 
-        group_goes : (f.failed ≡ false → (f.memory ≡ (after_group e rs).memory) × (f.count ≡ (after_group e rs).count)) → accepted_in e.memory (lines_all rs (map answer_in ss)) ≡ (if f.failed then [] else puts) → NextAll
+        group_goes : (f.failed ≡ false → (f.memory ≡ (after_group e rs).memory)
+            × (f.count ≡ (after_group e rs).count)) → accepted_in e.memory (lines_all rs (map answer_in ss))
+            ≡ (if f.failed then [] else puts) → NextAll
         group_goes far lines =
             subst (λ (l : List Command). Has (told ++ l) f) (sym lines)
             (kept_more told puts e f it alive ends (puts-accepted (reached_in e) rs ∙ ap Some group_after)
-            (leaves_weaker (now e.disk) (now f.disk) (past e.disk) (past f.disk) (MeansGroup e rs) (MeansBoth e puts) leaves group_either)
-            (λ file left. group_either file (last file left)) (λ living. ((far living).0 ∙ group_after, (far living).1 ∙ group_count)) means
+            (leaves_weaker (now e.disk) (now f.disk) (past e.disk) (past f.disk) (MeansGroup e rs)
+            (MeansBoth e puts) leaves group_either)
+            (λ file left. group_either file (last file left))
+            (λ living. ((far living).0 ∙ group_after, (far living).1 ∙ group_count)) means
             (λ dead. (cause.failed alive dead).0) (λ living. cause.steady (living ∙ sym alive)))
 
         group_by : (cs : List Command) → puts ≡ cs → NextAll
         group_by [] none =
-            let is = answered.none alive none in kept_same told _ e f is.1 (ap (λ l. told ++ l) (lines_done is.0 ∙ none) ∙ append-nil told) it
+            let is = answered.none alive none in kept_same told _ e f is.1
+            (ap (λ l. told ++ l) (lines_done is.0 ∙ none) ∙ append-nil told) it
         group_by (c ∷ cs) some = ⊎_elim
             (λ done. let living : f.failed ≡ false = ap (λ (x : EngineState D). x.failed) done.1 ∙ alive in
-            group_goes (λ _. (ap (λ (x : EngineState D). x.memory) done.1, ap (λ (x : EngineState D). x.count) done.1)) (lines_done done.0 ∙ sym (ap (λ x. if x then [] else puts) living)))
+            group_goes (λ _.
+            (ap (λ (x : EngineState D). x.memory) done.1, ap (λ (x : EngineState D). x.count) done.1))
+            (lines_done done.0 ∙ sym (ap (λ x. if x then [] else puts) living)))
             (λ doubt. let dead : f.failed ≡ true = ap (λ (x : EngineState D). x.failed) doubt.1 in
             group_goes (λ living. absurd (true_false (sym dead ∙ living)))
-            (ap (λ xs. accepted_in e.memory (lines_all rs (map answer_in xs))) doubt.0 ∙ ap (accepted_in e.memory) (refused-lines Device refl rs) ∙ sym (ap (λ x. if x then [] else puts) dead)))
+            (ap (λ xs. accepted_in e.memory (lines_all rs (map answer_in xs))) doubt.0
+            ∙ ap (accepted_in e.memory) (refused-lines Device refl rs)
+            ∙ sym (ap (λ x. if x then [] else puts) dead)))
             (answered.put alive (omega (arith, ap length some)))
 
         -- a group was lent
@@ -363,38 +440,56 @@ module _ {D : Type 0} (now : D → Moment) (past : D → List Moment) (failures 
         kept_group = group_by puts refl
 
   -- whichever way its members were answered
-  module _ (e f : EngineState D) (told : List Command) (it : Has told e) (ends : e.memory ≡ after m told) (rs : List Request) (ss : List Served) (cause : GroupFaults e.failed f.failed (failures e.disk) (failures f.disk))
-      (leaves : e.failed ≡ false → Leaves (now e.disk) (now f.disk) (past e.disk) (past f.disk) (MeansGroup e rs)) (last : e.failed ≡ false → LeavesNow (now f.disk) (MeansGroup e rs))
+  module _ (e f : EngineState D) (told : List Command) (it : Has told e) (ends : e.memory ≡ after m told)
+      (rs : List Request) (ss : List Served) (cause : GroupFaults e.failed f.failed (failures e.disk) (failures f.disk))
+      (leaves : e.failed ≡ false → Leaves (now e.disk) (now f.disk) (past e.disk) (past f.disk) (MeansGroup e rs))
+      (last : e.failed ≡ false → LeavesNow (now f.disk) (MeansGroup e rs))
       (means : f.failed ≡ false → LeavesNow (now f.disk) (MeansState f)) where
-    refused : (r : Refusal) → leaves_line (Err r) ≡ false → ss ≡ all_refused r rs → f ≡ e → Has (told ++ accepted_in e.memory (lines_all rs (map answer_in ss))) f
+    refused : (r : Refusal) → leaves_line (Err r) ≡ false → ss ≡ all_refused r rs → f ≡ e
+        → Has (told ++ accepted_in e.memory (lines_all rs (map answer_in ss))) f
     refused r none is same =
         kept_same told _ e f same
-        (ap (λ l. told ++ l) (ap (λ xs. accepted_in e.memory (lines_all rs (map answer_in xs))) is ∙ ap (accepted_in e.memory) (refused-lines r none rs)) ∙ append-nil told) it
+        (ap (λ l. told ++ l)
+        (ap (λ xs. accepted_in e.memory (lines_all rs (map answer_in xs))) is
+        ∙ ap (accepted_in e.memory) (refused-lines r none rs)) ∙ append-nil told) it
 
-    by_room : (dead : Bool) (room n : ℕ) → e.failed ≡ dead → room ≡ n → MembersAnswered e room rs ss f → Has (told ++ accepted_in e.memory (lines_all rs (map answer_in ss))) f
+    by_room : (dead : Bool) (room n : ℕ) → e.failed ≡ dead → room ≡ n → MembersAnswered e room rs ss f
+        → Has (told ++ accepted_in e.memory (lines_all rs (map answer_in ss))) f
     by_room true room n dead is a = let it = (a.dead dead).dead dead in refused Failed refl it.0 it.1
     by_room false room zero alive is a = let full = a.full alive is in refused TraceFull refl full.0 full.1
-    by_room false room (suc n) alive is a = kept_group e f alive told it ends rs ss (a.served (omega (arith, is))) cause (leaves alive) (last alive) means
+    by_room false room (suc n) alive is a = kept_group e f alive told it ends rs ss
+        (a.served (omega (arith, is))) cause (leaves alive) (last alive) means
 
-    pub kept_members : (room : ℕ) → MembersAnswered e room rs ss f → Has (told ++ accepted_in e.memory (lines_all rs (map answer_in ss))) f
+    pub kept_members : (room : ℕ) → MembersAnswered e room rs ss f
+        → Has (told ++ accepted_in e.memory (lines_all rs (map answer_in ss))) f
     kept_members room a = by_room e.failed room room refl refl a
 
   -- the lines of a trace more
-  pub kept_on : (e f : EngineState D) (trace trace' more : List Line) → trace' ≡ trace ++ more → end_of m trace ≡ e.memory → Has (accepted_in m trace ++ accepted_in e.memory more) f → Has (accepted_in m trace') f
-  kept_on e f trace trace' more is ends it = subst (λ (l : List Command). Has l f) (sym (ap (accepted_in m) is ∙ accepted-more m e.memory trace more ends)) it
+  pub kept_on : (e f : EngineState D) (trace trace' more : List Line) → trace' ≡ trace ++ more → end_of m trace
+      ≡ e.memory → Has (accepted_in m trace ++ accepted_in e.memory more) f → Has (accepted_in m trace') f
+  kept_on e f trace trace' more is ends it = subst (λ (l : List Command). Has l f)
+      (sym (ap (accepted_in m) is ∙ accepted-more m e.memory trace more ends)) it
 
   -- a line of a collect more
-  pub kept_looked : (e : EngineState D) (trace trace' : List Line) (element number : ℕ) (a : Result Outcome Refusal) → trace' ≡ trace ++ lines_of (Collect element number) a → Has (accepted_in m trace) e → Has (accepted_in m trace') e
+  pub kept_looked : (e : EngineState D) (trace trace' : List Line) (element number : ℕ) (a : Result Outcome Refusal)
+      → trace' ≡ trace ++ lines_of (Collect element number) a → Has (accepted_in m trace) e
+      → Has (accepted_in m trace') e
   kept_looked e trace trace' element number a is it =
-      subst (λ (l : List Command). Has l e) (sym (ap (accepted_in m) is ∙ accepted-more m (end_of m trace) trace _ refl ∙ ap (λ l. accepted_in m trace ++ l) (by_line (leaves_line a)) ∙ append-nil (accepted_in m trace))) it
+      subst (λ (l : List Command). Has l e)
+      (sym (ap (accepted_in m) is ∙ accepted-more m (end_of m trace) trace _ refl
+      ∙ ap (λ l. accepted_in m trace ++ l) (by_line (leaves_line a)) ∙ append-nil (accepted_in m trace))) it
     where
-      by_line : (b : Bool) → accepted_in (end_of m trace) (if b then line_of (Collect element number) a ∷ [] else []) ≡ []
+      by_line : (b : Bool) → accepted_in (end_of m trace) (if b then line_of (Collect element number) a ∷ [] else [])
+          ≡ []
       by_line true = refl
       by_line false = refl
 
   -- what leaves the memory, whether the engine had failed or not
-  pub kept_quiet : (e f : EngineState D) (told : List Command) → Has told e → e.memory ≡ after m told → IsQuiet failures e f
-      → (e.failed ≡ false → Leaves (now e.disk) (now f.disk) (past e.disk) (past f.disk) (MeansState e)) → (e.failed ≡ false → LeavesNow (now f.disk) (MeansState e)) → (f.failed ≡ false → LeavesNow (now f.disk) (MeansState f)) → Has told f
+  pub kept_quiet : (e f : EngineState D) (told : List Command) → Has told e → e.memory ≡ after m told
+      → IsQuiet failures e f
+      → (e.failed ≡ false → Leaves (now e.disk) (now f.disk) (past e.disk) (past f.disk) (MeansState e))
+      → (e.failed ≡ false → LeavesNow (now f.disk) (MeansState e))
+      → (f.failed ≡ false → LeavesNow (now f.disk) (MeansState f)) → Has told f
   kept_quiet e f told it ends quiet leaves last means = ⊎_elim
       (λ dead. kept_same told told e f (quiet.dead dead) refl it)
       (λ alive. kept_alive e f alive told it ends quiet.stays (quiet.counts alive) (leaves alive) (last alive) means)
@@ -404,10 +499,13 @@ module _ {D : Type 0} (now : D → Moment) (past : D → List Moment) (failures 
 module _ {D : Type 0} (e f : EngineState D) (done : Result TurnDone Refusal) (answered : TurnAnswered e done f) where
   pub turn-only : IfErr (told_turn f.room done) (λ r. IsTurnFault r ⊎ (r ≡ JournalFull))
   turn-only = ⊎_elim
-      (λ dead. subst (λ (a : Result TurnDone Refusal). IfErr (told_turn f.room a) (λ r. IsTurnFault r ⊎ (r ≡ JournalFull))) (sym (answered.dead dead).0) (inl (inl refl)))
+      (λ dead. subst (λ (a : Result TurnDone Refusal). IfErr (told_turn f.room a)
+      (λ r. IsTurnFault r ⊎ (r ≡ JournalFull))) (sym (answered.dead dead).0) (inl (inl refl)))
       (λ alive. ⊎_elim
-      (λ ok. subst (λ (a : Result TurnDone Refusal). IfErr (told_turn f.room a) (λ r. IsTurnFault r ⊎ (r ≡ JournalFull))) (sym ok.1) (by_done ok.0))
-      (λ doubt. subst (λ (a : Result TurnDone Refusal). IfErr (told_turn f.room a) (λ r. IsTurnFault r ⊎ (r ≡ JournalFull))) (sym doubt.0) (inl (inr refl)))
+      (λ ok. subst (λ (a : Result TurnDone Refusal). IfErr (told_turn f.room a)
+      (λ r. IsTurnFault r ⊎ (r ≡ JournalFull))) (sym ok.1) (by_done ok.0))
+      (λ doubt. subst (λ (a : Result TurnDone Refusal). IfErr (told_turn f.room a)
+      (λ r. IsTurnFault r ⊎ (r ≡ JournalFull))) (sym doubt.0) (inl (inr refl)))
       (answered.alive alive))
       (true_or_false e.failed)
     where

@@ -1,5 +1,7 @@
 -- A log that grows by a line, keeps an answer for its port, and hands it out.
-use Rattle.std.proofs.Common.{◌≡◌, ℕ, zero, suc, ◌+◌, ◌<◌, ◌≤◌, Bool, true, false, List, [], ◌∷◌, ◌++◌, refl, sym, ap, ◌∙◌, subst, cond, Option, None, Some, Result, Ok, Err, length, length-append, append-nil, append_assoc, slice_get, slice_set, sum_by, arith, if◌then◌else◌}
+use Rattle.std.proofs.Common.{◌≡◌, ℕ, zero, suc, ◌+◌, ◌<◌, ◌≤◌, Bool, true, false, List, [], ◌∷◌, ◌++◌, refl, sym, ap}
+use Rattle.std.proofs.Common.{◌∙◌, subst, cond, Option, None, Some, Result, Ok, Err, length, length-append}
+use Rattle.std.proofs.Common.{append-nil, append_assoc, slice_get, slice_set, sum_by, arith, if◌then◌else◌}
 use Rattle.std.specs.Prelude.{count_by, IfOk}
 use Rattle.std.specs.List.{AllByRecursion}
 use mathlib.Core.List.{IsPrefix}
@@ -19,15 +21,18 @@ use Rattle.im_types.specs.declared.operations.Entry.{Entry}
 use Rattle.im_types.specs.declared.commands.Outcome.TheVariants.{Entry as Tells}
 use Rattle.im_types.specs.Trace.{told, answer_to, contents_after, IsLegal, end_of}
 use Rattle.im_laws.proofs.TraceLemmas.{end_of-append, IsLegal-push}
-use Rattle.im_controller.specs.Lines.{Counts, EndsIn, EndsInAll, leaves_line, line_of, lines_of, memory_after, counts_after}
-use Rattle.im_controller.specs.Log.{UnclaimedState, LogState, IsProof, IsProofIn, unclaimed_lines, with_line, with_unclaimed, without_unclaimed, AreFree, IsLog, IsOfTrace, receipt_for}
+use Rattle.im_controller.specs.Lines.{Counts, EndsIn, EndsInAll, leaves_line, line_of, lines_of, memory_after}
+use Rattle.im_controller.specs.Lines.{counts_after}
+use Rattle.im_controller.specs.Log.{UnclaimedState, LogState, IsProof, IsProofIn, unclaimed_lines, with_line}
+use Rattle.im_controller.specs.Log.{with_unclaimed, without_unclaimed, AreFree, IsLog, IsOfTrace, receipt_for}
 
 -- the line of a call, if it leaves one
 abbrev pub lines_by : Bool → Call → Result Outcome Refusal → List Line
 lines_by b call answer = if b then line_of call answer ∷ [] else []
 
 -- what a trace with the line of an answer more comes to
-legal_by : (b : Bool) (m : Contents) (trace : List Line) (call : Call) (answer : Result Outcome Refusal) → IsLegal m trace → (b ≡ true → answer ≡ answer_to (end_of m trace) call)
+legal_by : (b : Bool) (m : Contents) (trace : List Line) (call : Call) (answer : Result Outcome Refusal)
+    → IsLegal m trace → (b ≡ true → answer ≡ answer_to (end_of m trace) call)
     → IsLegal m (trace ++ lines_by b call answer)
 legal_by true m trace call answer legal is = IsLegal-push m trace (line_of call answer) legal (is refl)
 legal_by false m trace call answer legal is = subst (λ ls. IsLegal m ls) (sym (append-nil trace)) legal
@@ -37,22 +42,27 @@ end_by : (b : Bool) (m : Contents) (trace : List Line) (call : Call) (answer : R
 end_by true m trace call answer = end_of-append m trace (line_of call answer ∷ [])
 end_by false m trace call answer = ap (λ ls. end_of m ls) (append-nil trace)
 
-few_by : (b : Bool) (call : Call) (answer : Result Outcome Refusal) (n limit : ℕ) → (b ≡ true → n < limit) → n ≤ limit → n + length (lines_by b call answer) ≤ limit
+few_by : (b : Bool) (call : Call) (answer : Result Outcome Refusal) (n limit : ℕ) → (b ≡ true → n < limit)
+    → n ≤ limit → n + length (lines_by b call answer) ≤ limit
 few_by true call answer n limit room few = omega (arith, room refl)
 few_by false call answer n limit room few = omega (arith, few)
 
-pub end-lines : (m : Contents) (trace : List Line) (call : Call) (answer : Result Outcome Refusal) → end_of m (trace ++ lines_of call answer) ≡ memory_after (end_of m trace) call answer
+pub end-lines : (m : Contents) (trace : List Line) (call : Call) (answer : Result Outcome Refusal)
+    → end_of m (trace ++ lines_of call answer) ≡ memory_after (end_of m trace) call answer
 end-lines m trace call answer = end_by (leaves_line answer) m trace call answer
 
-count-append : (marks : Line → Bool) (xs ys : List Line) → count_by marks (xs ++ ys) ≡ count_by marks xs + count_by marks ys
+count-append : (marks : Line → Bool) (xs ys : List Line) → count_by marks (xs ++ ys)
+    ≡ count_by marks xs + count_by marks ys
 count-append marks xs ys = sum_by-append (λ x. cond (marks x) 1 0) xs ys
 
 -- the trace of an answer's receipt
-proof_at : (m : Contents) (trace : List Line) (call : Call) (answer : Result Outcome Refusal) → IsLegal m (trace ++ lines_of call answer) → IsProof m call answer (trace ++ lines_of call answer)
+proof_at : (m : Contents) (trace : List Line) (call : Call) (answer : Result Outcome Refusal)
+    → IsLegal m (trace ++ lines_of call answer) → IsProof m call answer (trace ++ lines_of call answer)
 proof_at m trace call (Ok outcome) legal = (legal, (trace, refl))
 proof_at m trace call (Err refusal) legal = tt
 
-pub proof-at_end : (m : Contents) (trace : List Line) (call : Call) (answer : Result Outcome Refusal) → IsLegal m trace → EndsInAll trace (lines_of call answer) → IsProof m call answer trace
+pub proof-at_end : (m : Contents) (trace : List Line) (call : Call) (answer : Result Outcome Refusal)
+    → IsLegal m trace → EndsInAll trace (lines_of call answer) → IsProof m call answer trace
 proof-at_end m trace call (Ok outcome) legal ends = (legal, ends)
 proof-at_end m trace call (Err refusal) legal ends = tt
 
@@ -60,13 +70,16 @@ proof-at_end m trace call (Err refusal) legal ends = tt
 pub prefix-more : {X : Type 0} (xs ys zs : List X) → IsPrefix xs ys → IsPrefix xs (ys ++ zs)
 prefix-more xs ys zs p = (p.0 ++ zs, sym (append_assoc xs p.0 zs) ∙ ap (λ l. l ++ zs) p.1)
 
-proofs-more : (m : Contents) (trace more : List Line) (places : List (Option UnclaimedState)) → AllByRecursion (IsProofIn m trace) places → AllByRecursion (IsProofIn m (trace ++ more)) places
+proofs-more : (m : Contents) (trace more : List Line) (places : List (Option UnclaimedState))
+    → AllByRecursion (IsProofIn m trace) places → AllByRecursion (IsProofIn m (trace ++ more)) places
 proofs-more m trace more [] all = tt
 proofs-more m trace more (None ∷ places) all = (tt, proofs-more m trace more places all.1)
-proofs-more m trace more (Some w ∷ places) all = ((all.0.0, prefix-more w.history trace more all.0.1), proofs-more m trace more places all.1)
+proofs-more m trace more (Some w ∷ places) all =
+    ((all.0.0, prefix-more w.history trace more all.0.1), proofs-more m trace more places all.1)
 
 -- sums over places
-module _ (f : Option UnclaimedState → ℕ) (none : f None ≡ 0) (places : List (Option UnclaimedState)) (e : ℕ) (w : UnclaimedState) where
+module _ (f : Option UnclaimedState → ℕ) (none : f None ≡ 0) (places : List (Option UnclaimedState)) (e : ℕ)
+    (w : UnclaimedState) where
   sum_kept : slice_get places e ≡ Some None → sum_by f (slice_set places e (Some w)) ≡ sum_by f places + f (Some w)
   sum_kept free =
       let old = ap f (get_or_from_slice_get places e None None free) in
@@ -94,34 +107,63 @@ module _ {X : Type 0} (P : X → Type 0) where
 
 module _ (m : Contents) (marks : Line → Bool) (l : LogState) (books : Counts) (is : IsLog m marks l books) where
   -- a line whose port is told it at once
-  pub log-leaves : (call : Call) (answer : Result Outcome Refusal) → (leaves_line answer ≡ true → length l.trace < l.limit) → (leaves_line answer ≡ true → answer ≡ answer_to (end_of m l.trace) call)
+  pub log-leaves : (call : Call) (answer : Result Outcome Refusal)
+      → (leaves_line answer ≡ true → length l.trace < l.limit)
+      → (leaves_line answer ≡ true → answer ≡ answer_to (end_of m l.trace) call)
       → IsLog m marks (with_line l call answer) (counts_after marks books (lines_of call answer))
   log-leaves call answer room so =
       let more = lines_of call answer in record {
         legal = legal_by (leaves_line answer) m l.trace call answer is.legal so;
-        few = omega (arith, few_by (leaves_line answer) call answer (length l.trace) l.limit room is.few, length-append l.trace more);
+        few = omega (
+          arith,
+          few_by (leaves_line answer) call answer
+              (length l.trace) l.limit room is.few,
+          length-append l.trace more,
+        );
         lines = omega (arith, is.lines, length-append l.trace more);
         marked = omega (arith, is.marked, count-append marks l.trace more);
         proofs = proofs-more m l.trace more l.places is.proofs;
       }
 
   -- an answer that waits for its port
-  pub log-keeps : (r : Request) (answer : Result Outcome Refusal) → slice_get l.places r.element ≡ Some None → (leaves_line answer ≡ true → length l.trace < l.limit)
-      → (leaves_line answer ≡ true → answer ≡ answer_to (end_of m l.trace) (Commands (Asks r))) → IsLog m marks (with_unclaimed l r answer) books
+  pub log-keeps : (r : Request) (answer : Result Outcome Refusal) → slice_get l.places r.element ≡ Some None
+      → (leaves_line answer ≡ true → length l.trace < l.limit)
+      → (leaves_line answer ≡ true → answer ≡ answer_to (end_of m l.trace) (Commands (Asks r)))
+      → IsLog m marks (with_unclaimed l r answer) books
   log-keeps r answer free room so =
       let call = Commands (Asks r) in
       let more = lines_of call answer in
       let w : UnclaimedState = record { request = r; answer = answer; history = l.trace ++ more } in
       let legal = legal_by (leaves_line answer) m l.trace call answer is.legal so in record {
         legal = legal;
-        few = omega (arith, few_by (leaves_line answer) call answer (length l.trace) l.limit room is.few, length-append l.trace more);
-        lines = omega (arith, is.lines, sum_kept (λ p. length (unclaimed_lines p)) refl l.places r.element w free, length-append l.trace more);
-        marked = omega (arith, is.marked, sum_kept (λ p. count_by marks (unclaimed_lines p)) refl l.places r.element w free, count-append marks l.trace more);
-        proofs = all-set (IsProofIn m (l.trace ++ more)) l.places r.element (Some w) (proofs-more m l.trace more l.places is.proofs) (proof_at m l.trace call answer legal, ([], append-nil (l.trace ++ more)));
+        few = omega (
+          arith,
+          few_by (leaves_line answer) call answer
+              (length l.trace) l.limit room is.few,
+          length-append l.trace more,
+        );
+        lines = omega (
+          arith,
+          is.lines,
+          sum_kept
+              (λ p. length (unclaimed_lines p)) refl l.places r.element w free,
+          length-append l.trace more,
+        );
+        marked = omega (
+          arith,
+          is.marked,
+          sum_kept
+              (λ p. count_by marks (unclaimed_lines p)) refl l.places r.element w free,
+          count-append marks l.trace more,
+        );
+        proofs = all-set (IsProofIn m (l.trace ++ more)) l.places r.element (Some w)
+            (proofs-more m l.trace more l.places is.proofs)
+            (proof_at m l.trace call answer legal, ([], append-nil (l.trace ++ more)));
       }
 
   -- an answer that its port takes
-  pub log-claims : (e : ℕ) (w : UnclaimedState) → slice_get l.places e ≡ Some (Some w) → IsLog m marks (without_unclaimed l e) (counts_after marks books (unclaimed_lines (Some w)))
+  pub log-claims : (e : ℕ) (w : UnclaimedState) → slice_get l.places e ≡ Some (Some w)
+      → IsLog m marks (without_unclaimed l e) (counts_after marks books (unclaimed_lines (Some w)))
   log-claims e w there = record {
     legal = is.legal;
     few = is.few;
@@ -131,16 +173,22 @@ module _ (m : Contents) (marks : Line → Bool) (l : LogState) (books : Counts) 
   }
 
 -- places in which no answer waits
-free-sum : (f : Option UnclaimedState → ℕ) (places : List (Option UnclaimedState)) → f None ≡ 0 → AreFree places → sum_by f places ≡ 0
+free-sum : (f : Option UnclaimedState → ℕ) (places : List (Option UnclaimedState)) → f None ≡ 0 → AreFree places
+    → sum_by f places ≡ 0
 free-sum f [] none free = refl
-free-sum f (p ∷ places) none free = omega (arith, free-sum f places none free.1, ap f free.0 ∙ none, sum_by-append f (p ∷ []) places)
+free-sum f (p ∷ places) none free = omega
+    (arith, free-sum f places none free.1, ap f free.0 ∙ none, sum_by-append f (p ∷ []) places)
 
-free-proofs : (m : Contents) (trace : List Line) (places : List (Option UnclaimedState)) → AreFree places → AllByRecursion (IsProofIn m trace) places
+free-proofs : (m : Contents) (trace : List Line) (places : List (Option UnclaimedState)) → AreFree places
+    → AllByRecursion (IsProofIn m trace) places
 free-proofs m trace [] free = tt
-free-proofs m trace (p ∷ places) free = (subst (λ (q : Option UnclaimedState). IsProofIn m trace q) (sym free.0) tt, free-proofs m trace places free.1)
+free-proofs m trace (p ∷ places) free =
+    (subst (λ (q : Option UnclaimedState). IsProofIn m trace q) (sym free.0) tt, free-proofs m trace places free.1)
 
 -- a log before its first line
-pub log-starts : (m : Contents) (marks : Line → Bool) (trace : List Line) (limit : ℕ) (places : List (Option UnclaimedState)) (books : Counts) → trace ≡ [] → AreFree places → books.lines ≡ 0 → books.marked ≡ 0
+pub log-starts : (m : Contents) (marks : Line → Bool) (trace : List Line) (limit : ℕ)
+    (places : List (Option UnclaimedState)) (books : Counts) → trace ≡ [] → AreFree places → books.lines ≡ 0
+    → books.marked ≡ 0
     → IsLog m marks (record { trace = trace; limit = limit; places = places }) books
 log-starts m marks trace limit places books none free no_lines no_marked = rw none (record {
   legal = tt;
@@ -151,19 +199,22 @@ log-starts m marks trace limit places books none free no_lines no_marked = rw no
 })
 
 -- where no answer waits, the books count all lines
-pub log-claimed : (m : Contents) (marks : Line → Bool) (l : LogState) (books : Counts) → IsLog m marks l books → AreFree l.places → (books.lines ≡ length l.trace) × (books.marked ≡ count_by marks l.trace)
+pub log-claimed : (m : Contents) (marks : Line → Bool) (l : LogState) (books : Counts) → IsLog m marks l books
+    → AreFree l.places → (books.lines ≡ length l.trace) × (books.marked ≡ count_by marks l.trace)
 log-claimed m marks l books is free = (
   omega (arith, is.lines, free-sum (λ p. length (unclaimed_lines p)) l.places refl free),
   omega (arith, is.marked, free-sum (λ p. count_by marks (unclaimed_lines p)) l.places refl free),
 )
 
 -- an entry that is told has its line at the end
-pub last-told : (l : LogState) (trace : List Line) (call : Call) (answer : Result Entry Refusal) → trace ≡ l.trace ++ lines_of call (told answer) → IfOk answer (λ entry. EndsIn trace (line_of call (Ok (Tells entry))))
+pub last-told : (l : LogState) (trace : List Line) (call : Call) (answer : Result Entry Refusal) → trace
+    ≡ l.trace ++ lines_of call (told answer) → IfOk answer (λ entry. EndsIn trace (line_of call (Ok (Tells entry))))
 last-told l trace call (Ok entry) is = (l.trace, is)
 last-told l trace call (Err refusal) is = tt
 
 -- a receipt with the trace of an answer
-pub receipt-of_trace : (m : Contents) (trace history : List Line) (told : List Change) (command : Command) (a : Result Outcome Refusal) → IsPrefix history trace → IsProof m (Commands command) a history
+pub receipt-of_trace : (m : Contents) (trace history : List Line) (told : List Change) (command : Command)
+    (a : Result Outcome Refusal) → IsPrefix history trace → IsProof m (Commands command) a history
     → IsOfTrace m trace (receipt_for history told command a)
 receipt-of_trace m trace history told command (Ok outcome) begins proof = (begins, proof)
 receipt-of_trace m trace history told command (Err refusal) begins proof = tt

@@ -1,5 +1,6 @@
 -- Traces that keep to a plan, and what their answers are by it.
-use Rattle.std.proofs.Common.{◌≡◌, ℕ, Bool, true, false, List, [], ◌∷◌, ◌++◌, sym, subst, Option, None, Some, Result, Ok, Err, append-nil}
+use Rattle.std.proofs.Common.{◌≡◌, ℕ, Bool, true, false, List, [], ◌∷◌, ◌++◌, sym, subst, Option, None, Some, Result}
+use Rattle.std.proofs.Common.{Ok, Err, append-nil}
 use Rattle.std.specs.Prelude.{IfSome}
 use Rattle.std.specs.List.{AllByRecursion}
 use mathlib.Core.List.{IsPrefix}
@@ -18,24 +19,28 @@ use Rattle.im_plans.proofs.Laws.{planned-last, planned-kept, planned-waits, plan
 use Rattle.im_planning.proofs.MakingLemmas.{in_plan}
 use Rattle.im_controller.specs.Lines.{leaves_line, line_of, lines_of}
 use Rattle.im_controller.specs.Log.{ReceiptState, IsProof, IsOfTrace}
-use Rattle.im_controller.specs.Planned.{has_request, has_command, IsOnPlan, StartsBy, KeepsTo, TellsBy, TellsOf, EndsAsPlanned, EndsBy}
+use Rattle.im_controller.specs.Planned.{has_request, has_command, IsOnPlan, StartsBy, KeepsTo, TellsBy, TellsOf}
+use Rattle.im_controller.specs.Planned.{EndsAsPlanned, EndsBy}
 use Rattle.im_controller.proofs.LogLemmas.{lines_by}
 
 pub keeps-start : (m : Contents) (plan : Option (List Request)) → StartsBy m plan → KeepsTo m plan []
 keeps-start m None s = tt
 keeps-start m (Some plan) s = (s, tt)
 
-pub keeps-starts : (m : Contents) (plan : Option (List Request)) (trace : List Line) → KeepsTo m plan trace → StartsBy m plan
+pub keeps-starts : (m : Contents) (plan : Option (List Request)) (trace : List Line) → KeepsTo m plan trace
+    → StartsBy m plan
 keeps-starts m None trace k = tt
 keeps-starts m (Some plan) trace k = k.0
 
 -- a line more
 module _ (m : Contents) (trace : List Line) (call : Call) (a : Result Outcome Refusal) where
-  keeps_by : (plan : List Request) (b : Bool) → KeepsTo m (Some plan) trace → IsPlannedCall plan call → KeepsTo m (Some plan) (trace ++ lines_by b call a)
+  keeps_by : (plan : List Request) (b : Bool) → KeepsTo m (Some plan) trace → IsPlannedCall plan call
+      → KeepsTo m (Some plan) (trace ++ lines_by b call a)
   keeps_by plan true k on = (k.0, (planned-grows plan trace (line_of call a) k.1).1 on)
   keeps_by plan false k on = subst (λ (ls : List Line). KeepsTo m (Some plan) ls) (sym (append-nil trace)) k
 
-  pub keeps-line : (plan : Option (List Request)) → KeepsTo m plan trace → IsOnPlan plan call → KeepsTo m plan (trace ++ lines_of call a)
+  pub keeps-line : (plan : Option (List Request)) → KeepsTo m plan trace → IsOnPlan plan call
+      → KeepsTo m plan (trace ++ lines_of call a)
   keeps-line None k on = tt
   keeps-line (Some plan) k on = keeps_by plan (leaves_line a) k on
 
@@ -49,31 +54,47 @@ all-front : {X : Type 0} (P : X → Type 0) (xs ys : List X) → AllByRecursion 
 all-front P [] ys all = tt
 all-front P (x ∷ xs) ys all = (all.0, all-front P xs ys all.1)
 
-keeps-before : (m : Contents) (plan : Option (List Request)) (history trace : List Line) → IsPrefix history trace → KeepsTo m plan trace → KeepsTo m plan history
+keeps-before : (m : Contents) (plan : Option (List Request)) (history trace : List Line) → IsPrefix history trace
+    → KeepsTo m plan trace → KeepsTo m plan history
 keeps-before m None history trace p k = tt
-keeps-before m (Some plan) history trace p k = (k.0, all-front (λ line. IsPlannedCall plan line.call) history p.0 (subst (λ (ls : List Line). IsPlannedRun plan ls) (sym p.1) k.1))
+keeps-before m (Some plan) history trace p k = (
+  k.0,
+  all-front (λ line. IsPlannedCall plan line.call) history p.0
+      (subst (λ (ls : List Line). IsPlannedRun plan ls) (sym p.1) k.1),
+)
 
 -- the last line
-pub tells-last : (m : Contents) (plan : Option (List Request)) (call : Call) (outcome : Outcome) (history : List Line) → KeepsTo m plan history → IsProof m call (Ok outcome) history → TellsBy m plan call outcome
+pub tells-last : (m : Contents) (plan : Option (List Request)) (call : Call) (outcome : Outcome)
+    (history : List Line) → KeepsTo m plan history → IsProof m call (Ok outcome) history → TellsBy m plan call outcome
 tells-last m None call outcome history k proof = tt
 tells-last m (Some plan) call outcome history k proof =
     let line = line_of call (Ok outcome) in
-    let run : IsPlannedRun plan (proof.1.0 ++ line ∷ []) = subst (λ (ls : List Line). IsPlannedRun plan ls) proof.1.1 k.1 in
-    let legal : IsLegal m (proof.1.0 ++ line ∷ []) = subst (λ (ls : List Line). IsLegal m ls) proof.1.1 proof.0 in
-    ((planned-grows plan proof.1.0 line (all-front (λ line. IsPlannedCall plan line.call) proof.1.0 (line ∷ []) run)).0 run, planned-last m plan proof.1.0 line k.0 legal run)
+    let run : IsPlannedRun plan (proof.1.0 ++ line ∷ []) = subst
+    (λ (ls : List Line). IsPlannedRun plan ls) proof.1.1 k.1 in
+    let legal : IsLegal m (proof.1.0 ++ line ∷ []) = subst (λ (ls : List Line). IsLegal m ls) proof.1.1 proof.0 in (
+      (planned-grows plan proof.1.0 line
+          (all-front (λ line. IsPlannedCall plan line.call) proof.1.0
+          (line ∷ []) run)).0 run,
+      planned-last m plan proof.1.0 line k.0 legal run,
+    )
 
 -- a receipt
-pub tells-of : (m : Contents) (plan : Option (List Request)) (trace : List Line) (a : Result ReceiptState Refusal) → KeepsTo m plan trace → IsOfTrace m trace a → TellsOf m plan a
-tells-of m plan trace (Ok r) k of = tells-last m plan (Commands r.command) r.outcome r.history (keeps-before m plan r.history trace of.0 k) of.1
+pub tells-of : (m : Contents) (plan : Option (List Request)) (trace : List Line) (a : Result ReceiptState Refusal)
+    → KeepsTo m plan trace → IsOfTrace m trace a → TellsOf m plan a
+tells-of m plan trace (Ok r) k of = tells-last m plan (Commands r.command) r.outcome r.history
+    (keeps-before m plan r.history trace of.0 k) of.1
 tells-of m plan trace (Err refusal) k of = tt
 
 -- the same where there is an answer
-pub tells-some : (m : Contents) (plan : Option (List Request)) (trace : List Line) (a : Option (Result ReceiptState Refusal)) → KeepsTo m plan trace → IfSome a (IsOfTrace m trace) → IfSome a (TellsOf m plan)
+pub tells-some : (m : Contents) (plan : Option (List Request)) (trace : List Line)
+    (a : Option (Result ReceiptState Refusal)) → KeepsTo m plan trace → IfSome a (IsOfTrace m trace)
+    → IfSome a (TellsOf m plan)
 tells-some m plan trace None k of = tt
 tells-some m plan trace (Some a) k of = tells-of m plan trace a k of
 
 -- the end
-pub ends-by : (m : Contents) (plan : Option (List Request)) (trace : List Line) (end : Contents) → KeepsTo m plan trace → end_of m trace ≡ end → EndsBy m plan end
+pub ends-by : (m : Contents) (plan : Option (List Request)) (trace : List Line) (end : Contents)
+    → KeepsTo m plan trace → end_of m trace ≡ end → EndsBy m plan end
 ends-by m None trace end k is = tt
 ends-by m (Some plan) trace end k is = subst (λ (e : Contents). EndsAsPlanned m plan e) is (record {
   starts = k.0;
@@ -83,11 +104,13 @@ ends-by m (Some plan) trace end k is = subst (λ (e : Contents). EndsAsPlanned m
 })
 
 -- which commands the plan has
-pub on-request : (m : Contents) (plan : Option (List Request)) (r : Request) → StartsBy m plan → has_request plan r ≡ true → IsOnPlan plan (Commands (Asks r))
+pub on-request : (m : Contents) (plan : Option (List Request)) (r : Request) → StartsBy m plan → has_request plan r
+    ≡ true → IsOnPlan plan (Commands (Asks r))
 on-request m None r s has = tt
 on-request m (Some plan) r s has = (in_plan r plan s.is_plan).0 has
 
-pub on-command : (m : Contents) (plan : Option (List Request)) (command : Command) → StartsBy m plan → has_command plan command ≡ true → IsOnPlan plan (Commands command)
+pub on-command : (m : Contents) (plan : Option (List Request)) (command : Command) → StartsBy m plan
+    → has_command plan command ≡ true → IsOnPlan plan (Commands command)
 on-command m plan (Asks r) s has = on-request m plan r s has
 on-command m None (Confirm element upto) s has = tt
 on-command m (Some plan) (Confirm element upto) s has = tt

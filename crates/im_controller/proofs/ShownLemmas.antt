@@ -1,5 +1,7 @@
 -- What a trace shows: of a longer one, and of the lines of a command.
-use Rattle.std.proofs.Common.{◌≡◌, inl, ⊎_elim, ℕ, zero, suc, ◌-◌, ◌<◌, Bool, true, false, List, [], ◌∷◌, ◌++◌, refl, sym, ap, ◌∙◌, subst, Result, Ok, Err, length, append_assoc, append-nil, arith, if◌then◌else◌}
+use Rattle.std.proofs.Common.{◌≡◌, inl, ⊎_elim, ℕ, zero, suc, ◌-◌, ◌<◌, Bool, true, false, List, [], ◌∷◌, ◌++◌, refl}
+use Rattle.std.proofs.Common.{sym, ap, ◌∙◌, subst, Result, Ok, Err, length, append_assoc, append-nil, arith}
+use Rattle.std.proofs.Common.{if◌then◌else◌}
 use Rattle.std.specs.Prelude.{IsOk, IfSome, Option, Some, None, ◌&&◌, nat_lt}
 use Rattle.std.proofs.lemmas.Bool.Decides.{nat_tests}
 use mathlib.Core.List.{IsPrefix}
@@ -28,22 +30,28 @@ use Rattle.im_controller.specs.State.{SharedState}
 use Rattle.im_controller.specs.Lends.{Lends, changes_put, shows}
 use Rattle.im_controller.proofs.LendLemmas.{ok-leaves}
 
-pub changes-append : (m : Contents) (earlier later : List Line) → changes_of m (earlier ++ later) ≡ changes_of m earlier ++ changes_of (end_of m earlier) later
+pub changes-append : (m : Contents) (earlier later : List Line) → changes_of m (earlier ++ later)
+    ≡ changes_of m earlier ++ changes_of (end_of m earlier) later
 changes-append m [] later = refl
 changes-append m (line ∷ earlier) later =
     ap (λ l. changes_in m line.call ++ l) (changes-append (contents_after m line.call) earlier later)
-    ∙ sym (append_assoc (changes_in m line.call) (changes_of (contents_after m line.call) earlier) (changes_of (end_of (contents_after m line.call) earlier) later))
+    ∙ sym (append_assoc (changes_in m line.call) (changes_of (contents_after m line.call) earlier)
+    (changes_of (end_of (contents_after m line.call) earlier) later))
 
-pub shown-append : (m : Contents) (earlier later : List Line) → shown_by m (earlier ++ later) ≡ shown_by m earlier ++ changes_of (end_of m earlier) later
+pub shown-append : (m : Contents) (earlier later : List Line) → shown_by m (earlier ++ later)
+    ≡ shown_by m earlier ++ changes_of (end_of m earlier) later
 shown-append m earlier later =
-    ap (λ l. opening m ++ l) (changes-append m earlier later) ∙ sym (append_assoc (opening m) (changes_of m earlier) (changes_of (end_of m earlier) later))
+    ap (λ l. opening m ++ l) (changes-append m earlier later)
+    ∙ sym (append_assoc (opening m) (changes_of m earlier) (changes_of (end_of m earlier) later))
 
 -- what was told by the end of a trace was told by an earlier one
-pub told-earlier : (m : Contents) (history trace : List Line) (told : List Change) → IsPrefix history trace → IsToldOf m trace told → IsToldOf m history told
+pub told-earlier : (m : Contents) (history trace : List Line) (told : List Change) → IsPrefix history trace
+    → IsToldOf m trace told → IsToldOf m history told
 told-earlier m history trace told p all =
     let more = changes_of (end_of m history) p.0 in (
       more ++ all.0,
-      sym (append_assoc (shown_by m history) more all.0) ∙ ap (λ l. l ++ all.0) (sym (shown-append m history p.0)) ∙ ap (λ ls. shown_by m ls ++ all.0) p.1 ∙ all.1,
+      sym (append_assoc (shown_by m history) more all.0) ∙ ap (λ l. l ++ all.0) (sym (shown-append m history p.0))
+          ∙ ap (λ ls. shown_by m ls ++ all.0) p.1 ∙ all.1,
     )
 
 pub end-cells : (m : Contents) (trace : List Line) → length (end_of m trace).cells ≡ length m.cells
@@ -55,16 +63,19 @@ end-cells m (line ∷ trace) = end-cells (contents_after m line.call) trace ∙ 
     one (Collect element number) = refl
 
 -- what is shown with a line more, which shows this
-pub shown-grows : (m e : Contents) (trace more : List Line) (shown changes : List Change) → end_of m trace ≡ e → shown ≡ shown_by m trace → changes_of e more ≡ changes → shown ++ changes ≡ shown_by m (trace ++ more)
+pub shown-grows : (m e : Contents) (trace more : List Line) (shown changes : List Change) → end_of m trace ≡ e
+    → shown ≡ shown_by m trace → changes_of e more ≡ changes → shown ++ changes ≡ shown_by m (trace ++ more)
 shown-grows m e trace more shown changes ends is same =
-    ap (λ l. l ++ changes) is ∙ ap (λ l. shown_by m trace ++ l) (sym same ∙ ap (λ n. changes_of n more) (sym ends)) ∙ sym (shown-append m trace more)
+    ap (λ l. l ++ changes) is ∙ ap (λ l. shown_by m trace ++ l) (sym same ∙ ap (λ n. changes_of n more) (sym ends))
+    ∙ sym (shown-append m trace more)
 
 module _ (m : Contents) (command : Command) (answer : Result Outcome Refusal) where
   -- a command that isn't accepted shows nothing
   unaccepted-none : is_accepted m command ≡ false → changes_at m command ≡ []
   unaccepted-none un = ap (λ b. if b then change_by m command ∷ [] else []) un
 
-  pub unaccepted-lines : (b : Bool) → is_accepted m command ≡ false → changes_of m (if b then line_of (Commands command) answer ∷ [] else []) ≡ []
+  pub unaccepted-lines : (b : Bool) → is_accepted m command ≡ false
+      → changes_of m (if b then line_of (Commands command) answer ∷ [] else []) ≡ []
   unaccepted-lines true un = append-nil (changes_at m command) ∙ unaccepted-none un
   unaccepted-lines false un = refl
 
@@ -76,7 +87,8 @@ module _ (m : Contents) (command : Command) (answer : Result Outcome Refusal) wh
   lineless-lines none = ap (λ b. changes_of m (if b then line_of (Commands command) answer ∷ [] else [])) none
 
   pub lined-lines : leaves_line answer ≡ true → changes_of m (lines_of (Commands command) answer) ≡ changes_at m command
-  lined-lines some = ap (λ b. changes_of m (if b then line_of (Commands command) answer ∷ [] else [])) some ∙ append-nil (changes_at m command)
+  lined-lines some = ap (λ b. changes_of m (if b then line_of (Commands command) answer ∷ [] else [])) some
+      ∙ append-nil (changes_at m command)
 
   pub ok-shows : IsOk answer → shows m command answer ≡ changes_at m command
   ok-shows is = by_answer answer is
@@ -86,14 +98,19 @@ module _ (m : Contents) (command : Command) (answer : Result Outcome Refusal) wh
       by_answer (Err refusal) is = absurd (true_false (sym is))
 
 -- what is shown of a command, by what the engine comes to
-pub record IsShownOf (m : Contents) (room : ℕ) (command : Command) (answer : Result Outcome Refusal) (failed : Bool) : Type 0 where
+pub record IsShownOf (m : Contents) (room : ℕ) (command : Command) (answer : Result Outcome Refusal)
+    (failed : Bool) : Type 0 where
   pub lines : changes_of m (lines_of (Commands command) answer) ≡ shows m command answer
   pub alive : failed ≡ false → changes_put m room command ≡ shows m command answer
   pub dead : failed ≡ true → shows m command answer ≡ []
 
-module _ {D : Type 0} (old new : EngineState D) (command : Command) (answer : Result Outcome Refusal) (a : Answered old command answer new) (living : old.failed ≡ false) where
-  put-is : (b c : Bool) → is_accepted old.memory command ≡ b → nat_lt 0 old.room ≡ c → changes_put old.memory old.room command ≡ (if b && c then change_by old.memory command ∷ [] else [])
-  put-is b c accepted some = ap (λ x. if x && nat_lt 0 old.room then change_by old.memory command ∷ [] else []) accepted ∙ ap (λ x. if b && x then change_by old.memory command ∷ [] else []) some
+module _ {D : Type 0} (old new : EngineState D) (command : Command) (answer : Result Outcome Refusal)
+    (a : Answered old command answer new) (living : old.failed ≡ false) where
+  put-is : (b c : Bool) → is_accepted old.memory command ≡ b → nat_lt 0 old.room ≡ c
+      → changes_put old.memory old.room command ≡ (if b && c then change_by old.memory command ∷ [] else [])
+  put-is b c accepted some = ap
+      (λ x. if x && nat_lt 0 old.room then change_by old.memory command ∷ [] else []) accepted
+      ∙ ap (λ x. if b && x then change_by old.memory command ∷ [] else []) some
 
   at-is : is_accepted old.memory command ≡ true → changes_at old.memory command ≡ change_by old.memory command ∷ []
   at-is accepted = ap (λ b. if b then change_by old.memory command ∷ [] else []) accepted
@@ -104,7 +121,8 @@ module _ {D : Type 0} (old new : EngineState D) (command : Command) (answer : Re
   none-put : is_accepted old.memory command ≡ true → old.room ≡ 0 → changes_put old.memory old.room command ≡ []
   none-put accepted none = put-is true false accepted (ap (λ n. nat_lt 0 n) none)
 
-  shown-put : is_accepted old.memory command ≡ true → (n : ℕ) → old.room ≡ n → IsShownOf old.memory old.room command answer new.failed
+  shown-put : is_accepted old.memory command ≡ true → (n : ℕ) → old.room ≡ n
+      → IsShownOf old.memory old.room command answer new.failed
   shown-put accepted zero room =
       let is = a.full living accepted room in
       let err = shows-err _ is.0 in record {
@@ -150,13 +168,16 @@ pub record PaneShows (old new : PaneView) (failed : Bool) (shown : List Change) 
   pub ahead : failed ≡ false → new.ahead ≡ []
   pub cells : new.cells ≡ old.cells
 
-module _ (old mid new : PaneView) (changes shown : List Change) (put : mid ≡ record old { ahead = old.ahead ++ changes }) where
-  shows_by : (failed f : Bool) → failed ≡ f → (failed ≡ false → old.ahead ≡ []) → (failed ≡ false → new ≡ record mid { shown = mid.shown ++ mid.ahead; ahead = [] }) → (failed ≡ true → new ≡ mid)
+module _ (old mid new : PaneView) (changes shown : List Change)
+    (put : mid ≡ record old { ahead = old.ahead ++ changes }) where
+  shows_by : (failed f : Bool) → failed ≡ f → (failed ≡ false → old.ahead ≡ [])
+      → (failed ≡ false → new ≡ record mid { shown = mid.shown ++ mid.ahead; ahead = [] }) → (failed ≡ true → new ≡ mid)
       → (failed ≡ false → changes ≡ shown) → (failed ≡ true → shown ≡ []) → PaneShows old new failed shown
   shows_by failed false is none all same alive dead =
       let now = all is in
       let before = ap (λ (p : PaneView). p.ahead) put ∙ ap (λ l. l ++ changes) (none is) ∙ alive is in record {
-        is = ap (λ (p : PaneView). p.shown) now ∙ ap (λ l. mid.shown ++ l) before ∙ ap (λ (p : PaneView). p.shown ++ shown) put;
+        is = ap (λ (p : PaneView). p.shown) now ∙ ap (λ l. mid.shown ++ l) before
+            ∙ ap (λ (p : PaneView). p.shown ++ shown) put;
         ahead = λ _. ap (λ (p : PaneView). p.ahead) now;
         cells = ap (λ (p : PaneView). p.cells) now ∙ ap (λ (p : PaneView). p.cells) put;
       }
@@ -167,7 +188,8 @@ module _ (old mid new : PaneView) (changes shown : List Change) (put : mid ≡ r
         cells = ap (λ (p : PaneView). p.cells) now;
       }
 
-  pub pane-shows : (failed : Bool) → (failed ≡ false → old.ahead ≡ []) → (failed ≡ false → new ≡ record mid { shown = mid.shown ++ mid.ahead; ahead = [] }) → (failed ≡ true → new ≡ mid)
+  pub pane-shows : (failed : Bool) → (failed ≡ false → old.ahead ≡ [])
+      → (failed ≡ false → new ≡ record mid { shown = mid.shown ++ mid.ahead; ahead = [] }) → (failed ≡ true → new ≡ mid)
       → (failed ≡ false → changes ≡ shown) → (failed ≡ true → shown ≡ []) → PaneShows old new failed shown
   pane-shows failed none all same alive dead = shows_by failed failed refl none all same alive dead
 
@@ -175,15 +197,19 @@ module _ (old mid new : PaneView) (changes shown : List Change) (put : mid ≡ r
 pub told-all : (m : Contents) (trace : List Line) (told : List Change) → told ≡ shown_by m trace → IsToldOf m trace told
 told-all m trace told is = ([], append-nil (shown_by m trace) ∙ sym is)
 
-plain-receipt : (history : List Line) (shown : List Change) (command : Command) (a : Result Outcome Refusal) → plain (receipt_for history shown command a) ≡ a
+plain-receipt : (history : List Line) (shown : List Change) (command : Command) (a : Result Outcome Refusal)
+    → plain (receipt_for history shown command a) ≡ a
 plain-receipt history shown command (Ok outcome) = refl
 plain-receipt history shown command (Err refusal) = refl
 
 -- a command that the engine was lent to
-module _ {D : Type 0} (marks : Line → Bool) (plan : Option (List Request)) (s s' : SharedState D) (t t' : Counts) (command : Command) (a : Result Outcome Refusal) (answer : Result ReceiptState Refusal) where
-  pub lends-served : answer ≡ receipt_for s'.log.trace s'.shown command a → s.engine.failed ≡ false → length s.log.trace < s.log.limit → has_command plan command ≡ true
+module _ {D : Type 0} (marks : Line → Bool) (plan : Option (List Request)) (s s' : SharedState D) (t t' : Counts)
+    (command : Command) (a : Result Outcome Refusal) (answer : Result ReceiptState Refusal) where
+  pub lends-served : answer ≡ receipt_for s'.log.trace s'.shown command a → s.engine.failed ≡ false
+      → length s.log.trace < s.log.limit → has_command plan command ≡ true
       → Answered s.engine command a s'.engine → s'.log ≡ with_line s.log (Commands command) a → s'.servers ≡ s.servers
-      → t' ≡ counts_after marks t (lines_of (Commands command) a) → s'.shown ≡ s.shown ++ shows s.engine.memory command a → Lends marks plan s t command answer s' t'
+      → t' ≡ counts_after marks t (lines_of (Commands command) a) → s'.shown
+      ≡ s.shown ++ shows s.engine.memory command a → Lends marks plan s t command answer s' t'
   lends-served is alive room has answered log servers tally shown =
       let same : a ≡ plain answer = sym (ap plain is ∙ plain-receipt s'.log.trace s'.shown command a) in record {
         dead = λ dead. absurd (true_false (sym dead ∙ alive));
@@ -203,41 +229,55 @@ some_room zero limit lines some is = absurd (some refl)
 some_room (suc n) limit lines some is = omega (arith, is)
 
 -- a command that the engine was lent to, and what is shown then
-pub record ShowsLent (m : Contents) (trace : List Line) (old new : PaneView) (failed : Bool) (shown : List Change) : Type 0 where
+pub record ShowsLent (m : Contents) (trace : List Line) (old new : PaneView) (failed : Bool)
+    (shown : List Change) : Type 0 where
   pub pane : PaneShows old new failed shown
   pub ends : new.shown ≡ shown_by m trace
 
-module _ {D : Type 0} (m : Contents) (old new : EngineState D) (command : Command) (a : Result Outcome Refusal) (answered : Answered old command a new) (living : old.failed ≡ false) where
+module _ {D : Type 0} (m : Contents) (old new : EngineState D) (command : Command) (a : Result Outcome Refusal)
+    (answered : Answered old command a new) (living : old.failed ≡ false) where
   pub lend-shown : (contents : Contents) (left : ℕ) → contents ≡ old.memory → left ≡ old.room
       → (p q r : PaneView) → p.ahead ≡ [] → q ≡ record p { ahead = p.ahead ++ changes_put contents left command }
-      → (failed : Bool) → failed ≡ new.failed → (failed ≡ false → r ≡ record q { shown = q.shown ++ q.ahead; ahead = [] }) → (failed ≡ true → r ≡ q)
-      → (trace trace' : List Line) → end_of m trace ≡ old.memory → p.shown ≡ shown_by m trace → trace' ≡ trace ++ lines_of (Commands command) a
+      → (failed : Bool) → failed ≡ new.failed
+      → (failed ≡ false → r ≡ record q { shown = q.shown ++ q.ahead; ahead = [] }) → (failed ≡ true → r ≡ q)
+      → (trace trace' : List Line) → end_of m trace ≡ old.memory → p.shown ≡ shown_by m trace → trace'
+      ≡ trace ++ lines_of (Commands command) a
       → ShowsLent m trace' p r failed (shows old.memory command a)
   lend-shown contents left same room p q r none put failed is all hidden trace trace' ends shown grows =
       let it = answered-shown old new command a answered living in
-      let changes = ap (λ (n : Contents). changes_put n left command) same ∙ ap (λ (n : ℕ). changes_put old.memory n command) room in
-      let pane = pane-shows p q r _ (shows old.memory command a) put failed (λ _. none) all hidden (λ alive. changes ∙ it.alive (sym is ∙ alive)) (λ dead. it.dead (sym is ∙ dead)) in
+      let changes = ap (λ (n : Contents). changes_put n left command) same
+      ∙ ap (λ (n : ℕ). changes_put old.memory n command) room in
+      let pane = pane-shows p q r _ (shows old.memory command a) put failed (λ _. none) all hidden
+      (λ alive. changes ∙ it.alive (sym is ∙ alive)) (λ dead. it.dead (sym is ∙ dead)) in
       record {
         pane = pane;
         ends = pane.is ∙ shown-grows m old.memory trace _ p.shown _ ends shown it.lines ∙ ap (shown_by m) (sym grows);
       }
 
 -- a glance that has seen what is shown has seen the full cells that were opened
-pub opened-glance : (m : Contents) (trace : List Line) (shown : List Change) (glance : Option (List Change)) → shown ≡ shown_by m trace → IfSome glance (λ g. IsPrefix shown g) → IfSome glance (λ g. IsPrefix (opening m) g)
+pub opened-glance : (m : Contents) (trace : List Line) (shown : List Change) (glance : Option (List Change)) → shown
+    ≡ shown_by m trace → IfSome glance (λ g. IsPrefix shown g) → IfSome glance (λ g. IsPrefix (opening m) g)
 opened-glance m trace shown None is seen = tt
-opened-glance m trace shown (Some g) is seen =
-    (changes_of m trace ++ seen.0, sym (append_assoc (opening m) (changes_of m trace) seen.0) ∙ ap (λ l. l ++ seen.0) (sym is) ∙ seen.1)
+opened-glance m trace shown (Some g) is seen = (
+  changes_of m trace ++ seen.0,
+  sym (append_assoc (opening m) (changes_of m trace) seen.0)
+      ∙ ap (λ l. l ++ seen.0) (sym is) ∙ seen.1,
+)
 
 -- a question shows nothing
-pub looked-shown : (m : Contents) (trace : List Line) (element number : ℕ) (answer : Result Outcome Refusal) → shown_by m trace ≡ shown_by m (trace ++ lines_of (Collect element number) answer)
+pub looked-shown : (m : Contents) (trace : List Line) (element number : ℕ) (answer : Result Outcome Refusal)
+    → shown_by m trace ≡ shown_by m (trace ++ lines_of (Collect element number) answer)
 looked-shown m trace element number answer =
-    sym (append-nil (shown_by m trace)) ∙ ap (λ l. shown_by m trace ++ l) (none (leaves_line answer)) ∙ sym (shown-append m trace (lines_of (Collect element number) answer))
+    sym (append-nil (shown_by m trace)) ∙ ap (λ l. shown_by m trace ++ l) (none (leaves_line answer))
+    ∙ sym (shown-append m trace (lines_of (Collect element number) answer))
   where
-    none : (b : Bool) → ◌≡◌ {A = List Change} [] (changes_of (end_of m trace) (if b then line_of (Collect element number) answer ∷ [] else []))
+    none : (b : Bool) → ◌≡◌ {A = List Change} []
+        (changes_of (end_of m trace) (if b then line_of (Collect element number) answer ∷ [] else []))
     none true = refl
     none false = refl
 
-pub memory-same : (m : Contents) (element number : ℕ) (answer : Result Outcome Refusal) → memory_after m (Collect element number) answer ≡ m
+pub memory-same : (m : Contents) (element number : ℕ) (answer : Result Outcome Refusal)
+    → memory_after m (Collect element number) answer ≡ m
 memory-same m element number answer = by_line (leaves_line answer)
   where
     by_line : (b : Bool) → (if b then m else m) ≡ m

@@ -1,5 +1,7 @@
 -- The test of all servers, one after another.
-use Rattle.std.proofs.Common.{◌≡◌, ◌≢◌, ℕ, suc, ◌+◌, ◌<◌, Bool, true, false, List, [], ◌∷◌, refl, sym, ap, ◌∙◌, subst, Option, None, Some, Result, Ok, Err, length, slice_get, get_or, drop, arith, if◌then◌else◌, ◌==◌, ◌&&◌, ◌||◌, zero, ◌↔◌}
+use Rattle.std.proofs.Common.{◌≡◌, ◌≢◌, ℕ, suc, ◌+◌, ◌<◌, Bool, true, false, List, [], ◌∷◌, refl, sym, ap, ◌∙◌, subst}
+use Rattle.std.proofs.Common.{Option, None, Some, Result, Ok, Err, length, slice_get, get_or, drop, arith}
+use Rattle.std.proofs.Common.{if◌then◌else◌, ◌==◌, ◌&&◌, ◌||◌, zero, ◌↔◌}
 use Rattle.std.proofs.Math.Seq.{drop-cons}
 use Rattle.std.proofs.lemmas.Bool.{eq-eqb, eqb-true}
 use Rattle.im_laws.proofs.Tests.{and_both}
@@ -18,7 +20,8 @@ is_past m k e x = (e == k) || is_stuck m e x
 abbrev negated : Bool → Bool
 negated b = if b then false else true
 
-pub stuck_next : (m : Contents) (k : ℕ) (xs : List Server) (i : ℕ) (d : Server) → i < length xs → is_past m k i (get_or xs i d) ≡ true
+pub stuck_next : (m : Contents) (k : ℕ) (xs : List Server) (i : ℕ) (d : Server) → i < length xs
+    → is_past m k i (get_or xs i d) ≡ true
     → are_stuck m k (i + 1) (drop (i + 1) xs) ≡ are_stuck m k i (drop i xs)
 stuck_next m k xs i d within h =
     let next : i + 1 ≡ suc i = omega arith in
@@ -78,7 +81,8 @@ or_else (Some x) d = x
 some-same : {y x : Server} → Some y ≡ Some x → y ≡ x
 some-same {y} e = ap (λ o. or_else o y) e
 
-later_ones : (m : Contents) (k e : ℕ) (xs : List Server) → are_stuck m k e xs ≡ true → (j : ℕ) (x : Server) → slice_get xs j ≡ Some x → e + j ≢ k → IsStuck m (e + j) x
+later_ones : (m : Contents) (k e : ℕ) (xs : List Server) → are_stuck m k e xs ≡ true → (j : ℕ) (x : Server)
+    → slice_get xs j ≡ Some x → e + j ≢ k → IsStuck m (e + j) x
 later_ones m k e [] is j x at other = absurd (clash at)
 later_ones m k e (y ∷ ys) is zero x at other =
     let here = past_stuck m k e y (and_both _ _ is).0 (λ same. other (omega (arith, same))) in
@@ -86,19 +90,30 @@ later_ones m k e (y ∷ ys) is zero x at other =
     subst (λ (f : ℕ). IsStuck m f x) (omega arith) (subst (λ (z : Server). IsStuck m e z) same (stuck_each m e y here))
 later_ones m k e (y ∷ ys) is (suc j) x at other =
     let next : suc e + j ≡ e + suc j = omega arith in
-    subst (λ (f : ℕ). IsStuck m f x) next (later_ones m k (suc e) ys (and_both _ _ is).1 j x at (λ same. other (sym next ∙ same)))
+    subst (λ (f : ℕ). IsStuck m f x) next
+    (later_ones m k (suc e) ys (and_both _ _ is).1 j x at (λ same. other (sym next ∙ same)))
 
-all_ones : (m : Contents) (k e : ℕ) (xs : List Server) → ((j : ℕ) (x : Server) → slice_get xs j ≡ Some x → e + j ≢ k → IsStuck m (e + j) x) → are_stuck m k e xs ≡ true
+all_ones : (m : Contents) (k e : ℕ) (xs : List Server)
+    → ((j : ℕ) (x : Server) → slice_get xs j ≡ Some x → e + j ≢ k → IsStuck m (e + j) x) → are_stuck m k e xs ≡ true
 all_ones m k e [] is = refl
 all_ones m k e (y ∷ ys) is =
     let first : e + 0 ≡ e = omega arith in
-    ap (λ a. a && are_stuck m k (suc e) ys) (stuck_past m k e y (λ other. each_stuck m e y (subst (λ (f : ℕ). IsStuck m f y) first (is 0 y refl (λ same. other (sym first ∙ same))))))
-    ∙ (all_ones m k (suc e) ys (λ j x at other. let next : e + suc j ≡ suc e + j = omega arith in subst (λ (f : ℕ). IsStuck m f x) next (is (suc j) x at (λ same. other (sym next ∙ same)))))
+    ap (λ a. a && are_stuck m k (suc e) ys)
+    (stuck_past m k e y
+    (λ other. each_stuck m e y
+    (subst (λ (f : ℕ). IsStuck m f y) first (is 0 y refl (λ same. other (sym first ∙ same))))))
+    ∙ (all_ones m k (suc e) ys
+    (λ j x at other. let next : e + suc j
+    ≡ suc e + j = omega arith in subst (λ (f : ℕ). IsStuck m f x) next
+    (is (suc j) x at (λ same. other (sym next ∙ same)))))
 
 pub stuck_is_each : (m : Contents) (k : ℕ) (xs : List Server) → (are_stuck m k 0 xs ≡ true) ↔ AllStuckBut m k xs
 stuck_is_each m k xs = (
-  (λ is e x at other. subst (λ (f : ℕ). IsStuck m f x) (zero_plus e) (later_ones m k 0 xs is e x at (λ same. other (sym (zero_plus e) ∙ same)))),
-  (λ each. all_ones m k 0 xs (λ j x at other. subst (λ (f : ℕ). IsStuck m f x) (sym (zero_plus j)) (each j x at (λ same. other (zero_plus j ∙ same))))),
+  (λ is e x at other. subst (λ (f : ℕ). IsStuck m f x) (zero_plus e)
+      (later_ones m k 0 xs is e x at (λ same. other (sym (zero_plus e) ∙ same)))),
+  (λ each. all_ones m k 0 xs
+      (λ j x at other. subst (λ (f : ℕ). IsStuck m f x) (sym (zero_plus j))
+      (each j x at (λ same. other (zero_plus j ∙ same))))),
 )
   where
     zero_plus : (n : ℕ) → 0 + n ≡ n

@@ -23,7 +23,8 @@ err-found : (f : Result FoundState Refusal) (r : Refusal) → entry_of f ≡ Err
 err-found (Ok found) r is = absurd (ok-err found.entry r is)
 err-found (Err q) r is = let same : q ≡ r = cc in ap Err same
 
-module _ {D : Type 0} (marks : Line → Bool) (s s1 s2 : SharedState D) (e n : ℕ) (t t' : Counts) (f : Result FoundState Refusal) (l : Looks marks s1 t e n (entry_of f) s2 t') where
+module _ {D : Type 0} (marks : Line → Bool) (s s1 s2 : SharedState D) (e n : ℕ) (t t' : Counts)
+    (f : Result FoundState Refusal) (l : Looks marks s1 t e n (entry_of f) s2 t') where
   abbrev entry : Result Entry Refusal
   entry = entry_at s.engine.memory e n
 
@@ -49,14 +50,16 @@ module _ {D : Type 0} (marks : Line → Bool) (s s1 s2 : SharedState D) (e n : �
   }
 
   module _ (a : Result Ask Refusal) (b : BeginsWait s e n a s1) (goes : a ≢ Ok Wait) (told : a ≢ Err Stalled) where
-    by-stuck : s.engine.failed ≡ false → entry ≡ Ok Waiting → (stuck : Bool) → are_stuck s.engine.memory e 0 s.servers ≡ stuck → IsTold s e n (Some f)
+    by-stuck : s.engine.failed ≡ false → entry ≡ Ok Waiting → (stuck : Bool)
+        → are_stuck s.engine.memory e 0 s.servers ≡ stuck → IsTold s e n (Some f)
     by-stuck alive waits true stuck = absurd (told (b.stalled alive waits stuck).0)
     by-stuck alive waits false stuck = absurd (goes (b.waits alive waits stuck).0)
 
     by-entry : s.engine.failed ≡ false → (x : Result Entry Refusal) → entry ≡ x → IsTold s e n (Some f)
     by-entry alive (Err r) is = finds-alive (b.refused r alive is).1 alive (λ waits. ok-err Waiting r (sym waits ∙ is))
     by-entry alive (Ok (Answered reply)) is =
-        finds-alive (b.ready alive (ap is_answered is)).1 alive (λ waits. true_false (sym (ap is_answered is) ∙ ap is_answered waits))
+        finds-alive (b.ready alive (ap is_answered is)).1 alive
+        (λ waits. true_false (sym (ap is_answered is) ∙ ap is_answered waits))
     by-entry alive (Ok Waiting) is = by-stuck alive is (are_stuck s.engine.memory e 0 s.servers) refl
 
     by-life : (failed : Bool) → s.engine.failed ≡ failed → IsTold s e n (Some f)

@@ -1,5 +1,6 @@
 -- What is done under the lock. (Own.)
-use Rattle.std.specs.Prelude.{◌≡◌, ◌≢◌, ◌⊎◌, ℕ, ◌<◌, ◌≤◌, ◌++◌, ◌&&◌, Bool, true, false, Option, List, [], ◌∷◌, Some, Result, Ok, Err, length, count_by, nat_lt, slice_get, slice_set, if◌then◌else◌, ◌==◌}
+use Rattle.std.specs.Prelude.{◌≡◌, ◌≢◌, ◌⊎◌, ℕ, ◌<◌, ◌≤◌, ◌++◌, ◌&&◌, Bool, true, false, Option, List, [], ◌∷◌, Some}
+use Rattle.std.specs.Prelude.{Result, Ok, Err, length, count_by, nat_lt, slice_get, slice_set, if◌then◌else◌, ◌==◌}
 use Rattle.im_types.specs.declared.operations.Entry.{Entry}
 use Rattle.im_types.specs.declared.operations.Entry.TheVariants.{Waiting}
 use Rattle.im_types.specs.declared.commands.Command.{Command}
@@ -9,7 +10,8 @@ use Rattle.im_types.specs.declared.commands.Call.{Call}
 use Rattle.im_types.specs.declared.commands.Call.TheVariants.{Command as Commands, Collect}
 use Rattle.im_types.specs.declared.commands.Line.{Line}
 use Rattle.im_types.specs.declared.refusals.Refusal.{Refusal}
-use Rattle.im_types.specs.declared.refusals.Refusal.TheVariants.{NoElement, JournalFull, Device, Failed, NoMemory, TraceFull, Stalled, OffPlan}
+use Rattle.im_types.specs.declared.refusals.Refusal.TheVariants.{NoElement, JournalFull, Device, Failed, NoMemory}
+use Rattle.im_types.specs.declared.refusals.Refusal.TheVariants.{TraceFull, Stalled, OffPlan}
 use Rattle.im_types.specs.declared.changes.Change.{Change}
 use Rattle.im_types.specs.Contents.{Contents}
 use Rattle.im_types.specs.Step.{is_accepted}

@@ -1,5 +1,6 @@
 -- The log: a trace with the answers that wait for their ports, and the receipts that go out of it. (Own.)
-use Rattle.std.specs.Prelude.{◌≡◌, ℕ, ◌+◌, ◌≤◌, ◌++◌, List, [], Bool, Option, None, Some, Result, Ok, Err, length, slice_get, slice_set, count_by, sum_by}
+use Rattle.std.specs.Prelude.{◌≡◌, ℕ, ◌+◌, ◌≤◌, ◌++◌, List, [], Bool, Option, None, Some, Result, Ok, Err, length}
+use Rattle.std.specs.Prelude.{slice_get, slice_set, count_by, sum_by}
 use Rattle.std.specs.List.{AllByRecursion}
 use mathlib.Core.List.{IsPrefix}
 use Rattle.im_types.specs.declared.operations.Entry.{Entry}

@@ -15,7 +15,8 @@ use Rattle.im_types.specs.Contents.{Contents}
 use Rattle.im_types.specs.Window.{ask}
 use Rattle.im_types.specs.Step.{asker}
 use Rattle.im_types.specs.Plan.{result_of}
-use Rattle.im_plans.specs.Runs.{IsInPlan, IsPlannedCall, IsPlannedRun, IsResultOrWaits, TellsResults, HasServed, entry_for, Starts}
+use Rattle.im_plans.specs.Runs.{IsInPlan, IsPlannedCall, IsPlannedRun, IsResultOrWaits, TellsResults, HasServed}
+use Rattle.im_plans.specs.Runs.{entry_for, Starts}
 use Rattle.im_planning.specs.Making.{op_under, is_op}
 use Rattle.im_controller.specs.Lines.{line_of}
 use Rattle.im_controller.specs.Log.{ReceiptState, FoundState}

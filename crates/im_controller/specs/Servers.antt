@@ -1,5 +1,6 @@
 -- Servers that wait, and when all of them do. (Own.)
-use Rattle.std.specs.Prelude.{◌≡◌, ◌≢◌, ℕ, suc, ◌==◌, ◌||◌, ◌&&◌, List, [], ◌∷◌, Option, Some, None, Bool, true, false, Result, Ok, Err, slice_get, slice_set, if◌then◌else◌}
+use Rattle.std.specs.Prelude.{◌≡◌, ◌≢◌, ℕ, suc, ◌==◌, ◌||◌, ◌&&◌, List, [], ◌∷◌, Option, Some, None, Bool, true}
+use Rattle.std.specs.Prelude.{false, Result, Ok, Err, slice_get, slice_set, if◌then◌else◌}
 use Rattle.im_types.specs.declared.operations.Entry.{Entry}
 use Rattle.im_types.specs.declared.operations.Entry.TheVariants.{Waiting, Answered}
 use Rattle.im_types.specs.declared.operations.Reply.{Reply}

@@ -10,7 +10,8 @@ pub returns-clause-lines : goal.returns-clause-lines
 returns-clause-lines g c = λ came claimed.
     let m = c.merge_all.ensures in let r = c.reserve.invariant in
     let same = eqb-true c.len-came.result (c.reserve.inside.ports - c.reserve.inside.left) came in
-    let amount = c.audit.ensures.whole (omega (arith, same, m.lines, c.len-came.ensures, c.args.ports.ok, r.0, r.4, r.5)) in
+    let amount = c.audit.ensures.whole
+    (omega (arith, same, m.lines, c.len-came.ensures, c.args.ports.ok, r.0, r.4, r.5)) in
     let book = ap (λ (b : Counts). b.lines) c.books.view_is in
     let free = subst AreFree c.as_slice.ensures.value (c.are_free-claimed.ensures claimed) in
     let all = log-claimed g.K.Name.memory g.K.Name.marks _ _ c.log.invariant.0 free in
@@ -20,7 +21,8 @@ pub returns-clause-marked : goal.returns-clause-marked
 returns-clause-marked g c = λ came claimed.
     let m = c.merge_all.ensures in let r = c.reserve.invariant in
     let same = eqb-true c.len-came.result (c.reserve.inside.ports - c.reserve.inside.left) came in
-    let amount = c.audit-2.ensures.whole (omega (arith, same, m.marked, c.len-came.ensures, c.args.ports.ok, r.1, r.4, r.5)) in
+    let amount = c.audit-2.ensures.whole
+    (omega (arith, same, m.marked, c.len-came.ensures, c.args.ports.ok, r.1, r.4, r.5)) in
     let book = ap (λ (b : Counts). b.marked) c.books.view_is in
     let free = subst AreFree c.as_slice.ensures.value (c.are_free-claimed.ensures claimed) in
     let all = log-claimed g.K.Name.memory g.K.Name.marks _ _ c.log.invariant.0 free in

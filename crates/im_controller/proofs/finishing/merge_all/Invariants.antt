@@ -5,6 +5,8 @@ abbrev pub invariant-loop-port : goal.invariant-loop-port
 invariant-loop-port g l =
     (l.lines.parts + length l.port-iterator.rest.items ≡ l.fn.lines.parts + length l.fn.ports.items)
     × (l.marked.parts + length l.port-iterator.rest.items ≡ l.fn.marked.parts + length l.fn.ports.items)
-    × (l.lines.amount + sum_by (λ p. p.told.lines) l.port-iterator.rest.items ≡ l.fn.lines.amount + sum_by (λ p. p.told.lines) l.fn.ports.items)
-    × (l.marked.amount + sum_by (λ p. p.told.marked) l.port-iterator.rest.items ≡ l.fn.marked.amount + sum_by (λ p. p.told.marked) l.fn.ports.items)
+    × (l.lines.amount + sum_by (λ p. p.told.lines) l.port-iterator.rest.items
+    ≡ l.fn.lines.amount + sum_by (λ p. p.told.lines) l.fn.ports.items)
+    × (l.marked.amount + sum_by (λ p. p.told.marked) l.port-iterator.rest.items
+    ≡ l.fn.marked.amount + sum_by (λ p. p.told.marked) l.fn.ports.items)
     × (l.lines.parts ≤ g.K.Name.ports)

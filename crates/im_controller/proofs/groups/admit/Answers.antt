@@ -17,11 +17,21 @@ use Rattle.im_controller.proofs.groups.admit.Goals as goal
 pub keep_all-requires : goal.keep_all-requires
 keep_all-requires g c =
     let rs = c.args.members.now in
-    let free = subst (λ (s : SharedState g.row.D.Denot). AreFreeFor s.log.places rs) (sym c.shared.view_is) c.requires.free in
-    let few = subst (λ (s : SharedState g.row.D.Denot). length s.log.trace ≤ s.log.limit) (sym c.shared.view_is) c.is_asked-asked.ensures.few in
+    let free = subst (λ (s : SharedState g.row.D.Denot). AreFreeFor s.log.places rs)
+    (sym c.shared.view_is) c.requires.free in
+    let few = subst (λ (s : SharedState g.row.D.Denot). length s.log.trace ≤ s.log.limit)
+    (sym c.shared.view_is) c.is_asked-asked.ensures.few in
     rw (c.as_slice-2.ensures.value, c.as_slice-3.ensures.value, c.refuse_alike.ensures, c.as_slice.ensures.value, c.pick-2.ensures.picked)
-    (let it = off-fits g.K.Name.memory c.shared.inside.log (is_picked c.shared.inside.plan c.is_asked-asked.result false) rs c.requires.apart free in
-    record { whole = it.whole; are_so = it.are_so; apart = it.apart; free = it.free; room = omega (arith, it.none, few) })
+    (let it = off-fits g.K.Name.memory c.shared.inside.log
+    (is_picked c.shared.inside.plan c.is_asked-asked.result false) rs c.requires.apart free in
+    record {
+      whole = it.whole;
+      are_so = it.are_so;
+      apart = it.apart;
+      free = it.free;
+      room = omega
+          (arith, it.none, few);
+    })
 
 pub invariant_of-shared : goal.invariant_of-shared
 invariant_of-shared g c =
@@ -34,7 +44,9 @@ invariant_of-shared g c =
       c.shared.invariant.2,
       c.shared.invariant.3,
       c.shared.invariant.4,
-      (λ honest began. subst (λ (ls : List Line). HasKept g.D.Disk.now g.D.Disk.past g.D.Disk.failures g.K.Name.begun m (accepted_in m ls) e) same (c.shared.invariant.5 honest began)),
+      (λ honest began. subst
+          (λ (ls : List Line). HasKept g.D.Disk.now g.D.Disk.past g.D.Disk.failures g.K.Name.begun m
+          (accepted_in m ls) e) same (c.shared.invariant.5 honest began)),
       c.shared.invariant.6,
       c.shared.invariant.7,
       subst (λ (ls : List Line). KeepsTo m g.K.Name.plan ls) same c.shared.invariant.8,
@@ -43,13 +55,15 @@ invariant_of-shared g c =
 pub returns-clause-lent : goal.returns-clause-lent
 returns-clause-lent g c =
     let rs = c.args.members.now in let asked = c.is_asked-asked.result in
-    c.pick.ensures.picked ∙ ap (λ p. picked (is_picked p asked true) rs) c.shared.invariant.7 ∙ ap (λ a. picked (is_picked g.K.Name.plan a true) rs) c.is_asked-asked.ensures.asked
+    c.pick.ensures.picked ∙ ap (λ p. picked (is_picked p asked true) rs) c.shared.invariant.7
+    ∙ ap (λ a. picked (is_picked g.K.Name.plan a true) rs) c.is_asked-asked.ensures.asked
     ∙ admitted-is c.args.shared.now rs g.K.Name.plan
 
 pub returns-clause-shared : goal.returns-clause-shared
 returns-clause-shared g c =
     let rs = c.args.members.now in let asked = c.is_asked-asked.result in
-    let off = c.pick-2.ensures.picked ∙ ap (λ p. picked (is_picked p asked false) rs) c.shared.invariant.7 ∙ ap (λ a. picked (is_picked g.K.Name.plan a false) rs) c.is_asked-asked.ensures.asked
+    let off = c.pick-2.ensures.picked ∙ ap (λ p. picked (is_picked p asked false) rs) c.shared.invariant.7
+    ∙ ap (λ a. picked (is_picked g.K.Name.plan a false) rs) c.is_asked-asked.ensures.asked
     ∙ refused-is c.args.shared.now rs g.K.Name.plan in
     let log = off-log c.shared.inside.log c.keep_all.new.log _ c.as_slice-2.result.now c.as_slice-3.result.now c.keep_all.ensures.log (c.as_slice-2.ensures.value ∙ off)
     (c.as_slice-3.ensures.value ∙ c.refuse_alike.ensures ∙ ap (all_refused OffPlan) (c.as_slice.ensures.value ∙ off)) in

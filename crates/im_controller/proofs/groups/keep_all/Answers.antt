@@ -13,7 +13,11 @@ loop-i-preserved g c =
     let m = g.K.Name.memory in
     let l0 = c.args.log.now in let rs = c.args.members.now in let ss = c.args.served.now in let xs = map answer_in ss in
     let i = c.loop-i.i in let first : Request = record { element = 0; number = 0; op = Alloc I 0 } in
-    let k = keeps_cons m l0 rs xs answer_in c.loop-i.log rs ss i first Unserved (omega arith) (omega (arith, c.requires.whole)) c.loop-i.invariant in
-    let next = keeps_next m l0 rs xs c.loop-i.log (get_or rs i first) (answer_in (get_or ss i Unserved)) (drop (i + 1) rs) (map answer_in (drop (i + 1) ss)) k in
-    let same : c.keep.new.self ≡ with_unclaimed c.loop-i.log (get_or rs i first) (answer_in (get_or ss i Unserved)) = c.keep.ensures.log ∙ ap (λ x. with_unclaimed c.loop-i.log (get_or rs i first) x) c.answer_in.ensures in
+    let k = keeps_cons m l0 rs xs answer_in c.loop-i.log rs ss i first Unserved (omega arith)
+    (omega (arith, c.requires.whole)) c.loop-i.invariant in
+    let next = keeps_next m l0 rs xs c.loop-i.log (get_or rs i first) (answer_in (get_or ss i Unserved))
+    (drop (i + 1) rs) (map answer_in (drop (i + 1) ss)) k in
+    let same : c.keep.new.self
+    ≡ with_unclaimed c.loop-i.log (get_or rs i first) (answer_in (get_or ss i Unserved)) = c.keep.ensures.log
+    ∙ ap (λ x. with_unclaimed c.loop-i.log (get_or rs i first) x) c.answer_in.ensures in
     subst (λ (l : LogState). Keeps m l0 rs xs l (drop (i + 1) rs) (map answer_in (drop (i + 1) ss))) (sym same) next

@@ -7,7 +7,8 @@ use Rattle.im_disk.specs.Since.{CallsAtMost, LeavesWithin, LeavesNow}
 use Rattle.im_engine.specs.Groups.{MeansGroup, calls_for_group, group_put}
 use Rattle.im_controller.specs.Log.{LogState}
 use Rattle.im_controller.specs.State.{SharedState}
-use Rattle.im_controller.specs.Groups.{answer_in, those, with_all_unclaimed, AreAnswersTo, memory_after_all, AreFreeFor, LendsGroup}
+use Rattle.im_controller.specs.Groups.{answer_in, those, with_all_unclaimed, AreAnswersTo, memory_after_all}
+use Rattle.im_controller.specs.Groups.{AreFreeFor, LendsGroup}
 use Rattle.im_controller.specs.Kept.{accepted_in}
 use Rattle.im_controller.specs.Planned.{AreOnPlan, KeepsTo}
 use Rattle.im_controller.proofs.AdmitLemmas.{keeps-members}
@@ -28,7 +29,8 @@ choose-requires g c = record {
 
 pub serve_members-requires : goal.serve_members-requires
 serve_members-requires g c = record {
-  apart = rw (c.choose.ensures.lent, c.as_slice.ensures.value) (those-apart c.choose.new.roomy.items c.args.members.now.items c.requires.apart);
+  apart = rw (c.choose.ensures.lent, c.as_slice.ensures.value)
+      (those-apart c.choose.new.roomy.items c.args.members.now.items c.requires.apart);
   empty = c.new-served.ensures;
 }
 
@@ -45,9 +47,12 @@ keep_all-requires g c =
     c.serve_members.new.served.items c.as_slice-3.result.now c.spread.new.answers.items c.memory.result.now.contents c.places_with-places.result c.memory.ensures c.places_with-places.ensures
     c.as_slice.ensures.value c.choose.ensures.roomless c.choose.ensures.lent c.serve_members.ensures.answered c.as_slice-2.ensures.value c.as_slice-3.ensures.value c.spread.ensures in
     let fits = group-fits c.shared.inside.engine c.serve_members.new.engine c.room-room.result c.args.members.now.items c.choose.new.roomy.items c.choose.new.lent.items c.serve_members.new.served.items c.spread.new.answers.items it in
-    let enough = subst (λ (s : SharedState g.row.D.Denot). length s.log.trace < s.log.limit → length s.log.trace + length rs ≤ s.log.limit) (sym c.shared.view_is) c.requires.room in
-    let free = subst (λ (s : SharedState g.row.D.Denot). AreFreeFor s.log.places rs) (sym c.shared.view_is) c.requires.free in
-    let are_so = subst (λ (m : Contents). AreAnswersTo m rs (map answer_in xs)) (sym c.shared.invariant.0) fits.are_so in
+    let enough = subst (λ (s : SharedState g.row.D.Denot). length s.log.trace < s.log.limit
+    → length s.log.trace + length rs ≤ s.log.limit) (sym c.shared.view_is) c.requires.room in
+    let free = subst (λ (s : SharedState g.row.D.Denot). AreFreeFor s.log.places rs)
+    (sym c.shared.view_is) c.requires.free in
+    let are_so = subst (λ (m : Contents). AreAnswersTo m rs (map answer_in xs))
+    (sym c.shared.invariant.0) fits.are_so in
     rw (c.as_slice-4.ensures.value, c.as_slice-5.ensures.value) (record {
       whole = fits.whole;
       are_so = are_so;
@@ -66,29 +71,41 @@ invariant_of-shared g c =
     let pane = group-pane c.shared.inside.engine c.serve_members.new.engine c.room-room.result c.args.members.now.items c.choose.new.roomy.items c.choose.new.lent.items c.serve_members.new.served.items c.spread.new.answers.items it c.requires.cut c.requires.apart
     g.K.Name.memory c.memory.result.now.contents c.shared.inside.log c.shared.inside.pane c.choose.new.pane c.show_put-told.new.pane c.places_with-places.result c.failed.result
     c.memory.ensures c.places_with-places.ensures c.shared.invariant.0 c.shared.invariant.1 c.shared.invariant.3 c.choose.ensures.ahead c.failed.ensures.failed c.show_put-told.ensures.shown c.show_put-told.ensures.hidden in
-    let log = c.keep_all.ensures.log ∙ ap (λ rs. with_all_unclaimed c.shared.inside.log rs (map answer_in c.as_slice-5.result.now)) c.as_slice-4.ensures.value
-    ∙ ap (λ xs. with_all_unclaimed c.shared.inside.log c.args.members.now.items (map answer_in xs)) c.as_slice-5.ensures.value in
-    let ends = c.keep_all.ensures.end ∙ rw (c.as_slice-4.ensures.value, c.as_slice-5.ensures.value) (ap (λ m. memory_after_all m rs (map answer_in xs)) c.shared.invariant.0 ∙ fits.ends) in
+    let log = c.keep_all.ensures.log
+    ∙ ap (λ rs. with_all_unclaimed c.shared.inside.log rs
+    (map answer_in c.as_slice-5.result.now)) c.as_slice-4.ensures.value
+    ∙ ap (λ xs. with_all_unclaimed c.shared.inside.log c.args.members.now.items
+    (map answer_in xs)) c.as_slice-5.ensures.value in
+    let ends = c.keep_all.ensures.end
+    ∙ rw (c.as_slice-4.ensures.value, c.as_slice-5.ensures.value)
+    (ap (λ m. memory_after_all m rs (map answer_in xs)) c.shared.invariant.0 ∙ fits.ends) in
     let e = c.shared.inside.engine in let f = c.serve_members.new.engine in let m = g.K.Name.memory in let trace = c.shared.inside.log.trace in
     let lent = c.choose.new.lent.items in let ss = c.serve_members.new.served.items in
     let same = lines-same e f c.room-room.result rs c.choose.new.roomy.items lent ss xs it c.requires.cut c.requires.apart in
-    let lines = ap (λ (l : LogState). l.trace) log ∙ all-trace c.shared.inside.log rs (map answer_in xs) ∙ ap (λ ls. trace ++ ls) same in (
+    let lines = ap (λ (l : LogState). l.trace) log ∙ all-trace c.shared.inside.log rs (map answer_in xs)
+    ∙ ap (λ ls. trace ++ ls) same in (
       ends,
       pane.shown_is ∙ ap (λ (l : LogState). shown_by g.K.Name.memory l.trace) (sym log),
       pane.cells ∙ c.shared.invariant.2,
       pane.ahead,
       (λ honest. c.shared.invariant.4 (c.serve_members.ensures.honest honest)),
       (λ honest began.
-          kept_on g.D.Disk.now g.D.Disk.past g.D.Disk.failures g.K.Name.begun m e f trace c.keep_all.new.log.trace (lines_all lent (map answer_in ss)) lines c.shared.invariant.0
-          (kept_members g.D.Disk.now g.D.Disk.past g.D.Disk.failures g.K.Name.begun m e f (accepted_in m trace) (c.shared.invariant.5 (c.serve_members.ensures.honest honest) began)
-          (sym (accepted-after m trace ∙ c.shared.invariant.0)) lent ss c.serve_members.ensures.faults (c.serve_members.ensures.leaves honest) (c.serve_members.ensures.doubt honest) (c.serve_members.ensures.means honest)
+          kept_on g.D.Disk.now g.D.Disk.past g.D.Disk.failures g.K.Name.begun m e f trace c.keep_all.new.log.trace
+          (lines_all lent (map answer_in ss)) lines c.shared.invariant.0
+          (kept_members g.D.Disk.now g.D.Disk.past g.D.Disk.failures g.K.Name.begun m e f (accepted_in m trace)
+          (c.shared.invariant.5 (c.serve_members.ensures.honest honest) began)
+          (sym (accepted-after m trace ∙ c.shared.invariant.0)) lent ss c.serve_members.ensures.faults
+          (c.serve_members.ensures.leaves honest) (c.serve_members.ensures.doubt honest)
+          (c.serve_members.ensures.means honest)
           c.room-room.result c.serve_members.ensures.answered)),
       c.shared.invariant.6,
       c.shared.invariant.7,
       subst (λ (ls : List Line). KeepsTo m g.K.Name.plan ls) (sym lines)
-          (keeps-members m g.K.Name.plan e f rs lent (map answer_in xs) ss same trace c.shared.invariant.8 c.room-room.result c.serve_members.ensures.answered
+          (keeps-members m g.K.Name.plan e f rs lent
+          (map answer_in xs) ss same trace c.shared.invariant.8 c.room-room.result c.serve_members.ensures.answered
           (λ alive some.
-          subst (λ (s : SharedState g.row.D.Denot). s.engine.failed ≡ false → length s.log.trace < s.log.limit → AreOnPlan g.K.Name.plan rs) (sym c.shared.view_is) c.requires.planned alive
+          subst (λ (s : SharedState g.row.D.Denot). s.engine.failed ≡ false → length s.log.trace < s.log.limit
+          → AreOnPlan g.K.Name.plan rs) (sym c.shared.view_is) c.requires.planned alive
           (omega (arith, some, c.room-room.ensures.room)))),
     )
 
@@ -100,8 +117,11 @@ returns-clause-lends g c =
     let pane = group-pane c.shared.inside.engine c.serve_members.new.engine c.room-room.result c.args.members.now.items c.choose.new.roomy.items c.choose.new.lent.items c.serve_members.new.served.items c.spread.new.answers.items it c.requires.cut c.requires.apart
     g.K.Name.memory c.memory.result.now.contents c.shared.inside.log c.shared.inside.pane c.choose.new.pane c.show_put-told.new.pane c.places_with-places.result c.failed.result
     c.memory.ensures c.places_with-places.ensures c.shared.invariant.0 c.shared.invariant.1 c.shared.invariant.3 c.choose.ensures.ahead c.failed.ensures.failed c.show_put-told.ensures.shown c.show_put-told.ensures.hidden in
-    let log = c.keep_all.ensures.log ∙ ap (λ rs. with_all_unclaimed c.shared.inside.log rs (map answer_in c.as_slice-5.result.now)) c.as_slice-4.ensures.value
-    ∙ ap (λ xs. with_all_unclaimed c.shared.inside.log c.args.members.now.items (map answer_in xs)) c.as_slice-5.ensures.value in
+    let log = c.keep_all.ensures.log
+    ∙ ap (λ rs. with_all_unclaimed c.shared.inside.log rs
+    (map answer_in c.as_slice-5.result.now)) c.as_slice-4.ensures.value
+    ∙ ap (λ xs. with_all_unclaimed c.shared.inside.log c.args.members.now.items
+    (map answer_in xs)) c.as_slice-5.ensures.value in
     let s : SharedState g.row.D.Denot = record { engine = c.shared.inside.engine; log = c.shared.inside.log; servers = c.shared.inside.servers; shown = c.shared.inside.pane.shown } in
     let s' : SharedState g.row.D.Denot = record { engine = c.serve_members.new.engine; log = c.keep_all.new.log; servers = c.shared.inside.servers; shown = c.show_put-told.new.pane.shown } in
     subst (λ (u : SharedState g.row.D.Denot). LendsGroup u c.args.members.now.items c.choose.new.roomy.items s') c.shared.view_is
@@ -111,19 +131,31 @@ pub returns-clause-few : goal.returns-clause-few
 returns-clause-few g c =
     let f = c.serve_members.new.engine in
     let these = c.choose.ensures.lent ∙ ap (those c.choose.new.roomy.items) c.as_slice.ensures.value in
-    subst (λ (s : SharedState g.row.D.Denot). g.D.Disk.honest f.disk → CallsAtMost g.D.Disk.past s.engine.disk f.disk (calls_for_group (length (group_put s.engine (those c.choose.new.roomy.items c.args.members.now.items))))) c.shared.view_is
-    (subst (λ (rs : List Request). g.D.Disk.honest f.disk → CallsAtMost g.D.Disk.past c.shared.inside.engine.disk f.disk (calls_for_group (length (group_put c.shared.inside.engine rs)))) these c.serve_members.ensures.few)
+    subst (λ (s : SharedState g.row.D.Denot). g.D.Disk.honest f.disk
+    → CallsAtMost g.D.Disk.past s.engine.disk f.disk
+    (calls_for_group (length
+    (group_put s.engine (those c.choose.new.roomy.items c.args.members.now.items))))) c.shared.view_is
+    (subst (λ (rs : List Request). g.D.Disk.honest f.disk
+    → CallsAtMost g.D.Disk.past c.shared.inside.engine.disk f.disk
+    (calls_for_group (length (group_put c.shared.inside.engine rs)))) these c.serve_members.ensures.few)
 
 pub returns-clause-leaves : goal.returns-clause-leaves
 returns-clause-leaves g c =
     let f = c.serve_members.new.engine in
     let these = c.choose.ensures.lent ∙ ap (those c.choose.new.roomy.items) c.as_slice.ensures.value in
-    subst (λ (s : SharedState g.row.D.Denot). g.D.Disk.honest f.disk → s.engine.failed ≡ false → LeavesWithin g.D.Disk.now g.D.Disk.past s.engine.disk f.disk (MeansGroup s.engine (those c.choose.new.roomy.items c.args.members.now.items))) c.shared.view_is
-    (subst (λ (rs : List Request). g.D.Disk.honest f.disk → c.shared.inside.engine.failed ≡ false → LeavesWithin g.D.Disk.now g.D.Disk.past c.shared.inside.engine.disk f.disk (MeansGroup c.shared.inside.engine rs)) these c.serve_members.ensures.leaves)
+    subst (λ (s : SharedState g.row.D.Denot). g.D.Disk.honest f.disk → s.engine.failed ≡ false
+    → LeavesWithin g.D.Disk.now g.D.Disk.past s.engine.disk f.disk
+    (MeansGroup s.engine (those c.choose.new.roomy.items c.args.members.now.items))) c.shared.view_is
+    (subst (λ (rs : List Request). g.D.Disk.honest f.disk → c.shared.inside.engine.failed ≡ false
+    → LeavesWithin g.D.Disk.now g.D.Disk.past c.shared.inside.engine.disk f.disk
+    (MeansGroup c.shared.inside.engine rs)) these c.serve_members.ensures.leaves)
 
 pub returns-clause-doubt : goal.returns-clause-doubt
 returns-clause-doubt g c =
     let f = c.serve_members.new.engine in
     let these = c.choose.ensures.lent ∙ ap (those c.choose.new.roomy.items) c.as_slice.ensures.value in
-    subst (λ (s : SharedState g.row.D.Denot). g.D.Disk.honest f.disk → s.engine.failed ≡ false → LeavesNow (g.D.Disk.now f.disk) (MeansGroup s.engine (those c.choose.new.roomy.items c.args.members.now.items))) c.shared.view_is
-    (subst (λ (rs : List Request). g.D.Disk.honest f.disk → c.shared.inside.engine.failed ≡ false → LeavesNow (g.D.Disk.now f.disk) (MeansGroup c.shared.inside.engine rs)) these c.serve_members.ensures.doubt)
+    subst (λ (s : SharedState g.row.D.Denot). g.D.Disk.honest f.disk → s.engine.failed ≡ false
+    → LeavesNow (g.D.Disk.now f.disk)
+    (MeansGroup s.engine (those c.choose.new.roomy.items c.args.members.now.items))) c.shared.view_is
+    (subst (λ (rs : List Request). g.D.Disk.honest f.disk → c.shared.inside.engine.failed ≡ false
+    → LeavesNow (g.D.Disk.now f.disk) (MeansGroup c.shared.inside.engine rs)) these c.serve_members.ensures.doubt)

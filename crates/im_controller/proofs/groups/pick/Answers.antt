@@ -9,8 +9,11 @@ use Rattle.im_controller.proofs.groups.pick.Goals as goal
 pub loop-i-preserved : goal.loop-i-preserved
 loop-i-preserved c =
     let first : Request = record { element = 0; number = 0; op = Alloc I 0 } in
-    rw c.push_if.ensures (pick-step (is_picked c.args.plan.now c.args.asked c.args.wanted) c.loop-i.chosen.items c.args.members.now _ c.loop-i.i first c.is_picked-is_picked.result c.is_picked-is_picked.ensures
+    rw c.push_if.ensures (pick-step
+    (is_picked c.args.plan.now c.args.asked c.args.wanted) c.loop-i.chosen.items c.args.members.now _ c.loop-i.i first c.is_picked-is_picked.result c.is_picked-is_picked.ensures
     (omega arith) c.loop-i.invariant.0 c.loop-i.invariant.1)
 
 pub returns-clause-picked : goal.returns-clause-picked
-returns-clause-picked c = pick-end (is_picked c.args.plan.now c.args.asked c.args.wanted) c.loop-i.chosen.items c.args.members.now c.loop-i.i (omega arith) c.loop-i.invariant.0
+returns-clause-picked c = pick-end
+    (is_picked c.args.plan.now c.args.asked c.args.wanted) c.loop-i.chosen.items c.args.members.now c.loop-i.i
+    (omega arith) c.loop-i.invariant.0

@@ -8,4 +8,6 @@ use Rattle.im_controller.proofs.groups.refuse_alike.Goals as goal
 pub loop-i-preserved : goal.loop-i-preserved
 loop-i-preserved c =
     let refusal = c.args.refusal in let all = all_refused refusal in
-    rw c.push.ensures.items (told_next all (λ _. Refused refusal) all c.loop-i.served.items c.args.members.now c.loop-i._i no_request (Refused refusal) (λ r l. refl) (omega arith) refl ∙ c.loop-i.invariant)
+    rw c.push.ensures.items
+    (told_next all (λ _. Refused refusal) all c.loop-i.served.items c.args.members.now c.loop-i._i no_request
+    (Refused refusal) (λ r l. refl) (omega arith) refl ∙ c.loop-i.invariant)

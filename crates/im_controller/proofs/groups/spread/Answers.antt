@@ -7,4 +7,6 @@ push-requires c = (omega arith, spread-room c.loop-i.answers.items c.args.roomy.
 
 pub loop-i-preserved : goal.loop-i-preserved
 loop-i-preserved c =
-    rw (c.push.ensures.items, c.next_answer.ensures, c.answers_left-rest.ensures) (spread-next c.loop-i.answers.items c.args.roomy.now c.loop-i.rest.now c.loop-i.i false (omega arith) ∙ c.loop-i.invariant)
+    rw (c.push.ensures.items, c.next_answer.ensures, c.answers_left-rest.ensures)
+    (spread-next c.loop-i.answers.items c.args.roomy.now c.loop-i.rest.now c.loop-i.i false (omega arith)
+    ∙ c.loop-i.invariant)

@@ -12,4 +12,5 @@ returns-in-Ok-Go-clause-told g c =
 pub returns-else-eq-clause-told : goal.returns-else-eq-clause-told
 returns-else-eq-clause-told g c =
     finds-told g.K.Name.marks c.args.shared.now c.begin_wait.new.shared c.find-in-Err.new.shared c.args.element c.args.number c.args.tally.now c.find-in-Err.new.tally c.find-in-Err.result c.find-in-Err.ensures.looks
-    (Err c.in-Err.refusal) c.in-Err.ensures.begins (err-waits c.in-Err.refusal) (other-stalled c.in-Err.refusal (λ same. let e = c.eq.ensures in let f = c.if-eq.false in search rules))
+    (Err c.in-Err.refusal) c.in-Err.ensures.begins (err-waits c.in-Err.refusal)
+    (other-stalled c.in-Err.refusal (λ same. let e = c.eq.ensures in let f = c.if-eq.false in search rules))

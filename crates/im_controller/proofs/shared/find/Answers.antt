@@ -13,7 +13,9 @@ returns-clause-planned g c =
     let m = g.K.Name.memory in let plan = g.K.Name.plan in
     elim c.match-look.branch [
       | in-Ok w ↦ subst (λ (a : Result FoundState Refusal). TellsFound m plan a) (sym w.result-is)
-          (subst (λ (f : FoundState). TellsBy m plan (Collect f.element f.number) (Tells f.entry)) (sym w.found.ensures.found)
-          (tells-last m plan (Collect c.args.element c.args.number) _ c.shared.inside.log.trace c.shared.invariant.8 w.found.ensures.proof))
+          (subst (λ (f : FoundState). TellsBy m plan (Collect f.element f.number) (Tells f.entry))
+          (sym w.found.ensures.found)
+          (tells-last m plan
+          (Collect c.args.element c.args.number) _ c.shared.inside.log.trace c.shared.invariant.8 w.found.ensures.proof))
       | in-Err w ↦ subst (λ (a : Result FoundState Refusal). TellsFound m plan a) (sym w.result-is) tt
     ]

@@ -20,11 +20,14 @@ use Rattle.im_controller.proofs.shared.lend.Goals as goal
 
 pub returns-then-room-eq0-clause-doubt : goal.returns-then-room-eq0-clause-doubt
 returns-then-room-eq0-clause-doubt g c = λ honest alive file left. inl (
-    subst (λ (s : SharedState g.row.D.Denot). g.D.Disk.honest s.engine.disk → s.engine.failed ≡ false → LeavesNow (g.D.Disk.now s.engine.disk) (MeansState s.engine)) c.shared.view_is c.failed.ensures.means honest alive file left)
+    subst (λ (s : SharedState g.row.D.Denot). g.D.Disk.honest s.engine.disk → s.engine.failed ≡ false
+    → LeavesNow (g.D.Disk.now s.engine.disk)
+    (MeansState s.engine)) c.shared.view_is c.failed.ensures.means honest alive file left)
 
 pub returns-then-room-eq0-clause-means : goal.returns-then-room-eq0-clause-means
 returns-then-room-eq0-clause-means g c =
-    subst (λ (s : SharedState g.row.D.Denot). g.D.Disk.honest s.engine.disk → s.engine.failed ≡ false → LeavesNow (g.D.Disk.now s.engine.disk) (MeansState s.engine)) c.shared.view_is c.failed.ensures.means
+    subst (λ (s : SharedState g.row.D.Denot). g.D.Disk.honest s.engine.disk → s.engine.failed ≡ false
+    → LeavesNow (g.D.Disk.now s.engine.disk) (MeansState s.engine)) c.shared.view_is c.failed.ensures.means
 
 pub leave-requires-clause-is_so : goal.leave-requires-clause-is_so
 leave-requires-clause-is_so g c = λ told.
@@ -41,23 +44,29 @@ pub receipt-requires : goal.receipt-requires
 receipt-requires g c =
     let shown = lend-shown g.K.Name.memory c.shared.inside.engine c.serve-answer.new.self c.args.command.now c.serve-answer.result c.serve-answer.ensures.answered (sym c.failed.ensures.failed ∙ c.if-failed.false)
     c.memory.result.now.contents c.from-places.result c.memory.ensures (c.from-places.ensures ∙ c.room-2.ensures)
-    c.shared.inside.pane c.put_ahead.new.pane c.show_put-told.new.pane (c.shared.invariant.3 (sym c.failed.ensures.failed ∙ c.if-failed.false)) c.in-Ok.ensures.ahead
+    c.shared.inside.pane c.put_ahead.new.pane c.show_put-told.new.pane
+    (c.shared.invariant.3 (sym c.failed.ensures.failed ∙ c.if-failed.false)) c.in-Ok.ensures.ahead
     c.failed-in-Ok.result c.failed-in-Ok.ensures.failed c.show_put-told.ensures.shown c.show_put-told.ensures.hidden
-    c.shared.inside.log.trace c.leave.new.self.trace c.shared.invariant.0 c.shared.invariant.1 (ap (λ (l : LogState). l.trace) c.leave.ensures.log) in
+    c.shared.inside.log.trace c.leave.new.self.trace c.shared.invariant.0 c.shared.invariant.1
+    (ap (λ (l : LogState). l.trace) c.leave.ensures.log) in
     record {
       ends = (c.shared.inside.log.trace, ap (λ (l : LogState). l.trace) c.leave.ensures.log);
-      told = told-all g.K.Name.memory c.leave.new.self.trace c.show_put-told.result (c.show_put-told.ensures.told ∙ shown.ends);
+      told = told-all g.K.Name.memory c.leave.new.self.trace c.show_put-told.result
+          (c.show_put-told.ensures.told ∙ shown.ends);
     }
 
 pub invariant_of-shared : goal.invariant_of-shared
 invariant_of-shared g c =
-    let ends = c.leave.ensures.end ∙ ap (λ (m : Contents). memory_after m (Commands c.args.command.now) c.serve-answer.result) c.shared.invariant.0
+    let ends = c.leave.ensures.end
+    ∙ ap (λ (m : Contents). memory_after m (Commands c.args.command.now) c.serve-answer.result) c.shared.invariant.0
     ∙ sym (answered-memory c.shared.inside.engine c.serve-answer.new.self c.args.command.now c.serve-answer.result c.serve-answer.ensures.answered (sym c.failed.ensures.failed ∙ c.if-failed.false)) in
     let shown = lend-shown g.K.Name.memory c.shared.inside.engine c.serve-answer.new.self c.args.command.now c.serve-answer.result c.serve-answer.ensures.answered (sym c.failed.ensures.failed ∙ c.if-failed.false)
     c.memory.result.now.contents c.from-places.result c.memory.ensures (c.from-places.ensures ∙ c.room-2.ensures)
-    c.shared.inside.pane c.put_ahead.new.pane c.show_put-told.new.pane (c.shared.invariant.3 (sym c.failed.ensures.failed ∙ c.if-failed.false)) c.in-Ok.ensures.ahead
+    c.shared.inside.pane c.put_ahead.new.pane c.show_put-told.new.pane
+    (c.shared.invariant.3 (sym c.failed.ensures.failed ∙ c.if-failed.false)) c.in-Ok.ensures.ahead
     c.failed-in-Ok.result c.failed-in-Ok.ensures.failed c.show_put-told.ensures.shown c.show_put-told.ensures.hidden
-    c.shared.inside.log.trace c.leave.new.self.trace c.shared.invariant.0 c.shared.invariant.1 (ap (λ (l : LogState). l.trace) c.leave.ensures.log) in
+    c.shared.inside.log.trace c.leave.new.self.trace c.shared.invariant.0 c.shared.invariant.1
+    (ap (λ (l : LogState). l.trace) c.leave.ensures.log) in
     let alive = sym c.failed.ensures.failed ∙ c.if-failed.false in
     let e = c.shared.inside.engine in let m = g.K.Name.memory in let trace = c.shared.inside.log.trace in (
       ends,
@@ -67,36 +76,46 @@ invariant_of-shared g c =
       (λ honest. c.shared.invariant.4 (c.serve-answer.ensures.honest honest)),
       (λ honest began.
           kept_on g.D.Disk.now g.D.Disk.past g.D.Disk.failures g.K.Name.begun m e c.serve-answer.new.self trace c.leave.new.self.trace _ (ap (λ (l : LogState). l.trace) c.leave.ensures.log) c.shared.invariant.0
-          (kept_lent g.D.Disk.now g.D.Disk.past g.D.Disk.failures g.K.Name.begun m e c.serve-answer.new.self alive (accepted_in m trace)
-          (c.shared.invariant.5 (c.serve-answer.ensures.honest honest) began) (sym (accepted-after m trace ∙ c.shared.invariant.0))
+          (kept_lent g.D.Disk.now g.D.Disk.past g.D.Disk.failures g.K.Name.begun m e c.serve-answer.new.self alive
+          (accepted_in m trace)
+          (c.shared.invariant.5 (c.serve-answer.ensures.honest honest) began)
+          (sym (accepted-after m trace ∙ c.shared.invariant.0))
           c.args.command.now c.serve-answer.result c.serve-answer.ensures.answered c.serve-answer.ensures.faults
-          (c.serve-answer.ensures.leaves honest alive) (c.serve-answer.ensures.doubt honest alive) (c.serve-answer.ensures.means honest))),
+          (c.serve-answer.ensures.leaves honest alive) (c.serve-answer.ensures.doubt honest alive)
+          (c.serve-answer.ensures.means honest))),
       c.shared.invariant.6,
       c.shared.invariant.7,
       subst (λ (ls : List Line). KeepsTo m g.K.Name.plan ls) (sym (ap (λ (l : LogState). l.trace) c.leave.ensures.log))
           (keeps-line m trace (Commands c.args.command.now) c.serve-answer.result g.K.Name.plan c.shared.invariant.8
           (on-command m g.K.Name.plan c.args.command.now (keeps-starts m g.K.Name.plan trace c.shared.invariant.8)
-          (ap (λ (p : Option (List Request)). has_command p c.args.command.now) (sym c.shared.invariant.7) ∙ sym c.has_command.ensures ∙ c.if-not-has_command.false))),
+          (ap (λ (p : Option (List Request)). has_command p c.args.command.now) (sym c.shared.invariant.7)
+          ∙ sym c.has_command.ensures ∙ c.if-not-has_command.false))),
     )
 
 pub returns-in-Ok-clause-lends : goal.returns-in-Ok-clause-lends
 returns-in-Ok-clause-lends g c =
-    let is = c.receipt.ensures.receipt ∙ ap (λ l. receipt_for c.leave.new.self.trace l c.args.command.now c.serve-answer.result) c.show_put-told.ensures.told in
+    let is = c.receipt.ensures.receipt
+    ∙ ap (λ l. receipt_for c.leave.new.self.trace l c.args.command.now c.serve-answer.result) c.show_put-told.ensures.told in
     let room = some_room c.room.result _ _ c.if-room-eq0.false c.room.ensures.room in
     let shown = lend-shown g.K.Name.memory c.shared.inside.engine c.serve-answer.new.self c.args.command.now c.serve-answer.result c.serve-answer.ensures.answered (sym c.failed.ensures.failed ∙ c.if-failed.false)
     c.memory.result.now.contents c.from-places.result c.memory.ensures (c.from-places.ensures ∙ c.room-2.ensures)
-    c.shared.inside.pane c.put_ahead.new.pane c.show_put-told.new.pane (c.shared.invariant.3 (sym c.failed.ensures.failed ∙ c.if-failed.false)) c.in-Ok.ensures.ahead
+    c.shared.inside.pane c.put_ahead.new.pane c.show_put-told.new.pane
+    (c.shared.invariant.3 (sym c.failed.ensures.failed ∙ c.if-failed.false)) c.in-Ok.ensures.ahead
     c.failed-in-Ok.result c.failed-in-Ok.ensures.failed c.show_put-told.ensures.shown c.show_put-told.ensures.hidden
-    c.shared.inside.log.trace c.leave.new.self.trace c.shared.invariant.0 c.shared.invariant.1 (ap (λ (l : LogState). l.trace) c.leave.ensures.log) in
+    c.shared.inside.log.trace c.leave.new.self.trace c.shared.invariant.0 c.shared.invariant.1
+    (ap (λ (l : LogState). l.trace) c.leave.ensures.log) in
     let s' : SharedState g.row.D.Denot = record { engine = c.serve-answer.new.self; log = c.leave.new.self; servers = c.shared.inside.servers; shown = c.show_put-told.new.pane.shown } in
     subst (λ (s : SharedState g.row.D.Denot). Lends g.K.Name.marks g.K.Name.plan s c.args.tally.now c.args.command.now c.receipt.result s' c.leave.new.tally) c.shared.view_is
     (lends-served g.K.Name.marks g.K.Name.plan _ s' c.args.tally.now c.leave.new.tally c.args.command.now c.serve-answer.result c.receipt.result is (sym c.failed.ensures.failed ∙ c.if-failed.false) room
-    (ap (λ (p : Option (List Request)). has_command p c.args.command.now) (sym c.shared.invariant.7) ∙ sym c.has_command.ensures ∙ c.if-not-has_command.false)
+    (ap (λ (p : Option (List Request)). has_command p c.args.command.now) (sym c.shared.invariant.7)
+    ∙ sym c.has_command.ensures ∙ c.if-not-has_command.false)
     c.serve-answer.ensures.answered c.leave.ensures.log refl c.leave.ensures.tally shown.pane.is)
 
 pub returns-in-Ok-clause-doubt : goal.returns-in-Ok-clause-doubt
 returns-in-Ok-clause-doubt g c =
-    subst (λ (s : SharedState g.row.D.Denot). g.D.Disk.honest c.serve-answer.new.self.disk → s.engine.failed ≡ false → LeavesNow (g.D.Disk.now c.serve-answer.new.self.disk) (MeansEither s.engine c.args.command.now)) c.shared.view_is c.serve-answer.ensures.doubt
+    subst (λ (s : SharedState g.row.D.Denot). g.D.Disk.honest c.serve-answer.new.self.disk → s.engine.failed ≡ false
+    → LeavesNow (g.D.Disk.now c.serve-answer.new.self.disk)
+    (MeansEither s.engine c.args.command.now)) c.shared.view_is c.serve-answer.ensures.doubt
 
 pub returns-in-Err-clause-doubt : goal.returns-in-Err-clause-doubt
 returns-in-Err-clause-doubt g c = λ honest alive file left.
@@ -110,13 +129,17 @@ returns-in-Ok-clause-planned g c =
     (subst (λ (ls : List Line). KeepsTo m g.K.Name.plan ls) (sym (ap (λ (l : LogState). l.trace) c.leave.ensures.log))
     (keeps-line m trace (Commands c.args.command.now) c.serve-answer.result g.K.Name.plan c.shared.invariant.8
     (on-command m g.K.Name.plan c.args.command.now (keeps-starts m g.K.Name.plan trace c.shared.invariant.8)
-    (ap (λ (p : Option (List Request)). has_command p c.args.command.now) (sym c.shared.invariant.7) ∙ sym c.has_command.ensures ∙ c.if-not-has_command.false))))
+    (ap (λ (p : Option (List Request)). has_command p c.args.command.now) (sym c.shared.invariant.7)
+    ∙ sym c.has_command.ensures ∙ c.if-not-has_command.false))))
     c.receipt.ensures.proof
 
 pub returns-then-not-has_command-clause-doubt : goal.returns-then-not-has_command-clause-doubt
 returns-then-not-has_command-clause-doubt g c = λ honest alive file left. inl (
-    subst (λ (s : SharedState g.row.D.Denot). g.D.Disk.honest s.engine.disk → s.engine.failed ≡ false → LeavesNow (g.D.Disk.now s.engine.disk) (MeansState s.engine)) c.shared.view_is c.failed.ensures.means honest alive file left)
+    subst (λ (s : SharedState g.row.D.Denot). g.D.Disk.honest s.engine.disk → s.engine.failed ≡ false
+    → LeavesNow (g.D.Disk.now s.engine.disk)
+    (MeansState s.engine)) c.shared.view_is c.failed.ensures.means honest alive file left)
 
 pub returns-then-not-has_command-clause-means : goal.returns-then-not-has_command-clause-means
 returns-then-not-has_command-clause-means g c =
-    subst (λ (s : SharedState g.row.D.Denot). g.D.Disk.honest s.engine.disk → s.engine.failed ≡ false → LeavesNow (g.D.Disk.now s.engine.disk) (MeansState s.engine)) c.shared.view_is c.failed.ensures.means
+    subst (λ (s : SharedState g.row.D.Denot). g.D.Disk.honest s.engine.disk → s.engine.failed ≡ false
+    → LeavesNow (g.D.Disk.now s.engine.disk) (MeansState s.engine)) c.shared.view_is c.failed.ensures.means

@@ -13,7 +13,8 @@ invariant_of-shared g c =
       (λ living. c.shared.invariant.3 (quiet_alive g.D.Disk.failures e f quiet living)),
       (λ honest. c.shared.invariant.4 (c.sweep.ensures.honest honest)),
       (λ honest began.
-          kept_quiet g.D.Disk.now g.D.Disk.past g.D.Disk.failures g.K.Name.begun m e f (accepted_in m trace) (c.shared.invariant.5 (c.sweep.ensures.honest honest) began)
+          kept_quiet g.D.Disk.now g.D.Disk.past g.D.Disk.failures g.K.Name.begun m e f (accepted_in m trace)
+          (c.shared.invariant.5 (c.sweep.ensures.honest honest) began)
           (sym (accepted-after m trace ∙ c.shared.invariant.0)) quiet
           (c.sweep.ensures.leaves honest) (c.sweep.ensures.now honest) (c.sweep.ensures.means honest)),
       c.shared.invariant.6,

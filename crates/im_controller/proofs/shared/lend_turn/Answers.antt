@@ -13,7 +13,9 @@ use Rattle.im_controller.proofs.shared.lend_turn.Goals as goal
 
 pub returns-clause-now : goal.returns-clause-now
 returns-clause-now g c =
-    subst (λ (s : SharedState g.row.D.Denot). g.D.Disk.honest c.turn-done.new.self.disk → s.engine.failed ≡ false → LeavesNow (g.D.Disk.now c.turn-done.new.self.disk) (MeansState s.engine)) c.shared.view_is c.turn-done.ensures.now
+    subst (λ (s : SharedState g.row.D.Denot). g.D.Disk.honest c.turn-done.new.self.disk → s.engine.failed ≡ false
+    → LeavesNow (g.D.Disk.now c.turn-done.new.self.disk)
+    (MeansState s.engine)) c.shared.view_is c.turn-done.ensures.now
 
 pub invariant_of-shared : goal.invariant_of-shared
 invariant_of-shared g c =
@@ -25,7 +27,8 @@ invariant_of-shared g c =
       (λ living. c.shared.invariant.3 (quiet_alive g.D.Disk.failures e f quiet living)),
       (λ honest. c.shared.invariant.4 (c.turn-done.ensures.honest honest)),
       (λ honest began.
-          kept_quiet g.D.Disk.now g.D.Disk.past g.D.Disk.failures g.K.Name.begun m e f (accepted_in m trace) (c.shared.invariant.5 (c.turn-done.ensures.honest honest) began)
+          kept_quiet g.D.Disk.now g.D.Disk.past g.D.Disk.failures g.K.Name.begun m e f (accepted_in m trace)
+          (c.shared.invariant.5 (c.turn-done.ensures.honest honest) began)
           (sym (accepted-after m trace ∙ c.shared.invariant.0)) quiet
           (c.turn-done.ensures.leaves honest) (c.turn-done.ensures.now honest) (c.turn-done.ensures.means honest)),
       c.shared.invariant.6,
@@ -42,4 +45,5 @@ returns-clause-only g c =
 pub returns-clause-full : goal.returns-clause-full
 returns-clause-full g c = λ full.
     let is = c.told_turn.ensures ∙ ap (λ n. told_turn n c.turn-done.result) c.room.ensures in
-    turn-full c.shared.inside.engine c.turn-done.new.self c.turn-done.result c.turn-done.ensures.answered (sym is ∙ full)
+    turn-full c.shared.inside.engine c.turn-done.new.self c.turn-done.result c.turn-done.ensures.answered
+    (sym is ∙ full)

@@ -16,15 +16,20 @@ pub returns-clause-last : goal.returns-clause-last
 returns-clause-last g c =
     let call = Collect c.args.element c.args.number in
     last-told c.shared.inside.log c.leave.new.self.trace call c.collect-answer.result
-    (ap (λ (l : LogState). l.trace) c.leave.ensures.log ∙ ap (λ a. c.shared.inside.log.trace ++ lines_of call a) c.as_outcome.ensures)
+    (ap (λ (l : LogState). l.trace) c.leave.ensures.log
+    ∙ ap (λ a. c.shared.inside.log.trace ++ lines_of call a) c.as_outcome.ensures)
 
 pub invariant_of-shared : goal.invariant_of-shared
 invariant_of-shared g c =
     let call = Collect c.args.element c.args.number in
     let is : c.leave.new.self.trace ≡ c.shared.inside.log.trace ++ lines_of call (told c.collect-answer.result) =
-    ap (λ (l : LogState). l.trace) c.leave.ensures.log ∙ ap (λ a. c.shared.inside.log.trace ++ lines_of call a) c.as_outcome.ensures in
-    let shown = c.shared.invariant.1 ∙ looked-shown g.K.Name.memory c.shared.inside.log.trace c.args.element c.args.number (told c.collect-answer.result) ∙ ap (shown_by g.K.Name.memory) (sym is) in (
-      c.leave.ensures.end ∙ memory-same (end_of g.K.Name.memory c.shared.inside.log.trace) c.args.element c.args.number c.as_outcome.result ∙ c.shared.invariant.0,
+    ap (λ (l : LogState). l.trace) c.leave.ensures.log
+    ∙ ap (λ a. c.shared.inside.log.trace ++ lines_of call a) c.as_outcome.ensures in
+    let shown = c.shared.invariant.1
+    ∙ looked-shown g.K.Name.memory c.shared.inside.log.trace c.args.element c.args.number
+    (told c.collect-answer.result) ∙ ap (shown_by g.K.Name.memory) (sym is) in (
+      c.leave.ensures.end
+          ∙ memory-same (end_of g.K.Name.memory c.shared.inside.log.trace) c.args.element c.args.number c.as_outcome.result ∙ c.shared.invariant.0,
       shown,
       c.shared.invariant.2,
       c.shared.invariant.3,
@@ -35,5 +40,7 @@ invariant_of-shared g c =
       c.shared.invariant.6,
       c.shared.invariant.7,
       subst (λ (ls : List Line). KeepsTo g.K.Name.memory g.K.Name.plan ls) (sym is)
-          (keeps-line g.K.Name.memory c.shared.inside.log.trace call (told c.collect-answer.result) g.K.Name.plan c.shared.invariant.8 (question-on g.K.Name.plan c.args.element c.args.number)),
+          (keeps-line g.K.Name.memory c.shared.inside.log.trace call
+          (told c.collect-answer.result) g.K.Name.plan c.shared.invariant.8
+          (question-on g.K.Name.plan c.args.element c.args.number)),
     )

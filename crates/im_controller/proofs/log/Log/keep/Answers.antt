@@ -10,7 +10,8 @@ use Rattle.im_controller.proofs.log.Log.keep.Goals as goal
 pub invariant_of-self : goal.invariant_of-self
 invariant_of-self g c =
     let m = g.K.Name.memory in let r = c.args.request.now in let answer = c.args.answer in let v = sym c.self.view_is in
-    let so = subst (λ (l : LogState). leaves_line answer ≡ true → answer ≡ answer_to (end_of m l.trace) (Commands (Asks r))) v c.requires.is_so in
+    let so = subst (λ (l : LogState). leaves_line answer ≡ true → answer
+    ≡ answer_to (end_of m l.trace) (Commands (Asks r))) v c.requires.is_so in
     let room = subst (λ (l : LogState). leaves_line answer ≡ true → length l.trace < l.limit) v c.requires.room in
     let free = subst (λ (l : LogState). slice_get l.places r.element ≡ Some None) v c.requires.free in
     rw (c.put_in.ensures, c.of.ensures, c.push_line.ensures.items) (
@@ -22,4 +23,5 @@ pub returns-clause-end : goal.returns-clause-end
 returns-clause-end g c =
     let m = g.K.Name.memory in let call = Commands (Asks c.args.request.now) in
     rw c.push_line.ensures.items (
-    end-lines m c.self.inside.trace.items call c.args.answer ∙ ap (λ (l : LogState). memory_after (end_of m l.trace) call c.args.answer) c.self.view_is)
+    end-lines m c.self.inside.trace.items call c.args.answer
+    ∙ ap (λ (l : LogState). memory_after (end_of m l.trace) call c.args.answer) c.self.view_is)

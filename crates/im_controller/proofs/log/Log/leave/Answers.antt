@@ -8,7 +8,8 @@ use Rattle.im_controller.proofs.log.Log.leave.Goals as goal
 pub invariant_of-self : goal.invariant_of-self
 invariant_of-self g c =
     let m = g.K.Name.memory in let call = c.args.call in let answer = c.args.answer in
-    let so = subst (λ (l : LogState). leaves_line answer ≡ true → answer ≡ answer_to (end_of m l.trace) call) (sym c.self.view_is) c.requires.is_so in
+    let so = subst (λ (l : LogState). leaves_line answer ≡ true → answer ≡ answer_to (end_of m l.trace) call)
+    (sym c.self.view_is) c.requires.is_so in
     let room = subst (λ (l : LogState). length l.trace < l.limit) (sym c.self.view_is) c.requires.room in
     rw (c.push_line.ensures.items, c.count_line.ensures.books) (
       log-leaves m g.K.Name.marks _ c.self.inside.books c.self.invariant.0 call answer (λ _. room) so,
@@ -19,4 +20,5 @@ pub returns-clause-end : goal.returns-clause-end
 returns-clause-end g c =
     let m = g.K.Name.memory in
     rw c.push_line.ensures.items (
-    end-lines m c.self.inside.trace.items c.args.call c.args.answer ∙ ap (λ (l : LogState). memory_after (end_of m l.trace) c.args.call c.args.answer) c.self.view_is)
+    end-lines m c.self.inside.trace.items c.args.call c.args.answer
+    ∙ ap (λ (l : LogState). memory_after (end_of m l.trace) c.args.call c.args.answer) c.self.view_is)

@@ -8,6 +8,8 @@ use Rattle.im_controller.proofs.log.Log.receipt.Goals as goal
 pub receipt_of-requires : goal.receipt_of-requires
 receipt_of-requires g c =
     let call = Commands c.args.command.now in
-    let ends = subst (λ (l : LogState). EndsInAll l.trace (lines_of call c.args.answer)) (sym c.self.view_is) c.requires.ends in
-    let all = subst (λ (l : LogState). IsToldOf g.K.Name.memory l.trace c.args.told) (sym c.self.view_is) c.requires.told in
+    let ends = subst (λ (l : LogState). EndsInAll l.trace (lines_of call c.args.answer))
+    (sym c.self.view_is) c.requires.ends in
+    let all = subst (λ (l : LogState). IsToldOf g.K.Name.memory l.trace c.args.told)
+    (sym c.self.view_is) c.requires.told in
     rw c.of.ensures (record { proof = proof-at_end g.K.Name.memory _ call c.args.answer c.self.invariant.0.legal ends; told = all })

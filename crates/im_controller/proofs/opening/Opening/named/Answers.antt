@@ -28,10 +28,14 @@ invariant_of-shared g c =
       search rules,
       (λ honest began.
           let alive = ap (λ (b : Begun). b.failed) begun ∙ began in
-          subst (λ (ls : List Line). HasKept g.D.Disk.now g.D.Disk.past g.D.Disk.failures g.K.Name.begun m (accepted_in m ls) e) (sym i.2)
-          (kept_start g.D.Disk.now g.D.Disk.past g.D.Disk.failures g.K.Name.begun m e begun memory alive (c.failed-failed.ensures.means honest alive))),
+          subst (λ (ls : List Line). HasKept g.D.Disk.now g.D.Disk.past g.D.Disk.failures g.K.Name.begun m
+          (accepted_in m ls) e) (sym i.2)
+          (kept_start g.D.Disk.now g.D.Disk.past g.D.Disk.failures g.K.Name.begun m e begun memory alive
+          (c.failed-failed.ensures.means honest alive))),
       i.7,
       plan,
       subst (λ (ls : List Line). KeepsTo m g.K.Name.plan ls) (sym i.2)
-          (keeps-start m g.K.Name.plan (subst (λ (p : Option (List Request)). StartsBy m p) plan (subst (λ (n : Contents). StartsBy n c.self.inside.plan) memory i.8))),
+          (keeps-start m g.K.Name.plan
+          (subst (λ (p : Option (List Request)). StartsBy m p) plan
+          (subst (λ (n : Contents). StartsBy n c.self.inside.plan) memory i.8))),
     )
