@@ -9,7 +9,7 @@ use crate::orders::{Order, read_orders};
 use crate::planned::begin;
 use crate::served::{Did, Outcome, serve_orders};
 use crate::telling::print_finals;
-use im_disk::{Disk, OpenFault};
+use im_disk::Disk;
 use im_engine::Engine;
 use im_script::Script;
 use im_serial::{Desk, Paper, Server};
@@ -55,7 +55,7 @@ fn with_disk(done: Result<(), Reason>, failed: bool) -> Result<(), Reason>
     ensures done { IsOk result → IsOk done }
 {
     if failed && (done.is_ok() || is_stalled(&done)) {
-        return Err(Reason::File(OpenFault::Device, None));
+        return Err(Reason::of_disk());
     }
     done
 }
