@@ -1,11 +1,14 @@
 //! What a person is told on standard error.
 
 use crate::descriptors::Descriptors;
+use crate::opening::call_of;
 use crate::words::{Job, Work};
+use im_disk::Failure;
+use im_files::Noting;
 use im_migration::Follower;
 use im_serving::{Standing, Watcher};
 use im_text::{Observer, PathFault, Progress, Reason, Waited, Warning, make_now};
-use im_types::Entry;
+use im_types::{Entry, Refusal};
 use std::alloc::Global;
 use std::fmt;
 use std::fmt::{Display, Formatter};
@@ -58,8 +61,9 @@ pub struct Console<'a, R> {
     // The second file: a script, or the new file of a migration.
     script: &'a str,
     terminals: Terminals,
-    // Why the work was refused last.
+    // What was refused last, and whether it waits to be told until the disk says what failed.
     refused: Option<Reason>,
+    waits: bool,
 }
 
 impl<'a, R: Eprint + AllocGlobal> Console<'a, R> {
@@ -89,6 +93,7 @@ impl<'a, R: Eprint + AllocGlobal> Console<'a, R> {
             script,
             terminals,
             refused: None,
+            waits: false,
         }
     }
 
@@ -154,6 +159,56 @@ impl<'a, R: Eprint + AllocGlobal> Console<'a, R> {
             _ => eprintln!(self.rt; "imem: {path}: {reason}"),
         };
     }
+
+    // What was refused is told with what the disk says of it.
+    fn tell_call(&mut self, reason: Reason) {
+        self.refused = Some(reason);
+        self.waits = false;
+        self.tell(reason);
+    }
+
+    /// Tells what was refused, if it isn't told yet: with what failed of the image's file, and whether a note is left.
+    pub(crate) fn settle(&mut self, failure: Option<Failure>, noting: Noting) {
+        if let Some(failure) = failure {
+            if self.waits || noting != Noting::Unneeded {
+                self.tell_call(Reason::Call(call_of(failure)));
+            }
+        }
+        self.tell_waiting();
+        self.tell_note(self.image, noting);
+    }
+
+    /// The same of the new file of a migration.
+    pub(crate) fn settle_new(&mut self, failure: Option<Failure>, noting: Noting) {
+        if let Some(failure) = failure {
+            if self.waits || noting != Noting::Unneeded {
+                self.tell_call(Reason::NewCall(call_of(failure)));
+            }
+        }
+        self.tell_note(self.script, noting);
+    }
+
+    // Tells what waits to be told.
+    fn tell_waiting(&mut self) {
+        if self.waits {
+            self.waits = false;
+            if let Some(reason) = self.refused {
+                self.tell(reason);
+            }
+        }
+    }
+
+    // Tells of a note that was left, or that wasn't to be left.
+    fn tell_note(&self, path: &str, noting: Noting) {
+        let path = Shown(path);
+        let _printed = match noting {
+            Noting::Unneeded => Ok(()),
+            Noting::Left => eprintln!(self.rt; "imem: the note {path}.unsynced says so"),
+            Noting::Failed(_) => {
+                eprintln!(self.rt; "imem: no note can be left beside {path}: keep it in mind")
+            }
+        };
+    }
 }
 
 // The folder in which a path is looked for.
@@ -162,6 +217,17 @@ fn folder_of(path: &str) -> &str {
         Some(folder) => folder.as_str(),
         None => path,
     }
+}
+
+// Whether a reason waits for what the disk says: a call on it failed.
+fn is_of_call(reason: Reason) -> bool {
+    matches!(
+        reason,
+        Reason::Image(Refusal::Device, _)
+            | Reason::New(Refusal::Device)
+            | Reason::Request(_, Refusal::Device)
+            | Reason::Request(_, Refusal::Failed)
+    )
 }
 
 impl<R: Eprint + AllocGlobal> Observer for Console<'_, R> {
@@ -192,7 +258,10 @@ impl<R: Eprint + AllocGlobal> Observer for Console<'_, R> {
 
     fn refused(&mut self, reason: Reason) {
         self.refused = Some(reason);
-        self.tell(reason);
+        self.waits = is_of_call(reason);
+        if !self.waits {
+            self.tell(reason);
+        }
     }
 
     fn warned(&mut self, warning: Warning) {

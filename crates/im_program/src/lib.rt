@@ -4,8 +4,8 @@
 
 mod console;
 mod descriptors;
-mod files;
 mod moving;
+mod opening;
 mod overwriting;
 mod statuses;
 mod words;

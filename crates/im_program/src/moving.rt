@@ -10,9 +10,10 @@ ghost use Rattle.im_text.specs.Printing.{Begins, IsLast};
 ghost use Rattle.im_program.specs.Moving.{MigratedFrom, TellsCount, migrated_line};
 
 use crate::descriptors::Descriptors;
-use crate::files::{is_one_file, make_image, open_image, open_image_to_read};
-use crate::work::refusal_of;
+use crate::opening::{is_one_file, reason_of};
+use crate::work::{refusal_of, warn};
 use im_disk::{Disk, FileDisk, Start};
+use im_files::{FileFault, make_image, open_image, open_image_to_read};
 use im_image::read_header;
 use im_migration::{Follower, length_for, migrate};
 use im_text::{Observer, PathFault, Reason, diagnose, end, put_through};
@@ -116,12 +117,12 @@ fn length_of<O: Disk, V: Observer>(
 
 // The new file: as it is, or where there is none at the path, made of so many zero bytes. One that is there and can't be
 // opened is never made anew: its bytes would be lost.
-fn new_file<R: Files<File = File>, S: Start>(
+fn new_file<R: Files<File = File> + AllocGlobal, S: Start>(
     rt: &R,
     path: &str,
     len: usize,
     start: S,
-) -> Result<FileDisk<S>, PathFault>
+) -> Result<FileDisk<S>, FileFault>
     ensures now { IfOk result (λ disk. (⟦<FileDisk<S> as Disk>⟧.now disk ≡ S.first)
         ⊎ (⟦<FileDisk<S> as Disk>⟧.now disk ≡ record { bytes = replicate len 0; ranges = [] })) }
     ensures past { IfOk result (λ disk. ⟦<FileDisk<S> as Disk>⟧.past disk ≡ []) }
@@ -181,8 +182,11 @@ pub fn migrate_file<
         return Err(Refusal::Device);
     }
     let mut from = match open_image_to_read(rt, old, other) {
-        Ok(disk) => disk,
-        Err(fault) => return Err(refusal_of(fault, observer)),
+        Ok((disk, is_unsynced)) => {
+            warn(is_unsynced, observer);
+            disk
+        }
+        Err(fault) => return Err(refusal_of(rt, old, fault, observer)),
     };
     let length = match length_of(rt.alloc(), &mut from, observer) {
         Ok(length) => length,
@@ -191,8 +195,8 @@ pub fn migrate_file<
     let to = match new_file(rt, new, length, start) {
         Ok(disk) => disk,
         Err(fault) => {
-            observer.refused(Reason::NewFile(fault));
-            return Err(Refusal::Device);
+            observer.refused(Reason::NewFile(reason_of(rt, new, fault)));
+            return Err(Refusal::from(fault));
         }
     };
     let (status, to) = migrate_on(rt.alloc(), &mut from, to, out, observer);

@@ -1,8 +1,8 @@
 //! Whether a file that is there may be made anew, where somebody can be asked.
 
 use crate::console::Console;
-use crate::files::open_image_to_read;
 use im_disk::Unknown;
+use im_files::open_image_to_read;
 use im_image::inspect;
 use std::fmt;
 use std::fmt::{Display, Formatter};
@@ -35,7 +35,7 @@ fn found_at<R: Files<File = File> + AllocGlobal>(rt: &R, path: &str) -> Option<F
         Ok(data) if data.is_file() && data.len() > 0 => {}
         _ => return None,
     }
-    let Ok(mut disk) = open_image_to_read(rt, path, Unknown) else {
+    let Ok((mut disk, _)) = open_image_to_read(rt, path, Unknown) else {
         return Some(Found::Other);
     };
     match inspect(rt.alloc(), &mut disk) {

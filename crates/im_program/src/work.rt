@@ -17,14 +17,17 @@ ghost use Rattle.im_program.specs.Working.{DoneOn, IsMigration};
 
 use crate::console::{Console, Watch};
 use crate::descriptors::Descriptors;
-use crate::files::{make_image, open_image, open_image_to_read, remove_made};
 use crate::moving::migrate_file;
+use crate::opening::{format_reason, reason_of};
 use crate::overwriting::may_be_made;
 use crate::words::{DEFAULT_CELLS, DEFAULT_ELEMENTS, DEFAULT_SLOTS, Job, Work};
 use im_damage::Damage;
 use im_dialogue::dialogue_on;
 use im_disk::{Disk, FileDisk, MemDisk, Start};
 use im_engine::Engine;
+use im_files::{
+    FileFault, Noting, make_image, note_failed_sync, open_image, open_image_to_read, remove_image,
+};
 use im_image::image_length;
 use im_listening::Ear;
 use im_report::inspect_on;
@@ -32,7 +35,7 @@ use im_run::{STALLED, run_on};
 use im_script::{Script, ScriptFault, read_script, read_script_with_glances};
 use im_serial::serial_on;
 use im_serving::{Open, Watcher};
-use im_text::{Observer, PathFault, Reason, put_refusal};
+use im_text::{Observer, PathFault, Reason, Warning, put_refusal};
 use im_types::{Limits, MAX_CELLS, MAX_ELEMENTS, Refusal};
 use std::alloc::Global;
 use std::fs::{self, File};
@@ -74,11 +77,16 @@ fn limits_reason(cells: u32, elements: u32, slots: u32) -> Reason {
 }
 
 /// The refusal of an image that isn't made or opened. The observer is told why.
-pub(crate) fn refusal_of<N: Observer>(fault: PathFault, observer: &mut N) -> Refusal
+pub(crate) fn refusal_of<R: Files<File = File>, N: Observer>(
+    rt: &R,
+    image: &str,
+    fault: FileFault,
+    observer: &mut N,
+) -> Refusal
     ensures { result ≡ Refusal.Device }
 {
-    observer.refused(Reason::File(fault));
-    Refusal::Device
+    observer.refused(Reason::File(reason_of(rt, image, fault)));
+    Refusal::from(fault)
 }
 
 /// Makes an image of a file, and gives its disk back: the file is made, or an older one's bytes are lost; where a new one
@@ -106,24 +114,33 @@ pub fn format_file<R: Files<File = File> + AllocGlobal, S: Start, N: Observer>(
 {
     let (disk, is_made) = match make_image(rt, image, image_length(limits), is_new, start) {
         Ok(made) => made,
-        Err(fault) => return Err(refusal_of(fault, observer)),
+        Err(fault) => return Err(refusal_of(rt, image, fault, observer)),
     };
     match Engine::format(rt.alloc(), disk, limits) {
         Ok(engine) => Ok(engine.close()),
-        Err((refusal, _)) => {
-            remove_made(rt, image, is_made);
-            observer.refused(unmade(refusal, is_made));
-            Err(refusal) // The file holds no image or a torn one, or is gone.
+        Err((refusal, disk)) => {
+            let reason = format_reason(refusal, disk.failure(), is_made);
+            give_up(rt, image, disk, is_made);
+            observer.refused(reason);
+            Err(refusal)
         }
     }
 }
 
-// Why no image was made of a file, and whether nothing was there before.
-fn unmade(refusal: Refusal, is_made: bool) -> Reason {
-    match refusal {
-        Refusal::Device => Reason::Unmade(None, !is_made),
-        _ => Reason::Image(refusal, Damage::Unknown),
-    }
+// Removes a file that was made and holds no image or a torn one. Where it was there before it stays, with a note where a
+// sync of it failed.
+fn give_up<R: Files<File = File> + AllocGlobal, S: Start>(
+    rt: &R,
+    image: &str,
+    disk: FileDisk<S>,
+    is_made: bool,
+) {
+    let _noted = if is_made {
+        Noting::Unneeded
+    } else {
+        note_failed_sync(rt, image, &disk)
+    };
+    let _removed = remove_image(rt, image, disk, is_made);
 }
 
 // The refusal of an image that was made or opened. The observer is told why.
@@ -236,7 +253,7 @@ pub fn serve_file<R: Files<File = File> + AllocGlobal + Input, S: Start, W: Writ
     };
     match open_image(rt, image, start) {
         Ok(disk) => Ok(serial_on(rt.alloc(), disk, &script, out, observer)),
-        Err(fault) => Err(refusal_of(fault, observer)),
+        Err(fault) => Err(refusal_of(rt, image, fault, observer)),
     }
 }
 
@@ -300,7 +317,7 @@ pub fn run_file<
             );
             Ok((ended, disk))
         }
-        Err(fault) => Err(refusal_of(fault, observer)),
+        Err(fault) => Err(refusal_of(rt, image, fault, observer)),
     }
 }
 
@@ -339,7 +356,14 @@ pub fn talk_file<
 {
     match open_image(rt, image, start) {
         Ok(disk) => Ok(dialogue_on(rt.alloc(), disk, input, watch, out, observer)),
-        Err(fault) => Err(refusal_of(fault, observer)),
+        Err(fault) => Err(refusal_of(rt, image, fault, observer)),
+    }
+}
+
+/// What is told of a file that is read although a note of this boot stands beside it.
+pub(crate) fn warn<N: Observer>(is_unsynced: bool, observer: &mut N) {
+    if is_unsynced {
+        observer.warned(Warning::Unsynced);
     }
 }
 
@@ -370,8 +394,11 @@ pub fn inspect_file<R: Files<File = File> + AllocGlobal, S: Start, W: Write, N: 
     ensures same { OnErr result (Keeps (W.contents out.old) (W.contents out.new)) }
 {
     match open_image_to_read(rt, image, start) {
-        Ok(disk) => Ok(inspect_on(rt.alloc(), disk, out, observer)),
-        Err(fault) => Err(refusal_of(fault, observer)),
+        Ok((disk, is_unsynced)) => {
+            warn(is_unsynced, observer);
+            Ok(inspect_on(rt.alloc(), disk, out, observer))
+        }
+        Err(fault) => Err(refusal_of(rt, image, fault, observer)),
     }
 }
 
@@ -492,6 +519,15 @@ fn do_job<
     }
 }
 
+// The path of the image that a job is of.
+fn image_of<'a>(job: &Job<'a>) -> &'a str {
+    match *job {
+        Job::Demonstration => "",
+        Job::Format { image, .. } | Job::Inspect { image } => image,
+        Job::Serial { image, .. } | Job::Serve { image, .. } => image,
+    }
+}
+
 // Whether the job may be done: nobody is asked, or it is answered so.
 fn may_do<R: Files<File = File> + AllocGlobal + Eprint, I: BufRead>(
     rt: &R,
@@ -509,12 +545,26 @@ fn may_do<R: Files<File = File> + AllocGlobal + Eprint, I: BufRead>(
     }
 }
 
+// Tells what failed of the image's disk, if it was opened, and leaves a note where a sync of it did.
+fn settle<R: Files<File = File> + AllocGlobal + Eprint, S: Start>(
+    rt: &R,
+    image: &str,
+    disk: &Option<FileDisk<S>>,
+    console: &mut Console<'_, R>,
+) {
+    match disk {
+        Some(disk) => console.settle(disk.failure(), note_failed_sync(rt, image, disk)),
+        None => console.settle(None, Noting::Unneeded),
+    }
+}
+
 /// Does the job of one thread, and answers the status that the program ends with: 0, or 1 where something was refused
 /// or a write of the output failed; and the disk of the image, where its file was made or opened. A dialogue reads
 /// `input`. What it prints goes to `out`, a refusal as its last line `refused N NAME`. Standard error has one line of
 /// reason for a refusal, and a line `K.N now REPLY` for a request that waited when the image was opened and whose entry
-/// is confirmed; and, where somebody watches, how far a long script has come. Where
-/// standard input is a terminal, a file that isn't empty is asked for before an image is made of it.
+/// is confirmed; and, where somebody watches, how far a long script has come. Where a call of the disk failed the reason
+/// says which, and where it was a sync, that the file system is to be mounted anew: a note is left beside the image then.
+/// Where standard input is a terminal, a file that isn't empty is asked for before an image is made of it.
 ///
 /// Refused are: `Device` for a file that isn't to be made anew; `BadLimits` for an image with a number out of its range, and then no file is made; and what
 /// [`format_file`], [`serve_file`], [`talk_file`] and [`inspect_file`] refuse. Where there is a disk, its status and
@@ -546,10 +596,12 @@ pub fn act_alone<
         console.refused(Reason::File(PathFault::Exists));
         return (refuse(rt.alloc(), Refusal::Device, out), None);
     }
-    match do_job(rt, held, job, input, out, console, start) {
+    let (status, disk) = match do_job(rt, held, job, input, out, console, start) {
         Ok(done) => done,
         Err(refusal) => (refuse(rt.alloc(), refusal, out), None),
-    }
+    };
+    settle(rt, image_of(job), &disk, console);
+    (status, disk)
 }
 
 /// Runs a script by the threads of its elements. The status, and the disk of the image, where it was opened.
@@ -610,8 +662,15 @@ fn act_on_two<R: Files<File = File> + AllocGlobal + Eprint, S: Start, T: Start, 
     ensures none { IfNone result.1 (result.0 ≡ 1) }
 {
     match migrate_file(rt, held, old, new, out, console, start, other) {
-        Ok((status, to, from)) => (status, Some(to), Some(from)),
-        Err(refusal) => (refuse(rt.alloc(), refusal, out), None, None),
+        Ok((status, to, from)) => {
+            console.settle_new(to.failure(), note_failed_sync(rt, new, &to));
+            console.settle(from.failure(), Noting::Unneeded);
+            (status, Some(to), Some(from))
+        }
+        Err(refusal) => {
+            console.settle(None, Noting::Unneeded);
+            (refuse(rt.alloc(), refusal, out), None, None)
+        }
     }
 }
 
