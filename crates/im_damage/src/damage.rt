@@ -74,6 +74,11 @@ pub enum Damage {
     Short(usize),
     /// Both headers are open under one generation.
     Twice(u64),
+    /// Neither header is open, and nothing else is there that an image has once it was made: it is no image, or its
+    /// making was never ended.
+    Unmade,
+    /// Neither header is open, and more is there than a making that was never ended leaves.
+    Closed,
     /// A field of the header in force, which is this one.
     Header(u8, HeaderField),
     /// A record on a page of the area in force isn't spelled as it should be, or leads past the last one: the page,
@@ -188,6 +193,14 @@ impl Display for Damage {
                     "headers 0 and 1 are both open with generation {generation}"
                 )
             }
+            Damage::Unmade => write!(
+                f,
+                "neither header is open: it is no image, or one whose making was never finished"
+            ),
+            Damage::Closed => write!(
+                f,
+                "neither header is open: it is no image, or one that is damaged or was never finished"
+            ),
             Damage::Header(number, field) => write!(f, "header {number}: {field}"),
             Damage::Record(page, of) => write!(
                 f,
@@ -276,6 +289,27 @@ pub fn of_headers(zero: &[u8; 64], one: &[u8; 64]) -> Damage {
         number,
         field_in(if number == 1 { one } else { zero }, number),
     )
+}
+
+fn is_blank(header: &[u8; 64]) -> bool {
+    header.iter().all(|byte| *byte == 0)
+}
+
+// Whether a closed header 0 is one that a making leaves: blank, or of the first generation and no command.
+fn is_first(header: &[u8; 64]) -> bool {
+    is_blank(header)
+        || LittleEndian::read_u64(&header[8..16]) == 1
+            && LittleEndian::read_u64(&header[16..24]) == 0
+}
+
+/// Whether two closed headers are as a making leaves them that was never ended.
+pub fn are_unmade(zero: &[u8; 64], one: &[u8; 64]) -> bool {
+    is_first(zero) && is_blank(one)
+}
+
+/// Whether a gate is open in the last slots of a file, by these bytes of it.
+pub fn has_open_gate(ring: &[u8]) -> bool {
+    ring.chunks(SLOT).any(is_open)
 }
 
 fn is_link(count: usize, link: u32) -> bool {
@@ -448,6 +482,21 @@ fn command_in(slot: &[u8]) -> Option<Command> {
     im_journal::read(&bytes)
 }
 
+// The slot in which a sequence number stands.
+fn place_in(slots: usize, sequence: u64) -> usize {
+    if slots == 0 {
+        0
+    } else {
+        (sequence % slots as u64) as usize
+    }
+}
+
+// The bytes of that slot, if the ring has it.
+fn slot_in(ring: &[u8], slots: usize, sequence: u64) -> &[u8] {
+    let at = place_in(slots, sequence).saturating_mul(SLOT);
+    ring.get(at..at.saturating_add(SLOT)).unwrap_or(&[])
+}
+
 // Where a slot of a journal stands.
 #[derive(Clone, Copy, Debug, PartialEq, Eq)]
 enum Part {
@@ -555,6 +604,69 @@ fn of_slot(
     }
 }
 
+/// A slot of the journal that stands open outside the run, with a command that so many slots can't hold any more: a count
+/// that was lost or changed explains it, and nothing else does.
+#[derive(Clone, Copy, Debug, PartialEq, Eq)]
+pub struct Older {
+    /// The slot.
+    pub slot: usize,
+    /// The sequence number of its command.
+    pub sequence: u64,
+    /// The least one that may stand open there.
+    pub least: u64,
+}
+
+impl Display for Older {
+    fn fmt<W: fmt::Write>(&self, f: &mut Formatter<W>) -> fmt::Result {
+        let Older {
+            slot,
+            sequence,
+            least,
+        } = *self;
+        write!(
+            f,
+            "slot {slot} of the journal has command {sequence}, where none below {least} is left: the header in force was changed, or a later one was lost"
+        )
+    }
+}
+
+// How many commands the run has, by its slots, from the sequence number of its first one on.
+fn run_in(ring: &[u8], slots: usize, first: u64) -> usize {
+    let mut part = Part::Leads;
+    let mut due = 0;
+    for past in 0..slots {
+        let sequence = first.saturating_add(past as u64);
+        part = part_of(part, due, slot_in(ring, slots, sequence), sequence);
+        if matches!(part, Part::Room | Part::Rest) {
+            return past;
+        }
+        due = due_behind(part, slot_in(ring, slots, sequence));
+    }
+    slots
+}
+
+/// The first slot outside the run that stands open with a command which the ring can't hold any more, by the slots and the
+/// sequence number of the run's first command. A slot that follows in a group counts none, and isn't one.
+pub fn older_slot(ring: &[u8], slots: u32, first: u64) -> Option<Older> {
+    let slots = slots as usize;
+    let run = run_in(ring, slots, first);
+    let least = first
+        .saturating_add(run as u64)
+        .saturating_sub(slots as u64);
+    for past in run..slots {
+        let sequence = first.saturating_add(past as u64);
+        let slot = slot_in(ring, slots, sequence);
+        if is_open(slot) && count_in(slot) > 0 && sequence_in(slot) < least {
+            return Some(Older {
+                slot: place_in(slots, sequence),
+                sequence: sequence_in(slot),
+                least,
+            });
+        }
+    }
+    None
+}
+
 /// What is wrong with a journal, by its slots, the memory before its run, and the sequence number of the run's first
 /// command.
 pub fn of_journal(ring: &[u8], memory: &mut Memory, slots: u32, first: u64) -> Damage {
@@ -563,8 +675,8 @@ pub fn of_journal(ring: &[u8], memory: &mut Memory, slots: u32, first: u64) -> D
     let mut due = 0;
     for past in 0..slots {
         let sequence = first.saturating_add(past as u64);
-        let place = (sequence % slots as u64) as usize;
-        let slot = ring.get(place * SLOT..place * SLOT + SLOT).unwrap_or(&[]);
+        let place = place_in(slots, sequence);
+        let slot = slot_in(ring, slots, sequence);
         part = part_of(part, due, slot, sequence);
         due = due_behind(part, slot);
         if let Some(fault) = of_slot(part, slot, memory, (sequence, first), slots - past) {

@@ -4,5 +4,5 @@
 mod damage;
 mod finding;
 
-pub use damage::{Damage, HeaderField, RecordOf, SlotFault};
-pub use finding::find_damage;
+pub use damage::{Damage, HeaderField, Older, RecordOf, SlotFault};
+pub use finding::{find_damage, find_older};

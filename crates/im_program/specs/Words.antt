@@ -1,5 +1,5 @@
 -- What the words of the command line ask for. (Own.)
-use Rattle.std.specs.Prelude.{ℕ, Bool, List, [], Option, Some, None, if◌then◌else◌, codes, true, unwrap_or}
+use Rattle.std.specs.Prelude.{ℕ, Bool, List, [], Option, Some, None, if◌then◌else◌, codes, true, false, unwrap_or}
 use Rattle.std.specs.Option.{option_map, option_and_then, option_map_or}
 use Rattle.std.specs.Str.{bytes_eq}
 use Rattle.clap.specs.declared.builder.action.ArgAction.TheVariants.{SetTrue}
@@ -24,29 +24,33 @@ flag_rule id = record (new_rule id) { long = Some id; action = Some SetTrue }
 abbrev pub path_rule : Text → Rule
 path_rule id = record (new_rule id) { required = true }
 
--- format IMAGE [--cells N] [--elements N] [--slots N] [--new]
+-- a subcommand that takes a path, with [--statuses]
+abbrev pub file_app : Text → Text → App
+file_app name path = with_rule (with_rule (new_app name) (flag_rule (codes "statuses"))) (path_rule path)
+
+-- format IMAGE [--cells N] [--elements N] [--slots N] [--new] [--statuses]
 abbrev pub format_app : App
-format_app = with_rule (with_rule (with_rule (with_rule (with_rule (new_app (codes "format")) (path_rule (codes "IMAGE"))) (option_rule (codes "cells"))) (option_rule (codes "elements"))) (option_rule (codes "slots"))) (flag_rule (codes "new"))
+format_app = with_rule (with_rule (with_rule (with_rule (file_app (codes "format") (codes "IMAGE")) (option_rule (codes "cells"))) (option_rule (codes "elements"))) (option_rule (codes "slots"))) (flag_rule (codes "new"))
 
--- NAME IMAGE SCRIPT
+-- NAME IMAGE SCRIPT [--statuses]
 abbrev pub script_app : Text → App
-script_app name = with_rule (with_rule (new_app name) (path_rule (codes "IMAGE"))) (path_rule (codes "SCRIPT"))
+script_app name = with_rule (file_app name (codes "IMAGE")) (path_rule (codes "SCRIPT"))
 
--- run IMAGE SCRIPT [--planned]
+-- run IMAGE SCRIPT [--planned] [--statuses]
 abbrev pub run_app : App
 run_app = with_rule (script_app (codes "run")) (flag_rule (codes "planned"))
 
--- serve IMAGE [--watch]
+-- serve IMAGE [--watch] [--statuses]
 abbrev pub serve_app : App
-serve_app = with_rule (with_rule (new_app (codes "serve")) (path_rule (codes "IMAGE"))) (flag_rule (codes "watch"))
+serve_app = with_rule (file_app (codes "serve") (codes "IMAGE")) (flag_rule (codes "watch"))
 
--- inspect IMAGE
+-- inspect IMAGE [--statuses]
 abbrev pub inspect_app : App
-inspect_app = with_rule (new_app (codes "inspect")) (path_rule (codes "IMAGE"))
+inspect_app = file_app (codes "inspect") (codes "IMAGE")
 
--- migrate OLD NEW
+-- migrate OLD NEW [--statuses]
 abbrev pub migrate_app : App
-migrate_app = with_rule (with_rule (new_app (codes "migrate")) (path_rule (codes "OLD"))) (path_rule (codes "NEW"))
+migrate_app = with_rule (file_app (codes "migrate") (codes "OLD")) (path_rule (codes "NEW"))
 
 -- a command that has a version to tell
 abbrev pub with_version : App → App
@@ -128,6 +132,15 @@ migrate_task rows = migrate (path_in rows (codes "OLD")) (path_in rows (codes "N
 abbrev pub task_in : Option (Text × List Row) → Option Task
 task_in None = Some demonstration
 task_in (Some met) = if bytes_eq met.0 (codes "format") then format_task met.1 else if bytes_eq met.0 (codes "serial") then Some (serial_task met.1) else if bytes_eq met.0 (codes "run") then Some (run_task met.1) else if bytes_eq met.0 (codes "serve") then Some (serve_task met.1) else if bytes_eq met.0 (codes "migrate") then Some (migrate_task met.1) else Some (inspect_task met.1)
+
+-- whether the subcommand that was met is to end by the kind of what it refuses
+abbrev pub has_statuses : Option (Text × List Row) → Bool
+has_statuses None = false
+has_statuses (Some met) = is_given met.1 (codes "statuses")
+
+-- the same of the words, as clap walks them
+abbrev pub asks_statuses : List Text → Bool
+asks_statuses words = has_statuses (subcommand_of imem_app words)
 
 -- what the words ask for, as clap walks them
 abbrev pub asked : List Text → Option Task

@@ -1,13 +1,19 @@
 //! What a person is told on standard error.
 
-use crate::words::Job;
-use im_disk::OpenFault;
+use crate::descriptors::Descriptors;
+use crate::opening::call_of;
+use crate::words::{Job, Work};
+use im_disk::Failure;
+use im_files::Noting;
 use im_migration::Follower;
 use im_serving::{Standing, Watcher};
-use im_text::{Observer, Progress, Reason, Waited, make_now};
+use im_text::{Observer, PathFault, Progress, Reason, Waited, Warning, make_now};
 use im_types::{Entry, Refusal};
 use std::alloc::Global;
-use std::io::{Eprint, ErrorKind};
+use std::fmt;
+use std::fmt::{Display, Formatter};
+use std::io::Eprint;
+use std::path::Path;
 
 // How many requests are served between two lines of progress.
 const STRIDE: u64 = 4_096;
@@ -18,43 +24,100 @@ const WRITES: u64 = 1_024;
 // How many turns of checkpoints are made between two lines that tell how a run stands.
 const TURNS: u64 = 1_024;
 
+/// Which of the standard streams are terminals.
+#[derive(Clone, Copy, Debug, PartialEq, Eq)]
+pub struct Terminals {
+    /// Standard input: somebody may be asked.
+    pub input: bool,
+    /// Standard error: somebody watches.
+    pub errors: bool,
+}
+
+// A name in a message: a byte that would steer a terminal is shown as it is written in a text.
+#[derive(Clone, Copy)]
+struct Shown<'a>(&'a str);
+
+impl Display for Shown<'_> {
+    fn fmt<W: fmt::Write>(&self, f: &mut Formatter<W>) -> fmt::Result {
+        for letter in self.0.chars() {
+            if letter.is_control() {
+                let code = letter as u32;
+                write!(f, "\\u{{{code:x}}}")?;
+            } else {
+                write!(f, "{letter}")?;
+            }
+        }
+        Ok(())
+    }
+}
+
 /// Standard error, for the work on these files.
 #[derive(Drop)]
 pub struct Console<'a, R> {
     rt: &'a R,
     alloc: Global,
+    held: &'a Descriptors,
     image: &'a str,
-    // Whether the image is to be made.
-    is_made: bool,
     // The second file: a script, or the new file of a migration.
     script: &'a str,
-    is_watched: bool,
+    terminals: Terminals,
+    // What was refused last, and whether it waits to be told until the disk says what failed.
+    refused: Option<Reason>,
+    waits: bool,
 }
 
 impl<'a, R: Eprint + AllocGlobal> Console<'a, R> {
-    /// For an image, and a script or the new file of a migration. Progress is told where somebody watches.
-    pub fn of(rt: &'a R, image: &'a str, script: &'a str, is_watched: bool) -> Console<'a, R> {
+    /// For the files of this work.
+    pub fn new(
+        rt: &'a R,
+        held: &'a Descriptors,
+        work: &Work<'a>,
+        terminals: Terminals,
+    ) -> Console<'a, R> {
+        let (image, script) = match *work {
+            Work::Alone(Job::Demonstration) => ("", ""),
+            Work::Alone(Job::Format { image, .. }) | Work::Alone(Job::Inspect { image }) => {
+                (image, "")
+            }
+            Work::Alone(Job::Serial { image, script }) | Work::Run { image, script, .. } => {
+                (image, script)
+            }
+            Work::Alone(Job::Serve { image, .. }) => (image, "-"),
+            Work::Migrate { old, new } => (old, new),
+        };
         Console {
             rt,
             alloc: rt.alloc(),
+            held,
             image,
-            is_made: false,
             script,
-            is_watched,
+            terminals,
+            refused: None,
+            waits: false,
         }
     }
 
-    /// For a job's files.
-    pub fn new(rt: &'a R, job: Job<'a>, is_watched: bool) -> Console<'a, R> {
-        let (image, script) = match job {
-            Job::Demonstration => ("", ""),
-            Job::Format { image, .. } | Job::Inspect { image } => (image, ""),
-            Job::Serial { image, script } => (image, script),
-            Job::Serve { image, .. } => (image, "-"),
-        };
-        let mut console = Console::of(rt, image, script, is_watched);
-        console.is_made = matches!(job, Job::Format { .. });
-        console
+    /// Why the work was refused last, if it was.
+    pub fn reason(&self) -> Option<Reason> {
+        self.refused
+    }
+
+    /// Whether somebody watches.
+    pub(crate) fn is_watched(&self) -> bool {
+        self.terminals.errors
+    }
+
+    /// Whether somebody may be asked.
+    pub(crate) fn may_ask(&self) -> bool {
+        self.terminals.input
+    }
+
+    /// Asks a person whether a file may be made anew.
+    pub(crate) fn ask(&self, image: &str, is: &impl Display) {
+        let path = Shown(image);
+        let _printed = eprint!(self.rt;
+            "imem: {path} is {is}. Make it anew, and lose that? y or n: "
+        );
     }
 
     // Which file the reason speaks of.
@@ -69,6 +132,102 @@ impl<'a, R: Eprint + AllocGlobal> Console<'a, R> {
             self.image
         }
     }
+
+    // Tells why the work is refused.
+    fn tell(&self, reason: Reason) {
+        let path = Shown(self.path(reason));
+        let _printed = match reason {
+            Reason::File(PathFault::InUse) | Reason::NewFile(PathFault::InUse) => {
+                eprintln!(self.rt; "imem: {path} is in use by another program")
+            }
+            Reason::File(PathFault::NoFolder) | Reason::NewFile(PathFault::NoFolder) => {
+                let folder = Shown(folder_of(self.path(reason)));
+                eprintln!(self.rt; "imem: the folder {folder} isn't there")
+            }
+            Reason::File(PathFault::Unsynced) | Reason::NewFile(PathFault::Unsynced) => {
+                eprintln!(self.rt; "imem: {path}: {reason} (the note is {path}.unsynced)")
+            }
+            Reason::File(PathFault::EmptyPath) | Reason::NewFile(PathFault::EmptyPath) => {
+                eprintln!(self.rt; "imem: {reason}")
+            }
+            Reason::Output(_) if self.held.stands_for(1) => {
+                eprintln!(self.rt; "imem: standard output is closed")
+            }
+            Reason::Output(_) | Reason::Memory | Reason::NoInput => {
+                eprintln!(self.rt; "imem: {reason}")
+            }
+            _ => eprintln!(self.rt; "imem: {path}: {reason}"),
+        };
+    }
+
+    // What was refused is told with what the disk says of it.
+    fn tell_call(&mut self, reason: Reason) {
+        self.refused = Some(reason);
+        self.waits = false;
+        self.tell(reason);
+    }
+
+    /// Tells what was refused, if it isn't told yet: with what failed of the image's file, and whether a note is left.
+    pub(crate) fn settle(&mut self, failure: Option<Failure>, noting: Noting) {
+        if let Some(failure) = failure {
+            if self.waits || noting != Noting::Unneeded {
+                self.tell_call(Reason::Call(call_of(failure)));
+            }
+        }
+        self.tell_waiting();
+        self.tell_note(self.image, noting);
+    }
+
+    /// The same of the new file of a migration.
+    pub(crate) fn settle_new(&mut self, failure: Option<Failure>, noting: Noting) {
+        if let Some(failure) = failure {
+            if self.waits || noting != Noting::Unneeded {
+                self.tell_call(Reason::NewCall(call_of(failure)));
+            }
+        }
+        self.tell_note(self.script, noting);
+    }
+
+    // Tells what waits to be told.
+    fn tell_waiting(&mut self) {
+        if self.waits {
+            self.waits = false;
+            if let Some(reason) = self.refused {
+                self.tell(reason);
+            }
+        }
+    }
+
+    // Tells of a note that was left, or that wasn't to be left.
+    fn tell_note(&self, path: &str, noting: Noting) {
+        let path = Shown(path);
+        let _printed = match noting {
+            Noting::Unneeded => Ok(()),
+            Noting::Left => eprintln!(self.rt; "imem: the note {path}.unsynced says so"),
+            Noting::Failed(_) => {
+                eprintln!(self.rt; "imem: no note can be left beside {path}: keep it in mind")
+            }
+        };
+    }
+}
+
+// The folder in which a path is looked for.
+fn folder_of(path: &str) -> &str {
+    match Path::new(path).parent() {
+        Some(folder) => folder.as_str(),
+        None => path,
+    }
+}
+
+// Whether a reason waits for what the disk says: a call on it failed.
+fn is_of_call(reason: Reason) -> bool {
+    matches!(
+        reason,
+        Reason::Image(Refusal::Device, _)
+            | Reason::New(Refusal::Device)
+            | Reason::Request(_, Refusal::Device)
+            | Reason::Request(_, Refusal::Failed)
+    )
 }
 
 impl<R: Eprint + AllocGlobal> Observer for Console<'_, R> {
@@ -90,7 +249,7 @@ impl<R: Eprint + AllocGlobal> Observer for Console<'_, R> {
             room,
             checkpoints,
         } = progress;
-        if self.is_watched && served % STRIDE == 0 {
+        if self.is_watched() && served % STRIDE == 0 {
             let _printed = eprintln!(self.rt;
                 "imem: {served} requests served, room for {room}, {checkpoints} checkpoints"
             );
@@ -98,29 +257,23 @@ impl<R: Eprint + AllocGlobal> Observer for Console<'_, R> {
     }
 
     fn refused(&mut self, reason: Reason) {
-        let path = self.path(reason);
-        let _printed = match reason {
-            Reason::File(OpenFault::InUse, _) | Reason::NewFile(OpenFault::InUse, _) => {
-                eprintln!(self.rt; "imem: {path} is in use by another program")
-            }
-            Reason::File(OpenFault::Device, Some(ErrorKind::AlreadyExists)) => {
-                eprintln!(self.rt;
-                    "imem: {path}: there is a file of that name, and it is left as it is"
-                )
-            }
-            Reason::Image(Refusal::Device, _) if self.is_made => eprintln!(self.rt;
-                "imem: {path}: a call of the system failed, and no image was made: a file that wasn't there before is removed, and what an older one held is lost"
-            ),
-            Reason::Output(_) | Reason::Memory => eprintln!(self.rt; "imem: {reason}"),
-            _ => eprintln!(self.rt; "imem: {path}: {reason}"),
-        };
+        self.refused = Some(reason);
+        self.waits = is_of_call(reason);
+        if !self.waits {
+            self.tell(reason);
+        }
+    }
+
+    fn warned(&mut self, warning: Warning) {
+        let path = Shown(self.image);
+        let _printed = eprintln!(self.rt; "imem: {path}: {warning}");
     }
 }
 
-impl<R: Eprint> Follower for Console<'_, R> {
+impl<R: Eprint + AllocGlobal> Follower for Console<'_, R> {
     fn writes(&self, written: u64, all: u64) {
-        if self.is_watched && written % WRITES == 0 {
-            let path = self.script;
+        if self.is_watched() && written % WRITES == 0 {
+            let path = Shown(self.script);
             let _printed = eprintln!(self.rt;
                 "imem: {path}: {written} of {all} pages and slots written"
             );

@@ -5,13 +5,19 @@
 mod console;
 mod descriptors;
 mod moving;
+mod opening;
 mod overwriting;
+mod statuses;
 mod words;
 mod work;
 
+pub use console::{Console, Terminals};
 pub use descriptors::Descriptors;
 pub use moving::{migrate_file, migrate_on};
-pub use words::{DEFAULT_CELLS, DEFAULT_ELEMENTS, DEFAULT_SLOTS, Job, WordFault, Work, read_words};
+pub use statuses::status_for;
+pub use words::{
+    DEFAULT_CELLS, DEFAULT_ELEMENTS, DEFAULT_SLOTS, Job, Order, WordFault, Work, read_words,
+};
 pub use work::{
-    Terminals, act, act_alone, format_file, inspect_file, refuse, run_file, serve_file, talk_file,
+    act, act_alone, format_file, inspect_file, refuse, run_file, serve_file, talk_file,
 };

@@ -10,11 +10,13 @@ ghost use Rattle.im_text.specs.Printing.{Begins, IsLast};
 ghost use Rattle.im_program.specs.Moving.{MigratedFrom, TellsCount, migrated_line};
 
 use crate::descriptors::Descriptors;
-use crate::work::{kind_of_fault, refusal_of};
-use im_disk::{Disk, FileDisk, OpenFault, Start};
+use crate::opening::{is_one_file, reason_of};
+use crate::work::{refusal_of, warn};
+use im_disk::{Disk, FileDisk, Start};
+use im_files::{FileFault, make_image, open_image, open_image_to_read};
 use im_image::read_header;
 use im_migration::{Follower, length_for, migrate};
-use im_text::{Observer, Reason, diagnose, end, put_through};
+use im_text::{Observer, PathFault, Reason, diagnose, end, put_through};
 use im_types::Refusal;
 use std::alloc::{AllocError, Global};
 use std::fs::{self, File};
@@ -115,21 +117,24 @@ fn length_of<O: Disk, V: Observer>(
 
 // The new file: as it is, or where there is none at the path, made of so many zero bytes. One that is there and can't be
 // opened is never made anew: its bytes would be lost.
-fn new_file<R: Files<File = File>, S: Start>(
+fn new_file<R: Files<File = File> + AllocGlobal, S: Start>(
     rt: &R,
     path: &str,
     len: usize,
     start: S,
-) -> Result<FileDisk<S>, OpenFault>
+) -> Result<FileDisk<S>, FileFault>
     ensures now { IfOk result (λ disk. (⟦<FileDisk<S> as Disk>⟧.now disk ≡ S.first)
         ⊎ (⟦<FileDisk<S> as Disk>⟧.now disk ≡ record { bytes = replicate len 0; ranges = [] })) }
     ensures past { IfOk result (λ disk. ⟦<FileDisk<S> as Disk>⟧.past disk ≡ []) }
 {
     match fs::metadata(rt, path) {
         Err(error) if error.kind() == ErrorKind::NotFound => {
-            FileDisk::create(rt, path, len, start)
+            match make_image(rt, path, len, false, start) {
+                Ok((disk, _)) => Ok(disk),
+                Err(fault) => Err(fault),
+            }
         }
-        _ => FileDisk::open(rt, path, start),
+        _ => open_image(rt, path, start),
     }
 }
 
@@ -172,8 +177,15 @@ pub fn migrate_file<
     ensures refused { IfErr result (λ refusal. MayRefuseImage refusal) }
     ensures same { OnErr result (Keeps (W.contents out.old) (W.contents out.new)) }
 {
-    let mut from = match FileDisk::open_to_read(rt, old, other) {
-        Ok(disk) => disk,
+    if is_one_file(rt, old, new) {
+        observer.refused(Reason::NewFile(PathFault::Same));
+        return Err(Refusal::Device);
+    }
+    let mut from = match open_image_to_read(rt, old, other) {
+        Ok((disk, is_unsynced)) => {
+            warn(is_unsynced, observer);
+            disk
+        }
         Err(fault) => return Err(refusal_of(rt, old, fault, observer)),
     };
     let length = match length_of(rt.alloc(), &mut from, observer) {
@@ -183,7 +195,7 @@ pub fn migrate_file<
     let to = match new_file(rt, new, length, start) {
         Ok(disk) => disk,
         Err(fault) => {
-            observer.refused(Reason::NewFile(fault, kind_of_fault(rt, new, fault)));
+            observer.refused(Reason::NewFile(reason_of(rt, new, fault)));
             return Err(Refusal::from(fault));
         }
     };

@@ -1,10 +1,10 @@
 //! The words of the command line.
 ghost use Rattle.std.specs.Prelude.{◌≡◌, [], true, false, Some, IfOk, IfErr, IsOk, IsSome, codes};
 ghost use Rattle.std.specs.Option.{option_map};
-ghost use Rattle.clap.specs.Words.{app_of, fault_of, found_of, kind_of, new_app, rows_of, rule_of, subcommand_rows_of, takes};
+ghost use Rattle.clap.specs.Words.{app_of, fault_of, found_of, kind_of, rows_of, rule_of, subcommand_rows_of, takes};
 ghost use Rattle.clap.specs.declared.builder.command.Command.TheViews.{out-Command};
 ghost use Rattle.im_script.specs.Grammar.{texts};
-ghost use Rattle.im_program.specs.Words.{asked, flag_rule, format_app, format_task, imem_app, inspect_app, inspect_task};
+ghost use Rattle.im_program.specs.Words.{asked, asks_statuses, file_app, flag_rule, format_app, format_task, has_statuses, imem_app, inspect_app, inspect_task};
 ghost use Rattle.im_program.specs.Words.{is_given, migrate_app, migrate_task, number_in, option_rule, path_in, path_rule, run_app, run_task, script_app};
 ghost use Rattle.im_program.specs.Words.{serial_task, serve_app, serve_task, task_in, task_of, top_app};
 
@@ -84,6 +84,15 @@ pub enum Job<'a> {
     },
 }
 
+/// What the words ask for, and how the program is to end.
+#[derive(Clone, Copy, Debug, PartialEq, Eq)]
+pub struct Order<'a> {
+    /// What is to be done.
+    pub work: Work<'a>,
+    /// Whether the status tells refusals apart.
+    pub statuses: bool,
+}
+
 /// Why the words say no work.
 #[derive(Debug, Drop)]
 pub enum WordFault {
@@ -113,7 +122,11 @@ standard error says that the image is in use. Any number may inspect it at the s
 advisory: it keeps no other program from writing the file, nor one that makes another file of its name.
 
 Exit status: 0 done; 1 refused, with 'refused N NAME' as the last line; 2 a bad command line; 3 the
-elements of a run wait for each other.";
+elements of a run wait for each other. With --statuses, which each subcommand takes, what was refused with 1
+ends with 4 where a file is in use by another program, which may be tried again; with 5 where there is no
+image, a damaged or an old one, no file or no permission, which is the same when it is tried again; else with 1.
+
+No subcommand opens a file under the number of a standard stream that is closed.";
 
 const FORMAT: &str =
     "Make an image: an empty memory of this size, in a new file or over an old one";
@@ -267,12 +280,36 @@ fn path_argument<'a>(alloc: Global, id: &'a str, help: &'a str) -> Arg<'a>
     Arg::new(alloc, id).required(true).help(help)
 }
 
-/// A subcommand that takes nothing yet.
-fn plain_command<'a>(alloc: Global, name: &'a str, about: &'a str, examples: &'a str) -> Command<'a>
-    ensures app { app_of result ≡ new_app name.entry.now }
-    ensures local { (out-Command result).has_globals ≡ false }
+/// The option by which a subcommand's status tells its refusals apart.
+fn statuses_option<'a>(alloc: Global) -> Arg<'a>
+    ensures rule { rule_of result ≡ flag_rule (codes "statuses") }
+    ensures local { result.global ≡ false }
 {
-    Command::new(alloc, name).about(about).after_help(examples)
+    flag_option(
+        alloc,
+        "statuses",
+        "End with 4 where a file is in use, and with 5 where there is no good image",
+    )
+}
+
+/// A subcommand that takes a path.
+fn file_command<'a>(
+    alloc: Global,
+    name: &'a str,
+    path: &'a str,
+    path_help: &'a str,
+    about: &'a str,
+    examples: &'a str,
+) -> Result<Command<'a>, AllocError>
+    ensures app { IfOk result (λ c. app_of c ≡ file_app name.entry.now path.entry.now) }
+    ensures local { IfOk result (λ c. (out-Command c).has_globals ≡ false) }
+{
+    let empty = Command::new(alloc, name).about(about).after_help(examples);
+    let statuses = statuses_option(alloc);
+    let file = path_argument(alloc, path, path_help);
+    let one = empty.arg(statuses)?;
+    let two = one.arg(file)?;
+    Ok(two)
 }
 
 /// The subcommand `format`.
@@ -280,8 +317,14 @@ fn format_command<'a>(alloc: Global) -> Result<Command<'a>, AllocError>
     ensures app { IfOk result (λ c. app_of c ≡ format_app) }
     ensures local { IfOk result (λ c. (out-Command c).has_globals ≡ false) }
 {
-    let empty = plain_command(alloc, "format", FORMAT, FORMAT_EXAMPLES);
-    let image = path_argument(alloc, "IMAGE", "The file to make");
+    let image = file_command(
+        alloc,
+        "format",
+        "IMAGE",
+        "The file to make",
+        FORMAT,
+        FORMAT_EXAMPLES,
+    )?;
     let cells = number_option(
         alloc,
         "cells",
@@ -298,12 +341,31 @@ fn format_command<'a>(alloc: Global) -> Result<Command<'a>, AllocError>
         "How many journal slots, 16 to 4,096 [default: 256]",
     );
     let new = flag_option(alloc, "new", "Refuse a file that is there");
-    let one = empty.arg(image)?;
-    let two = one.arg(cells)?;
-    let three = two.arg(elements)?;
-    let four = three.arg(slots)?;
-    let five = four.arg(new)?;
-    Ok(five)
+    let one = image.arg(cells)?;
+    let two = one.arg(elements)?;
+    let three = two.arg(slots)?;
+    let four = three.arg(new)?;
+    Ok(four)
+}
+
+/// A subcommand that takes an image.
+fn image_command<'a>(
+    alloc: Global,
+    name: &'a str,
+    about: &'a str,
+    examples: &'a str,
+) -> Result<Command<'a>, AllocError>
+    ensures app { IfOk result (λ c. app_of c ≡ file_app name.entry.now (codes "IMAGE")) }
+    ensures local { IfOk result (λ c. (out-Command c).has_globals ≡ false) }
+{
+    file_command(
+        alloc,
+        name,
+        "IMAGE",
+        "The image, made by 'imem format'",
+        about,
+        examples,
+    )
 }
 
 /// A subcommand that takes an image and a script.
@@ -316,16 +378,14 @@ fn script_command<'a>(
     ensures app { IfOk result (λ c. app_of c ≡ script_app name.entry.now) }
     ensures local { IfOk result (λ c. (out-Command c).has_globals ≡ false) }
 {
-    let empty = Command::new(alloc, name).about(about).after_help(examples);
-    let image = path_argument(alloc, "IMAGE", "The image, made by 'imem format'");
+    let image = image_command(alloc, name, about, examples)?;
     let script = path_argument(
         alloc,
         "SCRIPT",
         "The file of requests, or - for standard input",
     );
-    let one = empty.arg(image)?;
-    let two = one.arg(script)?;
-    Ok(two)
+    let one = image.arg(script)?;
+    Ok(one)
 }
 
 /// The subcommand `run`.
@@ -348,18 +408,14 @@ fn serve_command<'a>(alloc: Global) -> Result<Command<'a>, AllocError>
     ensures app { IfOk result (λ c. app_of c ≡ serve_app) }
     ensures local { IfOk result (λ c. (out-Command c).has_globals ≡ false) }
 {
-    let empty = Command::new(alloc, "serve")
-        .about(SERVE)
-        .after_help(SERVE_EXAMPLES);
-    let image = path_argument(alloc, "IMAGE", "The image, made by 'imem format'");
+    let image = image_command(alloc, "serve", SERVE, SERVE_EXAMPLES)?;
     let watch = flag_option(
         alloc,
         "watch",
         "Print 'E.N now REPLY' when the answer to a request that waited comes",
     );
-    let one = empty.arg(image)?;
-    let two = one.arg(watch)?;
-    Ok(two)
+    let one = image.arg(watch)?;
+    Ok(one)
 }
 
 /// The subcommand `inspect`.
@@ -367,12 +423,7 @@ fn inspect_command<'a>(alloc: Global) -> Result<Command<'a>, AllocError>
     ensures app { IfOk result (λ c. app_of c ≡ inspect_app) }
     ensures local { IfOk result (λ c. (out-Command c).has_globals ≡ false) }
 {
-    let empty = Command::new(alloc, "inspect")
-        .about(INSPECT)
-        .after_help(INSPECT_EXAMPLES);
-    let image = path_argument(alloc, "IMAGE", "The image, made by 'imem format'");
-    let one = empty.arg(image)?;
-    Ok(one)
+    image_command(alloc, "inspect", INSPECT, INSPECT_EXAMPLES)
 }
 
 /// The subcommand `migrate`.
@@ -380,14 +431,17 @@ fn migrate_command<'a>(alloc: Global) -> Result<Command<'a>, AllocError>
     ensures app { IfOk result (λ c. app_of c ≡ migrate_app) }
     ensures local { IfOk result (λ c. (out-Command c).has_globals ≡ false) }
 {
-    let empty = Command::new(alloc, "migrate")
-        .about(MIGRATE)
-        .after_help(MIGRATE_EXAMPLES);
-    let old = path_argument(alloc, "OLD", "The image of layout version 1");
+    let old = file_command(
+        alloc,
+        "migrate",
+        "OLD",
+        "The image of layout version 1",
+        MIGRATE,
+        MIGRATE_EXAMPLES,
+    )?;
     let new = path_argument(alloc, "NEW", "The new file");
-    let one = empty.arg(old)?;
-    let two = one.arg(new)?;
-    Ok(two)
+    let one = old.arg(new)?;
+    Ok(one)
 }
 
 /// The program with no subcommand.
@@ -545,6 +599,16 @@ fn work_of<'a>(matches: &ArgMatches<'a>) -> Option<Work<'a>>
     }
 }
 
+/// Whether the subcommand is to end by the kind of what it refuses.
+fn statuses_of(matches: &ArgMatches<'_>) -> bool
+    ensures { result ≡ has_statuses (subcommand_rows_of matches.now) }
+{
+    match matches.subcommand() {
+        None => false,
+        Some((_, found)) => is_given(found, "statuses"),
+    }
+}
+
 /// The fault that clap found.
 fn fault(error: Error) -> WordFault
     ensures { kind_of error ≡ ErrorKind.OutOfMemory → result ≡ WordFault.NoMemory }
@@ -592,8 +656,9 @@ fn number_fault(alloc: Global, matches: &ArgMatches<'_>) -> WordFault {
 
 /// Reads the words of a command line, the program's own name first. [`WordFault::Bad`] has what clap found, or that a
 /// number is not written in decimal digits below 2^32; `--help` and `--version` are such faults too, with status 0.
-pub fn read_words<'a>(alloc: Global, words: &'a [&'a str]) -> Result<Work<'a>, WordFault>
-    ensures work { IfOk result (λ work. asked (texts words.entry.now) ≡ Some (task_of work)) }
+pub fn read_words<'a>(alloc: Global, words: &'a [&'a str]) -> Result<Order<'a>, WordFault>
+    ensures work { IfOk result (λ order. asked (texts words.entry.now) ≡ Some (task_of order.work)) }
+    ensures statuses { IfOk result (λ order. order.statuses ≡ asks_statuses (texts words.entry.now)) }
     ensures sound { IsOk result → fault_of imem_app (texts words.entry.now) ≡ [] }
     ensures taken { IfErr result (λ fault. takes imem_app (texts words.entry.now) ≡ true →
         IsSome (asked (texts words.entry.now)) → fault ≡ WordFault.NoMemory) }
@@ -606,8 +671,9 @@ pub fn read_words<'a>(alloc: Global, words: &'a [&'a str]) -> Result<Work<'a>, W
         Ok(matches) => matches,
         Err(error) => return Err(fault(error)),
     };
+    let statuses = statuses_of(&matches);
     match work_of(&matches) {
-        Some(work) => Ok(work),
+        Some(work) => Ok(Order { work, statuses }),
         None => Err(number_fault(alloc, &matches)),
     }
 }

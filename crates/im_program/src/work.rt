@@ -18,12 +18,16 @@ ghost use Rattle.im_program.specs.Working.{DoneOn, IsMigration};
 use crate::console::{Console, Watch};
 use crate::descriptors::Descriptors;
 use crate::moving::migrate_file;
-use crate::overwriting::{MakeFault, make_image, may_be_made, remove_made};
+use crate::opening::{format_reason, reason_of};
+use crate::overwriting::may_be_made;
 use crate::words::{DEFAULT_CELLS, DEFAULT_ELEMENTS, DEFAULT_SLOTS, Job, Work};
 use im_damage::Damage;
 use im_dialogue::dialogue_on;
-use im_disk::{Disk, FileDisk, MemDisk, OpenFault, Start};
+use im_disk::{Disk, FileDisk, MemDisk, Start};
 use im_engine::Engine;
+use im_files::{
+    FileFault, Noting, make_image, note_failed_sync, open_image, open_image_to_read, remove_image,
+};
 use im_image::image_length;
 use im_listening::Ear;
 use im_report::inspect_on;
@@ -31,10 +35,10 @@ use im_run::{STALLED, run_on};
 use im_script::{Script, ScriptFault, read_script, read_script_with_glances};
 use im_serial::serial_on;
 use im_serving::{Open, Watcher};
-use im_text::{Observer, Reason, put_refusal};
+use im_text::{Observer, PathFault, Reason, Warning, put_refusal};
 use im_types::{Limits, MAX_CELLS, MAX_ELEMENTS, Refusal};
 use std::alloc::Global;
-use std::fs::{self, File, OpenOptions};
+use std::fs::{self, File};
 use std::io::{self, BufRead, Eprint, ErrorKind, Input, Read, Write};
 use std::rt::Files;
 use std::sync::Wait;
@@ -72,65 +76,17 @@ fn limits_reason(cells: u32, elements: u32, slots: u32) -> Reason {
     }
 }
 
-// What the system says of a file that can't be opened.
-fn kind_of<R: Files<File = File>>(rt: &R, path: &str) -> Option<ErrorKind> {
-    let data = match fs::metadata(rt, path) {
-        Ok(data) => data,
-        Err(error) => return Some(error.kind()),
-    };
-    if data.is_dir() {
-        return Some(ErrorKind::IsADirectory);
-    }
-    if !data.is_file() {
-        return Some(ErrorKind::Unsupported); // A FIFO would be waited for.
-    }
-    match OpenOptions::new().read(true).write(true).open(rt, path) {
-        Ok(_) => None,
-        Err(error) => Some(error.kind()),
-    }
-}
-
-/// What the system says of a file that can't be opened, where it says anything of the fault.
-pub(crate) fn kind_of_fault<R: Files<File = File>>(
-    rt: &R,
-    path: &str,
-    fault: OpenFault,
-) -> Option<ErrorKind> {
-    match fault {
-        OpenFault::InUse => None,
-        OpenFault::Device => kind_of(rt, path),
-    }
-}
-
 /// The refusal of an image that isn't made or opened. The observer is told why.
 pub(crate) fn refusal_of<R: Files<File = File>, N: Observer>(
     rt: &R,
     image: &str,
-    fault: OpenFault,
+    fault: FileFault,
     observer: &mut N,
 ) -> Refusal
     ensures { result ≡ Refusal.Device }
 {
-    observer.refused(Reason::File(fault, kind_of_fault(rt, image, fault)));
+    observer.refused(Reason::File(reason_of(rt, image, fault)));
     Refusal::from(fault)
-}
-
-// The refusal of an image whose file isn't made. The observer is told why.
-fn unmade<R: Files<File = File>, N: Observer>(
-    rt: &R,
-    image: &str,
-    fault: MakeFault,
-    observer: &mut N,
-) -> Refusal
-    ensures { result ≡ Refusal.Device }
-{
-    let kind = match fault {
-        MakeFault::Open(fault) => return refusal_of(rt, image, fault, observer),
-        MakeFault::System(kind) => kind,
-        MakeFault::Exists => ErrorKind::AlreadyExists,
-    };
-    observer.refused(Reason::File(OpenFault::Device, Some(kind)));
-    Refusal::Device
 }
 
 /// Makes an image of a file, and gives its disk back: the file is made, or an older one's bytes are lost; where a new one
@@ -158,15 +114,33 @@ pub fn format_file<R: Files<File = File> + AllocGlobal, S: Start, N: Observer>(
 {
     let (disk, is_made) = match make_image(rt, image, image_length(limits), is_new, start) {
         Ok(made) => made,
-        Err(fault) => return Err(unmade(rt, image, fault, observer)),
+        Err(fault) => return Err(refusal_of(rt, image, fault, observer)),
     };
     match Engine::format(rt.alloc(), disk, limits) {
         Ok(engine) => Ok(engine.close()),
-        Err((refusal, _)) => {
-            remove_made(rt, image, is_made); // Else the file holds no image or a torn one.
-            Err(told(refusal, observer))
+        Err((refusal, disk)) => {
+            let reason = format_reason(refusal, disk.failure(), is_made);
+            give_up(rt, image, disk, is_made);
+            observer.refused(reason);
+            Err(refusal)
         }
     }
+}
+
+// Removes a file that was made and holds no image or a torn one. Where it was there before it stays, with a note where a
+// sync of it failed.
+fn give_up<R: Files<File = File> + AllocGlobal, S: Start>(
+    rt: &R,
+    image: &str,
+    disk: FileDisk<S>,
+    is_made: bool,
+) {
+    let _noted = if is_made {
+        Noting::Unneeded
+    } else {
+        note_failed_sync(rt, image, &disk)
+    };
+    let _removed = remove_image(rt, image, disk, is_made);
 }
 
 // The refusal of an image that was made or opened. The observer is told why.
@@ -206,11 +180,15 @@ fn refuse_script<N: Observer>(reason: Reason, observer: &mut N) -> Refusal
 // The text of a script's file. `BadScript` where the file can't be read.
 fn read_file<R: Files<File = File> + AllocGlobal + Input, N: Observer>(
     rt: &R,
+    held: &Descriptors,
     script: &str,
     observer: &mut N,
 ) -> Result<Vec<u8>, Refusal>
     ensures { IfErr result (λ refusal. (refusal ≡ BadScript) ⊎ (refusal ≡ NoMemory)) }
 {
+    if script == "-" && held.stands_for(0) {
+        return Err(refuse_script(Reason::NoInput, observer));
+    }
     match read_text(rt, script) {
         Ok(text) => Ok(text),
         Err(error) => Err(refuse_script(Reason::ScriptFile(error.kind()), observer)),
@@ -251,7 +229,7 @@ fn script_in<'a, N: Observer>(
 /// That an image is ever opened is no clause: none knows what a folder holds.
 pub fn serve_file<R: Files<File = File> + AllocGlobal + Input, S: Start, W: Write, N: Observer>(
     rt: &R,
-    _held: &Descriptors,
+    held: &Descriptors,
     image: &str,
     script: &str,
     out: &mut W,
@@ -265,7 +243,7 @@ pub fn serve_file<R: Files<File = File> + AllocGlobal + Input, S: Start, W: Writ
     ensures refused { IfErr result (λ refusal. (refusal ≡ BadScript) ⊎ (refusal ≡ NoMemory) ⊎ (refusal ≡ Device)) }
     ensures same { OnErr result (Keeps (W.contents out.old) (W.contents out.new)) }
 {
-    let text = match read_file(rt, script, observer) {
+    let text = match read_file(rt, held, script, observer) {
         Ok(text) => text,
         Err(refusal) => return Err(refusal),
     };
@@ -273,7 +251,7 @@ pub fn serve_file<R: Files<File = File> + AllocGlobal + Input, S: Start, W: Writ
         Ok(script) => script,
         Err(refusal) => return Err(refusal),
     };
-    match FileDisk::open(rt, image, start) {
+    match open_image(rt, image, start) {
         Ok(disk) => Ok(serial_on(rt.alloc(), disk, &script, out, observer)),
         Err(fault) => Err(refusal_of(rt, image, fault, observer)),
     }
@@ -300,7 +278,7 @@ pub fn run_file<
     N: Observer,
 >(
     rt: &R,
-    _held: &Descriptors,
+    held: &Descriptors,
     image: &str,
     script: &str,
     planned: bool,
@@ -316,7 +294,7 @@ pub fn run_file<
     ensures refused { IfErr result (λ refusal. (refusal ≡ BadScript) ⊎ (refusal ≡ NoMemory) ⊎ (refusal ≡ Device)) }
     ensures same { OnErr result (Keeps (W.contents out.old) (W.contents out.new)) }
 {
-    let text = match read_file(rt, script, observer) {
+    let text = match read_file(rt, held, script, observer) {
         Ok(text) => text,
         Err(refusal) => return Err(refusal),
     };
@@ -324,7 +302,7 @@ pub fn run_file<
         Ok(script) => script,
         Err(refusal) => return Err(refusal),
     };
-    match FileDisk::open(rt, image, start) {
+    match open_image(rt, image, start) {
         Ok(disk) => {
             let (ended, disk) = run_on(
                 rt,
@@ -376,9 +354,16 @@ pub fn talk_file<
     ensures refused { IfErr result (λ refusal. refusal ≡ Device) }
     ensures same { OnErr result (Keeps (W.contents out.old) (W.contents out.new)) }
 {
-    match FileDisk::open(rt, image, start) {
+    match open_image(rt, image, start) {
         Ok(disk) => Ok(dialogue_on(rt.alloc(), disk, input, watch, out, observer)),
         Err(fault) => Err(refusal_of(rt, image, fault, observer)),
+    }
+}
+
+/// What is told of a file that is read although a note of this boot stands beside it.
+pub(crate) fn warn<N: Observer>(is_unsynced: bool, observer: &mut N) {
+    if is_unsynced {
+        observer.warned(Warning::Unsynced);
     }
 }
 
@@ -408,8 +393,11 @@ pub fn inspect_file<R: Files<File = File> + AllocGlobal, S: Start, W: Write, N: 
     ensures refused { IfErr result (λ refusal. refusal ≡ Device) }
     ensures same { OnErr result (Keeps (W.contents out.old) (W.contents out.new)) }
 {
-    match FileDisk::open_to_read(rt, image, start) {
-        Ok(disk) => Ok(inspect_on(rt.alloc(), disk, out, observer)),
+    match open_image_to_read(rt, image, start) {
+        Ok((disk, is_unsynced)) => {
+            warn(is_unsynced, observer);
+            Ok(inspect_on(rt.alloc(), disk, out, observer))
+        }
         Err(fault) => Err(refusal_of(rt, image, fault, observer)),
     }
 }
@@ -531,13 +519,13 @@ fn do_job<
     }
 }
 
-/// Which of the standard streams are terminals.
-#[derive(Clone, Copy, Debug, PartialEq, Eq)]
-pub struct Terminals {
-    /// Standard input: somebody may be asked.
-    pub input: bool,
-    /// Standard error: somebody watches.
-    pub errors: bool,
+// The path of the image that a job is of.
+fn image_of<'a>(job: &Job<'a>) -> &'a str {
+    match *job {
+        Job::Demonstration => "",
+        Job::Format { image, .. } | Job::Inspect { image } => image,
+        Job::Serial { image, .. } | Job::Serve { image, .. } => image,
+    }
 }
 
 // Whether the job may be done: nobody is asked, or it is answered so.
@@ -545,15 +533,28 @@ fn may_do<R: Files<File = File> + AllocGlobal + Eprint, I: BufRead>(
     rt: &R,
     job: &Job,
     input: &mut I,
-    may_ask: bool,
+    console: &Console<'_, R>,
 ) -> bool {
     match *job {
         Job::Format {
             image,
             is_new: false,
             ..
-        } => may_be_made(rt, image, input, may_ask),
+        } => may_be_made(rt, image, input, console),
         _ => true,
+    }
+}
+
+// Tells what failed of the image's disk, if it was opened, and leaves a note where a sync of it did.
+fn settle<R: Files<File = File> + AllocGlobal + Eprint, S: Start>(
+    rt: &R,
+    image: &str,
+    disk: &Option<FileDisk<S>>,
+    console: &mut Console<'_, R>,
+) {
+    match disk {
+        Some(disk) => console.settle(disk.failure(), note_failed_sync(rt, image, disk)),
+        None => console.settle(None, Noting::Unneeded),
     }
 }
 
@@ -561,8 +562,9 @@ fn may_do<R: Files<File = File> + AllocGlobal + Eprint, I: BufRead>(
 /// or a write of the output failed; and the disk of the image, where its file was made or opened. A dialogue reads
 /// `input`. What it prints goes to `out`, a refusal as its last line `refused N NAME`. Standard error has one line of
 /// reason for a refusal, and a line `K.N now REPLY` for a request that waited when the image was opened and whose entry
-/// is confirmed; and, where it is a terminal, how far a long script has come. Where standard input is one, a file that
-/// isn't empty is asked for before an image is made of it.
+/// is confirmed; and, where somebody watches, how far a long script has come. Where a call of the disk failed the reason
+/// says which, and where it was a sync, that the file system is to be mounted anew: a note is left beside the image then.
+/// Where standard input is a terminal, a file that isn't empty is asked for before an image is made of it.
 ///
 /// Refused are: `Device` for a file that isn't to be made anew; `BadLimits` for an image with a number out of its range, and then no file is made; and what
 /// [`format_file`], [`serve_file`], [`talk_file`] and [`inspect_file`] refuse. Where there is a disk, its status and
@@ -581,7 +583,7 @@ pub fn act_alone<
     job: &Job,
     input: &mut I,
     out: &mut W,
-    terminals: Terminals,
+    console: &mut Console<'_, R>,
     start: S,
 ) -> (u8, Option<FileDisk<S>>)
     ensures status { result.0 ≤ 1 }
@@ -590,15 +592,16 @@ pub fn act_alone<
         (task_of_job job.now) (W.contents out.old) (W.contents out.new) result.0 disk) }
     ensures none { IfNone result.1 ((task_of_job job.now ≡ demonstration) ⊎ (result.0 ≡ 1)) }
 {
-    let mut console = Console::new(rt, *job, terminals.errors);
-    if !may_do(rt, job, input, terminals.input) {
-        console.refused(Reason::File(OpenFault::Device, Some(ErrorKind::AlreadyExists)));
+    if !may_do(rt, job, input, console) {
+        console.refused(Reason::File(PathFault::Exists));
         return (refuse(rt.alloc(), Refusal::Device, out), None);
     }
-    match do_job(rt, held, job, input, out, &mut console, start) {
+    let (status, disk) = match do_job(rt, held, job, input, out, console, start) {
         Ok(done) => done,
         Err(refusal) => (refuse(rt.alloc(), refusal, out), None),
-    }
+    };
+    settle(rt, image_of(job), &disk, console);
+    (status, disk)
 }
 
 /// Runs a script by the threads of its elements. The status, and the disk of the image, where it was opened.
@@ -613,7 +616,7 @@ fn act_at_once<
     script: &str,
     planned: bool,
     out: &mut W,
-    terminals: Terminals,
+    console: &mut Console<'_, R>,
     start: S,
 ) -> (u8, Option<FileDisk<S>>)
     ensures status { (result.0 ≤ 1) ⊎ (result.0 ≡ STALLED) }
@@ -622,8 +625,8 @@ fn act_at_once<
         S.first disk (W.contents out.old) (W.contents out.new) result.0) }
     ensures none { IfNone result.1 (result.0 ≡ 1) }
 {
-    let mut console = Console::of(rt, image, script, terminals.errors);
-    let watch = Watch::new(rt, terminals.errors);
+    let mut console = Console::of(rt, image, script, console);
+    let watch = Watch::new(rt, console);
     match run_file(
         rt,
         held,
@@ -647,7 +650,7 @@ fn act_on_two<R: Files<File = File> + AllocGlobal + Eprint, S: Start, T: Start, 
     old: &str,
     new: &str,
     out: &mut W,
-    terminals: Terminals,
+    console: &mut Console<'_, R>,
     start: S,
     other: T,
 ) -> (u8, Option<FileDisk<S>>, Option<FileDisk<T>>)
@@ -658,10 +661,16 @@ fn act_on_two<R: Files<File = File> + AllocGlobal + Eprint, S: Start, T: Start, 
         T.first S.first (W.contents out.old) (W.contents out.new) result.0 result.2 disk) }
     ensures none { IfNone result.1 (result.0 ≡ 1) }
 {
-    let mut console = Console::of(rt, old, new, terminals.errors);
-    match migrate_file(rt, held, old, new, out, &mut console, start, other) {
-        Ok((status, to, from)) => (status, Some(to), Some(from)),
-        Err(refusal) => (refuse(rt.alloc(), refusal, out), None, None),
+    match migrate_file(rt, held, old, new, out, console, start, other) {
+        Ok((status, to, from)) => {
+            console.settle_new(to.failure(), note_failed_sync(rt, new, &to));
+            console.settle(from.failure(), Noting::Unneeded);
+            (status, Some(to), Some(from))
+        }
+        Err(refusal) => {
+            console.settle(None, Noting::Unneeded);
+            (refuse(rt.alloc(), refusal, out), None, None)
+        }
     }
 }
 
@@ -684,7 +693,7 @@ pub fn act<
     work: &Work,
     input: &mut I,
     out: &mut W,
-    terminals: Terminals,
+    console: &mut Console<'_, R>,
     start: S,
     other: T,
 ) -> (u8, Option<FileDisk<S>>, Option<FileDisk<T>>)
@@ -701,7 +710,7 @@ pub fn act<
 {
     match work {
         Work::Alone(job) => {
-            let (status, disk) = act_alone(rt, held, job, input, out, terminals, start);
+            let (status, disk) = act_alone(rt, held, job, input, out, console, start);
             (status, disk, None)
         }
         Work::Run {
@@ -710,11 +719,11 @@ pub fn act<
             planned,
         } => {
             let (status, disk) = act_at_once(
-                rt, held, image, script, *planned, out, terminals, start,
+                rt, held, image, script, *planned, out, console, start,
             );
             (status, disk, None)
         }
-        Work::Migrate { old, new } => act_on_two(rt, held, old, new, out, terminals, start, other),
+        Work::Migrate { old, new } => act_on_two(rt, held, old, new, out, console, start, other),
     }
 }
 

@@ -6,9 +6,10 @@ ghost use Rattle.im_report.specs.Inspecting.{Tells};
 ghost use Rattle.im_report.specs.Report.{report_text};
 
 use crate::report::add_report;
+use im_damage::{Older, find_older};
 use im_disk::Disk;
 use im_image::{Report, inspect};
-use im_text::{Observer, Reason, diagnose, end, put_through};
+use im_text::{Observer, Reason, Warning, diagnose, end, put_through};
 use std::alloc::{AllocError, Global};
 use std::io::Write;
 
@@ -42,6 +43,35 @@ fn tell<D: Disk, W: Write>(alloc: Global, disk: &mut D, out: &mut W) -> Result<(
     }
 }
 
+// What is odd of an image that was told.
+fn warn<N: Observer>(older: Option<Older>, observer: &mut N) {
+    if let Some(older) = older {
+        observer.warned(Warning::Older(older));
+    }
+}
+
+// Writes the report of the image on a disk, and looks for what is odd of an image that was told.
+fn tell_all<D: Disk, W: Write, N: Observer>(
+    alloc: Global,
+    disk: &mut D,
+    out: &mut W,
+    observer: &mut N,
+) -> Result<(), Reason>
+    ensures told { OnOk result (D.honest disk.new →
+        Tells (D.now disk.old).bytes (W.contents out.old) (W.contents out.new)) }
+    ensures reads { D.honest disk.new →
+        ReadsOnly (D.now disk.old) (D.now disk.new) (D.past disk.old) (D.past disk.new) }
+    ensures honest { D.honest disk.new → D.honest disk.old }
+{
+    match tell(alloc, disk, out) {
+        Ok(()) => {
+            warn(find_older(alloc, disk), observer);
+            Ok(())
+        }
+        Err(reason) => Err(reason),
+    }
+}
+
 /// Tells what the image on a disk means, and gives the disk back. It only reads, the bytes as they are now. The report
 /// goes to `out`, or at last the line `refused N NAME`:
 ///
@@ -54,7 +84,8 @@ fn tell<D: Disk, W: Write>(alloc: Global, disk: &mut D, out: &mut W) -> Result<(
 ///
 /// The status is 0, or 1 where something was refused: the image's first fault, as [`inspect`] tells it; `Device` where
 /// a call of the disk failed; `NoMemory` where `alloc` refused the room for the report, of which nothing is written
-/// then; or where a write failed. The observer is told why.
+/// then; or where a write failed. The observer is told why; and of an image that was told it is warned where a slot of the
+/// journal stands open that is older than any which can.
 pub fn inspect_on<D: Disk, W: Write, N: Observer>(
     alloc: Global,
     mut disk: D,
@@ -67,6 +98,6 @@ pub fn inspect_on<D: Disk, W: Write, N: Observer>(
     ensures reads { D.honest result.1 → ReadsOnly (D.now disk) (D.now result.1) (D.past disk) (D.past result.1) }
     ensures honest { D.honest result.1 → D.honest disk }
 {
-    let told = tell(alloc, &mut disk, out);
+    let told = tell_all(alloc, &mut disk, out, observer);
     (end(alloc, told, out, observer), disk)
 }

@@ -82,7 +82,7 @@ old write 8192 00 = 00
 keep old least.img = 33792 bytes
 run imem migrate least.img no_such_folder/made.img = 1
 printed 0 = refused 8 Device
-told 0 = there is no such file
+told 0 = its folder isn't there
 new file 33791 = 33791 bytes
 keep new short.img = 33791 bytes
 run imem migrate least.img short.img = 1
@@ -92,7 +92,7 @@ file short.img = 33791 bytes
 -- One file can't be both.
 run imem migrate least.img least.img = 1
 printed 0 = refused 8 Device
-told 0 = it is in use by another program
+told 0 = the old file and the new one are one file
 load new least.img = 33792 bytes
 new means old = yes
 run imem migrate least.img moved.img = 0

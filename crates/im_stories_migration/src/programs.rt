@@ -5,7 +5,7 @@ use crate::disks::disk_of;
 use crate::writers::{Notes, Paper};
 use anyhow::{Result, anyhow};
 use im_disk::{MemDisk, Unknown};
-use im_program::{Terminals, Work, act_alone, migrate_file, read_words, refuse};
+use im_program::{Console, Order, Terminals, Work, act_alone, migrate_file, read_words, refuse};
 use std::fs;
 
 // Nobody watches, and nobody is asked.
@@ -22,19 +22,30 @@ fn act(desk: &mut Desk, words: &[&str]) -> Result<u8> {
     let mut notes = Notes::new(alloc);
     let mut nothing = b"".as_slice();
     let status = match read_words(alloc, words) {
-        Ok(Work::Alone(job)) => {
+        Ok(
+            Order {
+                work: Work::Alone(job),
+                ..
+            },
+        ) => {
+            let mut console = Console::new(rt, desk.held, &Work::Alone(job), NOBODY);
             let (status, _) = act_alone(
                 rt,
                 desk.held,
                 &job,
                 &mut nothing,
                 &mut out,
-                NOBODY,
+                &mut console,
                 Unknown,
             );
             status
         }
-        Ok(Work::Migrate { old, new }) => {
+        Ok(
+            Order {
+                work: Work::Migrate { old, new },
+                ..
+            },
+        ) => {
             match migrate_file(
                 rt, desk.held, old, new, &mut out, &mut notes, Unknown, Unknown,
             ) {

@@ -385,7 +385,27 @@ write 0 00 = a5
 inspect = 1
 printed = 1 lines
 printed 0 = refused 13 NoHeader
-told 0 = neither header is open: it is no image, or one that was never made whole
+told 0 = neither header is open: it is no image, or one whose making was never finished
+-- A gate of the journal that stands open, a count, and a byte of the other header: no making leaves these.
+write 32768 a5 = 00
+inspect = 1
+told 0 = neither header is open: it is no image, or one that is damaged or was never finished
+write 32768 00 = a5
+write 16 01 = 00
+inspect = 1
+told 0 = neither header is open: it is no image, or one that is damaged or was never finished
+write 16 00 = 01
+write 4097 01 = 00
+inspect = 1
+told 0 = neither header is open: it is no image, or one that is damaged or was never finished
+write 4097 00 = 01
+inspect = 1
+told 0 = neither header is open: it is no image, or one whose making was never finished
+-- A file of zeros.
+disk 33792 = 33792 bytes
+inspect = 1
+printed 0 = refused 13 NoHeader
+told 0 = neither header is open: it is no image, or one whose making was never finished
 -- The version.
 disk 33792 = 33792 bytes
 format 1 1 16 = formatted
@@ -587,6 +607,33 @@ inspect = 1
 printed = 1 lines
 printed 0 = refused 16 BadRecord
 told 0 = slot 7 of the journal: behind the run its command is 200, which isn't below 21
+
+# A count that was changed is believed, and warned of
+disk 33792 = 33792 bytes
+format 1 1 16 = formatted
+read element 0 / alloc i 1 / store 0 42 / fetch 0 / = 0 blocks, 1 parts, 3 requests
+serve = 0
+inspect = 0
+told = 0 lines
+write 20 01 = 00
+inspect = 0
+printed = 4 lines
+printed 2 = header 0 generation 1 area 0 count 4294967296
+printed 3 = journal 0 room 0
+told = 1 lines
+told 0 = slot 0 of the journal has command 0, where none below 4294967280 is left: the header in force was changed, or a later one was lost
+-- The least that may stand there, and one below it: 16 commands behind it fill the ring.
+write 20 00 = 01
+write 16 10 = 00
+inspect = 0
+told = 0 lines
+write 16 11 = 10
+inspect = 0
+told 0 = slot 0 of the journal has command 0, where none below 1 is left: the header in force was changed, or a later one was lost
+-- A slot that counts none follows in a group, and isn't looked at.
+write 32769 00 = 01
+inspect = 0
+told = 0 lines
 
 # A group of commands, and what may be wrong with it
 disk 33792 = 33792 bytes

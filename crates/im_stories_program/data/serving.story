@@ -312,7 +312,17 @@ read = 1 blocks, 1 parts, 65 requests
 serve = 1
 printed = 130 lines
 printed 129 = refused 3 WindowFull
-told 0 = a request of element 1: all 64 places of its window wait
+told 0 = a request of element 1: all 64 places of its window are taken, and none is given back before its oldest request, which waits, is answered
+-- One fetch that waits is enough, with 63 requests behind it that are answered.
+disk 43008 = 43008 bytes
+format 1 2 32 = formatted
+script setup / alloc x i 1 / element 1 / fetch 0 / = 4 lines
+repeat 64 fetch 9 / = 68 lines
+read = 1 blocks, 1 parts, 65 requests
+serve = 1
+printed = 65 lines
+printed 64 = refused 3 WindowFull
+told 0 = a request of element 1: all 64 places of its window are taken, and none is given back before its oldest request, which waits, is answered
 -- An image whose count of commands is the last that there is: no checkpoint makes room.
 disk 33792 = 33792 bytes
 format 1 1 16 = formatted
@@ -330,3 +340,42 @@ reason slots 15 = 15 slots: there may be 16 to 4096
 reason no memory = there is not enough memory
 reason in use = it is in use by another program
 reason place of element 3 = a place in a part of element 3 lies past the last address
+
+# A reason says what is wrong with a file
+reason there = there is a file of that name, and it is left as it is
+reason no folder = its folder isn't there
+reason one file = the old file and the new one are one file
+reason no permission = there is no permission for it
+reason fifo = it is no ordinary file
+reason input closed = standard input is closed
+-- What the system doesn't name is no word of the system's.
+reason output unknown = the output can't be written: a call of the system failed
+reason unsynced = a sync of it failed since this machine was started, so what is read of it may not be on the disk: mount its file system anew and remove the note, or restart the machine
+reason full disk new = the file can't be written: no space is left on the device; no image was made, and no file is left
+reason full disk old = the file can't be written: no space is left on the device; no image was made, and what the file held before is lost
+-- A sync that failed is told from a write or a read.
+reason sync failed = a sync of the file failed: a call of the system failed; what is read of it from now on may not be on the disk: mount its file system anew, or restart the machine, before it is opened again
+reason write failed = the file can't be written: no space is left on the device; the last command is there or not
+reason read failed = the file can't be read: a call of the system failed; the last command is there or not; the same command begins again
+
+# With --statuses a refusal ends by its kind
+status of in use = 4
+status of image closed = 5
+status of image unmade = 5
+status of image old = 5
+status of image current = 5
+status of image not blank = 5
+status of no folder = 5
+status of no permission = 5
+status of fifo = 5
+-- What else there is may be mended, or comes from the words.
+status of there = 1
+status of unsynced = 1
+status of sync failed = 1
+status of image unread = 1
+status of full disk new = 1
+status of output unknown = 1
+status of input closed = 1
+status of no memory = 1
+status of slots 15 = 1
+status of window full = 1

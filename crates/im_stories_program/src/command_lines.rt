@@ -2,7 +2,7 @@
 
 use crate::spelling::{add_text, add_word};
 use anyhow::{Result, anyhow};
-use im_program::{Job, WordFault, Work, read_words};
+use im_program::{Job, Order, WordFault, Work, read_words};
 use std::alloc::{AllocError, Global};
 
 /// What was said of the last bad command line.
@@ -51,6 +51,11 @@ fn add_work(said: &mut String, work: &Work) -> Result<(), AllocError> {
     }
 }
 
+fn add_order(said: &mut String, order: &Order) -> Result<(), AllocError> {
+    add_work(said, &order.work)?;
+    said.push_str(if order.statuses { ", by statuses" } else { "" })
+}
+
 /// The words of a command line, one a line.
 pub fn spelled(alloc: Global, words: &[&str]) -> Result<Vec<u8>> {
     let mut text = Vec::new(alloc);
@@ -82,7 +87,7 @@ impl CommandLine {
         let spelled = spelled(alloc, words)?;
         let texts = texts(alloc, spelled.as_slice())?;
         match read_words(alloc, texts.as_slice()) {
-            Ok(work) => add_work(said, &work)?,
+            Ok(order) => add_order(said, &order)?,
             Err(WordFault::NoMemory) => said.push_str("no memory")?,
             Err(WordFault::Bad(error)) => {
                 self.fault = format!(in alloc; "{error}")?;

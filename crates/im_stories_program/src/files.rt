@@ -5,7 +5,10 @@ use crate::command_lines::{spelled, texts};
 use crate::writers::{Notes, Paper};
 use anyhow::{Result, anyhow};
 use im_disk::Unknown;
-use im_program::{Terminals, Work, act_alone, format_file, inspect_file, read_words, serve_file};
+use im_program::{
+    Console, Order, Terminals, Work, act_alone, format_file, inspect_file, read_words, serve_file,
+    status_for,
+};
 use im_types::Limits;
 use std::{fs, io};
 
@@ -20,9 +23,16 @@ fn run(desk: &mut Desk, words: &[&str], said: &mut String) -> Result<()> {
     let alloc = desk.rt.alloc();
     let spelled = spelled(alloc, words)?;
     let texts = texts(alloc, spelled.as_slice())?;
-    let Ok(Work::Alone(job)) = read_words(alloc, texts.as_slice()) else {
+    let Ok(
+        Order {
+            work: Work::Alone(job),
+            statuses,
+        },
+    ) = read_words(alloc, texts.as_slice())
+    else {
         return Err(anyhow!("the words ask for no work of one thread"));
     };
+    let mut console = Console::new(desk.rt, desk.held, &Work::Alone(job), NOBODY);
     let mut out = Paper::new(alloc, usize::MAX);
     let mut nothing = b"".as_slice();
     let (status, _disk) = act_alone(
@@ -31,9 +41,10 @@ fn run(desk: &mut Desk, words: &[&str], said: &mut String) -> Result<()> {
         &job,
         &mut nothing,
         &mut out,
-        NOBODY,
+        &mut console,
         Unknown,
     );
+    let status = status_for(status, statuses, console.reason());
     desk.printed.set(out.into_text()?, Notes::new(alloc));
     Ok(write!(said, "{status}")?)
 }
@@ -56,9 +67,9 @@ fn attempt(desk: &mut Desk, words: &[&str], said: &mut String) -> Result<bool> {
         }
         ["inspect", image] => inspect_file(rt, held, image, &mut out, &mut notes, Unknown).is_ok(),
         ["format", image] => match Limits::new(1, 1, 16) {
-            Some(limits) => format_file(
-                rt, held, image, limits, false, &mut notes, Unknown,
-            ).is_ok(),
+            Some(limits) => {
+                format_file(rt, held, image, limits, false, &mut notes, Unknown).is_ok()
+            }
             None => false,
         },
         _ => return Ok(false),

@@ -5,15 +5,17 @@ use crate::Desk;
 use crate::images::Image;
 use crate::writers::{Notes, Paper};
 use anyhow::{Result, anyhow};
-use im_disk::{FuseDisk, Mode, OpenFault};
+use im_damage::Damage;
+use im_disk::{FuseDisk, Mode};
 use im_program::refuse;
 use im_report::inspect_on;
 use im_script::{Script, read_script};
 use im_serial::serial_on;
 use im_story::{address, element, number, place};
-use im_text::Reason;
+use im_text::{CallFault, PathFault, Reason};
 use im_types::{LAST, Refusal};
 use std::alloc::Global;
+use std::io::ErrorKind;
 
 // How the disk and the writer behave: the disk passes so many calls and then fails, the writer takes so many bytes.
 #[derive(Clone, Copy)]
@@ -106,18 +108,52 @@ fn refuse_memory(alloc: Global, desk: &mut Desk, said: &mut String) -> Result<()
     Ok(write!(said, "{status}")?)
 }
 
-// Tells what a reason says.
-fn add_reason(said: &mut String, words: &[&str]) -> Result<()> {
-    let reason = match words {
+// There is no space for what is written.
+const FULL: CallFault = CallFault::Write(ErrorKind::StorageFull);
+
+// The reason that these words name.
+fn reason_in(words: &[&str]) -> Result<Reason> {
+    Ok(match words {
         ["cells", count] => Reason::Cells(address(count)?),
         ["elements", count] => Reason::Elements(address(count)?),
         ["slots", count] => Reason::Slots(address(count)?),
         ["place", "of", "element", number] => Reason::Place(element(number)?),
         ["no", "memory"] => Reason::Memory,
-        ["in", "use"] => Reason::File(OpenFault::InUse, None),
+        ["in", "use"] => Reason::File(PathFault::InUse),
+        ["no", "folder"] => Reason::NewFile(PathFault::NoFolder),
+        ["one", "file"] => Reason::NewFile(PathFault::Same),
+        ["unsynced"] => Reason::File(PathFault::Unsynced),
+        ["no", "permission"] => Reason::File(PathFault::System(ErrorKind::PermissionDenied)),
+        ["output", "unknown"] => Reason::Output(ErrorKind::Uncategorized),
+        ["input", "closed"] => Reason::NoInput,
+        ["full", "disk", "new"] => Reason::Unmade(Some(FULL), false),
+        ["full", "disk", "old"] => Reason::Unmade(Some(FULL), true),
+        ["sync", "failed"] => Reason::Call(CallFault::Sync(ErrorKind::Uncategorized)),
+        ["write", "failed"] => Reason::Call(FULL),
+        ["read", "failed"] => Reason::NewCall(CallFault::Read(ErrorKind::Uncategorized)),
+        ["window", "full"] => Reason::Request(1, Refusal::WindowFull),
+        ["image", "closed"] => Reason::Image(Refusal::NoHeader, Damage::Closed),
+        ["image", "old"] => Reason::Image(Refusal::OldVersion, Damage::Unknown),
+        ["image", "current"] => Reason::Current,
+        ["image", "not", "blank"] => Reason::New(Refusal::NotBlank),
+        ["image", "unread"] => Reason::Image(Refusal::Device, Damage::Unknown),
+        ["there"] => Reason::File(PathFault::Exists),
+        ["fifo"] => Reason::File(PathFault::NotFile),
+        ["image", "unmade"] => Reason::Image(Refusal::NoHeader, Damage::Unmade),
         _ => return Err(anyhow!("no such reason")),
-    };
+    })
+}
+
+// Tells what a reason says.
+fn add_reason(said: &mut String, words: &[&str]) -> Result<()> {
+    let reason = reason_in(words)?;
     Ok(write!(said, "{reason}")?)
+}
+
+// Tells how a program ends that tells its refusals apart, by the reason of the refusal.
+fn add_status(said: &mut String, words: &[&str]) -> Result<()> {
+    let status = reason_in(words)?.status();
+    Ok(write!(said, "{status}")?)
 }
 
 /// Serves, or tells of the image. Whether the words ask for it.
@@ -156,6 +192,7 @@ pub fn tell(alloc: Global, desk: &mut Desk, words: &[&str], said: &mut String) -
             inspect(alloc, desk, Ends { bytes, ..ENDLESS }, said)?
         }
         ["reason", reason @ ..] => add_reason(said, reason)?,
+        ["status", "of", reason @ ..] => add_status(said, reason)?,
         ["refuse", "NoMemory"] => refuse_memory(alloc, desk, said)?,
         _ => return Ok(false),
     }

@@ -1,7 +1,7 @@
 //! Writers in memory, and who is told of the work beside its output.
 
 use anyhow::{Result, anyhow};
-use im_text::{Observer, Progress, Reason};
+use im_text::{Observer, Progress, Reason, Warning};
 use im_types::{Entry, Reply};
 use std::alloc::{AllocError, Global};
 use std::io;
@@ -109,5 +109,9 @@ impl Observer for Notes {
 
     fn refused(&mut self, reason: Reason) {
         let _noted = writeln!(self.text, "{reason}");
+    }
+
+    fn warned(&mut self, warning: Warning) {
+        let _noted = writeln!(self.text, "{warning}");
     }
 }

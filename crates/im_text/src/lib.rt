@@ -3,14 +3,18 @@
 
 mod diagnosis;
 mod ending;
+mod faults;
 mod lines;
 mod observer;
 mod reasons;
 mod replies;
+mod statuses;
 
 pub use diagnosis::diagnose;
 pub use ending::{end, finish, put_refusal};
+pub use faults::{CallFault, PathFault, Words};
 pub use lines::{BATCH, Lines, put_through};
-pub use observer::{Observer, Progress};
+pub use observer::{Observer, Progress, Warning};
 pub use reasons::Reason;
 pub use replies::{Waited, add_entry, add_op, kind_text, make_line, make_now, make_refusal};
+pub use statuses::{IN_USE, USELESS};

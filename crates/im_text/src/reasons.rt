@@ -1,7 +1,7 @@
 //! Why work is refused, for a person to read.
 
+use crate::faults::{CallFault, PathFault, Words};
 use im_damage::Damage;
-use im_disk::OpenFault;
 use im_script::ScriptFault;
 use im_types::{MAX_CELLS, MAX_ELEMENTS, MAX_SLOTS, MIN_SLOTS, Refusal};
 use std::fmt;
@@ -19,14 +19,22 @@ pub enum Reason {
     ScriptFile(ErrorKind),
     /// The script isn't in the grammar: at which line and word, and what was expected there.
     Script(ScriptFault),
-    /// The image's file can't be made or opened: with the system's reason, where it tells one.
-    File(OpenFault, Option<ErrorKind>),
+    /// Standard input, from which the script was to be read, was closed.
+    NoInput,
+    /// The image's file isn't made or opened.
+    File(PathFault),
+    /// No image was made of the image's file, as this failed of it; and whether an older file's bytes are lost by that.
+    Unmade(Option<CallFault>, bool),
+    /// A call on the image's file failed so, once it was open.
+    Call(CallFault),
     /// The file is no image, or one that is damaged, and where; or one that can't be read or written.
     Image(Refusal, Damage),
     /// The image to be moved on is none of the first version: it is of the layout in use.
     Current,
-    /// The new file of a migration can't be made or opened: with the system's reason, where it tells one.
-    NewFile(OpenFault, Option<ErrorKind>),
+    /// The new file of a migration isn't made or opened.
+    NewFile(PathFault),
+    /// A call on the new file of a migration failed so, once it was open.
+    NewCall(CallFault),
     /// The new file of a migration is no place for the image, or can't be read or written.
     New(Refusal),
     /// So many cells were asked for.
@@ -48,7 +56,8 @@ fn words(refusal: Refusal) -> &'static str {
     match refusal {
         Refusal::Gap => "its numbers have reached the last that there is",
         Refusal::NoElement => "the image has no such element",
-        Refusal::WindowFull => "all 64 places of its window wait",
+        Refusal::WindowFull =>
+            "all 64 places of its window are taken, and none is given back before its oldest request, which waits, is answered",
         Refusal::JournalFull => "the journal is full, and no checkpoint makes room",
         Refusal::Device =>
             "a call of the system failed on the image's file, and the last command is there or not",
@@ -84,17 +93,6 @@ fn new_words(refusal: Refusal) -> &'static str {
     }
 }
 
-// What there is at a path that can't be opened.
-fn file_words(kind: Option<ErrorKind>) -> &'static str {
-    match kind {
-        Some(ErrorKind::NotFound) => "there is no such file",
-        Some(ErrorKind::PermissionDenied) => "there is no permission to open it",
-        Some(ErrorKind::IsADirectory) => "it is a folder",
-        Some(ErrorKind::OutOfMemory) => "there is not enough memory",
-        _ => "a call of the system failed",
-    }
-}
-
 impl Reason {
     /// The refusal that is printed for it, if one is.
     pub fn refusal(&self) -> Option<Refusal> {
@@ -103,8 +101,10 @@ impl Reason {
             Reason::Output(_) => None,
             Reason::ScriptFile(ErrorKind::OutOfMemory) => Some(Refusal::NoMemory),
             Reason::Script(fault) => Some(fault.refusal()),
-            Reason::ScriptFile(_) | Reason::Block(_) | Reason::Place(_) => Some(Refusal::BadScript),
-            Reason::File(_, _) | Reason::NewFile(_, _) => Some(Refusal::Device),
+            Reason::ScriptFile(_) | Reason::NoInput => Some(Refusal::BadScript),
+            Reason::Block(_) | Reason::Place(_) => Some(Refusal::BadScript),
+            Reason::File(_) | Reason::NewFile(_) | Reason::Unmade(_, _) => Some(Refusal::Device),
+            Reason::Call(_) | Reason::NewCall(_) => Some(Refusal::Device),
             Reason::Current => Some(Refusal::BadHeader),
             Reason::New(refusal) => Some(refusal),
             Reason::Cells(_) | Reason::Elements(_) | Reason::Slots(_) => Some(Refusal::BadLimits),
@@ -121,24 +121,60 @@ impl Reason {
                 | Reason::Script(_)
                 | Reason::Block(_)
                 | Reason::Place(_)
-                | Reason::NewFile(_, _)
+                | Reason::NewFile(_)
+                | Reason::NewCall(_)
                 | Reason::New(_)
         )
     }
+}
+
+// Adds what failed while an image was made, and what is there now.
+fn add_unmade<W: fmt::Write>(
+    f: &mut Formatter<W>,
+    fault: Option<CallFault>,
+    is_lost: bool,
+) -> fmt::Result {
+    match fault {
+        Some(fault) => write!(f, "{fault}")?,
+        None => f.write_str("a call of the system failed")?,
+    }
+    f.write_str(if is_lost {
+        "; no image was made, and what the file held before is lost"
+    } else {
+        "; no image was made, and no file is left"
+    })
+}
+
+// Adds which call failed, and what is to be done then.
+fn add_call<W: fmt::Write>(f: &mut Formatter<W>, fault: CallFault) -> fmt::Result {
+    write!(f, "{fault}")?;
+    f.write_str(match fault {
+        CallFault::Sync(_) =>
+            "; what is read of it from now on may not be on the disk: mount its file system anew, or restart the machine, before it is opened again",
+        _ => "; the last command is there or not",
+    })
 }
 
 impl Display for Reason {
     fn fmt<W: fmt::Write>(&self, f: &mut Formatter<W>) -> fmt::Result {
         match *self {
             Reason::Memory => write!(f, "there is not enough memory"),
-            Reason::Output(kind) => write!(f, "the output can't be written: {kind}"),
-            Reason::ScriptFile(kind) => write!(f, "the script can't be read: {kind}"),
-            Reason::Script(fault) => write!(f, "{fault}"),
-            Reason::File(OpenFault::InUse, _) | Reason::NewFile(OpenFault::InUse, _) => {
-                write!(f, "it is in use by another program")
+            Reason::Output(kind) => {
+                let words = Words(kind);
+                write!(f, "the output can't be written: {words}")
             }
-            Reason::File(OpenFault::Device, kind) | Reason::NewFile(OpenFault::Device, kind) => {
-                f.write_str(file_words(kind))
+            Reason::ScriptFile(kind) => {
+                let words = Words(kind);
+                write!(f, "the script can't be read: {words}")
+            }
+            Reason::NoInput => f.write_str("standard input is closed"),
+            Reason::Script(fault) => write!(f, "{fault}"),
+            Reason::File(fault) | Reason::NewFile(fault) => write!(f, "{fault}"),
+            Reason::Unmade(fault, is_lost) => add_unmade(f, fault, is_lost),
+            Reason::Call(fault) => add_call(f, fault),
+            Reason::NewCall(fault) => {
+                add_call(f, fault)?;
+                f.write_str("; the same command begins again")
             }
             Reason::Current => write!(f, "it is an image of this version: it needs no migration"),
             Reason::New(refusal) => f.write_str(new_words(refusal)),

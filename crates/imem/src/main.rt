@@ -1,11 +1,17 @@
 //! The program: it does what its command line asks for.
 #![tactic(auto)]
 
+mod ending;
+
 ghost use Rattle.std.specs.Prelude.{◌≡◌, ◌≤◌};
 
+use crate::ending::Ending;
 use im_disk::Unknown;
 use im_listening::Listener;
-use im_program::{Descriptors, Job, Terminals, WordFault, Work, act, read_words, refuse};
+use im_program::{
+    Console, Descriptors, Job, Order, Terminals, WordFault, Work, act, read_words, refuse,
+    status_for,
+};
 use im_types::Refusal;
 use std::alloc::{AllocError, Global};
 use std::env::{self, Env};
@@ -44,19 +50,27 @@ fn work_on<
         + 'static,
     I: BufRead + Drop + Send + 'static,
     W: Write,
->(rt: &R, held: &Descriptors, work: &Work, out: &mut W, terminals: Terminals) -> u8
+>(rt: &R, held: &Descriptors, work: &Work, out: &mut W, is_watched: bool) -> u8
     ensures { result ≤ 3 }
 {
-    let mut listener = Listener::new(*rt, rt.reader());
-    if let Work::Alone(Job::Serve { .. }) = work {
+    let mut listener = Listener::new(*rt, Ending::new(rt.reader()));
+    if let Work::Alone(Job::Serve { .. }) = order.work {
         listener.begin(rt.alloc());
     }
     match BufReader::new(rt.alloc(), listener) {
         Ok(mut input) => {
+            let mut console = Console::new(rt, held, &order.work, terminals);
             let (status, _disk, _old) = act(
-                rt, held, work, &mut input, out, terminals, Unknown, Unknown,
+                rt,
+                held,
+                &order.work,
+                &mut input,
+                out,
+                &mut console,
+                Unknown,
+                Unknown,
             );
-            status
+            status_for(status, order.statuses, console.reason())
         }
         Err(_) => refuse(rt.alloc(), Refusal::NoMemory, out),
     }
@@ -78,11 +92,11 @@ fn run<
         + 'static,
     I: BufRead + Drop + Send + 'static,
     W: Write,
->(rt: &R, held: &Descriptors, words: &[&str], out: &mut W, terminals: Terminals) -> u8
+>(rt: &R, held: &Descriptors, words: &[&str], out: &mut W, is_watched: bool) -> u8
     ensures { result ≤ 3 }
 {
     match read_words(rt.alloc(), words) {
-        Ok(work) => work_on(rt, held, &work, out, terminals),
+        Ok(order) => work_on(rt, held, &order, out, terminals),
         Err(WordFault::NoMemory) => refuse(rt.alloc(), Refusal::NoMemory, out),
         Err(WordFault::Bad(error)) => {
             let printed = error.print(rt);
@@ -129,7 +143,7 @@ fn start<
     I: BufRead + Drop + Send + 'static,
     W: Write,
 >(rt: &R, held: &Descriptors, out: &mut W, terminals: Terminals) -> u8
-    ensures { result ≤ 3 }
+    ensures { result ≤ 5 }
 {
     let words = match env::args(rt) {
         Ok(words) => words,

@@ -1,10 +1,6 @@
-use Rattle.std.proofs.Common.{rules, ◌≡◌, ◌∙◌, ap₂, codes}
-use Rattle.clap.specs.Words.{app_of, new_app, with_rule}
-use Rattle.im_program.specs.Words.{path_rule}
+use Rattle.std.proofs.Common.{◌∙◌, ap₂}
+use Rattle.clap.specs.Words.{with_rule}
 use Rattle.im_program.proofs.words.serve_command.Goals as goal
 
 pub returns-clause-app : goal.returns-clause-app
-returns-clause-app c =
-    let empty : app_of c.after_help-empty.result ≡ new_app (codes "serve") = search rules in
-    let one : app_of c.in_ok-one.one ≡ with_rule (new_app (codes "serve")) (path_rule (codes "IMAGE")) = c.in_ok-one.ensures.shape c.path_argument-image.ensures.local ∙ ap₂ with_rule empty c.path_argument-image.ensures.rule in
-    c.in_ok-two.ensures.shape c.flag_option-watch.ensures.local ∙ ap₂ with_rule one c.flag_option-watch.ensures.rule
+returns-clause-app c = c.in_ok-one.ensures.shape c.flag_option-watch.ensures.local ∙ ap₂ with_rule c.in_ok-image.ensures.app c.flag_option-watch.ensures.rule

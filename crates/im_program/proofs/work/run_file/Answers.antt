@@ -9,10 +9,10 @@ run_on-ended-requires-send-D g c κs within =
     let disk = FileDisk-row-send (param 1 g.row.S) g.S.Start c.type_bounds.send-S in
     search (sendable, crosses) depth 40 fits 30000
 
-pub returns-in-Ok-open-clause-ran : goal.returns-in-Ok-open-clause-ran
-returns-in-Ok-open-clause-ran g c = λ honest. record {
-  old = c.in-Ok-open.disk;
-  begins = c.in-Ok-open.ensures.now;
-  none = c.in-Ok-open.ensures.past;
+pub returns-in-Ok-open_image-clause-ran : goal.returns-in-Ok-open_image-clause-ran
+returns-in-Ok-open_image-clause-ran g c = λ honest. record {
+  old = c.in-Ok-open_image.disk;
+  begins = c.in-Ok-open_image.ensures.now;
+  none = c.in-Ok-open_image.ensures.past;
   run = c.run_on-ended.ensures.run honest;
 }

@@ -1,0 +1,29 @@
+//! How the program ends.
+ghost use Rattle.std.specs.Prelude.{◌≡◌, ◌≢◌, ◌⊎◌, ◌≤◌, Some, true, false};
+ghost use Rattle.im_damage.specs.declared.damage.Damage.{Damage};
+ghost use Rattle.im_text.specs.Statuses.{status_of_image};
+ghost use Rattle.im_types.specs.declared.refusals.Refusal.{Refusal};
+
+use im_text::{PathFault, Reason};
+
+/// The status that the program ends with, by that of its work and the reason that was told last: the same, but where the
+/// status is to tell refusals apart ([`Reason::status`]) and something was refused.
+pub fn status_for(status: u8, statuses: bool, reason: Option<Reason>) -> u8
+    ensures same { (statuses ≡ false) ⊎ (status ≢ 1) → result ≡ status }
+    ensures few { status ≤ 3 → result ≤ 5 }
+    ensures range { status ≡ 1 → (result ≡ 1) ⊎ (result ≡ 4) ⊎ (result ≡ 5) }
+    ensures in_use { statuses ≡ true → status ≡ 1 → reason ≡ Some (Reason.File PathFault.InUse) → result ≡ 4 }
+    ensures image { (refusal : Refusal) (damage : Damage) → statuses ≡ true → status ≡ 1
+        → reason ≡ Some (Reason.Image refusal damage) → result ≡ status_of_image refusal }
+{
+    match reason {
+        Some(reason) => {
+            if statuses && status == 1 {
+                reason.status()
+            } else {
+                status
+            }
+        }
+        None => status,
+    }
+}

@@ -1,0 +1,31 @@
+-- How a program ends that tells its refusals apart by its status. (Own.)
+use Rattle.std.specs.Prelude.{ℕ}
+use Rattle.im_types.specs.declared.refusals.Refusal.{Refusal}
+use Rattle.im_types.specs.declared.refusals.Refusal.TheVariants.{Gap, Forgotten, WindowFull, Mismatch, NoElement, NotAnswered, JournalFull, Device, Failed, NoMemory, TraceFull, WrongLength, NoHeader, BadHeader, BadPage, BadRecord, BadLimits, BadScript, Stalled, OffPlan, OldVersion, NotBlank, BadPlan, PaneGone}
+
+-- 5 where a file is no image, or a damaged or an old one, or no place for one: trying again is of no use; else 1
+abbrev pub status_of_image : Refusal → ℕ
+status_of_image Gap = 1
+status_of_image Forgotten = 1
+status_of_image WindowFull = 1
+status_of_image Mismatch = 1
+status_of_image NoElement = 1
+status_of_image NotAnswered = 1
+status_of_image JournalFull = 1
+status_of_image Device = 1
+status_of_image Failed = 1
+status_of_image NoMemory = 1
+status_of_image TraceFull = 1
+status_of_image WrongLength = 5
+status_of_image NoHeader = 5
+status_of_image BadHeader = 5
+status_of_image BadPage = 5
+status_of_image BadRecord = 5
+status_of_image BadLimits = 1
+status_of_image BadScript = 1
+status_of_image Stalled = 1
+status_of_image OffPlan = 1
+status_of_image OldVersion = 5
+status_of_image NotBlank = 5
+status_of_image BadPlan = 1
+status_of_image PaneGone = 1

@@ -1,0 +1,74 @@
+//! How a program ends that tells its refusals apart by its status.
+ghost use Rattle.std.specs.Prelude.{◌≡◌, ◌⊎◌};
+ghost use Rattle.im_types.specs.declared.refusals.Refusal.{Refusal};
+ghost use Rattle.im_damage.specs.declared.damage.Damage.{Damage};
+ghost use Rattle.im_text.specs.Statuses.{status_of_image};
+
+use crate::faults::PathFault;
+use crate::reasons::Reason;
+use im_types::Refusal;
+use std::io::ErrorKind;
+
+/// The status of a refusal that may be another one when it is tried again: a file is in use by another program.
+pub const IN_USE: u8 = 4;
+
+/// The status of a refusal that is the same whenever it is tried again: there is no image, or a damaged or an old one, or
+/// there is no permission.
+pub const USELESS: u8 = 5;
+
+// By what an image is refused with.
+fn of_image(refusal: Refusal) -> u8
+    ensures { result ≡ status_of_image refusal }
+{
+    match refusal {
+        Refusal::WrongLength | Refusal::NoHeader | Refusal::BadHeader => USELESS,
+        Refusal::BadPage | Refusal::BadRecord => USELESS,
+        Refusal::OldVersion | Refusal::NotBlank => USELESS,
+        _ => 1,
+    }
+}
+
+// By what the system says of a file that isn't opened.
+fn of_system(kind: ErrorKind) -> u8
+    ensures { (result ≡ 1) ⊎ (result ≡ 5) }
+{
+    match kind {
+        ErrorKind::NotFound | ErrorKind::PermissionDenied | ErrorKind::IsADirectory => USELESS,
+        ErrorKind::NotADirectory | ErrorKind::ReadOnlyFilesystem => USELESS,
+        ErrorKind::FilesystemLoop | ErrorKind::InvalidFilename | ErrorKind::InvalidInput => USELESS,
+        _ => 1,
+    }
+}
+
+// By why a file isn't made or opened.
+fn of_file(fault: PathFault) -> u8
+    ensures in_use { fault ≡ PathFault.InUse → result ≡ 4 }
+    ensures range { (result ≡ 1) ⊎ (result ≡ 4) ⊎ (result ≡ 5) }
+{
+    match fault {
+        PathFault::InUse => IN_USE,
+        PathFault::NotFile | PathFault::IsFolder => USELESS,
+        PathFault::NoFolder | PathFault::EmptyPath => USELESS,
+        PathFault::System(kind) => of_system(kind),
+        PathFault::Exists | PathFault::Unsynced => 1,
+        PathFault::Same | PathFault::Sync(_) => 1,
+    }
+}
+
+impl Reason {
+    /// The status by which a program ends that tells its refusals apart: [`IN_USE`] where a file is in use by another
+    /// program, [`USELESS`] where there is no image, a damaged or an old one, no file, or no permission; else 1.
+    pub fn status(&self) -> u8
+        ensures in_use { (self.now ≡ Reason.File PathFault.InUse) ⊎ (self.now ≡ Reason.NewFile PathFault.InUse) → result ≡ 4 }
+        ensures image { (refusal : Refusal) (damage : Damage) → self.now ≡ Reason.Image refusal damage → result ≡ status_of_image refusal }
+        ensures range { (result ≡ 1) ⊎ (result ≡ 4) ⊎ (result ≡ 5) }
+    {
+        match *self {
+            Reason::File(fault) | Reason::NewFile(fault) => of_file(fault),
+            Reason::Image(refusal, _) | Reason::New(refusal) => of_image(refusal),
+            Reason::ScriptFile(kind) => of_system(kind),
+            Reason::Current => USELESS,
+            _ => 1,
+        }
+    }
+}
