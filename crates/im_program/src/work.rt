@@ -32,14 +32,14 @@ use im_image::image_length;
 use im_listening::Ear;
 use im_report::inspect_on;
 use im_run::{STALLED, run_on};
-use im_script::{Script, ScriptFault, read_script, read_script_with_glances};
+use im_script::{Script, ScriptFault, TextFault, read_script, read_script_with_glances, read_text};
 use im_serial::serial_on;
 use im_serving::{Open, Watcher};
 use im_text::{Observer, PathFault, Reason, Warning, put_refusal};
 use im_types::{Limits, MAX_CELLS, MAX_ELEMENTS, Refusal};
 use std::alloc::Global;
-use std::fs::{self, File};
-use std::io::{self, BufRead, Eprint, ErrorKind, Input, Read, Write};
+use std::fs::File;
+use std::io::{BufRead, Eprint, ErrorKind, Input, Write};
 use std::rt::Files;
 use std::sync::Wait;
 use std::thread::Threads;
@@ -152,16 +152,17 @@ fn told<N: Observer>(refusal: Refusal, observer: &mut N) -> Refusal
 }
 
 // The text of a script: that of a file, or of standard input where the path is `-`.
-fn read_text<R: Files<File = File> + AllocGlobal + Input>(
+fn text_of<R: Files<File = File> + AllocGlobal + Input>(
     rt: &R,
     script: &str,
-) -> io::Result<Vec<u8>> {
-    if script != "-" {
-        return fs::read(rt, script);
+) -> Result<Vec<u8>, TextFault> {
+    if script == "-" {
+        return read_text(rt.alloc(), &mut rt.reader());
     }
-    let mut text = Vec::new(rt.alloc());
-    rt.reader().read_to_end(&mut text)?;
-    Ok(text)
+    match File::open(rt, script) {
+        Ok(mut file) => read_text(rt.alloc(), &mut file),
+        Err(error) => Err(TextFault::Unread(error.kind())),
+    }
 }
 
 // The refusal of a script. The observer is told why.
@@ -189,9 +190,10 @@ fn read_file<R: Files<File = File> + AllocGlobal + Input, N: Observer>(
     if script == "-" && held.stands_for(0) {
         return Err(refuse_script(Reason::NoInput, observer));
     }
-    match read_text(rt, script) {
+    match text_of(rt, script) {
         Ok(text) => Ok(text),
-        Err(error) => Err(refuse_script(Reason::ScriptFile(error.kind()), observer)),
+        Err(TextFault::Bad(fault)) => Err(refuse_script(Reason::Script(fault), observer)),
+        Err(TextFault::Unread(kind)) => Err(refuse_script(Reason::ScriptFile(kind), observer)),
     }
 }
 
@@ -625,22 +627,15 @@ fn act_at_once<
         S.first disk (W.contents out.old) (W.contents out.new) result.0) }
     ensures none { IfNone result.1 (result.0 ≡ 1) }
 {
-    let mut console = Console::of(rt, image, script, console);
-    let watch = Watch::new(rt, console);
-    match run_file(
-        rt,
-        held,
-        image,
-        script,
-        planned,
-        &watch,
-        out,
-        &mut console,
-        start,
+    let watch = Watch::new(rt, console.is_watched());
+    let (status, disk) = match run_file(
+        rt, held, image, script, planned, &watch, out, console, start,
     ) {
         Ok((status, disk)) => (status, Some(disk)),
         Err(refusal) => (refuse(rt.alloc(), refusal, out), None),
-    }
+    };
+    settle(rt, image, &disk, console);
+    (status, disk)
 }
 
 /// Moves an image on to a new file. The status, and the disks of the new file and of the old one, where both were opened.

@@ -1,11 +1,8 @@
 //! The program: it does what its command line asks for.
 #![tactic(auto)]
 
-mod ending;
-
 ghost use Rattle.std.specs.Prelude.{◌≡◌, ◌≤◌};
 
-use crate::ending::Ending;
 use im_disk::Unknown;
 use im_listening::Listener;
 use im_program::{
@@ -50,10 +47,10 @@ fn work_on<
         + 'static,
     I: BufRead + Drop + Send + 'static,
     W: Write,
->(rt: &R, held: &Descriptors, work: &Work, out: &mut W, is_watched: bool) -> u8
-    ensures { result ≤ 3 }
+>(rt: &R, held: &Descriptors, order: &Order, out: &mut W, terminals: Terminals) -> u8
+    ensures { result ≤ 5 }
 {
-    let mut listener = Listener::new(*rt, Ending::new(rt.reader()));
+    let mut listener = Listener::new(*rt, rt.reader());
     if let Work::Alone(Job::Serve { .. }) = order.work {
         listener.begin(rt.alloc());
     }
@@ -92,8 +89,8 @@ fn run<
         + 'static,
     I: BufRead + Drop + Send + 'static,
     W: Write,
->(rt: &R, held: &Descriptors, words: &[&str], out: &mut W, is_watched: bool) -> u8
-    ensures { result ≤ 3 }
+>(rt: &R, held: &Descriptors, words: &[&str], out: &mut W, terminals: Terminals) -> u8
+    ensures { result ≤ 5 }
 {
     match read_words(rt.alloc(), words) {
         Ok(order) => work_on(rt, held, &order, out, terminals),
