@@ -59,10 +59,19 @@ impl<'a> Scene for Desk<'a> {
     }
 }
 
+// The numbers of the standard streams, where they can be held.
+fn held(rt: &HostRuntime) -> Option<Descriptors> {
+    Descriptors::hold(rt, &rt.stdin(), &rt.stdout(), &rt.stderr())
+}
+
+fn walk(rt: &HostRuntime, held: &Descriptors) -> u8 {
+    let mut desk = Desk::new(rt, held);
+    im_story::walk_files(rt, &mut desk).unwrap_or(1)
+}
+
 fn main(rt: HostRuntime) -> ExitCode {
-    let Some(held) = Descriptors::hold(&rt, &rt.stdin(), &rt.stdout(), &rt.stderr()) else {
-        return ExitCode::from(1);
-    };
-    let mut desk = Desk::new(&rt, &held);
-    ExitCode::from(im_story::walk_files(&rt, &mut desk).unwrap_or(1))
+    match held(&rt) {
+        Some(held) => ExitCode::from(walk(&rt, &held)),
+        None => ExitCode::from(1),
+    }
 }
