@@ -28,6 +28,10 @@ pub fn later(command: Command, more: u64) -> Command {
     }
 }
 
+fn serve_one(engines: &mut Engines, command: Command, said: &mut String) -> Result<()> {
+    Ok(add_outcome(said, serve(engines, command)?)?)
+}
+
 // Serves a command under so many numbers, one after another.
 fn serve_all(engines: &mut Engines, times: u64, first: Command, said: &mut String) -> Result<()> {
     engines.answers.clear();
@@ -40,15 +44,9 @@ fn serve_all(engines: &mut Engines, times: u64, first: Command, said: &mut Strin
 
 /// Serves the command that the words name, or so many of them under numbers that follow one another:
 /// `16 times 1.1 fetch 0`.
-pub fn tell(engines: &mut Engines, words: &[&str], said: &mut String) -> Result<bool> {
+pub fn tell(engines: &mut Engines, words: &[&str], said: &mut String) -> Result<()> {
     match words {
-        [times, "times", rest @ ..] => {
-            serve_all(engines, number(times)?, command(rest)?, said)?;
-        }
-        _ => {
-            let answer = serve(engines, command(words)?)?;
-            add_outcome(said, answer)?;
-        }
+        [times, "times", rest @ ..] => serve_all(engines, number(times)?, command(rest)?, said),
+        _ => serve_one(engines, command(words)?, said),
     }
-    Ok(true)
 }

@@ -6,17 +6,21 @@ use anyhow::{Result, anyhow};
 use im_disk::MemDisk;
 use im_engine::Engine;
 use im_image::{PAGE, area_pages, encode};
-use im_story::{add_refusal, place};
+use im_story::{add_refusal, place, told};
 use im_types::{Limits, Refusal};
-use std::alloc::Global;
+use std::alloc::{AllocError, Global};
+
+fn add_found(said: &mut String, engine: &Engine<MemDisk>) -> Result<(), AllocError> {
+    let (count, room) = (engine.count(), engine.room());
+    write!(said, "count {count} room {room}")
+}
 
 // Adds what an opening comes to: its count and its room, or why it was refused.
-fn add_opening(alloc: Global, disk: MemDisk, said: &mut String) -> Result<()> {
+fn add_opening(alloc: Global, disk: MemDisk, said: &mut String) -> Result<(), AllocError> {
     match Engine::open(alloc, disk) {
-        Ok(engine) => write!(said, "count {} room {}", engine.count(), engine.room())?,
-        Err((refusal, _disk)) => add_refusal(said, refusal)?,
+        Ok(engine) => add_found(said, &engine),
+        Err((refusal, _disk)) => add_refusal(said, refusal),
     }
-    Ok(())
 }
 
 // Why an opening was refused, if it was.
@@ -43,7 +47,7 @@ impl Rows {
     }
 
     // The next opening, and what it is of.
-    fn add(&mut self, of: usize, refusal: Option<Refusal>) -> Result<()> {
+    fn add(&mut self, of: usize, refusal: Option<Refusal>) -> Result<(), AllocError> {
         if self.last == Some(refusal) {
             return Ok(());
         }
@@ -54,9 +58,8 @@ impl Rows {
             Some(refusal) => add_refusal(&mut self.said, refusal)?,
             None => self.said.push_str("opened")?,
         }
-        write!(self.said, " from {of}")?;
         self.last = Some(refusal);
-        Ok(())
+        write!(self.said, " from {of}")
     }
 }
 
@@ -71,102 +74,179 @@ fn put_each(disk: &mut MemDisk, words: &[&str]) -> Result<()> {
     Ok(())
 }
 
-// Opens a copy of the closed file with these bytes in it.
-fn open_with(engines: &Engines, alloc: Global, words: &[&str], said: &mut String) -> Result<()> {
-    let disk = engines.disk()?;
-    let mut other = copy(alloc, disk, disk.bytes().len())?;
-    put_each(&mut other, words)?;
-    add_opening(alloc, other, said)
+// The disk into which something was put.
+fn if_put(disk: MemDisk, put: Result<()>) -> Result<MemDisk> {
+    match put {
+        Ok(()) => Ok(disk),
+        Err(error) => Err(error),
+    }
 }
 
-// What copies with a byte at one place come to, for each of these bytes.
-fn told_at(engines: &Engines, alloc: Global, at: usize, bytes: &[&str]) -> Result<String> {
-    let disk = engines.disk()?;
-    let mut said = String::new(alloc);
+// A copy of a file with these bytes in it.
+fn copy_with(alloc: Global, disk: &MemDisk, words: &[&str]) -> Result<MemDisk> {
+    let mut other = copy(alloc, disk, disk.bytes().len())?;
+    let done = put_each(&mut other, words);
+    if_put(other, done)
+}
+
+// A copy of a file with this byte at a place.
+fn copy_at(alloc: Global, disk: &MemDisk, at: usize, byte: u8) -> Result<MemDisk> {
+    let mut other = copy(alloc, disk, disk.bytes().len())?;
+    let done = put(&mut other, at, &[byte]);
+    if_put(other, done)
+}
+
+// Opens a copy of the closed file with these bytes in it.
+fn open_with(engines: &Engines, alloc: Global, words: &[&str], said: &mut String) -> Result<()> {
+    Ok(add_opening(alloc, copy_with(alloc, engines.disk()?, words)?, said)?)
+}
+
+// Adds what copies with a byte at one place come to, for each of these bytes.
+fn add_at(
+    said: &mut String,
+    alloc: Global,
+    disk: &MemDisk,
+    at: usize,
+    bytes: &[&str],
+) -> Result<()> {
     for byte in bytes {
-        let mut other = copy(alloc, disk, disk.bytes().len())?;
-        put(&mut other, at, &[hex(byte)?])?;
         if !said.as_str().is_empty() {
             said.push_str(", ")?;
         }
-        add_opening(alloc, other, &mut said)?;
+        add_opening(alloc, copy_at(alloc, disk, at, hex(byte)?)?, said)?;
     }
-    Ok(said)
+    Ok(())
+}
+
+// A text that was told, if it was.
+fn if_told(said: String, told: Result<()>) -> Result<String> {
+    match told {
+        Ok(()) => Ok(said),
+        Err(error) => Err(error),
+    }
+}
+
+// What copies with a byte at one place come to, for each of these bytes.
+fn told_at(alloc: Global, disk: &MemDisk, at: usize, bytes: &[&str]) -> Result<String> {
+    let mut said = String::new(alloc);
+    let told = add_at(&mut said, alloc, disk, at, bytes);
+    if_told(said, told)
+}
+
+// Whether a text is the first one.
+fn is_first(told: Result<String>, first: &str) -> Result<bool> {
+    Ok(told?.as_str() == first)
+}
+
+// Sees that they come to the same at each place from one to another.
+fn are_same_at(
+    alloc: Global,
+    disk: &MemDisk,
+    (from, to): (usize, usize),
+    bytes: &[&str],
+    first: &str,
+) -> Result<()> {
+    for at in from..to.saturating_add(1) {
+        if !is_first(told_at(alloc, disk, at, bytes), first)? {
+            return Err(anyhow!("not the same at {at}"));
+        }
+    }
+    Ok(())
 }
 
 // Tells what they come to, the same at each place from one to another.
 fn tell_places(
-    engines: &Engines,
+    disk: &MemDisk,
     alloc: Global,
     (from, to): (usize, usize),
     bytes: &[&str],
     said: &mut String,
 ) -> Result<()> {
-    let first = told_at(engines, alloc, from, bytes)?;
-    for at in from..to.saturating_add(1) {
-        let told = told_at(engines, alloc, at, bytes)?;
-        if told.as_str() != first.as_str() {
-            return Err(anyhow!("not the same at {at}"));
-        }
-    }
-    Ok(said.push_str(first.as_str())?)
+    let first = told_at(alloc, disk, from, bytes)?;
+    said.push_str(first.as_str())?;
+    are_same_at(alloc, disk, (from, to), bytes, first.as_str())
 }
 
 // What copies of each length come to, longer ones by zeros.
-fn tell_lengths(engines: &Engines, alloc: Global, upto: usize, said: &mut String) -> Result<()> {
-    let disk = engines.disk()?;
-    let mut rows = Rows::none(alloc);
+fn add_lengths(rows: &mut Rows, disk: &MemDisk, alloc: Global, upto: usize) -> Result<()> {
     for length in 0..upto.saturating_add(1) {
         rows.add(length, refusal_of(alloc, copy(alloc, disk, length)?))?;
     }
+    Ok(())
+}
+
+fn tell_lengths(disk: &MemDisk, alloc: Global, upto: usize, said: &mut String) -> Result<()> {
+    let mut rows = Rows::none(alloc);
+    add_lengths(&mut rows, disk, alloc, upto)?;
     Ok(said.push_str(rows.said.as_str())?)
 }
 
 // What copies with each value of the byte at a place come to.
+fn add_values(rows: &mut Rows, alloc: Global, disk: &MemDisk, at: usize) -> Result<()> {
+    for value in 0..=255u8 {
+        let refusal = refusal_of(alloc, copy_at(alloc, disk, at, value)?);
+        rows.add(value as usize, refusal)?;
+    }
+    Ok(())
+}
+
 fn told_of_values(alloc: Global, disk: &MemDisk, at: usize) -> Result<String> {
     let mut rows = Rows::none(alloc);
-    for value in 0..=255u8 {
-        let mut other = copy(alloc, disk, disk.bytes().len())?;
-        put(&mut other, at, &[value])?;
-        rows.add(value as usize, refusal_of(alloc, other))?;
+    let told = add_values(&mut rows, alloc, disk, at);
+    if_told(rows.said, told)
+}
+
+// Sees that they come to the same at each place behind one, up to another.
+fn are_same_values(
+    alloc: Global,
+    disk: &MemDisk,
+    (from, to): (usize, usize),
+    first: &str,
+) -> Result<()> {
+    for before in from..to {
+        let at = before.saturating_add(1);
+        if !is_first(told_of_values(alloc, disk, at), first)? {
+            return Err(anyhow!("not the same at {at}"));
+        }
     }
-    Ok(rows.said)
+    Ok(())
 }
 
 // Tells what they come to, the same at each place from one to another.
 fn tell_values(
-    engines: &Engines,
+    disk: &MemDisk,
     alloc: Global,
     (from, to): (usize, usize),
     said: &mut String,
 ) -> Result<()> {
-    let first = told_of_values(alloc, engines.disk()?, from)?;
-    for before in from..to {
-        let at = before.saturating_add(1);
-        if told_of_values(alloc, engines.disk()?, at)?.as_str() != first.as_str() {
-            return Err(anyhow!("not the same at {at}"));
-        }
-    }
-    Ok(said.push_str(first.as_str())?)
+    let first = told_of_values(alloc, disk, from)?;
+    said.push_str(first.as_str())?;
+    are_same_values(alloc, disk, (from, to), first.as_str())
 }
 
 // What a file of so many zeros comes to.
 fn told_of_zeros(alloc: Global, length: usize) -> Result<String> {
+    let disk = MemDisk::new(alloc, length)?;
     let mut said = String::new(alloc);
-    add_opening(alloc, MemDisk::new(alloc, length)?, &mut said)?;
+    add_opening(alloc, disk, &mut said)?;
     Ok(said)
 }
 
-// Tells what files of zeros come to, the same for each length from one to another.
-fn tell_zeros(alloc: Global, from: usize, to: usize, said: &mut String) -> Result<()> {
-    let first = told_of_zeros(alloc, from)?;
+// Sees that files of zeros come to the same for each length from one to another.
+fn are_same_zeros(alloc: Global, (from, to): (usize, usize), first: &str) -> Result<()> {
     for length in from..to.saturating_add(1) {
-        let told = told_of_zeros(alloc, length)?;
-        if told.as_str() != first.as_str() {
+        if !is_first(told_of_zeros(alloc, length), first)? {
             return Err(anyhow!("not the same at {length}"));
         }
     }
-    Ok(said.push_str(first.as_str())?)
+    Ok(())
+}
+
+// Tells what they come to.
+fn tell_zeros(alloc: Global, (from, to): (usize, usize), said: &mut String) -> Result<()> {
+    let first = told_of_zeros(alloc, from)?;
+    said.push_str(first.as_str())?;
+    are_same_zeros(alloc, (from, to), first.as_str())
 }
 
 // Keeps the pages that show the engine's memory.
@@ -185,6 +265,15 @@ fn keep_pages(engines: &mut Engines, alloc: Global, said: &mut String) -> Result
     Ok(write!(said, "{pages}")?)
 }
 
+// Tells what a copy of this length comes to.
+fn tell_length(disk: &MemDisk, alloc: Global, length: usize, said: &mut String) -> Result<()> {
+    Ok(add_opening(alloc, copy(alloc, disk, length)?, said)?)
+}
+
+fn places(from: &str, to: &str) -> Result<(usize, usize)> {
+    Ok((place(from)?, place(to)?))
+}
+
 // Puts into the closed file.
 fn damage(engines: &mut Engines, words: &[&str]) -> Result<()> {
     let Some(disk) = &mut engines.disk else {
@@ -196,6 +285,11 @@ fn damage(engines: &mut Engines, words: &[&str]) -> Result<()> {
     }
 }
 
+fn tell_damage(engines: &mut Engines, words: &[&str], said: &mut String) -> Result<()> {
+    damage(engines, words)?;
+    Ok(said.push_str("done")?)
+}
+
 /// Whether the words are `damage`, `pages`, `with`, `each`, `zeros`, `length`, `in each length` or `in each value`.
 pub fn tell(
     engines: &mut Engines,
@@ -204,24 +298,21 @@ pub fn tell(
     said: &mut String,
 ) -> Result<bool> {
     match words {
-        ["damage", rest @ ..] => {
-            damage(engines, rest)?;
-            said.push_str("done")?;
-        }
-        ["pages"] => keep_pages(engines, alloc, said)?,
-        ["with", rest @ ..] => open_with(engines, alloc, rest, said)?,
+        ["damage", rest @ ..] => told(tell_damage(engines, rest, said)),
+        ["pages"] => told(keep_pages(engines, alloc, said)),
+        ["with", rest @ ..] => told(open_with(engines, alloc, rest, said)),
         ["each", from, "to", to, "as", bytes @ ..] => {
-            tell_places(engines, alloc, (place(from)?, place(to)?), bytes, said)?;
+            let places = places(from, to)?;
+            told(tell_places(engines.disk()?, alloc, places, bytes, said))
         }
-        ["in", "each", "length", "to", upto] => tell_lengths(engines, alloc, place(upto)?, said)?,
+        ["in", "each", "length", "to", upto] => {
+            told(tell_lengths(engines.disk()?, alloc, place(upto)?, said))
+        }
         ["in", "each", "value", "of", from, "to", to] => {
-            tell_values(engines, alloc, (place(from)?, place(to)?), said)?;
+            told(tell_values(engines.disk()?, alloc, places(from, to)?, said))
         }
-        ["zeros", from, "to", to] => tell_zeros(alloc, place(from)?, place(to)?, said)?,
-        ["length", length] => {
-            add_opening(alloc, copy(alloc, engines.disk()?, place(length)?)?, said)?;
-        }
-        _ => return Ok(false),
+        ["zeros", from, "to", to] => told(tell_zeros(alloc, places(from, to)?, said)),
+        ["length", length] => told(tell_length(engines.disk()?, alloc, place(length)?, said)),
+        _ => Ok(false),
     }
-    Ok(true)
 }

@@ -10,6 +10,8 @@ use std::alloc::Global;
 /// What a story is told of.
 #[derive(Drop)]
 pub struct Engines {
+    /// Where what is made lies.
+    alloc: Global,
     /// The engine, unless it is closed.
     pub engine: Option<Engine<FuseDisk>>,
     /// The disk of the engine that was closed, or that wasn't made.
@@ -32,6 +34,7 @@ impl Engines {
     /// Nothing yet.
     pub fn none(alloc: Global) -> Engines {
         Engines {
+            alloc,
             engine: None,
             disk: None,
             calls: 0,
@@ -45,14 +48,7 @@ impl Engines {
 
     /// Nothing again.
     pub fn forget(&mut self) {
-        self.engine = None;
-        self.disk = None;
-        self.calls = 0;
-        self.fuse = None;
-        self.script = None;
-        self.events.clear();
-        self.answers.clear();
-        self.pages.clear();
+        *self = Engines::none(self.alloc);
     }
 
     /// The engine.

@@ -4,23 +4,34 @@ use crate::disks::{crash, limits, mode, put, steady};
 use crate::engines::Engines;
 use crate::scripts::Script;
 use anyhow::{Result, anyhow};
-use im_disk::{FuseDisk, MemDisk};
+use im_disk::{FuseDisk, MemDisk, Mode};
 use im_engine::Engine;
 use im_image::image_length;
-use im_story::{add_refusal, address, element, number, old_image, place};
+use im_story::{add_refusal, address, element, number, old_image, place, told};
 use im_types::{Limits, Refusal};
-use std::alloc::Global;
+use std::alloc::{AllocError, Global};
 
 // Lays down a new image of the first version, in a file of this length.
-fn lay_old(engines: &mut Engines, alloc: Global, limits: Limits, length: usize) -> Result<()> {
+fn lay_old(
+    engines: &mut Engines,
+    alloc: Global,
+    limits: Limits,
+    length: usize,
+    said: &mut String,
+) -> Result<()> {
     let image = old_image(alloc, limits)?;
-    if image.len() != length {
-        return Err(anyhow!("it has {} bytes", image.len()));
+    engines.lay_down(steady(disk_of(alloc, image.as_slice(), length)?));
+    Ok(said.push_str("closed")?)
+}
+
+// A disk with these bytes, which have to be so many.
+fn disk_of(alloc: Global, bytes: &[u8], length: usize) -> Result<MemDisk> {
+    if bytes.len() != length {
+        return Err(anyhow!("it has {} bytes", bytes.len()));
     }
     let mut disk = MemDisk::new(alloc, length)?;
-    put(&mut disk, 0, image.as_slice())?;
-    engines.lay_down(steady(disk));
-    Ok(())
+    put(&mut disk, 0, bytes)?;
+    Ok(disk)
 }
 
 // An engine, or the disk that it was to be on. Tells `made`, or why it wasn't.
@@ -29,18 +40,17 @@ fn take_over(
     made: Result<Engine<FuseDisk>, (Refusal, FuseDisk)>,
     text: &str,
     said: &mut String,
-) -> Result<()> {
+) -> Result<(), AllocError> {
     match made {
         Ok(engine) => {
             engines.engine = Some(engine);
-            said.push_str(text)?;
+            said.push_str(text)
         }
         Err((refusal, disk)) => {
             engines.lay_down(disk);
-            add_refusal(said, refusal)?;
+            add_refusal(said, refusal)
         }
     }
-    Ok(())
 }
 
 // Formats a file of this length.
@@ -54,7 +64,7 @@ fn format(
     let disk = engines.fused(MemDisk::new(alloc, length)?);
     engines.script = Some(Script::none(alloc, limits));
     let made = Engine::format(alloc, disk, limits);
-    take_over(engines, made, "formatted", said)
+    Ok(take_over(engines, made, "formatted", said)?)
 }
 
 fn open(engines: &mut Engines, alloc: Global, said: &mut String) -> Result<()> {
@@ -62,23 +72,34 @@ fn open(engines: &mut Engines, alloc: Global, said: &mut String) -> Result<()> {
         return Err(anyhow!("no disk"));
     };
     let disk = engines.fused(disk);
-    take_over(engines, Engine::open(alloc, disk), "opened", said)
+    Ok(take_over(engines, Engine::open(alloc, disk), "opened", said)?)
 }
 
-fn close(engines: &mut Engines) -> Result<()> {
+fn close(engines: &mut Engines, said: &mut String) -> Result<()> {
     let Some(engine) = engines.engine.take() else {
         return Err(anyhow!("no engine"));
     };
     engines.lay_down(engine.close());
-    Ok(())
+    Ok(said.push_str("closed")?)
 }
 
-fn leave(engines: &mut Engines, word: &str) -> Result<()> {
+fn leave(engines: &mut Engines, word: &str, said: &mut String) -> Result<()> {
+    let crash = crash(word)?;
     let Some(disk) = engines.disk.take() else {
         return Err(anyhow!("no disk"));
     };
-    engines.disk = Some(disk.crash(crash(word)?));
-    Ok(())
+    engines.disk = Some(disk.crash(crash));
+    Ok(said.push_str("crashed")?)
+}
+
+fn set_fuse(engines: &mut Engines, fuse: (u64, Mode), said: &mut String) -> Result<()> {
+    engines.fuse = Some(fuse);
+    Ok(said.push_str("set")?)
+}
+
+// The sizes of a memory and of its journal.
+fn sizes(cells: &str, elements: &str, slots: &str) -> Result<Limits> {
+    limits(address(cells)?, element(elements)?, address(slots)?)
 }
 
 /// Whether the words are `format`, `old image`, `fuse`, `open`, `close` or `crash`.
@@ -90,12 +111,12 @@ pub fn tell(
 ) -> Result<bool> {
     match words {
         ["format", cells, elements, slots] => {
-            let limits = limits(address(cells)?, element(elements)?, address(slots)?)?;
-            format(engines, alloc, limits, image_length(limits), said)?;
+            let limits = sizes(cells, elements, slots)?;
+            told(format(engines, alloc, limits, image_length(limits), said))
         }
         ["format", cells, elements, slots, "in", length, "bytes"] => {
-            let limits = limits(address(cells)?, element(elements)?, address(slots)?)?;
-            format(engines, alloc, limits, place(length)?, said)?;
+            let limits = sizes(cells, elements, slots)?;
+            told(format(engines, alloc, limits, place(length)?, said))
         }
         [
             "old",
@@ -107,24 +128,13 @@ pub fn tell(
             length,
             "bytes",
         ] => {
-            let limits = limits(address(cells)?, element(elements)?, address(slots)?)?;
-            lay_old(engines, alloc, limits, place(length)?)?;
-            said.push_str("closed")?;
+            let limits = sizes(cells, elements, slots)?;
+            told(lay_old(engines, alloc, limits, place(length)?, said))
         }
-        ["fuse", passes, how] => {
-            engines.fuse = Some((number(passes)?, mode(how)?));
-            said.push_str("set")?;
-        }
-        ["open"] => open(engines, alloc, said)?,
-        ["close"] => {
-            close(engines)?;
-            said.push_str("closed")?;
-        }
-        ["crash", word] => {
-            leave(engines, word)?;
-            said.push_str("crashed")?;
-        }
-        _ => return Ok(false),
+        ["fuse", passes, how] => told(set_fuse(engines, (number(passes)?, mode(how)?), said)),
+        ["open"] => told(open(engines, alloc, said)),
+        ["close"] => told(close(engines, said)),
+        ["crash", word] => told(leave(engines, word, said)),
+        _ => Ok(false),
     }
-    Ok(true)
 }

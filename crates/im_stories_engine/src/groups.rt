@@ -5,7 +5,7 @@ use crate::scripts::Script;
 use anyhow::{Result, anyhow};
 use arrayvec::ArrayVec;
 use im_engine::are_apart;
-use im_story::{add_outcome, request};
+use im_story::{add_outcome, request, told};
 use im_types::{Command, Outcome, Refusal, Request, Served};
 
 /// The requests that the words name, with `with` between them.
@@ -81,6 +81,5 @@ pub fn tell(engines: &mut Engines, words: &[&str], said: &mut String) -> Result<
     let ["together", rest @ ..] = words else {
         return Ok(false);
     };
-    serve_together(engines, rest, said)?;
-    Ok(true)
+    told(serve_together(engines, rest, said))
 }

@@ -48,7 +48,7 @@ mod walks;
 mod wanders;
 
 use crate::engines::Engines;
-use anyhow::{Result, anyhow};
+use anyhow::Result;
 use im_story::Scene;
 use std::alloc::Global;
 use std::process::ExitCode;
@@ -67,12 +67,10 @@ impl Scene for Engines {
             || stopped_runs::tell(self, alloc, words, said)?
             || stops::tell(self, alloc, words, said)?
             || wanders::tell(alloc, words, said)?
-            || calls::tell(self, words, said)?
         {
-            Ok(())
-        } else {
-            Err(anyhow!("no call"))
+            return Ok(());
         }
+        calls::tell(self, words, said)
     }
 }
 

@@ -6,7 +6,7 @@ use crate::groups::members;
 use crate::texts::{add_answers, add_numbers, add_turn};
 use anyhow::{Result, anyhow};
 use im_engine::{Answer, Event, Group};
-use im_story::{add_refusal, command, number, place};
+use im_story::{add_refusal, command, number, place, told};
 use im_types::Command;
 use std::alloc::Global;
 
@@ -18,13 +18,12 @@ fn turn(engines: &mut Engines, said: &mut String) -> Result<()> {
     Ok(add_turn(said, engine.turn())?)
 }
 
-// Makes so many turns, none of which changes the count. Tells their answers, and the room after each.
-fn turns(engines: &mut Engines, alloc: Global, times: u64, said: &mut String) -> Result<()> {
+// Makes so many turns, none of which changes the count. Keeps their answers, and the room after each.
+fn make_turns(engines: &mut Engines, times: u64, rooms: &mut Vec<u64>) -> Result<()> {
     let Some(engine) = &mut engines.engine else {
         return Err(anyhow!("no engine"));
     };
     let count = engine.count();
-    let mut rooms = Vec::new(alloc);
     engines.answers.clear();
     for _ in 0..times {
         engines.answers.push(Answer::Turned(engine.turn()))?;
@@ -33,9 +32,20 @@ fn turns(engines: &mut Engines, alloc: Global, times: u64, said: &mut String) ->
             return Err(anyhow!("a turn has changed the count"));
         }
     }
-    add_answers(said, engines.answers.as_slice())?;
+    Ok(())
+}
+
+fn add_rooms(said: &mut String, answers: &[Answer], rooms: &[u64]) -> Result<()> {
+    add_answers(said, answers)?;
     said.push_str("; room")?;
-    Ok(add_numbers(said, rooms.as_slice())?)
+    Ok(add_numbers(said, rooms)?)
+}
+
+// Makes so many turns, and tells what they answer, and the room after each.
+fn turns(engines: &mut Engines, alloc: Global, times: u64, said: &mut String) -> Result<()> {
+    let mut rooms = Vec::new(alloc);
+    make_turns(engines, times, &mut rooms)?;
+    add_rooms(said, engines.answers.as_slice(), rooms.as_slice())
 }
 
 // Closes so many slots at most with one sync. Tells how many they were, and the room after.
@@ -109,17 +119,25 @@ fn tell_answers(engines: &Engines, from: usize, to: usize, said: &mut String) ->
     }
 }
 
+fn plan_sweep(engines: &mut Engines, most: &str) -> Result<()> {
+    Ok(engines.events.push(Event::Sweep(slots(most)?))?)
+}
+
 // What the next run does.
-fn plan(engines: &mut Engines, words: &[&str], said: &mut String) -> Result<()> {
+fn plan(engines: &mut Engines, words: &[&str]) -> Result<()> {
     match words {
-        ["as", "told"] => plan_as_told(engines)?,
-        ["turn"] => plan_turns(engines, 1)?,
-        ["sweep", most] => engines.events.push(Event::Sweep(slots(most)?))?,
-        ["together", rest @ ..] => plan_group(engines, rest)?,
-        [times, "turns"] => plan_turns(engines, number(times)?)?,
-        [times, "times", rest @ ..] => plan_commands(engines, number(times)?, command(rest)?)?,
-        _ => plan_commands(engines, 1, command(words)?)?,
+        ["as", "told"] => plan_as_told(engines),
+        ["turn"] => plan_turns(engines, 1),
+        ["sweep", most] => plan_sweep(engines, most),
+        ["together", rest @ ..] => plan_group(engines, rest),
+        [times, "turns"] => plan_turns(engines, number(times)?),
+        [times, "times", rest @ ..] => plan_commands(engines, number(times)?, command(rest)?),
+        _ => plan_commands(engines, 1, command(words)?),
     }
+}
+
+fn tell_plan(engines: &mut Engines, words: &[&str], said: &mut String) -> Result<()> {
+    plan(engines, words)?;
     Ok(write!(said, "{} events", engines.events.len())?)
 }
 
@@ -131,13 +149,12 @@ pub fn tell(
     said: &mut String,
 ) -> Result<bool> {
     match words {
-        ["turn"] => turn(engines, said)?,
-        ["turns", times] => turns(engines, alloc, number(times)?, said)?,
-        ["sweep", most] => sweep(engines, slots(most)?, said)?,
-        ["plan", rest @ ..] => plan(engines, rest, said)?,
-        ["run"] => run(engines, alloc, said)?,
-        ["answers", from, "to", to] => tell_answers(engines, place(from)?, place(to)?, said)?,
-        _ => return Ok(false),
+        ["turn"] => told(turn(engines, said)),
+        ["turns", times] => told(turns(engines, alloc, number(times)?, said)),
+        ["sweep", most] => told(sweep(engines, slots(most)?, said)),
+        ["plan", rest @ ..] => told(tell_plan(engines, rest, said)),
+        ["run"] => told(run(engines, alloc, said)),
+        ["answers", from, "to", to] => told(tell_answers(engines, place(from)?, place(to)?, said)),
+        _ => Ok(false),
     }
-    Ok(true)
 }

@@ -6,18 +6,19 @@ use anyhow::{Result, anyhow};
 use im_disk::FuseDisk;
 use im_engine::Engine;
 use im_image::journal_at;
-use im_story::{add_answer, add_window, address, element, name, place};
+use im_story::{add_answer, add_window, address, element, name, place, told};
+use std::alloc::AllocError;
 
 // Tells of the cell at an address, and of its block.
 fn tell_cell(engine: &Engine<FuseDisk>, a: u32, said: &mut String) -> Result<()> {
     let memory = engine.memory();
-    if let (Some(presence), Some(block)) = (memory.cell(a), memory.block(a)) {
-        add_cell(said, presence)?;
-        add_block(said, block)?;
-    } else {
-        said.push_str("in no block")?;
+    match (memory.cell(a), memory.block(a)) {
+        (Some(presence), Some(block)) => {
+            add_cell(said, presence)?;
+            Ok(add_block(said, block)?)
+        }
+        _ => Ok(said.push_str("in no block")?),
     }
-    Ok(())
 }
 
 // Tells who waits at a cell, in their order.
@@ -26,6 +27,19 @@ fn tell_waiting(engine: &Engine<FuseDisk>, a: u32, said: &mut String) -> Result<
         write!(said, " {}.{}", waiter.element, waiter.number)?;
     }
     Ok(())
+}
+
+fn tell_window(engine: &Engine<FuseDisk>, element: u16, said: &mut String) -> Result<()> {
+    Ok(add_window(said, engine.window(element))?)
+}
+
+// Tells what is kept for a request.
+fn tell_kept(
+    engine: &Engine<FuseDisk>,
+    (element, number): (u16, u64),
+    said: &mut String,
+) -> Result<()> {
+    Ok(add_answer(said, engine.collect(element, number))?)
 }
 
 // Tells so many bytes of the file.
@@ -50,12 +64,19 @@ fn tell_slot(engines: &Engines, slot: usize, said: &mut String) -> Result<()> {
     )
 }
 
+// Adds what an engine says of itself: its count or its room, or whether it has failed.
+fn add_state(said: &mut String, engine: &Engine<FuseDisk>, word: &str) -> Result<(), AllocError> {
+    match word {
+        "count" => write!(said, "{}", engine.count()),
+        "room" => write!(said, "{}", engine.room()),
+        _ => write!(said, "{}", engine.failed()),
+    }
+}
+
 // The words of the engine's own state.
 fn tell_state(engines: &Engines, word: &str, said: &mut String) -> Result<bool> {
     match word {
-        "count" => write!(said, "{}", engines.engine()?.count())?,
-        "room" => write!(said, "{}", engines.engine()?.room())?,
-        "failed" => write!(said, "{}", engines.engine()?.failed())?,
+        "count" | "room" | "failed" => add_state(said, engines.engine()?, word)?,
         "calls" => write!(said, "{}", engines.calls)?,
         _ => return Ok(false),
     }
@@ -65,17 +86,13 @@ fn tell_state(engines: &Engines, word: &str, said: &mut String) -> Result<bool> 
 /// Whether the words are `count`, `room`, `failed`, `calls`, `window`, `collect`, `cell`, `waiting`, `bytes` or `slot`.
 pub fn tell(engines: &Engines, words: &[&str], said: &mut String) -> Result<bool> {
     match words {
-        [word] => return tell_state(engines, word, said),
-        ["window", of] => add_window(said, engines.engine()?.window(element(of)?))?,
-        ["collect", who] => {
-            let (element, number) = name(who)?;
-            add_answer(said, engines.engine()?.collect(element, number))?;
-        }
-        ["cell", a] => tell_cell(engines.engine()?, address(a)?, said)?,
-        ["waiting", a] => tell_waiting(engines.engine()?, address(a)?, said)?,
-        ["bytes", at, length] => tell_bytes(engines, place(at)?, place(length)?, said)?,
-        ["slot", slot] => tell_slot(engines, place(slot)?, said)?,
-        _ => return Ok(false),
+        [word] => tell_state(engines, word, said),
+        ["window", of] => told(tell_window(engines.engine()?, element(of)?, said)),
+        ["collect", who] => told(tell_kept(engines.engine()?, name(who)?, said)),
+        ["cell", a] => told(tell_cell(engines.engine()?, address(a)?, said)),
+        ["waiting", a] => told(tell_waiting(engines.engine()?, address(a)?, said)),
+        ["bytes", at, length] => told(tell_bytes(engines, place(at)?, place(length)?, said)),
+        ["slot", slot] => told(tell_slot(engines, place(slot)?, said)),
+        _ => Ok(false),
     }
-    Ok(true)
 }

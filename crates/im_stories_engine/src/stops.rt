@@ -12,19 +12,22 @@ use crate::texts::add_numbers;
 use anyhow::{Result, anyhow};
 use arrayvec::ArrayVec;
 use im_checkpoint::TurnDone;
-use im_disk::{Crash, Disk, FuseDisk, MemDisk, Mode};
+use im_disk::{Crash, FuseDisk, MemDisk, Mode};
 use im_engine::{Engine, are_apart};
 use im_plain::PlainMemory;
-use im_types::{LAST, Refusal};
+use im_story::told;
+use im_types::{LAST, Limits, Refusal, Request};
 use std::alloc::Global;
 
-// What is stopped: an opening of what has the whole script, or of what was stopped in its last command; or the script
-// as one group.
+// What is stopped: an opening of what has the whole script, or of what was stopped in its last command; the script as one
+// group; the turns behind it; or an opening of copies of a file and the turns behind that.
 #[derive(Clone, Copy)]
-enum Act {
+enum Act<'a> {
     Opening,
     Reopening,
     Group,
+    Turn,
+    Call(&'a MemDisk),
 }
 
 // How a disk fails, the crash behind that, and one more behind an opening. With no crash the same disk is opened.
@@ -62,18 +65,51 @@ fn after_crash(alloc: Global, disk: FuseDisk, crash: Option<Crash>) -> Result<En
     }
 }
 
-// An opening has to be stopped. The disk, or none where it has passed.
-fn stopped(alloc: Global, disk: MemDisk, passes: u64, mode: Mode) -> Result<Option<FuseDisk>> {
-    match Engine::open(alloc, FuseDisk::new(disk, passes, mode)) {
-        Ok(_) => Ok(None),
-        Err((Refusal::Device, disk)) => Ok(Some(disk)),
-        Err((refusal, _)) => Err(anyhow!("an opening is refused: {refusal}")),
+// What an opening that was refused leaves, where a call of its disk has failed.
+fn where_stopped(refusal: Refusal, disk: FuseDisk) -> Result<FuseDisk> {
+    if refusal != Refusal::Device {
+        return Err(anyhow!("an opening is refused: {refusal}"));
     }
+    Ok(disk)
+}
+
+// What an engine leaves that has stopped, or none of one that hasn't.
+fn if_stopped(engine: Engine<FuseDisk>, stops: Result<bool>) -> Result<Option<FuseDisk>> {
+    let disk = engine.close();
+    match stops {
+        Ok(true) => Ok(Some(disk)),
+        Ok(false) => Ok(None),
+        Err(error) => Err(error),
+    }
+}
+
+// The engine of which something was seen to be as it must.
+fn if_so(engine: Engine<FuseDisk>, seen: Result<()>) -> Result<Engine<FuseDisk>> {
+    match seen {
+        Ok(()) => Ok(engine),
+        Err(error) => Err(error),
+    }
+}
+
+// So many calls more than those of a format and of so many commands, four each.
+fn past(commands: u64, more: u64) -> u64 {
+    commands
+        .saturating_mul(4)
+        .saturating_add(4)
+        .saturating_add(more)
+}
+
+// Sees that an opening behind another one has found the same, and no more than one command in doubt. Whether it has that.
+fn has_one_more(first: u64, found: u64, served: u64) -> Result<bool> {
+    if found != first || found < served || found - served > 1 {
+        return Err(anyhow!("{first} and then {found} commands were found, of {served} and one"));
+    }
+    Ok(found > served)
 }
 
 // Takes turns until the disk stops, and then each answers `Failed`. Whether it does stop before they have nothing to
 // do.
-fn do_turns_stop<D: Disk>(engine: &mut Engine<D>) -> Result<bool> {
+fn do_turns_stop(engine: &mut Engine<FuseDisk>) -> Result<bool> {
     for _ in 0..1_000 {
         match engine.turn() {
             Ok(TurnDone::Idle) => return Ok(false),
@@ -86,34 +122,29 @@ fn do_turns_stop<D: Disk>(engine: &mut Engine<D>) -> Result<bool> {
 }
 
 impl Sweep<'_> {
+    // A new engine whose disk passes so many calls.
+    fn begun(&self, passes: u64, mode: Mode) -> Result<Engine<FuseDisk>> {
+        formatted(self.alloc, self.script.limits, passes, mode)
+    }
+
     // An engine that has served the script as far as its disk let it: the format makes four calls, and each command
     // four.
     fn cut_short(&self, served: u64, call: u64, mode: Mode) -> Result<Engine<FuseDisk>> {
-        let passes = served
-            .saturating_mul(4)
-            .saturating_add(4)
-            .saturating_add(call);
-        let mut engine = formatted(self.alloc, self.script.limits, passes, mode)?;
-        self.script.is_cut_short(&mut engine, served)?;
-        Ok(engine)
+        let mut engine = self.begun(past(served, call), mode)?;
+        let seen = self.script.is_cut_short(&mut engine, served);
+        if_so(engine, seen)
     }
 
     // An engine that has served the whole script, and whose disk passes so many calls more.
     fn served(&self, more: u64, mode: Mode) -> Result<Engine<FuseDisk>> {
-        let passes = self
-            .script
-            .count
-            .saturating_mul(4)
-            .saturating_add(4)
-            .saturating_add(more);
-        let mut engine = formatted(self.alloc, self.script.limits, passes, mode)?;
-        self.script.is_answered(&mut engine, 0)?;
-        Ok(engine)
+        let mut engine = self.begun(past(self.script.count, more), mode)?;
+        let seen = self.script.is_answered(&mut engine, 0);
+        if_so(engine, seen)
     }
 
     // Sees that what was opened has a beginning of the script, and that all of it acts once when it is sent again. How
     // many commands it had.
-    fn sent_again<D: Disk>(&self, engine: &mut Engine<D>) -> Result<u64> {
+    fn sent_again(&self, engine: &mut Engine<FuseDisk>) -> Result<u64> {
         let found = engine.count();
         self.script.is_kept(engine, found)?;
         self.script.is_answered(engine, found)?;
@@ -121,21 +152,27 @@ impl Sweep<'_> {
         Ok(found)
     }
 
+    // The engine after a failure in this call of a serve.
+    fn after_serve(&self, served: u64, call: u64, way: Way) -> Result<Engine<FuseDisk>> {
+        let engine = self.cut_short(served, call, way.mode)?;
+        after_crash(self.alloc, engine.close(), way.crash)
+    }
+
+    // The same engine, or the one that is opened behind one crash more.
+    fn after_next(&self, engine: Engine<FuseDisk>, way: Way) -> Result<Engine<FuseDisk>> {
+        match way.next {
+            Some(_) => after_crash(self.alloc, engine.close(), way.next),
+            None => Ok(engine),
+        }
+    }
+
     // After a failure in this call of a serve: whether the command was found.
     fn is_found(&self, served: u64, call: u64, way: Way) -> Result<bool> {
-        let disk = self.cut_short(served, call, way.mode)?.close();
-        let mut engine = after_crash(self.alloc, disk, way.crash)?;
+        let engine = self.after_serve(served, call, way)?;
         let first = engine.count();
-        if way.next.is_some() {
-            engine = after_crash(self.alloc, engine.close(), way.next)?;
-        }
+        let mut engine = self.after_next(engine, way)?;
         let found = self.sent_again(&mut engine)?;
-        if found != first || found < served || found - served > 1 {
-            return Err(anyhow!(
-                "{first} and then {found} commands were found, of {served} and one"
-            ));
-        }
-        Ok(found > served)
+        has_one_more(first, found, served)
     }
 
     // Of the failures in this call of a serve, one for each command: in how many the command was found.
@@ -157,116 +194,129 @@ impl Sweep<'_> {
         Ok(write!(said, "of {}", self.script.count)?)
     }
 
-    // The disk of an engine that has served the script, or was stopped in its last call.
-    fn closed(&self, is_whole: bool) -> Result<MemDisk> {
-        if is_whole || self.script.count == 0 {
-            return Ok(self.served(LAST, Mode::Stop)?.close().into_inner());
+    // An engine that has served the script, or was stopped in its last call.
+    fn ended(&self, is_whole: bool) -> Result<Engine<FuseDisk>> {
+        match self.script.count.checked_sub(1) {
+            Some(before) if !is_whole => self.cut_short(before, 3, Mode::Stop),
+            _ => self.served(LAST, Mode::Stop),
         }
-        let engine = self.cut_short(self.script.count - 1, 3, Mode::Stop)?;
-        Ok(engine.close().into_inner())
     }
 
-    // Serves the script as one group on a new image, which has to be stopped: each member is answered `Device`, and
-    // then `Failed`. The disk, or none where the group has passed.
-    fn stopped_group(&self, passes: u64, mode: Mode) -> Result<Option<FuseDisk>> {
-        let members = all_of(self.script)?;
+    // An opening of its disk that has to be stopped. The disk, or none where it has passed.
+    fn stopped(&self, is_whole: bool, passes: u64, mode: Mode) -> Result<Option<FuseDisk>> {
+        let disk = self.ended(is_whole)?.close().into_inner();
+        match Engine::open(self.alloc, FuseDisk::new(disk, passes, mode)) {
+            Ok(_) => Ok(None),
+            Err((refusal, disk)) => Ok(Some(where_stopped(refusal, disk)?)),
+        }
+    }
+
+    // Serves a group. Where the disk stops each member is answered `Device`, and then `Failed`. Whether it does stop.
+    fn is_group_stopped(
+        &self,
+        engine: &mut Engine<FuseDisk>,
+        members: &ArrayVec<Request, 16>,
+    ) -> Result<bool> {
         if !are_apart(members.as_slice()) {
             return Err(anyhow!("two requests of one element"));
         }
-        let past_format = passes.saturating_add(4);
-        let mut engine = formatted(self.alloc, self.script.limits, past_format, mode)?;
         let mut served = ArrayVec::new();
-        engine.serve_group(&members, &mut served);
+        engine.serve_group(members, &mut served);
         if !engine.failed() {
             self.script.is_served(served.as_slice())?;
-            return Ok(None);
+            return Ok(false);
         }
         let mut later = ArrayVec::new();
-        engine.serve_group(&members, &mut later);
+        engine.serve_group(members, &mut later);
         if !are_refused(&served, Refusal::Device) || !are_refused(&later, Refusal::Failed) {
             return Err(anyhow!("a member isn't refused"));
         }
-        Ok(Some(engine.close()))
+        Ok(true)
     }
 
-    // The disk of what was stopped, or none where it has passed.
-    fn stopped_act(&self, act: Act, passes: u64, mode: Mode) -> Result<Option<FuseDisk>> {
-        match act {
-            Act::Opening => stopped(self.alloc, self.closed(true)?, passes, mode),
-            Act::Reopening => stopped(self.alloc, self.closed(false)?, passes, mode),
-            Act::Group => self.stopped_group(passes, mode),
-        }
-    }
-
-    // Stops at each call of an act, with a crash behind it, and tells how many commands the next opening finds.
-    fn tell_acts(&self, act: Act, way: Way, said: &mut String) -> Result<()> {
-        let mut found = Vec::new(self.alloc);
-        for passes in 0..1_000 {
-            let Some(disk) = self.stopped_act(act, passes, way.mode)? else {
-                return Ok(add_numbers(said, found.as_slice())?);
-            };
-            let mut engine = after_crash(self.alloc, disk, way.crash)?;
-            found.push(self.sent_again(&mut engine)?)?;
-        }
-        Err(anyhow!("the calls don't end"))
+    // Serves the script as one group on a new image, which has to be stopped. The disk, or none where the group has
+    // passed.
+    fn stopped_group(&self, passes: u64, mode: Mode) -> Result<Option<FuseDisk>> {
+        let members = all_of(self.script)?;
+        let mut engine = self.begun(past(0, passes), mode)?;
+        let stops = self.is_group_stopped(&mut engine, &members);
+        if_stopped(engine, stops)
     }
 
     // Sees that an engine has the whole script, of which nothing acts when it is sent again. How many commands it has.
-    fn count_of_all<D: Disk>(&self, engine: &mut Engine<D>) -> Result<u64> {
+    fn count_of_all(&self, engine: &mut Engine<FuseDisk>) -> Result<u64> {
         self.script.is_kept(engine, self.script.count)?;
         self.script.is_told_again(engine, self.script.count)?;
         are_alike(engine.memory(), self.plain, self.script.limits)?;
         Ok(engine.count())
     }
 
-    // Takes turns until they are stopped, with a crash behind that, and opens. How many commands are found, or none
-    // where the turns weren't stopped.
+    // How many commands of the script are found on what a crash leaves of a disk: all, where all were served, and else a
+    // beginning, all of which acts once when it is sent again.
+    fn found_behind(&self, disk: FuseDisk, way: Way, is_whole: bool) -> Result<u64> {
+        let mut engine = after_crash(self.alloc, disk, way.crash)?;
+        if is_whole {
+            self.count_of_all(&mut engine)
+        } else {
+            self.sent_again(&mut engine)
+        }
+    }
+
+    // The same, or none where there is no disk that has stopped.
+    fn found_if(&self, disk: Option<FuseDisk>, way: Way, is_whole: bool) -> Result<Option<u64>> {
+        match disk {
+            Some(disk) => Ok(Some(self.found_behind(disk, way, is_whole)?)),
+            None => Ok(None),
+        }
+    }
+
+    // Takes turns until they are stopped. How many commands are found then, or none where the turns weren't stopped.
     fn found_after_turns(&self, engine: Engine<FuseDisk>, way: Way) -> Result<Option<u64>> {
         let mut engine = engine;
-        if !do_turns_stop(&mut engine)? {
-            return Ok(None);
-        }
-        let mut engine = after_crash(self.alloc, engine.close(), way.crash)?;
-        Ok(Some(self.count_of_all(&mut engine)?))
+        let stops = do_turns_stop(&mut engine);
+        self.found_if(if_stopped(engine, stops)?, way, true)
     }
 
-    // Stops at each call of the turns behind the script, and tells how many commands an opening finds.
-    fn tell_turns(&self, way: Way, said: &mut String) -> Result<()> {
-        let mut found = Vec::new(self.alloc);
-        for more in 0..1_000 {
-            let engine = self.served(more, way.mode)?;
-            match self.found_after_turns(engine, way)? {
-                Some(count) => found.push(count)?,
-                None => return Ok(add_numbers(said, found.as_slice())?),
-            }
-        }
-        Err(anyhow!("the calls don't end"))
-    }
-
-    // Opens a disk that passes so many calls, and takes turns, until it stops. How many commands are found behind a
-    // crash, or none where it didn't stop.
-    fn found_on(&self, disk: MemDisk, passes: u64, way: Way) -> Result<Option<u64>> {
-        match Engine::open(self.alloc, FuseDisk::new(disk, passes, way.mode)) {
+    // Opens a copy of a file on a disk that passes so many calls, and takes turns, until it stops. How many commands are
+    // found, or none where it didn't stop.
+    fn found_on(&self, disk: &MemDisk, passes: u64, way: Way) -> Result<Option<u64>> {
+        let other = copy(self.alloc, disk, disk.bytes().len())?;
+        match Engine::open(self.alloc, FuseDisk::new(other, passes, way.mode)) {
             Ok(engine) => self.found_after_turns(engine, way),
-            Err((Refusal::Device, disk)) => {
-                let mut engine = after_crash(self.alloc, disk, way.crash)?;
-                Ok(Some(self.count_of_all(&mut engine)?))
-            }
-            Err((refusal, _)) => Err(anyhow!("an opening is refused: {refusal}")),
+            Err((refusal, disk)) => {
+                Ok(Some(self.found_behind(where_stopped(refusal, disk)?, way, true)?))
+            },
         }
     }
 
-    // Stops at each call of an opening of copies of a file and of the turns behind it.
-    fn tell_file(&self, disk: &MemDisk, way: Way, said: &mut String) -> Result<()> {
-        let mut found = Vec::new(self.alloc);
+    // How many commands the next opening finds behind an act whose disk passes so many calls, and a crash; or none where
+    // the act has passed.
+    fn found(&self, act: Act, passes: u64, way: Way) -> Result<Option<u64>> {
+        match act {
+            Act::Opening => self.found_if(self.stopped(true, passes, way.mode)?, way, false),
+            Act::Reopening => self.found_if(self.stopped(false, passes, way.mode)?, way, false),
+            Act::Group => self.found_if(self.stopped_group(passes, way.mode)?, way, false),
+            Act::Turn => self.found_after_turns(self.served(passes, way.mode)?, way),
+            Act::Call(disk) => self.found_on(disk, passes, way),
+        }
+    }
+
+    // The same for each call of an act, up to the first that passes.
+    fn find_each(&self, act: Act, way: Way, found: &mut Vec<u64>) -> Result<()> {
         for passes in 0..1_000 {
-            let other = copy(self.alloc, disk, disk.bytes().len())?;
-            match self.found_on(other, passes, way)? {
+            match self.found(act, passes, way)? {
                 Some(count) => found.push(count)?,
-                None => return Ok(add_numbers(said, found.as_slice())?),
+                None => return Ok(()),
             }
         }
         Err(anyhow!("the calls don't end"))
+    }
+
+    // Tells them.
+    fn tell_acts(&self, act: Act, way: Way, said: &mut String) -> Result<()> {
+        let mut found = Vec::new(self.alloc);
+        self.find_each(act, way, &mut found)?;
+        Ok(add_numbers(said, found.as_slice())?)
     }
 }
 
@@ -285,44 +335,45 @@ fn way_of(how: &str, crashes: &[&str]) -> Result<Way> {
     })
 }
 
-// What was told of the engine in this story.
-fn of_script<'a>(
-    engines: &'a Engines,
-    alloc: Global,
-    script: &'a Script,
-    plain: &'a PlainMemory,
-) -> Result<Sweep<'a>> {
-    if let Some(engine) = &engines.engine {
-        are_alike(engine.memory(), plain, script.limits)?;
+// Sees that the engine of this story is the memory that its script means.
+fn is_alike(engines: &Engines, plain: &PlainMemory, limits: Limits) -> Result<()> {
+    match &engines.engine {
+        Some(engine) => are_alike(engine.memory(), plain, limits),
+        None => Ok(()),
     }
-    Ok(Sweep {
-        alloc,
-        script,
-        plain,
-    })
 }
 
-// Fails at each call of a kind.
+// Fails at each call of an act; of a serve, where there is none.
 fn tell_each(
     engines: &Engines,
     alloc: Global,
-    of: &str,
+    act: Option<Act>,
     way: Way,
     said: &mut String,
 ) -> Result<()> {
-    if way.next.is_some() && of != "serve" {
-        return Err(anyhow!("one crash too many"));
-    }
     let script = engines.script()?;
     let plain = meant(alloc, script)?;
-    let sweep = of_script(engines, alloc, script, &plain)?;
+    is_alike(engines, &plain, script.limits)?;
+    let sweep = Sweep {
+        alloc,
+        script,
+        plain: &plain,
+    };
+    match act {
+        Some(act) => sweep.tell_acts(act, way, said),
+        None => sweep.tell_serves(way, said),
+    }
+}
+
+// The act of a kind, or none for a serve.
+fn act_of<'a>(engines: &'a Engines, of: &str) -> Result<Option<Act<'a>>> {
     match of {
-        "serve" => sweep.tell_serves(way, said),
-        "opening" => sweep.tell_acts(Act::Opening, way, said),
-        "reopening" => sweep.tell_acts(Act::Reopening, way, said),
-        "group" => sweep.tell_acts(Act::Group, way, said),
-        "turn" => sweep.tell_turns(way, said),
-        "call" => sweep.tell_file(engines.disk()?, way, said),
+        "serve" => Ok(None),
+        "opening" => Ok(Some(Act::Opening)),
+        "reopening" => Ok(Some(Act::Reopening)),
+        "group" => Ok(Some(Act::Group)),
+        "turn" => Ok(Some(Act::Turn)),
+        "call" => Ok(Some(Act::Call(engines.disk()?))),
         _ => Err(anyhow!("nothing is made of {of}")),
     }
 }
@@ -334,6 +385,9 @@ pub fn tell(engines: &Engines, alloc: Global, words: &[&str], said: &mut String)
     let ["in", "each", of, how, crashes @ ..] = words else {
         return Ok(false);
     };
-    tell_each(engines, alloc, of, way_of(how, crashes)?, said)?;
-    Ok(true)
+    let way = way_of(how, crashes)?;
+    if way.next.is_some() && *of != "serve" {
+        return Err(anyhow!("one crash too many"));
+    }
+    told(tell_each(engines, alloc, act_of(engines, of)?, way, said))
 }

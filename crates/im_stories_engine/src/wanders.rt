@@ -3,7 +3,7 @@
 
 use crate::alike::are_alike;
 use crate::disks::{formatted, limits, opened, steady};
-use crate::explorer::{CELLS, a_crash, are_known, goes_on, has_all, nothing};
+use crate::explorer::{Answered, CELLS, a_crash, are_known, goes_on, has_all, nothing};
 use crate::walks::Walk;
 use anyhow::{Result, anyhow};
 use im_disk::{Crash, FuseDisk, MemDisk, Mode};
@@ -11,7 +11,7 @@ use im_engine::Engine;
 use im_image::image_length;
 use im_memory::Memory;
 use im_plain::PlainMemory;
-use im_story::number;
+use im_story::{number, told};
 use im_types::{Command, Limits, Refusal};
 use std::alloc::Global;
 
@@ -44,23 +44,28 @@ fn step_both(fast: &mut Memory, plain: &mut PlainMemory, command: Command) -> Re
 }
 
 // Puts so many commands to both memories, and compares them after each 500. How many were accepted.
+fn walk_both(fast: &mut Memory, plain: &mut PlainMemory, commands: u64, seed: u64) -> Result<u64> {
+    let limits = limits(CELLS, FEW_ELEMENTS, SLOTS)?;
+    let mut walk = Walk::new(seed);
+    let mut accepted: u64 = 0;
+    for turn in 0..commands {
+        let command = walk.command(plain, CELLS);
+        if step_both(fast, plain, command)? {
+            accepted = accepted.saturating_add(1);
+        }
+        if turn % 500 == 0 {
+            are_alike(fast, plain, limits)?;
+        }
+    }
+    are_alike(fast, plain, limits)?;
+    Ok(accepted)
+}
+
 fn walk(alloc: Global, commands: u64, seed: u64) -> Result<u64> {
     let limits = limits(CELLS, FEW_ELEMENTS, SLOTS)?;
     let mut fast = Memory::new(alloc, limits)?;
     let mut plain = PlainMemory::new(alloc, limits)?;
-    let mut walk = Walk::new(seed);
-    let mut accepted: u64 = 0;
-    for turn in 0..commands {
-        let command = walk.command(&plain, CELLS);
-        if step_both(&mut fast, &mut plain, command)? {
-            accepted = accepted.saturating_add(1);
-        }
-        if turn % 500 == 0 {
-            are_alike(&fast, &plain, limits)?;
-        }
-    }
-    are_alike(&fast, &plain, limits)?;
-    Ok(accepted)
+    walk_both(&mut fast, &mut plain, commands, seed)
 }
 
 // Opens what a crash left. Now and then that is stopped too, and a crash comes again.
@@ -75,21 +80,62 @@ fn opens(alloc: Global, mut disk: MemDisk, walk: &mut Walk) -> Result<Engine<Fus
     opened(alloc, FuseDisk::new(disk, 100, Mode::Stop))
 }
 
+// The disk of a new engine.
+fn new_disk(alloc: Global, limits: Limits) -> Result<MemDisk> {
+    match Engine::format(alloc, MemDisk::new(alloc, image_length(limits))?, limits) {
+        Ok(engine) => Ok(engine.close()),
+        Err((refusal, _)) => Err(anyhow!("the format is refused: {refusal}")),
+    }
+}
+
+// What an opening found is what was answered, and it goes on so many events.
+fn goes_from(
+    engine: &mut Engine<FuseDisk>,
+    known: &mut Answered,
+    walk: &mut Walk,
+    limits: Limits,
+    events: u64,
+) -> Result<bool> {
+    has_all(engine, known, limits)?;
+    goes_on(engine, known, walk, events)
+}
+
+// What a crash leaves of an engine that has gone on as it must.
+fn crashed(engine: Engine<FuseDisk>, went: Result<bool>, crash: Crash) -> Result<MemDisk> {
+    let disk = engine.close().into_inner().crash(crash);
+    match went {
+        Ok(_works) => Ok(disk),
+        Err(error) => Err(error),
+    }
+}
+
+// Opens what a crash left, goes on, and crashes.
+fn stop(
+    alloc: Global,
+    disk: MemDisk,
+    known: &mut Answered,
+    walk: &mut Walk,
+    limits: Limits,
+) -> Result<MemDisk> {
+    let mut engine = opens(alloc, disk, walk)?;
+    let went = goes_from(&mut engine, known, walk, limits, EVENTS);
+    crashed(engine, went, a_crash(walk))
+}
+
+fn stop_each(alloc: Global, known: &mut Answered, stops: u64, seed: u64) -> Result<()> {
+    let limits = limits(CELLS, ELEMENTS, SLOTS)?;
+    let mut walk = Walk::new(seed);
+    let mut disk = new_disk(alloc, limits)?;
+    for _ in 0..stops {
+        disk = stop(alloc, disk, known, &mut walk, limits)?;
+    }
+    Ok(())
+}
+
 // Stops an engine so many times, at any call of any turn, command or opening. How many commands were accepted.
 fn wander(alloc: Global, stops: u64, seed: u64) -> Result<u64> {
-    let limits = limits(CELLS, ELEMENTS, SLOTS)?;
-    let mut disk = match Engine::format(alloc, MemDisk::new(alloc, image_length(limits))?, limits) {
-        Ok(engine) => engine.close(),
-        Err((refusal, _)) => return Err(anyhow!("the format is refused: {refusal}")),
-    };
-    let mut known = nothing(alloc, limits)?;
-    let mut walk = Walk::new(seed);
-    for _ in 0..stops {
-        let mut engine = opens(alloc, disk, &mut walk)?;
-        has_all(&engine, &mut known, limits)?;
-        let _works = goes_on(&mut engine, &mut known, &mut walk, EVENTS)?;
-        disk = engine.close().into_inner().crash(a_crash(&mut walk));
-    }
+    let mut known = nothing(alloc, limits(CELLS, ELEMENTS, SLOTS)?)?;
+    stop_each(alloc, &mut known, stops, seed)?;
     Ok(known.count())
 }
 
@@ -105,40 +151,82 @@ fn ways() -> [(Mode, Crash); 6] {
     ]
 }
 
-// Does so many events on a disk that passes so many calls, and opens what a crash leaves. Whether the disk has stopped.
-fn stops(alloc: Global, events: u64, seed: u64, passes: u64, way: (Mode, Crash)) -> Result<bool> {
+// So many events that begin with a seed, on a disk that passes so many calls, how it fails, and the crash behind that.
+#[derive(Drop)]
+struct Case {
+    events: u64,
+    seed: u64,
+    passes: u64,
+    way: (Mode, Crash),
+}
+
+// Goes on in a new image. Whether the disk still works, and what a crash leaves of it.
+fn went(
+    alloc: Global,
+    known: &mut Answered,
+    walk: &mut Walk,
+    case: &Case,
+) -> Result<(bool, MemDisk)> {
     let limits = limits(CELLS, SIX_ELEMENTS, SLOTS)?;
-    let mut engine = formatted(alloc, limits, passes, way.0)?;
-    let mut known = nothing(alloc, limits)?;
-    let mut walk = Walk::new(seed);
-    let works = goes_on(&mut engine, &mut known, &mut walk, events)?;
-    let mut engine = opened(alloc, steady(engine.close().into_inner().crash(way.1)))?;
-    has_all(&engine, &mut known, limits)?;
-    // It serves what is asked then.
-    let _works = goes_on(&mut engine, &mut known, &mut walk, 8)?;
-    are_known(&engine, &known, limits)?;
+    let mut engine = formatted(alloc, limits, case.passes, case.way.0)?;
+    let works = goes_on(&mut engine, known, walk, case.events);
+    let disk = engine.close().into_inner().crash(case.way.1);
+    Ok((works?, disk))
+}
+
+// What an opening found is what was answered, and it serves what is asked then.
+fn serves_then(engine: &mut Engine<FuseDisk>, known: &mut Answered, walk: &mut Walk) -> Result<()> {
+    let limits = limits(CELLS, SIX_ELEMENTS, SLOTS)?;
+    let _works = goes_from(engine, known, walk, limits, 8)?;
+    are_known(engine, known, limits)
+}
+
+fn stops_in(alloc: Global, known: &mut Answered, walk: &mut Walk, case: &Case) -> Result<bool> {
+    let (works, disk) = went(alloc, known, walk, case)?;
+    let mut engine = opened(alloc, steady(disk))?;
+    serves_then(&mut engine, known, walk)?;
     Ok(!works)
+}
+
+// Goes on in a case, and opens what a crash leaves. Whether the disk has stopped.
+fn stops(alloc: Global, case: &Case) -> Result<bool> {
+    let mut known = nothing(alloc, limits(CELLS, SIX_ELEMENTS, SLOTS)?)?;
+    stops_in(alloc, &mut known, &mut Walk::new(case.seed), case)
+}
+
+// Whether the disk stops in each way that fails at a call.
+fn stops_each(alloc: Global, events: u64, seed: u64, passes: u64) -> Result<bool> {
+    for way in ways() {
+        let case = Case {
+            events,
+            seed,
+            passes,
+            way,
+        };
+        if !stops(alloc, &case)? {
+            return Ok(false);
+        }
+    }
+    Ok(true)
 }
 
 // Stops an engine at each call of the same events in turn, in each way. How many calls there were.
 fn explore(alloc: Global, events: u64, seed: u64) -> Result<u64> {
     // A format makes four calls.
     for passes in 4..100_000u64 {
-        for way in ways() {
-            if !stops(alloc, events, seed, passes, way)? {
-                return Ok(passes);
-            }
+        if !stops_each(alloc, events, seed, passes)? {
+            return Ok(passes);
         }
     }
     Err(anyhow!("the calls don't end"))
 }
 
 // There have to be more than so many commands, or calls.
-fn are_enough(found: u64, least: u64) -> Result<()> {
+fn tell_enough(found: u64, least: u64, text: &str, said: &mut String) -> Result<()> {
     if found <= least {
         return Err(anyhow!("there are {found}"));
     }
-    Ok(())
+    Ok(said.push_str(text)?)
 }
 
 /// Whether the words are `walk`, `wander` or `explore`: so many commands, stops or events, a seed, and how many
@@ -146,27 +234,17 @@ fn are_enough(found: u64, least: u64) -> Result<()> {
 pub fn tell(alloc: Global, words: &[&str], said: &mut String) -> Result<bool> {
     match words {
         ["walk", commands, "from", seed, "over", least] => {
-            are_enough(
-                walk(alloc, number(commands)?, number(seed)?)?,
-                number(least)?,
-            )?;
-            said.push_str("alike")?;
+            let accepted = walk(alloc, number(commands)?, number(seed)?)?;
+            told(tell_enough(accepted, number(least)?, "alike", said))
         }
         ["wander", stops, "from", seed, "over", least] => {
-            are_enough(
-                wander(alloc, number(stops)?, number(seed)?)?,
-                number(least)?,
-            )?;
-            said.push_str("nothing lost")?;
+            let accepted = wander(alloc, number(stops)?, number(seed)?)?;
+            told(tell_enough(accepted, number(least)?, "nothing lost", said))
         }
         ["explore", events, "from", seed, "over", least] => {
-            are_enough(
-                explore(alloc, number(events)?, number(seed)?)?,
-                number(least)?,
-            )?;
-            said.push_str("nothing lost")?;
+            let calls = explore(alloc, number(events)?, number(seed)?)?;
+            told(tell_enough(calls, number(least)?, "nothing lost", said))
         }
-        _ => return Ok(false),
+        _ => Ok(false),
     }
-    Ok(true)
 }
