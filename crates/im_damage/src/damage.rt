@@ -74,6 +74,11 @@ pub enum Damage {
     Short(usize),
     /// Both headers are open under one generation.
     Twice(u64),
+    /// Neither header is open, and nothing else is there that an image has once it was made: it is no image, or its
+    /// making was never ended.
+    Unmade,
+    /// Neither header is open, and more is there than a making that was never ended leaves.
+    Closed,
     /// A field of the header in force, which is this one.
     Header(u8, HeaderField),
     /// A record on a page of the area in force isn't spelled as it should be, or leads past the last one: the page,
@@ -188,6 +193,14 @@ impl Display for Damage {
                     "headers 0 and 1 are both open with generation {generation}"
                 )
             }
+            Damage::Unmade => write!(
+                f,
+                "neither header is open: it is no image, or one whose making was never finished"
+            ),
+            Damage::Closed => write!(
+                f,
+                "neither header is open: it is no image, or one that is damaged or was never finished"
+            ),
             Damage::Header(number, field) => write!(f, "header {number}: {field}"),
             Damage::Record(page, of) => write!(
                 f,
@@ -276,6 +289,28 @@ pub fn of_headers(zero: &[u8; 64], one: &[u8; 64]) -> Damage {
         number,
         field_in(if number == 1 { one } else { zero }, number),
     )
+}
+
+// Whether nothing stands in the place of a header.
+fn is_blank(header: &[u8; 64]) -> bool {
+    header.iter().all(|byte| *byte == 0)
+}
+
+// Whether a closed header 0 is one that a making leaves: blank, or of the first generation and no command.
+fn is_first(header: &[u8; 64]) -> bool {
+    is_blank(header)
+        || LittleEndian::read_u64(&header[8..16]) == 1
+            && LittleEndian::read_u64(&header[16..24]) == 0
+}
+
+/// Whether two closed headers are as a making leaves them that was never ended.
+pub fn are_unmade(zero: &[u8; 64], one: &[u8; 64]) -> bool {
+    is_first(zero) && is_blank(one)
+}
+
+/// Whether a gate is open in the last slots of a file, by these bytes of it.
+pub fn has_open_gate(ring: &[u8]) -> bool {
+    ring.chunks(SLOT).any(is_open)
 }
 
 fn is_link(count: usize, link: u32) -> bool {

@@ -2,14 +2,14 @@
 ghost use Rattle.im_disk.specs.Since.{OnlyReads};
 
 use crate::damage::{
-    Damage, RecordOf, bad_block, bad_cell, bad_list, bad_node, bad_padding, bad_window, in_force,
-    of_headers, of_journal,
+    Damage, RecordOf, are_unmade, bad_block, bad_cell, bad_list, bad_node, bad_padding, bad_window,
+    has_open_gate, in_force, of_headers, of_journal,
 };
 use im_disk::Disk;
 use im_image::{Header, PAGE, cell_pages, decode, read_header};
 use im_records::{CELLS_ON_A_PAGE, NODES_ON_A_PAGE, read_area};
 use im_types::layout::{CELL_RECORD, NODE_RECORD, SLOT, Version, cell_bytes};
-use im_types::{Limits, Refusal};
+use im_types::{Limits, MAX_SLOTS, Refusal};
 use std::alloc::Global;
 
 // Reads a part of a file, if it lies in it and can be read.
@@ -91,6 +91,39 @@ fn of_places<D: Disk>(alloc: Global, disk: &mut D) -> Damage
 {
     match read_headers(alloc, disk) {
         Some(places) => of_headers(&places.zero, &places.one),
+        None => Damage::Unknown,
+    }
+}
+
+// The last bytes of a file, as many as the longest journal has, behind the places of the headers.
+fn read_tail<D: Disk>(alloc: Global, disk: &mut D) -> Option<Vec<u8>>
+    ensures reads { D.honest disk.new → OnlyReads D.now D.past disk.old disk.new }
+    ensures honest { D.honest disk.new → D.honest disk.old }
+{
+    let Ok(length) = disk.len() else {
+        return None;
+    };
+    let most = length.saturating_sub(2 * PAGE) / SLOT;
+    let size = SLOT * most.min(MAX_SLOTS as usize);
+    read_part(alloc, disk, length.saturating_sub(size), size)
+}
+
+// What a file is of which neither header is open. Its slots are looked for at its end, as no header tells how many it has.
+fn of_closed<D: Disk>(alloc: Global, disk: &mut D) -> Damage
+    ensures reads { D.honest disk.new → OnlyReads D.now D.past disk.old disk.new }
+    ensures honest { D.honest disk.new → D.honest disk.old }
+{
+    let Some(places) = read_headers(alloc, disk) else {
+        return Damage::Unknown;
+    };
+    match read_tail(alloc, disk) {
+        Some(tail) => {
+            if are_unmade(&places.zero, &places.one) && !has_open_gate(tail.as_slice()) {
+                Damage::Unmade
+            } else {
+                Damage::Closed
+            }
+        }
         None => Damage::Unknown,
     }
 }
@@ -243,6 +276,7 @@ pub fn find_damage<D: Disk>(alloc: Global, disk: &mut D, refusal: Refusal) -> Da
 {
     match refusal {
         Refusal::WrongLength => of_length(alloc, disk),
+        Refusal::NoHeader => of_closed(alloc, disk),
         Refusal::BadHeader => of_places(alloc, disk),
         Refusal::BadPage => of_pages(alloc, disk),
         Refusal::BadRecord => of_slots(alloc, disk),

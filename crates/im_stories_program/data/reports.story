@@ -385,7 +385,27 @@ write 0 00 = a5
 inspect = 1
 printed = 1 lines
 printed 0 = refused 13 NoHeader
-told 0 = neither header is open: it is no image, or one that was never made whole
+told 0 = neither header is open: it is no image, or one whose making was never finished
+-- A gate of the journal that stands open, a count, and a byte of the other header: no making leaves these.
+write 32768 a5 = 00
+inspect = 1
+told 0 = neither header is open: it is no image, or one that is damaged or was never finished
+write 32768 00 = a5
+write 16 01 = 00
+inspect = 1
+told 0 = neither header is open: it is no image, or one that is damaged or was never finished
+write 16 00 = 01
+write 4097 01 = 00
+inspect = 1
+told 0 = neither header is open: it is no image, or one that is damaged or was never finished
+write 4097 00 = 01
+inspect = 1
+told 0 = neither header is open: it is no image, or one whose making was never finished
+-- A file of zeros.
+disk 33792 = 33792 bytes
+inspect = 1
+printed 0 = refused 13 NoHeader
+told 0 = neither header is open: it is no image, or one whose making was never finished
 -- The version.
 disk 33792 = 33792 bytes
 format 1 1 16 = formatted
