@@ -291,6 +291,7 @@ pub fn of_headers(zero: &[u8; 64], one: &[u8; 64]) -> Damage {
     )
 }
 
+// Whether nothing stands in the place of a header.
 fn is_blank(header: &[u8; 64]) -> bool {
     header.iter().all(|byte| *byte == 0)
 }
