@@ -183,7 +183,7 @@ remove fetch.script = removed
 # Of a file that can't be opened or read the system's reason is told
 try serial no_such_folder/a.img no_such_folder/s = refused
 told = 1 lines
-told 0 = the script can't be read: entity not found
+told 0 = the script can't be read: there is no such file
 try inspect no_such_folder/a.img = refused
 told 0 = there is no such file
 try format no_such_folder/a.img = refused

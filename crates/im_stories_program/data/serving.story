@@ -312,7 +312,17 @@ read = 1 blocks, 1 parts, 65 requests
 serve = 1
 printed = 130 lines
 printed 129 = refused 3 WindowFull
-told 0 = a request of element 1: all 64 places of its window wait
+told 0 = a request of element 1: all 64 places of its window are taken, and none is given back before its oldest request, which waits, is answered
+-- One fetch that waits is enough, with 63 requests behind it that are answered.
+disk 43008 = 43008 bytes
+format 1 2 32 = formatted
+script setup / alloc x i 1 / element 1 / fetch 0 / = 4 lines
+repeat 64 fetch 9 / = 68 lines
+read = 1 blocks, 1 parts, 65 requests
+serve = 1
+printed = 67 lines
+printed 66 = refused 3 WindowFull
+told 0 = a request of element 1: all 64 places of its window are taken, and none is given back before its oldest request, which waits, is answered
 -- An image whose count of commands is the last that there is: no checkpoint makes room.
 disk 33792 = 33792 bytes
 format 1 1 16 = formatted

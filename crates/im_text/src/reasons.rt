@@ -48,7 +48,8 @@ fn words(refusal: Refusal) -> &'static str {
     match refusal {
         Refusal::Gap => "its numbers have reached the last that there is",
         Refusal::NoElement => "the image has no such element",
-        Refusal::WindowFull => "all 64 places of its window wait",
+        Refusal::WindowFull =>
+            "all 64 places of its window are taken, and none is given back before its oldest request, which waits, is answered",
         Refusal::JournalFull => "the journal is full, and no checkpoint makes room",
         Refusal::Device =>
             "a call of the system failed on the image's file, and the last command is there or not",
@@ -127,12 +128,30 @@ impl Reason {
     }
 }
 
+// Adds what the system says of a script or of the output.
+fn add_kind<W: fmt::Write>(f: &mut Formatter<W>, kind: ErrorKind) -> fmt::Result {
+    match kind {
+        ErrorKind::NotFound => f.write_str("there is no such file"),
+        ErrorKind::PermissionDenied => f.write_str("there is no permission to open it"),
+        ErrorKind::IsADirectory => f.write_str("it is a folder"),
+        ErrorKind::StorageFull => f.write_str("no space is left on the device"),
+        ErrorKind::Uncategorized => f.write_str("a call of the system failed"),
+        kind => write!(f, "{kind}"),
+    }
+}
+
 impl Display for Reason {
     fn fmt<W: fmt::Write>(&self, f: &mut Formatter<W>) -> fmt::Result {
         match *self {
             Reason::Memory => write!(f, "there is not enough memory"),
-            Reason::Output(kind) => write!(f, "the output can't be written: {kind}"),
-            Reason::ScriptFile(kind) => write!(f, "the script can't be read: {kind}"),
+            Reason::Output(kind) => {
+                f.write_str("the output can't be written: ")?;
+                add_kind(f, kind)
+            }
+            Reason::ScriptFile(kind) => {
+                f.write_str("the script can't be read: ")?;
+                add_kind(f, kind)
+            }
             Reason::Script(fault) => write!(f, "{fault}"),
             Reason::File(OpenFault::InUse, _) | Reason::NewFile(OpenFault::InUse, _) => {
                 write!(f, "it is in use by another program")
