@@ -320,8 +320,8 @@ script setup / alloc x i 1 / element 1 / fetch 0 / = 4 lines
 repeat 64 fetch 9 / = 68 lines
 read = 1 blocks, 1 parts, 65 requests
 serve = 1
-printed = 65 lines
-printed 64 = refused 3 WindowFull
+printed = 67 lines
+printed 66 = refused 3 WindowFull
 told 0 = a request of element 1: all 64 places of its window are taken, and none is given back before its oldest request, which waits, is answered
 -- An image whose count of commands is the last that there is: no checkpoint makes room.
 disk 33792 = 33792 bytes
