@@ -167,12 +167,17 @@ impl<'a, R: Eprint + AllocGlobal> Console<'a, R> {
         self.tell(reason);
     }
 
+    // Tells which call failed, where what was refused waits for it, or a note is needed.
+    fn tell_failed(&mut self, reason: Reason, noting: Noting) {
+        if self.waits || noting != Noting::Unneeded {
+            self.tell_call(reason);
+        }
+    }
+
     /// Tells what was refused, if it isn't told yet: with what failed of the image's file, and whether a note is left.
     pub(crate) fn settle(&mut self, failure: Option<Failure>, noting: Noting) {
         if let Some(failure) = failure {
-            if self.waits || noting != Noting::Unneeded {
-                self.tell_call(Reason::Call(call_of(failure)));
-            }
+            self.tell_failed(Reason::Call(call_of(failure)), noting);
         }
         self.tell_waiting();
         self.tell_note(self.image, noting);
@@ -181,9 +186,7 @@ impl<'a, R: Eprint + AllocGlobal> Console<'a, R> {
     /// The same of the new file of a migration.
     pub(crate) fn settle_new(&mut self, failure: Option<Failure>, noting: Noting) {
         if let Some(failure) = failure {
-            if self.waits || noting != Noting::Unneeded {
-                self.tell_call(Reason::NewCall(call_of(failure)));
-            }
+            self.tell_failed(Reason::NewCall(call_of(failure)), noting);
         }
         self.tell_note(self.script, noting);
     }
