@@ -29,6 +29,8 @@ const TURNS: u64 = 1_024;
 pub struct Terminals {
     /// Standard input: somebody may be asked.
     pub input: bool,
+    /// Standard output: somebody waits for each line.
+    pub output: bool,
     /// Standard error: somebody watches.
     pub errors: bool,
 }
@@ -270,6 +272,10 @@ impl<R: Eprint + AllocGlobal> Observer for Console<'_, R> {
     fn warned(&mut self, warning: Warning) {
         let path = Shown(self.image);
         let _printed = eprintln!(self.rt; "imem: {path}: {warning}");
+    }
+
+    fn wants_each_line(&self) -> bool {
+        self.terminals.output
     }
 }
 

@@ -336,6 +336,40 @@ impl<D: Disk> Server<D> {
         }
     }
 
+    // Writes what is kept back, where each line is wanted as soon as it is true.
+    fn show<W: Write, N: Observer>(&mut self, out: &mut W, observer: &N) -> Result<(), Reason>
+        ensures serves { Serves D.now D.past D.failures D.honest
+            (at self.old.engine (W.contents out.old) self.old.lines self.old.waited.items)
+            (at self.new.engine (W.contents out.new) self.new.lines self.new.waited.items) }
+    {
+        if observer.wants_each_line() {
+            self.lines.flush(out)
+        } else {
+            Ok(())
+        }
+    }
+
+    // Serves what a line says, and shows it.
+    fn serve_and_show<W: Write, N: Observer>(
+        &mut self,
+        said: Said,
+        out: &mut W,
+        observer: &mut N,
+    ) -> Result<(), Reason>
+        ensures serves { MatchResult result
+            (λ _. Serves D.now D.past D.failures D.honest
+            (at self.old.engine (W.contents out.old) self.old.lines self.old.waited.items)
+            (at self.new.engine (W.contents out.new) self.new.lines self.new.waited.items))
+            (λ _. Ends D.now D.past D.failures D.honest
+            (at self.old.engine (W.contents out.old) self.old.lines self.old.waited.items)
+            (at self.new.engine (W.contents out.new) self.new.lines self.new.waited.items)) }
+    {
+        match self.serve_said(said, out, observer) {
+            Ok(()) => self.show(out, observer),
+            Err(reason) => Err(reason),
+        }
+    }
+
     // Serves the whole script, line by line as they are read, until a request is refused.
     pub(crate) fn serve<W: Write, N: Observer>(
         &mut self,
@@ -364,7 +398,7 @@ impl<D: Disk> Server<D> {
                 Ok(said) => said,
                 Err(fault) => return Err(Reason::Script(fault)), // There was no memory for it.
             };
-            match self.serve_said(said, out, observer) {
+            match self.serve_and_show(said, out, observer) {
                 Ok(()) => {}
                 Err(reason) => return Err(reason),
             }

@@ -10,6 +10,7 @@ use std::fs;
 
 // Nobody watches, and nobody is asked.
 const NOBODY: Terminals = Terminals {
+    output: false,
     input: false,
     errors: false,
 };

@@ -14,6 +14,7 @@ use std::{fs, io};
 
 // Nobody watches, and nobody is asked.
 const NOBODY: Terminals = Terminals {
+    output: false,
     input: false,
     errors: false,
 };

@@ -51,4 +51,10 @@ pub trait Observer {
 
     /// Is told what is odd of an image that is read all the same.
     fn warned(&mut self, _warning: Warning) {}
+
+    /// Whether each line of the output is wanted as soon as it is true, as by a person at a terminal; else lines are
+    /// written many at once.
+    fn wants_each_line(&self) -> bool {
+        false
+    }
 }

@@ -163,6 +163,7 @@ fn main(rt: HostRuntime) -> ExitCode {
     let mut out = io::writer(&rt);
     let terminals = Terminals {
         input: rt.stdin().is_terminal(),
+        output: rt.stdout().is_terminal(),
         errors: rt.stderr().is_terminal(),
     };
     ExitCode::from(start(&rt, &held, &mut out, terminals))
