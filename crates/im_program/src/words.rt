@@ -1,5 +1,5 @@
 //! The words of the command line.
-ghost use Rattle.std.specs.Prelude.{◌≡◌, [], true, false, Some, IfOk, IfErr, IsOk, IsSome, codes};
+ghost use Rattle.std.specs.Prelude.{IfSome, ◌≡◌, [], true, false, Some, IfOk, IfErr, IsOk, IsSome, codes};
 ghost use Rattle.std.specs.Option.{option_map};
 ghost use Rattle.clap.specs.Words.{app_of, fault_of, found_of, kind_of, rows_of, rule_of, subcommand_rows_of, takes};
 ghost use Rattle.clap.specs.declared.builder.command.Command.TheViews.{out-Command};
@@ -609,6 +609,21 @@ fn statuses_of(matches: &ArgMatches<'_>) -> bool
     }
 }
 
+/// The work, and how the program is to end. `None` where a number is no decimal number of a u32.
+fn order_of<'a>(matches: &ArgMatches<'a>) -> Option<Order<'a>>
+    ensures work { option_map (λ (order : Order). task_of order.work) result
+        ≡ task_in (subcommand_rows_of matches.now) }
+    ensures statuses { IfSome result (λ order. order.statuses ≡ has_statuses (subcommand_rows_of matches.now)) }
+{
+    match work_of(matches) {
+        Some(work) => Some(Order {
+            work,
+            statuses: statuses_of(matches),
+        }),
+        None => None,
+    }
+}
+
 /// The fault that clap found.
 fn fault(error: Error) -> WordFault
     ensures { kind_of error ≡ ErrorKind.OutOfMemory → result ≡ WordFault.NoMemory }
@@ -671,9 +686,8 @@ pub fn read_words<'a>(alloc: Global, words: &'a [&'a str]) -> Result<Order<'a>, 
         Ok(matches) => matches,
         Err(error) => return Err(fault(error)),
     };
-    let statuses = statuses_of(&matches);
-    match work_of(&matches) {
-        Some(work) => Ok(Order { work, statuses }),
+    match order_of(&matches) {
+        Some(order) => Ok(order),
         None => Err(number_fault(alloc, &matches)),
     }
 }

@@ -560,6 +560,34 @@ fn settle<R: Files<File = File> + AllocGlobal + Eprint, S: Start>(
     }
 }
 
+// Does the job, and prints the line of a refusal.
+fn work_alone<
+    R: Files<File = File> + AllocGlobal + Input,
+    S: Start,
+    I: BufRead + Ear,
+    W: Write,
+    N: Observer,
+>(
+    rt: &R,
+    held: &Descriptors,
+    job: &Job,
+    input: &mut I,
+    out: &mut W,
+    observer: &mut N,
+    start: S,
+) -> (u8, Option<FileDisk<S>>)
+    ensures status { result.0 ≤ 1 }
+    ensures done { IfSome result.1 (λ disk. ⟦<FileDisk<S> as Disk>⟧.honest disk →
+        DoneOn ⟦<FileDisk<S> as Disk>⟧.now ⟦<FileDisk<S> as Disk>⟧.past ⟦<FileDisk<S> as Disk>⟧.failures S.first
+        (task_of_job job.now) (W.contents out.old) (W.contents out.new) result.0 disk) }
+    ensures none { IfNone result.1 ((task_of_job job.now ≡ demonstration) ⊎ (result.0 ≡ 1)) }
+{
+    match do_job(rt, held, job, input, out, observer, start) {
+        Ok(done) => done,
+        Err(refusal) => (refuse(rt.alloc(), refusal, out), None),
+    }
+}
+
 /// Does the job of one thread, and answers the status that the program ends with: 0, or 1 where something was refused
 /// or a write of the output failed; and the disk of the image, where its file was made or opened. A dialogue reads
 /// `input`. What it prints goes to `out`, a refusal as its last line `refused N NAME`. Standard error has one line of
@@ -598,12 +626,41 @@ pub fn act_alone<
         console.refused(Reason::File(PathFault::Exists));
         return (refuse(rt.alloc(), Refusal::Device, out), None);
     }
-    let (status, disk) = match do_job(rt, held, job, input, out, console, start) {
-        Ok(done) => done,
-        Err(refusal) => (refuse(rt.alloc(), refusal, out), None),
-    };
+    let (status, disk) = work_alone(rt, held, job, input, out, console, start);
     settle(rt, image_of(job), &disk, console);
     (status, disk)
+}
+
+// Runs the script, and prints the line of a refusal.
+fn run_at_once<
+    R: Files<File = File> + AllocGlobal + Input + Threads + Wait + Sync,
+    S: Start + Send,
+    V: Watcher + Sync,
+    W: Write,
+    N: Observer,
+>(
+    rt: &R,
+    held: &Descriptors,
+    image: &str,
+    script: &str,
+    planned: bool,
+    watcher: &V,
+    out: &mut W,
+    observer: &mut N,
+    start: S,
+) -> (u8, Option<FileDisk<S>>)
+    ensures status { (result.0 ≤ 1) ⊎ (result.0 ≡ STALLED) }
+    ensures ran { IfSome result.1 (λ disk. ⟦<FileDisk<S> as Disk>⟧.honest disk →
+        RanFrom ⟦<FileDisk<S> as Disk>⟧.now ⟦<FileDisk<S> as Disk>⟧.past ⟦<FileDisk<S> as Disk>⟧.failures
+        S.first disk (W.contents out.old) (W.contents out.new) result.0) }
+    ensures none { IfNone result.1 (result.0 ≡ 1) }
+{
+    match run_file(
+        rt, held, image, script, planned, watcher, out, observer, start,
+    ) {
+        Ok((status, disk)) => (status, Some(disk)),
+        Err(refusal) => (refuse(rt.alloc(), refusal, out), None),
+    }
 }
 
 /// Runs a script by the threads of its elements. The status, and the disk of the image, where it was opened.
@@ -628,12 +685,9 @@ fn act_at_once<
     ensures none { IfNone result.1 (result.0 ≡ 1) }
 {
     let watch = Watch::new(rt, console.is_watched());
-    let (status, disk) = match run_file(
+    let (status, disk) = run_at_once(
         rt, held, image, script, planned, &watch, out, console, start,
-    ) {
-        Ok((status, disk)) => (status, Some(disk)),
-        Err(refusal) => (refuse(rt.alloc(), refusal, out), None),
-    };
+    );
     settle(rt, image, &disk, console);
     (status, disk)
 }

@@ -5,6 +5,6 @@ use Rattle.im_program.proofs.words.file_command.Goals as goal
 
 pub returns-clause-app : goal.returns-clause-app
 returns-clause-app c =
-    let empty : app_of c.after_help-empty.result ≡ new_app c.args.name.entry.now = search rules in
-    let one : app_of c.in_ok-one.one ≡ with_rule (new_app c.args.name.entry.now) (flag_rule (codes "statuses")) = c.in_ok-one.ensures.shape c.statuses_option-statuses.ensures.local ∙ ap₂ with_rule empty c.statuses_option-statuses.ensures.rule in
+    let empty : app_of c.after_help-empty.result ≡ new_app c.args.name.now = search rules in
+    let one : app_of c.in_ok-one.one ≡ with_rule (new_app c.args.name.now) (flag_rule (codes "statuses")) = c.in_ok-one.ensures.shape c.statuses_option-statuses.ensures.local ∙ ap₂ with_rule empty c.statuses_option-statuses.ensures.rule in
     c.in_ok-two.ensures.shape c.path_argument-file.ensures.local ∙ ap₂ with_rule one c.path_argument-file.ensures.rule
