@@ -229,7 +229,7 @@ serve to 15 bytes = 1
 printed = 1 lines, and one that doesn't end
 printed 0 = 1.1 nocell
 told = 1 lines
-told 0 = the output can't be written: broken pipe
+told 0 = the output can't be written: nobody reads it any more
 count = 3
 serve to 33 bytes = 0
 printed = 3 lines
@@ -237,7 +237,7 @@ told = 0 lines
 inspect to 10 bytes = 1
 printed = 1 lines
 printed 0 = version 2
-told 0 = the output can't be written: broken pipe
+told 0 = the output can't be written: nobody reads it any more
 
 # Lines are written in batches of at most 4096 bytes, and where one can't be written no more is served
 disk 450560 = 450560 bytes
@@ -249,7 +249,7 @@ read = 0 blocks, 1 parts, 400 requests
 serve to 0 bytes = 1
 printed = 0 lines
 told = 1 lines
-told 0 = the output can't be written: broken pipe
+told 0 = the output can't be written: nobody reads it any more
 count = 329
 -- From 1.325 on each line has 13 bytes: 315 are 4095, and 4 confirmations stand between 316 requests.
 serve to 4091 bytes = 1
