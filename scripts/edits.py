@@ -8,7 +8,7 @@ import sources
 BREAKS = "# breaks: "
 FLAW = re.compile(r"^(?:\./)?(\S+?):\d+:\d+: error: (?:`([^`]*)`: )?(.*)$", re.M)
 NOTE = re.compile(r"^note: (?:\./)?(src/\S+):(\d+):\d+: .* \(`([^`]+)`\)(?:;.*)?$", re.M)
-GONE = re.compile(r"is not in scope|has no |is no name|was not admitted|no such goal|operand is missing|expected the end|cannot continue")
+GONE = re.compile(r"is not in scope|has no (?!atom in common)|is no name|was not admitted|no such goal|operand is missing|expected the end|cannot continue")
 OPEN = re.compile(r"^(?:fn|impl) (\S+): (?:not proved|no proof: expected)(.*)$", re.M)
 UNSHOWN = re.compile(r"`search` did not prove ((?:`[^`]*`(?:, | and |, and )?)+)")
 NO_CLAUSES = ("loop", "invariant", "requires", "overflow", "lemma")

@@ -136,6 +136,12 @@ class Words(WithSources):
         self.assertEqual(said.goals, {})
         self.assertIn("names what it no longer has", said.missed("gate::open_gate", "opened"))
 
+    def test_a_goal_that_does_not_follow_is_open(self):
+        told = "error: `returns-clause-opened`: `omega`: the goal does not follow from what it read. 1 of them has no atom in common with the goal"
+        said = edits.read_words(f"./proofs/gate/open_gate/Answers.antt:9:75: {told}\nfn im_disk::gate::open_gate: not proved\n", "im_disk", self.top)
+        self.assertEqual(said.open_at("gate::open_gate", "opened"), ["returns-clause-opened"])
+        self.assertEqual(said.gone, {})
+
     def test_proved_is_no_verdict_of_refusal(self):
         self.assertFalse(edits.is_verdict("only=1 proved=1\n"))
         self.assertTrue(edits.is_verdict("fn im_disk::gate::open_gate: not proved\n"))
