@@ -132,25 +132,22 @@ inline wait_turn(place) {
   fi
 }
 
-inline count_answers() { d_step { i = 0; do :: i < N -> rung[i] = true; i++ :: else -> break od; i = 0 } }
-inline wake_answers() {
-  d_step {
-    i = 0;
-#ifdef WAKES_ONE
-    do :: i < N && !parked[i] -> i++ :: else -> break od; if :: i < N -> parked[i] = false :: else fi;
-#else
-    do :: i < N -> parked[i] = false; i++ :: else -> break od;
-#endif
-    i = 0
-  }
-}
-/* of im_controller::Bell::ring 94c2d9f659e6 */
-inline ring_answers() {
+/* of im_controller::Bell::ring 94c2d9f659e6
+   of im_controller::Bells::ring d32343ebf3f1
+   of im_controller::Bells::ring_all e718d72712c2: the bells of `to_ports`, by bits, one after another. */
+inline count_answer(e) { rung[e] = true }
+inline wake_answer(e) { parked[e] = false }
+inline ring_ports(to_ports) {
+  do :: to_ports != 0 ->
+        d_step { k = 0; do :: !(to_ports & (1 << k)) -> k++ :: else -> break od; to_ports = to_ports & ~(1 << k); at = k; k = 0 };
 #ifdef WAKES_BEFORE_IT_COUNTS
-  wake_answers(); count_answers()
+        wake_answer(at); count_answer(at)
 #else
-  count_answers(); wake_answers()
+        count_answer(at); wake_answer(at)
 #endif
+     :: else -> break
+  od;
+  at = 0
 }
 inline ring_work() { work_rung = true; work_parked = false }
 /* of im_controller::Bell::wait_past 5bd1c1bc8883
@@ -165,28 +162,40 @@ inline wait_past_work() {
      :: atomic { !work_rung -> work_parked = true }; !work_parked
   od
 }
-/* of im_controller::who_sleeps 00ef1800e674
+/* of im_controller::who_sleeps a81b6dfec630
    of im_controller::wake_keeper 4f718459f48f
-   of im_controller::Servers::is_one_waiting 58d86ae0485b: as it is to be, it tells of each that sleeps. */
+   of im_controller::Servers::answered 843e04db3eb9
+   of im_controller::Servers::awaited 0e9cdfabcf73
+   of im_controller::Servers::asleep 11a69be06739
+   of im_controller::is_answered faf50e23f896 */
 inline who_sleeps() {
   to_keeper = (keeper == Sleeps);
   if :: to_keeper -> keeper = Works :: else fi;
-  to_servers = false;
-  i = 0; do :: i < N -> to_servers = to_servers || sleeper[i]; i++ :: else -> break od; i = 0
+  to_ports = 0;
+  i = 0; do :: i < N -> if :: sleeper[i] && (failed || entry[i] == Told) -> to_ports = to_ports | (1 << i) :: else fi; i++ :: else -> break od; i = 0;
+#ifdef RINGS_THE_FIRST
+  to_ports = to_ports & (256 - to_ports)
+#endif
 }
-/* of im_controller::Controller::wake aa82cc4f5857 */
+/* of im_controller::who_may_be_stuck 917f943c22e2 */
+inline who_may_be_stuck() {
+  who_sleeps();
+  i = 0; do :: i < N -> if :: sleeper[i] -> to_ports = to_ports | (1 << i) :: else fi; i++ :: else -> break od; i = 0
+}
+/* of im_controller::Controller::wake 59e82324c5af */
 inline wake(call) {
-  if :: SILENT == call -> to_servers = false :: else fi;
+  if :: SILENT == call -> to_ports = 0 :: else fi;
   if :: QUIET == call || QUIET == ANY -> to_keeper = false :: else fi;
   if :: to_keeper -> to_keeper = false; ring_work() :: else fi;
-  if :: to_servers -> to_servers = false; ring_answers() :: else fi
+  ring_ports(to_ports)
 }
 
 /* of im_controller::Servers::change d38f95d1cd67
-   of im_controller::begin_wait 9e785d1206c9: as it is to be, who is told to wait is noted whether it has retired or not. */
+   of im_controller::Servers::note 39448ea66991
+   of im_controller::note_sleep dc175c06a3df: who is told to wait is noted, whether it has retired or not. */
 inline change(e, state) { if :: server[e] != Retired -> server[e] = state :: else fi }
 inline note(e, sleeps) {
-#ifdef AS_IT_IS
+#ifdef UNNOTED
   sleeper[e] = (sleeps && server[e] == Waits)
 #else
   sleeper[e] = sleeps
@@ -332,7 +341,7 @@ inline collect(e) {
   got = (failed -> Failed : Told);
   pass_on(answered)
 }
-/* of im_controller::Port::await_answer 72ad4d04f473 */
+/* of im_controller::Port::await_answer f0fdccfb58e3 */
 inline await_answer(e) {
   if :: does[e] != Done -> does[e] = Waits :: else fi;
   do :: wait_turn(e);
@@ -353,11 +362,11 @@ inline await_answer(e) {
         wait_past_answers(e)
   od
 }
-/* of im_controller::Port::retire 43c9c8774cb7
+/* of im_controller::Port::retire a2bf9d70c784
    of im_controller::retire b96ba3dbb1ff */
 inline retire(e) {
   wait_turn(e);
-  d_step { server[e] = Retired; does[e] = Done; who_sleeps() };
+  d_step { server[e] = Retired; does[e] = Done; who_may_be_stuck() };
   pass_on(answered);
   wake(AFTER_A_RETIREMENT)
 }
@@ -382,7 +391,7 @@ inline confirm_to_end(e) {
    of im_serving::await_one 8464d289f16b
    of im_serving::await_rest 56b9cf79b970 */
 proctype Port(byte e) {
-  bool to_keeper, to_servers, again, awaits; byte answered; mtype first = Nothing, second = Nothing, got = Nothing;
+  bool to_keeper, again, awaits; byte to_ports, at, answered; mtype first = Nothing, second = Nothing, got = Nothing;
   atomic {
 #if defined(ROLES)
     first = (e == N - 1 -> Store : Fetch)
@@ -449,9 +458,9 @@ inline keep_once() {
         fi
   fi
 }
-/* of im_controller::Controller::keep_checkpoints_and_tell ea88d876f913 */
+/* of im_controller::Controller::keep_checkpoints_and_tell 44a3cb7e272e */
 proctype Keeper() {
-  byte answered; mtype kept = Nothing;
+  byte answered, to_ports, at; mtype kept = Nothing;
   wait_turn(KEEPER);
   do :: atomic {
           keep_once();
@@ -470,7 +479,7 @@ proctype Keeper() {
                  :: kept == Idle -> wait_past_work()
                  :: kept == Failed ->
 #ifndef SILENT_FAULT
-                    ring_answers();
+                    to_ports = (1 << N) - 1; ring_ports(to_ports);
 #endif
                     break
               fi;

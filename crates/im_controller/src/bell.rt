@@ -1,5 +1,6 @@
-//! A bell beside the lock. Who waits reads it while it holds the lock, lets the lock go, and sleeps until it was rung
+//! Bells beside the lock. Who waits reads one while it holds the lock, lets the lock go, and sleeps until it was rung
 //! since; who changes what lies under the lock rings it after that. So no wake-up is lost.
+use std::alloc::{AllocError, Global};
 use std::sync::{Condvar, Mutex, Wait};
 
 #[derive(Drop)]
@@ -34,5 +35,50 @@ impl Bell {
             self.wakes
                 .wait_while(rt, self.rung.lock(rt), |rung| *rung == seen),
         );
+    }
+}
+
+// A bell for each element's port.
+#[derive(Drop)]
+pub(crate) struct Bells {
+    all: Vec<Bell>,
+}
+
+impl Bells {
+    pub(crate) fn new(alloc: Global, elements: u16) -> Result<Bells, AllocError> {
+        let mut all = Vec::with_capacity(alloc, elements as usize)?;
+        for _ in 0..elements {
+            all.push(Bell::new())?;
+        }
+        Ok(Bells { all })
+    }
+
+    // How often an element's was rung, wrapping.
+    pub(crate) fn read<R: Wait>(&self, rt: &R, element: u16) -> u64 {
+        match self.all.get(element as usize) {
+            Some(bell) => bell.read(rt),
+            None => 0,
+        }
+    }
+
+    pub(crate) fn ring<R: Wait>(&self, rt: &R, elements: &[u16]) {
+        for element in elements {
+            if let Some(bell) = self.all.get(*element as usize) {
+                bell.ring(rt);
+            }
+        }
+    }
+
+    pub(crate) fn ring_all<R: Wait>(&self, rt: &R) {
+        for bell in self.all.iter() {
+            bell.ring(rt);
+        }
+    }
+
+    // Sleeps until an element's was rung since it was read.
+    pub(crate) fn wait_past<R: Wait>(&self, rt: &R, element: u16, seen: u64) {
+        if let Some(bell) = self.all.get(element as usize) {
+            bell.wait_past(rt, seen);
+        }
     }
 }

@@ -11,7 +11,7 @@ ghost use Rattle.im_controller.specs.Groups.{Holds};
 ghost use Rattle.im_controller.specs.Planned.{TellsOf};
 ghost use Rattle.im_controller.specs.Lends.{IsTurnFault};
 
-use crate::bell::Bell;
+use crate::bell::{Bell, Bells};
 use crate::books::Tally;
 use crate::groups::hold;
 use crate::inbox::Inbox;
@@ -29,8 +29,8 @@ use im_glass::Glance;
 use im_types::{Command, Refusal, Request};
 use std::sync::{Mutex, MutexGuard, Wait};
 
-/// The lock round an engine and its trace, the queue before the lock, the inbox with a lock of its own, and two bells:
-/// one for servers that wait, one for the thread that keeps checkpoints.
+/// The lock round an engine and its trace, the queue before the lock, the inbox with a lock of its own, and bells: one
+/// for each port that waits for an answer, one for the thread that keeps checkpoints.
 ///
 /// The lock is taken in the queue's order, is never held while the queue or a bell is waited for, and a bell is rung
 /// after the lock was let go. The inbox's lock is never held while another is asked for.
@@ -40,18 +40,23 @@ pub struct Controller<D: Disk, K: Name> {
     pub(crate) shared: Mutex<Shared<D, K>>,
     pub(crate) inbox: Mutex<Inbox>,
     pub(crate) turns: Turns,
-    pub(crate) answers: Bell,
+    pub(crate) answers: Bells,
     pub(crate) work: Bell,
 }
 
 impl<D: Disk, K: Name> Controller<D, K> {
     // A controller over these.
-    pub(crate) fn over(shared: Shared<D, K>, inbox: Inbox, turns: Turns) -> Controller<D, K> {
+    pub(crate) fn over(
+        shared: Shared<D, K>,
+        inbox: Inbox,
+        turns: Turns,
+        answers: Bells,
+    ) -> Controller<D, K> {
         Controller {
             shared: Mutex::new(shared),
             inbox: Mutex::new(inbox),
             turns,
-            answers: Bell::new(),
+            answers,
             work: Bell::new(),
         }
     }
@@ -132,7 +137,7 @@ impl<D: Disk, K: Name> Controller<D, K> {
                 Ok(Kept::Worked) | Ok(Kept::Pressed) => {}
                 Ok(Kept::Idle) => self.work.wait_past(rt, seen),
                 Err(refusal) => {
-                    self.answers.ring(rt);
+                    self.answers.ring_all(rt);
                     return Err(refusal);
                 }
             }
@@ -147,9 +152,7 @@ impl<D: Disk, K: Name> Controller<D, K> {
         if sleepers.keeper {
             self.work.ring(rt);
         }
-        if sleepers.servers {
-            self.answers.ring(rt);
-        }
+        self.answers.ring(rt, sleepers.ports.as_slice());
     }
 
     // Lends the engine to a command of a port, in the queue's order.

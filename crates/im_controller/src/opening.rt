@@ -9,6 +9,7 @@ ghost use Rattle.im_controller.specs.Log.{AreFree};
 ghost use Rattle.im_controller.specs.Kept.{begun_in};
 ghost use Rattle.im_controller.specs.Servers.{is_unmade};
 
+use crate::bell::Bells;
 use crate::books::{Books, Reserve};
 use crate::controller::Controller;
 use crate::inbox::Inbox;
@@ -78,6 +79,7 @@ struct Parts {
     servers: Servers,
     inbox: Inbox,
     turns: Turns,
+    answers: Bells,
     watched: Vec<bool>,
     ports: u64,
 }
@@ -96,6 +98,7 @@ fn make_parts(alloc: Global, trace_room: usize, elements: u16) -> Result<Parts, 
         servers: Servers::new(alloc, elements)?,
         inbox: Inbox::new(alloc, elements)?,
         turns: Turns::new(alloc, elements as usize + 1)?,
+        answers: Bells::new(alloc, elements)?,
         watched: unwatched(alloc, elements)?,
         ports: u64::from(elements),
     })
@@ -239,6 +242,7 @@ impl<D: Disk> Opening<D> {
             servers,
             inbox,
             turns,
+            answers,
             watched,
             ports,
         } = parts;
@@ -272,6 +276,6 @@ impl<D: Disk> Opening<D> {
             reserve,
             keeper: Keeper::Absent,
         };
-        Controller::over(shared, inbox, turns)
+        Controller::over(shared, inbox, turns, answers)
     }
 }

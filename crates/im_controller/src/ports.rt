@@ -15,7 +15,7 @@ use crate::books::Tally;
 use crate::controller::Controller;
 use crate::name::Name;
 use crate::receipts::{Found, Receipt};
-use crate::shared::{ask_once, find, lend_turn, retire, who_sleeps};
+use crate::shared::{ask_once, find, lend_turn, note_sleep, retire, who_may_be_stuck, who_sleeps};
 use im_checkpoint::TurnDone;
 use im_disk::Disk;
 use im_types::{Command, Op, Refusal, Request};
@@ -35,6 +35,11 @@ impl<K: Name> Model for Port<K> {
     ghost Value = { PortState };
 
     ghost view = { λ p. record { element = p.element; told = p.tally } };
+}
+
+// The number for which a port sleeps, if it does.
+fn awaited(number: u64, sleeps: bool) -> Option<u64> {
+    if sleeps { Some(number) } else { None }
 }
 
 impl<K: Name> Port<K> {
@@ -126,7 +131,9 @@ impl<K: Name> Port<K> {
 
     /// What is kept under a number of this element, once it is answered: its server waits until then. Refused with
     /// `Stalled`, with no line, where each active server waits and none of their entries is answered; else as
-    /// [`Port::collect`].
+    /// [`Port::collect`]. A port that was retired waits as any other, and its server is active no more for it. Of two
+    /// that are stuck the first to ask is told so, and is active again from then on; the other is told once the first
+    /// has retired, and sleeps until then.
     pub fn await_answer<D: Disk, R: Wait>(
         &mut self,
         rt: &R,
@@ -147,14 +154,15 @@ impl<K: Name> Port<K> {
             let turn = controller.turns.wait(rt, self.element as usize);
             let mut guard = controller.shared.lock(rt);
             let answer = ask_once(&mut *guard, &mut self.tally, self.element, number);
+            note_sleep(&mut *guard, self.element, awaited(number, answer.is_none()));
             // Read before the lock is let go: whoever changes something after this rings later.
-            let seen = controller.answers.read(rt);
+            let seen = controller.answers.read(rt, self.element);
             let _lock = MutexGuard::unlock(guard);
             controller.turns.pass_on(rt, turn, &[]);
             if let Some(answer) = answer {
                 return answer;
             }
-            controller.answers.wait_past(rt, seen);
+            controller.answers.wait_past(rt, self.element, seen);
         }
         unreachable!()
     }
@@ -179,14 +187,15 @@ impl<K: Name> Port<K> {
         done
     }
 
-    /// Its server has ended: it counts no longer as one that could answer those that wait.
+    /// Its server has ended: it counts no longer as one that could answer those that wait. A port that is dropped and
+    /// wasn't retired stays active, so those that wait for what nobody stores are never told `Stalled`, and sleep.
     pub fn retire<D: Disk, R: Wait>(&mut self, rt: &R, controller: &Controller<D, K>)
         ensures same { self.new ≡ self.old }
     {
         let turn = controller.turns.wait(rt, self.element as usize);
         let mut guard = controller.shared.lock(rt);
         retire(&mut *guard, self.element);
-        let sleepers = who_sleeps(&mut *guard);
+        let sleepers = who_may_be_stuck(&mut *guard);
         let _lock = MutexGuard::unlock(guard);
         controller.turns.pass_on(rt, turn, &[]);
         controller.wake(rt, sleepers);

@@ -1,8 +1,9 @@
-//! The servers of the elements, and which of them wait.
+//! The servers of the elements, which of them wait, and whose ports sleep.
 ghost use Rattle.std.specs.Prelude.{◌≡◌, ◌↔◌, ◌≤◌, ◌+◌, ◌||◌, ◌==◌, ℕ, List, true, false, length, count_by, if◌then◌else◌, IfOk};
 ghost use Rattle.im_types.specs.Contents.{Contents};
 ghost use Rattle.im_controller.specs.Servers.{is_waiting, is_unmade, is_stuck, are_stuck, with_server, Makes, AllStuckBut};
 
+use arrayvec::ArrayVec;
 use im_memory::Memory;
 use im_types::Entry;
 use std::alloc::{AllocError, Global};
@@ -30,10 +31,11 @@ pub enum Ask {
     Wait,
 }
 
-// The servers of all elements.
+// The servers of all elements, and for which entry each port sleeps: those of servers that have ended too.
 #[derive(Drop)]
 pub(crate) struct Servers {
     all: Vec<Server>,
+    asleep: Vec<Option<u64>>,
 }
 
 impl Model for Servers {
@@ -107,8 +109,25 @@ fn are_stuck(memory: &Memory, caller: u16, servers: &[Server]) -> bool
     true
 }
 
+// So many ports, none of which sleeps.
+fn awake(alloc: Global, elements: u16) -> Result<Vec<Option<u64>>, AllocError> {
+    let mut asleep = Vec::with_capacity(alloc, elements as usize)?;
+    for _ in 0..elements {
+        asleep.push(None)?;
+    }
+    Ok(asleep)
+}
+
+// Whether a port sleeps, and need not any more: its entry isn't waited for.
+fn is_answered(memory: &Memory, element: u16, asleep: Option<u64>) -> bool {
+    match asleep {
+        Some(number) => !matches!(memory.collect(element, number), Ok(Entry::Waiting)),
+        None => false,
+    }
+}
+
 impl Servers {
-    // So many, none of which is made yet.
+    // So many, none of which is made yet, and none asleep.
     pub(crate) fn new(alloc: Global, elements: u16) -> Result<Servers, AllocError>
         ensures count { IfOk result (λ s. length s ≡ elements) }
         ensures unmade { IfOk result (λ s. count_by is_unmade s ≡ elements) }
@@ -117,7 +136,8 @@ impl Servers {
         for _ in 0..elements {
             all.push(Server::Unmade)?;
         }
-        Ok(Servers { all })
+        let asleep = awake(alloc, elements)?;
+        Ok(Servers { all, asleep })
     }
 
     // Makes a server, and says whether there is one that wasn't made before.
@@ -173,11 +193,44 @@ impl Servers {
         count_waiting(self.all.as_slice())
     }
 
-    // Whether one of them waits.
-    pub(crate) fn is_one_waiting(&self) -> bool {
-        self.all
-            .iter()
-            .any(|server| matches!(server, Server::Waits(_)))
+    // Notes for which entry an element's port sleeps from now on, if it does.
+    pub(crate) fn note(&mut self, element: u16, number: Option<u64>)
+        ensures same { self.new ≡ self.old }
+    {
+        let i = element as usize;
+        if i < self.asleep.len() {
+            self.asleep[i] = number;
+        }
+    }
+
+    // For which entry an element's port sleeps, if it does.
+    fn awaited(&self, element: usize) -> Option<u64> {
+        match self.asleep.get(element) {
+            Some(number) => *number,
+            None => None,
+        }
+    }
+
+    // The elements whose ports sleep.
+    pub(crate) fn asleep(&self) -> ArrayVec<u16, 64> {
+        let mut sleepers = ArrayVec::new();
+        for i in 0..self.all.len() {
+            if self.awaited(i).is_some() {
+                let _room = sleepers.try_push(i as u16);
+            }
+        }
+        sleepers
+    }
+
+    // Those of them whose entries aren't waited for any more.
+    pub(crate) fn answered(&self, memory: &Memory) -> ArrayVec<u16, 64> {
+        let mut sleepers = ArrayVec::new();
+        for i in 0..self.all.len() {
+            if is_answered(memory, i as u16, self.awaited(i)) {
+                let _room = sleepers.try_push(i as u16);
+            }
+        }
+        sleepers
     }
 }
 

@@ -324,18 +324,41 @@ pub(crate) fn stands_for<D: Disk, K: Name>(
     Some(stands(shared))
 }
 
-// Who is to be woken.
-#[derive(Clone, Copy)]
-pub(crate) struct Sleepers {
-    pub(crate) keeper: bool,
-    pub(crate) servers: bool,
+// Notes for which entry a port sleeps from now on, if it does: also where its server has ended, so that whoever answers
+// it rings.
+pub(crate) fn note_sleep<D: Disk, K: Name>(
+    shared: &mut Shared<D, K>,
+    element: u16,
+    number: Option<u64>,
+)
+    ensures same { shared.new ≡ shared.old }
+{
+    shared.servers.note(element, number);
 }
 
-// Who sleeps and may have something to do now.
+// Who is to be woken: the thread that keeps checkpoints, and ports by their elements.
+#[derive(Drop)]
+pub(crate) struct Sleepers {
+    pub(crate) keeper: bool,
+    pub(crate) ports: ArrayVec<u16, 64>,
+}
+
+// Who sleeps and has something to do now: ports whose entries are answered, or all where the engine has failed.
 pub(crate) fn who_sleeps<D: Disk, K: Name>(shared: &mut Shared<D, K>) -> Sleepers {
+    let keeper = wake_keeper(&mut shared.keeper);
+    let ports = if shared.engine.failed() {
+        shared.servers.asleep()
+    } else {
+        shared.servers.answered(shared.engine.memory())
+    };
+    Sleepers { keeper, ports }
+}
+
+// The same behind a retirement, by which those that sleep may be stuck.
+pub(crate) fn who_may_be_stuck<D: Disk, K: Name>(shared: &mut Shared<D, K>) -> Sleepers {
     Sleepers {
         keeper: wake_keeper(&mut shared.keeper),
-        servers: shared.servers.is_one_waiting(),
+        ports: shared.servers.asleep(),
     }
 }
 

@@ -67,6 +67,7 @@ fn show_all<R: Threads + Wait + Sync>(rt: &R, alloc: Global, said: &mut String) 
         Scene::KeeperAlone,
         Scene::OneLine,
         Scene::ServersWait,
+        Scene::RetiredWaits,
         Scene::Sixteen,
         Scene::Great,
         Scene::Readers,

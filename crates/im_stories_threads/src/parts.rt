@@ -9,6 +9,9 @@ use std::sync::Wait;
 /// How often a request that finds the journal full is sent again, at most.
 const MOST_TRIES: u32 = 200_000_000;
 
+// An address that lies in no block of the scenes.
+const NO_BLOCK: u32 = 63;
+
 /// What a thread does with its port.
 #[derive(Clone, Copy)]
 pub enum Part {
@@ -20,6 +23,10 @@ pub enum Part {
     Stores(u64),
     /// Waits for the answer to number 1.
     Waits,
+    /// Retires, and then waits for the answer to number 1.
+    RetiresAndWaits,
+    /// So many fetches of an address in no block, and then stores 7 at address 0.
+    StoresLate(u64),
     /// Stores 7 at address 0, and then waits for a take of address 1, where nobody puts.
     StoresAndStalls,
 }
@@ -81,13 +88,15 @@ fn fetches<D: Disk, K: Name, R: Wait>(
     rt: &R,
     controller: &Controller<D, K>,
     port: &mut Port<K>,
+    address: u32,
     many: u64,
 ) -> Told {
     let mut accepted = 0u64;
     let mut last = Err(Refusal::Gap);
     for i in 0..many {
         let number = i.saturating_add(1);
-        last = entry_of(submit(rt, controller, port, number, Op::Fetch(0)));
+        let op = Op::Fetch(address);
+        last = entry_of(submit(rt, controller, port, number, op));
         if last == Ok(Entry::Answered(Reply::NoCell)) {
             accepted = accepted.saturating_add(1);
         }
@@ -156,6 +165,22 @@ fn await_answer<D: Disk, K: Name, R: Wait>(
     }
 }
 
+// Fetches for a while, so that whoever waits has gone to sleep, and stores then.
+fn stores_late<D: Disk, K: Name, R: Wait>(
+    rt: &R,
+    controller: &Controller<D, K>,
+    port: &mut Port<K>,
+    many: u64,
+) -> Told {
+    let fetched = fetches(rt, controller, port, NO_BLOCK, many);
+    let number = many.saturating_add(1);
+    let stored = entry_of(submit(rt, controller, port, number, Op::Store(0, 7)));
+    Told {
+        accepted: fetched.accepted,
+        last: stored,
+    }
+}
+
 // Stores, and takes from a cell that nobody fills.
 fn stores_and_stalls<D: Disk, K: Name, R: Wait>(
     rt: &R,
@@ -178,12 +203,20 @@ pub fn play<D: Disk, K: Name, R: Wait>(
     part: Part,
 ) -> Told {
     match part {
-        Part::Fetches(many) => fetches(rt, controller, port, many),
+        Part::Fetches(many) => fetches(rt, controller, port, 0, many),
         Part::Mixed(_, many) | Part::Stores(many) => requests(rt, controller, port, part, many),
         Part::Waits => Told {
             accepted: 0,
             last: await_answer(rt, controller, port, 1),
         },
+        Part::RetiresAndWaits => {
+            port.retire(rt, controller);
+            Told {
+                accepted: 0,
+                last: await_answer(rt, controller, port, 1),
+            }
+        }
+        Part::StoresLate(many) => stores_late(rt, controller, port, many),
         Part::StoresAndStalls => stores_and_stalls(rt, controller, port),
     }
 }

@@ -30,6 +30,8 @@ pub enum Scene {
     OneLine,
     /// A server that is woken, and one that waits for nobody.
     ServersWait,
+    /// A port whose server has ended waits, and is woken.
+    RetiredWaits,
     /// Sixteen threads of 1,002 requests each.
     Sixteen,
     /// A great memory, and a glance at its last cell.
@@ -45,7 +47,7 @@ impl Scene {
             Scene::Two => Limits::new(64, 3, 256),
             Scene::KeeperWorks | Scene::KeeperAlone => Limits::new(64, 3, SLOTS),
             Scene::OneLine => Limits::new(64, 2, 16),
-            Scene::ServersWait => Limits::new(64, 3, 256),
+            Scene::ServersWait | Scene::RetiredWaits => Limits::new(64, 3, 256),
             Scene::Sixteen => Limits::new(512, 17, 4096),
             Scene::Great => Limits::new(65_536, 64, 4096),
             Scene::Readers => Limits::new(512, 9, 4096),
@@ -65,7 +67,7 @@ impl Scene {
     // How many elements have a thread: 1, 2 and so on.
     fn threads(self) -> u16 {
         match self {
-            Scene::Two | Scene::KeeperWorks | Scene::ServersWait => 2,
+            Scene::Two | Scene::KeeperWorks | Scene::ServersWait | Scene::RetiredWaits => 2,
             Scene::OneLine | Scene::Readers | Scene::KeeperAlone => 1,
             Scene::Sixteen => 16,
             Scene::Great => 0,
@@ -82,6 +84,8 @@ impl Scene {
             (Scene::OneLine, _) => Part::Fetches(2),
             (Scene::ServersWait, 1) => Part::Waits,
             (Scene::ServersWait, _) => Part::StoresAndStalls,
+            (Scene::RetiredWaits, 1) => Part::RetiresAndWaits,
+            (Scene::RetiredWaits, _) => Part::StoresLate(60),
             (Scene::Sixteen, _) => Part::Mixed(u32::from(element).saturating_sub(1), 1_002),
             (Scene::Great, _) | (Scene::Readers, _) => Part::Stores(u64::from(CELLS)),
         }
@@ -90,7 +94,7 @@ impl Scene {
     // How many I cells and M cells there are at first, from address 0 on.
     fn blocks(self) -> Option<(u32, u32)> {
         match self {
-            Scene::ServersWait => Some((1, 1)),
+            Scene::ServersWait | Scene::RetiredWaits => Some((1, 1)),
             Scene::Sixteen => Some((256, 16)),
             Scene::Readers => Some((CELLS, 1)),
             _ => None,
@@ -145,6 +149,7 @@ impl Scene {
                 "eight fetches, and nobody asks while all slots are made free again",
             Scene::OneLine => "a trace with room for one line",
             Scene::ServersWait => "one server is woken, and one waits for nobody",
+            Scene::RetiredWaits => "a port waits whose server has ended, and is woken",
             Scene::Sixteen => "sixteen threads of 1,002 requests each",
             Scene::Great => "a great memory, and a glance at its last cell",
             Scene::Readers => "eight readers beside a writer",
@@ -255,7 +260,7 @@ fn task<K: Name, R: Wait>(
     said: &mut String,
 ) -> Result<Task<K>> {
     let mut port = port(rt, controller, element)?;
-    if let Part::Waits = part {
+    if let Part::Waits | Part::RetiresAndWaits = part {
         submit(rt, controller, &mut port, 1, Op::Fetch(0), said)?;
     }
     Ok(Task { port, part })
