@@ -39,6 +39,8 @@ pub struct FileDisk<S: Start> {
     len: u64,
     /// No sync has failed, and each length was that one. Else each call fails, and asks nothing of the file.
     usable: bool,
+    /// Its length was looked at since the last sync.
+    measured: bool,
     failing: Failing,
     ledger: Ledger,
     start: PhantomData<S>,
@@ -48,6 +50,8 @@ pub struct FileDisk<S: Start> {
 
 impl<S: Start> FileDisk<S> {
     ghost use Rattle.im_disk.specs.File.{has_failed_sync};
+    ghost use Rattle.im_disk.specs.Moment.{Counts, MayTick, Ticks, Torn, written};
+    ghost use Rattle.std.specs.Prelude.{◌+◌, ◌≤◌, OnOk, length};
 
     /// Makes a file of so many zero bytes at the path, also over one that is there, and puts it and its name on the
     /// disk. It is locked before a byte is changed, for as long as the disk lives.
@@ -136,6 +140,57 @@ impl<S: Start> FileDisk<S> {
         self.failing.first()
     }
 
+    // Looks at the length where that wasn't done since the last sync, so that a file which was cut isn't written behind
+    // its end.
+    fn measure(&mut self) -> Result<(), DeviceFault>
+        ensures same { ⟦<FileDisk<S> as Disk>⟧.honest self.new
+            → (⟦<FileDisk<S> as Disk>⟧.now self.new ≡ ⟦<FileDisk<S> as Disk>⟧.now self.old)
+            × (⟦<FileDisk<S> as Disk>⟧.past self.new ≡ ⟦<FileDisk<S> as Disk>⟧.past self.old) }
+        ensures honest { ⟦<FileDisk<S> as Disk>⟧.honest self.new → ⟦<FileDisk<S> as Disk>⟧.honest self.old }
+        ensures failures { Counts result (⟦<FileDisk<S> as Disk>⟧.failures self.old)
+            (⟦<FileDisk<S> as Disk>⟧.failures self.new) }
+    {
+        if self.measured {
+            return Ok(());
+        }
+        match self.len() {
+            Ok(_) => {
+                self.measured = true;
+                Ok(())
+            }
+            Err(fault) => Err(fault),
+        }
+    }
+
+    // Writes the bytes from `at` on.
+    fn put(&mut self, at: usize, bytes: &[u8]) -> Result<(), DeviceFault>
+        requires { ⟦<FileDisk<S> as Disk>⟧.honest self.old
+            → at + length bytes.now ≤ length (⟦<FileDisk<S> as Disk>⟧.now self.old).bytes }
+        ensures tick { OnOk result (⟦<FileDisk<S> as Disk>⟧.honest self.new → Ticks (λ m n. n ≡ written at bytes.now m)
+            (⟦<FileDisk<S> as Disk>⟧.now self.old) (⟦<FileDisk<S> as Disk>⟧.now self.new)
+            (⟦<FileDisk<S> as Disk>⟧.past self.old) (⟦<FileDisk<S> as Disk>⟧.past self.new)) }
+        ensures moment { ⟦<FileDisk<S> as Disk>⟧.honest self.new → MayTick (Torn at (length bytes.now))
+            (⟦<FileDisk<S> as Disk>⟧.now self.old) (⟦<FileDisk<S> as Disk>⟧.now self.new)
+            (⟦<FileDisk<S> as Disk>⟧.past self.old) (⟦<FileDisk<S> as Disk>⟧.past self.new) }
+        ensures honest { ⟦<FileDisk<S> as Disk>⟧.honest self.new → ⟦<FileDisk<S> as Disk>⟧.honest self.old }
+        ensures failures { Counts result (⟦<FileDisk<S> as Disk>⟧.failures self.old)
+            (⟦<FileDisk<S> as Disk>⟧.failures self.new) }
+    {
+        if !self.usable || !is_inside(at, bytes.len(), self.len) {
+            return Err(self.failing.fail(Failure::Length));
+        }
+        match self.file.write_all_at(bytes, at as u64) {
+            Ok(()) => {
+                note(&mut self.ledger, &[WRITTEN, at as u64, 1], bytes);
+                Ok(())
+            }
+            Err(error) => {
+                note(&mut self.ledger, &[WRITTEN, at as u64, 0], bytes);
+                Err(self.failing.fail(Failure::Write(error.kind())))
+            }
+        }
+    }
+
     /// Takes the name at the path away, where it is this file's, and puts that on the disk. `Exists` where another file
     /// has that name: then nothing is changed. `System` where a call of the system fails.
     pub fn remove<R: Files<File = File>>(self, rt: &R, path: &str) -> Result<(), OpenFault> {
@@ -152,6 +207,7 @@ fn over<S: Start>(file: File, len: u64, _start: S) -> FileDisk<S>
         file,
         len,
         usable: true,
+        measured: false,
         failing: Failing::new(),
         ledger: Ledger::new(),
         start: PhantomData,
@@ -234,22 +290,14 @@ impl<S: Start> Disk for FileDisk<S> {
     }
 
     fn write_at(&mut self, at: usize, bytes: &[u8]) -> Result<(), DeviceFault> {
-        if !self.usable || !is_inside(at, bytes.len(), self.len) {
-            return Err(self.failing.fail(Failure::Length));
-        }
-        match self.file.write_all_at(bytes, at as u64) {
-            Ok(()) => {
-                note(&mut self.ledger, &[WRITTEN, at as u64, 1], bytes);
-                Ok(())
-            }
-            Err(error) => {
-                note(&mut self.ledger, &[WRITTEN, at as u64, 0], bytes);
-                Err(self.failing.fail(Failure::Write(error.kind())))
-            }
+        match self.measure() {
+            Ok(()) => self.put(at, bytes),
+            Err(fault) => Err(fault),
         }
     }
 
     fn sync(&mut self) -> Result<(), DeviceFault> {
+        self.measured = false;
         if !self.usable {
             return Err(self.failing.fail(Failure::Length));
         }

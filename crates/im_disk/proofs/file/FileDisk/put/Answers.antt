@@ -3,7 +3,7 @@ use Rattle.std.specs.Prelude.{List, IsTrue}
 use Rattle.im_disk.specs.Moment.{Torn}
 use Rattle.im_disk.specs.Account.{Event, replay, first_outcome}
 use Rattle.im_disk.proofs.AccountLemmas.{torn_by_outcome}
-use Rattle.im_disk.proofs.file.FileDiskDisk.write_at.Goals as goal
+use Rattle.im_disk.proofs.file.FileDisk.put.Goals as goal
 
 pub returns-in-Err-clause-moment : goal.returns-in-Err-clause-moment
 returns-in-Err-clause-moment g c = λ honest.
