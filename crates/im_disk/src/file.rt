@@ -1,6 +1,6 @@
 //! A disk over a file of the operating system.
-ghost use Rattle.std.specs.Prelude.{◌≡◌, ◌∷◌, [], not, nat_lt, is_some, replicate, IsTrue, IfOk};
-ghost use Rattle.im_disk.specs.Account.{event_of, is_usable};
+ghost use Rattle.std.specs.Prelude.{◌≡◌, ◌∷◌, [], not, nat_lt, is_some, replicate, IsTrue, IsOk, IfOk};
+ghost use Rattle.im_disk.specs.Account.{event_of, is_measured, is_usable};
 ghost use Rattle.im_disk.specs.Failing.{is_of_sync};
 
 use crate::account::Ledger;
@@ -39,11 +39,12 @@ pub struct FileDisk<S: Start> {
     len: u64,
     /// No sync has failed, and each length was that one. Else each call fails, and asks nothing of the file.
     usable: bool,
-    /// Its length was looked at since the last sync.
+    /// Its length was looked at since the last sync. Else nothing is written.
     measured: bool,
     failing: Failing,
     ledger: Ledger,
     start: PhantomData<S>,
+    ghost looked: { IsTrue measured → IsTrue (is_measured ledger.events) },
     ghost held: { IsTrue usable → IsTrue (is_usable ledger.events) },
     ghost told: { is_of_sync failing.first ≡ not (is_usable ledger.events) },
 }
@@ -56,8 +57,8 @@ impl<S: Start> FileDisk<S> {
     /// Makes a file of so many zero bytes at the path, also over one that is there, and puts it and its name on the
     /// disk. It is locked before a byte is changed, for as long as the disk lives.
     ///
-    /// `InUse` where another opening has its lock, and `NotFile` where what is there is no regular file: then nothing
-    /// is changed. `System` where a call of the system fails, and what is at the path may then be any file. That the
+    /// `InUse` where another opening has its lock for longer than the start waits, and `NotFile` where what is there is
+    /// no regular file: then nothing is changed. `System` where a call of the system fails, and what is at the path may then be any file. That the
     /// bytes are zero and none is in doubt is what an honest file would have, as everywhere.
     pub fn create<R: Files<File = File>>(
         rt: &R,
@@ -71,7 +72,8 @@ impl<S: Start> FileDisk<S> {
         ensures past { IfOk result (λ disk. ⟦<FileDisk<S> as Disk>⟧.past disk ≡ []) }
         ensures honest { IfOk result (λ disk. ⟦<FileDisk<S> as Disk>⟧.honest disk) }
     {
-        let file = made(rt, path, len)?;
+        let mut start = start;
+        let file = made(rt, path, len, &mut start)?;
         Ok(noted(over(file, len as u64, start), len))
     }
 
@@ -97,9 +99,9 @@ impl<S: Start> FileDisk<S> {
     }
 
     /// Opens the file at the path to read and write it, and puts it on the disk. It is locked for as long as the disk
-    /// lives. `InUse` where another opening has its lock, `NotFile` where it is no regular file, `Sync` where putting
-    /// it on the disk fails, `System` where another call of the system does. Its bytes aren't changed, and none is
-    /// read.
+    /// lives. `InUse` where another opening has its lock for longer than the start waits, `NotFile` where it is no
+    /// regular file, `Sync` where putting it on the disk fails, `System` where another call of the system does. Its
+    /// bytes aren't changed, and none is read.
     pub fn open<R: Files<File = File>>(
         rt: &R,
         path: &str,
@@ -110,13 +112,14 @@ impl<S: Start> FileDisk<S> {
         ensures past { IfOk result (λ disk. ⟦<FileDisk<S> as Disk>⟧.past disk ≡ []) }
         ensures honest { IfOk result (λ disk. ⟦<FileDisk<S> as Disk>⟧.honest disk) }
     {
-        let (file, len) = settled(rt, path)?;
+        let mut start = start;
+        let (file, len) = settled(rt, path, &mut start)?;
         Ok(over(file, len, start))
     }
 
     /// Opens the file at the path to read it alone: each write to it fails. Others may read it at the same time.
-    /// `InUse` where one that writes it has its lock, `NotFile` where it is no regular file, `System` where a call of
-    /// the system fails. No byte is read.
+    /// `InUse` where one that writes it has its lock for longer than the start waits, `NotFile` where it is no regular
+    /// file, `System` where a call of the system fails. No byte is read.
     pub fn open_to_read<R: Files<File = File>>(
         rt: &R,
         path: &str,
@@ -127,7 +130,8 @@ impl<S: Start> FileDisk<S> {
         ensures past { IfOk result (λ disk. ⟦<FileDisk<S> as Disk>⟧.past disk ≡ []) }
         ensures honest { IfOk result (λ disk. ⟦<FileDisk<S> as Disk>⟧.honest disk) }
     {
-        let (file, len) = readable(rt, path)?;
+        let mut start = start;
+        let (file, len) = readable(rt, path, &mut start)?;
         Ok(over(file, len, start))
     }
 
@@ -140,9 +144,42 @@ impl<S: Start> FileDisk<S> {
         self.failing.first()
     }
 
+    // Looks whether the length is that of the opening. Where it isn't, each later call fails.
+    fn look(&mut self) -> Result<(), DeviceFault>
+        ensures len { IfOk result (λ _. ⟦<FileDisk<S> as Disk>⟧.honest self.new
+            → self.new.len ≡ length (⟦<FileDisk<S> as Disk>⟧.now self.old).bytes) }
+        ensures measured { IsOk result → IsTrue (is_measured self.new.ledger.events) }
+        ensures same { ⟦<FileDisk<S> as Disk>⟧.honest self.new
+            → (⟦<FileDisk<S> as Disk>⟧.now self.new ≡ ⟦<FileDisk<S> as Disk>⟧.now self.old)
+            × (⟦<FileDisk<S> as Disk>⟧.past self.new ≡ ⟦<FileDisk<S> as Disk>⟧.past self.old) }
+        ensures honest { ⟦<FileDisk<S> as Disk>⟧.honest self.new → ⟦<FileDisk<S> as Disk>⟧.honest self.old }
+        ensures failures { Counts result (⟦<FileDisk<S> as Disk>⟧.failures self.old)
+            (⟦<FileDisk<S> as Disk>⟧.failures self.new) }
+    {
+        if !self.usable {
+            return Err(self.failing.fail(Failure::Length));
+        }
+        match self.file.metadata() {
+            Ok(data) => {
+                let len = data.len();
+                note(&mut self.ledger, &[MEASURED, len, 1], &[]);
+                if len != self.len {
+                    self.usable = false;
+                    return Err(self.failing.fail(Failure::Length));
+                }
+                Ok(())
+            }
+            Err(_) => {
+                note(&mut self.ledger, &[MEASURED, 0, 0], &[]);
+                Err(self.failing.fail(Failure::Length))
+            }
+        }
+    }
+
     // Looks at the length where that wasn't done since the last sync, so that a file which was cut isn't written behind
     // its end.
     fn measure(&mut self) -> Result<(), DeviceFault>
+        ensures measured { IsOk result → IsTrue (is_measured self.new.ledger.events) }
         ensures same { ⟦<FileDisk<S> as Disk>⟧.honest self.new
             → (⟦<FileDisk<S> as Disk>⟧.now self.new ≡ ⟦<FileDisk<S> as Disk>⟧.now self.old)
             × (⟦<FileDisk<S> as Disk>⟧.past self.new ≡ ⟦<FileDisk<S> as Disk>⟧.past self.old) }
@@ -153,8 +190,8 @@ impl<S: Start> FileDisk<S> {
         if self.measured {
             return Ok(());
         }
-        match self.len() {
-            Ok(_) => {
+        match self.look() {
+            Ok(()) => {
                 self.measured = true;
                 Ok(())
             }
@@ -164,7 +201,8 @@ impl<S: Start> FileDisk<S> {
 
     // Writes the bytes from `at` on.
     fn put(&mut self, at: usize, bytes: &[u8]) -> Result<(), DeviceFault>
-        requires { ⟦<FileDisk<S> as Disk>⟧.honest self.old
+        requires measured { IsTrue (is_measured self.old.ledger.events) }
+        requires inside { ⟦<FileDisk<S> as Disk>⟧.honest self.old
             → at + length bytes.now ≤ length (⟦<FileDisk<S> as Disk>⟧.now self.old).bytes }
         ensures tick { OnOk result (⟦<FileDisk<S> as Disk>⟧.honest self.new → Ticks (λ m n. n ≡ written at bytes.now m)
             (⟦<FileDisk<S> as Disk>⟧.now self.old) (⟦<FileDisk<S> as Disk>⟧.now self.new)
@@ -181,11 +219,11 @@ impl<S: Start> FileDisk<S> {
         }
         match self.file.write_all_at(bytes, at as u64) {
             Ok(()) => {
-                note(&mut self.ledger, &[WRITTEN, at as u64, 1], bytes);
+                note_written(&mut self.ledger, &[WRITTEN, at as u64, 1], bytes);
                 Ok(())
             }
             Err(error) => {
-                note(&mut self.ledger, &[WRITTEN, at as u64, 0], bytes);
+                note_written(&mut self.ledger, &[WRITTEN, at as u64, 0], bytes);
                 Err(self.failing.fail(Failure::Write(error.kind())))
             }
         }
@@ -234,6 +272,15 @@ fn note(ledger: &mut Ledger, numbers: &[u64], bytes: &[u8])
     ledger.note(numbers, bytes);
 }
 
+// Notes a write. There is none before the length was looked at, since the last sync.
+fn note_written(ledger: &mut Ledger, numbers: &[u64], bytes: &[u8])
+    requires usable { IsTrue (is_usable ledger.old.events) }
+    requires measured { IsTrue (is_measured ledger.old.events) }
+    ensures { ledger.new.events ≡ event_of numbers.now bytes.now ∷ ledger.old.events }
+{
+    note(ledger, numbers, bytes);
+}
+
 // Whether the range lies inside a file of this length.
 fn is_inside(at: usize, size: usize, len: u64) -> bool {
     let (at, size) = (at as u64, size as u64);
@@ -253,23 +300,9 @@ impl<S: Start> Disk for FileDisk<S> {
     ghost honest = { λ f. IsHonest (account_of S.Start f) };
 
     fn len(&mut self) -> Result<usize, DeviceFault> {
-        if !self.usable {
-            return Err(self.failing.fail(Failure::Length));
-        }
-        match self.file.metadata() {
-            Ok(data) => {
-                let len = data.len();
-                note(&mut self.ledger, &[MEASURED, len, 1], &[]);
-                if len != self.len {
-                    self.usable = false;
-                    return Err(self.failing.fail(Failure::Length));
-                }
-                Ok(len as usize)
-            }
-            Err(_) => {
-                note(&mut self.ledger, &[MEASURED, 0, 0], &[]);
-                Err(self.failing.fail(Failure::Length))
-            }
+        match self.look() {
+            Ok(()) => Ok(self.len as usize),
+            Err(fault) => Err(fault),
         }
     }
 
