@@ -1,9 +1,11 @@
 //! A disk over a file of the operating system.
-ghost use Rattle.std.specs.Prelude.{◌≡◌, ◌∷◌, [], not, nat_lt, is_some, replicate, IsTrue, IsOk, IfOk};
-ghost use Rattle.im_disk.specs.Account.{event_of, is_measured, is_usable};
+ghost use Rattle.std.specs.Prelude.{◌≡◌, ◌+◌, ◌≤◌, ◌∷◌, [], not, nat_lt, is_some, length, replicate};
+ghost use Rattle.std.specs.Prelude.{IsTrue, IsOk, IfOk, OnOk};
+ghost use Rattle.im_disk.specs.Account.{IsHonest, event_of, is_measured, is_usable};
 ghost use Rattle.im_disk.specs.Failing.{is_of_sync};
 
 use crate::account::Ledger;
+use crate::calls::{MADE, MEASURED, READ, SYNCED, WRITTEN, is_inside, note, note_written};
 use crate::failing::Failing;
 use crate::opening::{made, made_new, readable, removed, settled};
 use crate::{DeviceFault, Disk, Failure, OpenFault, Start};
@@ -11,17 +13,6 @@ use std::fs::File;
 use std::marker::PhantomData;
 use std::os::unix::fs::FileExt;
 use std::rt::Files;
-
-// How a call is noted.
-const MADE: u64 = 0;
-
-const MEASURED: u64 = 1;
-
-const READ: u64 = 2;
-
-const WRITTEN: u64 = 3;
-
-const SYNCED: u64 = 4;
 
 /// A file of the operating system.
 ///
@@ -50,16 +41,15 @@ pub struct FileDisk<S: Start> {
 }
 
 impl<S: Start> FileDisk<S> {
-    ghost use Rattle.im_disk.specs.File.{has_failed_sync};
-    ghost use Rattle.im_disk.specs.Moment.{Counts, MayTick, Ticks, Torn, written};
-    ghost use Rattle.std.specs.Prelude.{◌+◌, ◌≤◌, OnOk, length};
+    ghost use Rattle.im_disk.specs.File.{HasTorn, HasWritten, IsAsBefore, account_of, has_failed_sync};
+    ghost use Rattle.im_disk.specs.Moment.{Counts};
 
     /// Makes a file of so many zero bytes at the path, also over one that is there, and puts it and its name on the
     /// disk. It is locked before a byte is changed, for as long as the disk lives.
     ///
-    /// `InUse` where another opening has its lock for longer than the start waits, and `NotFile` where what is there is
-    /// no regular file: then nothing is changed. `System` where a call of the system fails, and what is at the path may then be any file. That the
-    /// bytes are zero and none is in doubt is what an honest file would have, as everywhere.
+    /// `InUse` where another opening has its lock for longer than the start waits, and `NotFile` where what is there
+    /// is no regular file: then nothing is changed. `System` where a call of the system fails, and what is at the path
+    /// may then be any file. That the bytes are zero and none is in doubt is what an honest file would have.
     pub fn create<R: Files<File = File>>(
         rt: &R,
         path: &str,
@@ -146,15 +136,11 @@ impl<S: Start> FileDisk<S> {
 
     // Looks whether the length is that of the opening. Where it isn't, each later call fails.
     fn look(&mut self) -> Result<(), DeviceFault>
-        ensures len { IfOk result (λ _. ⟦<FileDisk<S> as Disk>⟧.honest self.new
-            → self.new.len ≡ length (⟦<FileDisk<S> as Disk>⟧.now self.old).bytes) }
+        ensures len { IfOk result (λ _. IsHonest (account_of S.Start self.new)
+            → self.new.len ≡ length (account_of S.Start self.old).now.bytes) }
         ensures measured { IsOk result → IsTrue (is_measured self.new.ledger.events) }
-        ensures same { ⟦<FileDisk<S> as Disk>⟧.honest self.new
-            → (⟦<FileDisk<S> as Disk>⟧.now self.new ≡ ⟦<FileDisk<S> as Disk>⟧.now self.old)
-            × (⟦<FileDisk<S> as Disk>⟧.past self.new ≡ ⟦<FileDisk<S> as Disk>⟧.past self.old) }
-        ensures honest { ⟦<FileDisk<S> as Disk>⟧.honest self.new → ⟦<FileDisk<S> as Disk>⟧.honest self.old }
-        ensures failures { Counts result (⟦<FileDisk<S> as Disk>⟧.failures self.old)
-            (⟦<FileDisk<S> as Disk>⟧.failures self.new) }
+        ensures same { IsAsBefore S.Start self.old self.new }
+        ensures failures { Counts result self.old.failing.failures self.new.failing.failures }
     {
         if !self.usable {
             return Err(self.failing.fail(Failure::Length));
@@ -176,16 +162,11 @@ impl<S: Start> FileDisk<S> {
         }
     }
 
-    // Looks at the length where that wasn't done since the last sync, so that a file which was cut isn't written behind
-    // its end.
+    // Looks at the length where that wasn't done since the last sync: a file that was cut isn't written behind its end.
     fn measure(&mut self) -> Result<(), DeviceFault>
         ensures measured { IsOk result → IsTrue (is_measured self.new.ledger.events) }
-        ensures same { ⟦<FileDisk<S> as Disk>⟧.honest self.new
-            → (⟦<FileDisk<S> as Disk>⟧.now self.new ≡ ⟦<FileDisk<S> as Disk>⟧.now self.old)
-            × (⟦<FileDisk<S> as Disk>⟧.past self.new ≡ ⟦<FileDisk<S> as Disk>⟧.past self.old) }
-        ensures honest { ⟦<FileDisk<S> as Disk>⟧.honest self.new → ⟦<FileDisk<S> as Disk>⟧.honest self.old }
-        ensures failures { Counts result (⟦<FileDisk<S> as Disk>⟧.failures self.old)
-            (⟦<FileDisk<S> as Disk>⟧.failures self.new) }
+        ensures same { IsAsBefore S.Start self.old self.new }
+        ensures failures { Counts result self.old.failing.failures self.new.failing.failures }
     {
         if self.measured {
             return Ok(());
@@ -202,17 +183,11 @@ impl<S: Start> FileDisk<S> {
     // Writes the bytes from `at` on.
     fn put(&mut self, at: usize, bytes: &[u8]) -> Result<(), DeviceFault>
         requires measured { IsTrue (is_measured self.old.ledger.events) }
-        requires inside { ⟦<FileDisk<S> as Disk>⟧.honest self.old
-            → at + length bytes.now ≤ length (⟦<FileDisk<S> as Disk>⟧.now self.old).bytes }
-        ensures tick { OnOk result (⟦<FileDisk<S> as Disk>⟧.honest self.new → Ticks (λ m n. n ≡ written at bytes.now m)
-            (⟦<FileDisk<S> as Disk>⟧.now self.old) (⟦<FileDisk<S> as Disk>⟧.now self.new)
-            (⟦<FileDisk<S> as Disk>⟧.past self.old) (⟦<FileDisk<S> as Disk>⟧.past self.new)) }
-        ensures moment { ⟦<FileDisk<S> as Disk>⟧.honest self.new → MayTick (Torn at (length bytes.now))
-            (⟦<FileDisk<S> as Disk>⟧.now self.old) (⟦<FileDisk<S> as Disk>⟧.now self.new)
-            (⟦<FileDisk<S> as Disk>⟧.past self.old) (⟦<FileDisk<S> as Disk>⟧.past self.new) }
-        ensures honest { ⟦<FileDisk<S> as Disk>⟧.honest self.new → ⟦<FileDisk<S> as Disk>⟧.honest self.old }
-        ensures failures { Counts result (⟦<FileDisk<S> as Disk>⟧.failures self.old)
-            (⟦<FileDisk<S> as Disk>⟧.failures self.new) }
+        requires inside { IsHonest (account_of S.Start self.old)
+            → at + length bytes.now ≤ length (account_of S.Start self.old).now.bytes }
+        ensures tick { OnOk result (HasWritten S.Start at bytes.now self.old self.new) }
+        ensures moment { HasTorn S.Start at (length bytes.now) self.old self.new }
+        ensures failures { Counts result self.old.failing.failures self.new.failing.failures }
     {
         if !self.usable || !is_inside(at, bytes.len(), self.len) {
             return Err(self.failing.fail(Failure::Length));
@@ -229,8 +204,8 @@ impl<S: Start> FileDisk<S> {
         }
     }
 
-    /// Takes the name at the path away, where it is this file's, and puts that on the disk. `Exists` where another file
-    /// has that name: then nothing is changed. `System` where a call of the system fails.
+    /// Takes the name at the path away, where it is this file's, and puts that on the disk. `Exists` where another
+    /// file has that name: then nothing is changed. `System` where a call of the system fails.
     pub fn remove<R: Files<File = File>>(self, rt: &R, path: &str) -> Result<(), OpenFault> {
         removed(rt, path, &self.file)
     }
@@ -264,31 +239,7 @@ fn noted<S: Start>(disk: FileDisk<S>, len: usize) -> FileDisk<S>
     disk
 }
 
-// Notes a call of the system. There is none after a sync that failed.
-fn note(ledger: &mut Ledger, numbers: &[u64], bytes: &[u8])
-    requires usable { IsTrue (is_usable ledger.old.events) }
-    ensures { ledger.new.events ≡ event_of numbers.now bytes.now ∷ ledger.old.events }
-{
-    ledger.note(numbers, bytes);
-}
-
-// Notes a write. There is none before the length was looked at, since the last sync.
-fn note_written(ledger: &mut Ledger, numbers: &[u64], bytes: &[u8])
-    requires usable { IsTrue (is_usable ledger.old.events) }
-    requires measured { IsTrue (is_measured ledger.old.events) }
-    ensures { ledger.new.events ≡ event_of numbers.now bytes.now ∷ ledger.old.events }
-{
-    note(ledger, numbers, bytes);
-}
-
-// Whether the range lies inside a file of this length.
-fn is_inside(at: usize, size: usize, len: u64) -> bool {
-    let (at, size) = (at as u64, size as u64);
-    size <= len && at <= len - size
-}
-
 impl<S: Start> Disk for FileDisk<S> {
-    ghost use Rattle.im_disk.specs.Account.{IsHonest};
     ghost use Rattle.im_disk.specs.File.{account_of};
 
     ghost now = { λ f. (account_of S.Start f).now };
