@@ -17,7 +17,7 @@ enum { MEMBERS = 16, SWEPT_AT_ONCE = 64, BOOT_NAME = 37 };
  * have the handle handed on. */
 struct held {
     struct lt_image image;
-    struct ltf_work work;
+    struct ltf_counts work;
 };
 
 struct ltf {
@@ -28,7 +28,7 @@ struct ltf {
     size_t room;
     uint32_t cells, slots;
     uint16_t elements;
-    struct ltf_failure failure;
+    struct ltf_fault failure;
 };
 
 /* ---- Steps */
@@ -281,11 +281,11 @@ uint32_t ltf_slots(const struct ltf *file) {
     return file->slots;
 }
 
-struct ltf_work ltf_work(const struct ltf *file) {
+struct ltf_counts ltf_work(const struct ltf *file) {
     return file->held->work;
 }
 
-struct ltf_failure ltf_failure(const struct ltf *file) {
+struct ltf_fault ltf_failure(const struct ltf *file) {
     return file->failure;
 }
 

@@ -61,18 +61,18 @@ uint16_t ltf_elements(const struct ltf *file);
 uint32_t ltf_slots(const struct ltf *file);
 
 /* What was done since it was opened. */
-struct ltf_work {
+struct ltf_counts {
     uint64_t groups;  /* of requests that shared their syncs, or one command alone */
     uint64_t syncs, writes, sweeps, turns;
 };
-struct ltf_work ltf_work(const struct ltf *file);
+struct ltf_counts ltf_work(const struct ltf *file);
 
 /* Why a step failed: an errno value, or 0 where none did. `sync` tells whether it was a sync, and `noted` whether the note
  * is left. */
-struct ltf_failure {
+struct ltf_fault {
     int error, sync, noted;
 };
-struct ltf_failure ltf_failure(const struct ltf *file);
+struct ltf_fault ltf_failure(const struct ltf *file);
 
 /* What an answer of a call means: the sentence's length, and the sentence, ended by a zero, as far as there is room. */
 size_t ltf_say(int answer, char *buffer, size_t room);

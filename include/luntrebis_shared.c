@@ -57,8 +57,8 @@ struct lts {
     struct lane lanes[ELEMENTS];
     uint64_t lately[2]; /* the elements of the last two groups, a bit each */
     int64_t pace; /* nanoseconds that the last group took */
-    struct ltf_work work;
-    struct ltf_failure failure;
+    struct ltf_counts work;
+    struct ltf_fault failure;
     uint16_t elements;
     int ending, dead, idle;
     size_t queued;
@@ -585,16 +585,16 @@ int lts_open_or_create(const char *path, uint32_t cells, uint16_t elements, uint
     return answer ? answer : share(file, made);
 }
 
-struct ltf_work lts_work(struct lts *shared) {
-    struct ltf_work work;
+struct ltf_counts lts_work(struct lts *shared) {
+    struct ltf_counts work;
     pthread_mutex_lock(&shared->lock);
     work = shared->work;
     pthread_mutex_unlock(&shared->lock);
     return work;
 }
 
-struct ltf_failure lts_failure(struct lts *shared) {
-    struct ltf_failure failure;
+struct ltf_fault lts_failure(struct lts *shared) {
+    struct ltf_fault failure;
     pthread_mutex_lock(&shared->lock);
     failure = shared->failure;
     pthread_mutex_unlock(&shared->lock);

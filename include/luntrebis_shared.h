@@ -79,8 +79,8 @@ struct lt_outcome lts_call(struct lts *shared, uint16_t element, uint8_t tag, ui
 /* ---- What is kept, and what was done */
 
 struct lt_bounds lts_window(struct lts *shared, uint16_t element);
-struct ltf_work lts_work(struct lts *shared);
-struct ltf_failure lts_failure(struct lts *shared);
+struct ltf_counts lts_work(struct lts *shared);
+struct ltf_fault lts_failure(struct lts *shared);
 
 #ifdef __cplusplus
 }

@@ -36,7 +36,7 @@ static void *work(void *given) {
 int main(int count, char **words) {
     pthread_t threads[MOST];
     uint16_t elements[MOST], first;
-    struct ltf_work before, after;
+    struct ltf_counts before, after;
     unsigned long members = count == 5 ? strtoul(words[1], NULL, 10) : 0;
     double start, all;
     if (members < 1 || members > MOST) return 2;

@@ -35,7 +35,7 @@ int main(int count, char **words) {
     pthread_t threads[MEMBERS + 1];
     uint16_t elements[MEMBERS];
     struct lt_command block = {LT_ALLOC_M, WAITER, 64, 1, 0}, take = {LT_TAKE, WAITER, 40, 2, 0}, later = {LT_TAKE, 62, 41, 1, 0};
-    struct ltf_failure failure;
+    struct ltf_fault failure;
     int bad = 0;
     if (count != 2 || lts_create(words[1], 64, 64, 64, &shared)) return 2;
     if (lts_ask(shared, &block).refusal || lts_ask(shared, &take).refusal) return 2;
