@@ -1,5 +1,5 @@
-"""A memory behind two pipes, asked by many requests at once with asyncio: each is done exactly once, also where the program
-is killed, or the client.
+"""A memory behind two pipes, asked by many requests at once with asyncio: each is done exactly once, also where the
+program is killed, or the client.
 
     async with Memory(["imem", "serve", "a.img", "--watch"]) as memory:
         element = await Element.at_its_window(memory, 1)
@@ -7,9 +7,10 @@ is killed, or the client.
         values = [(await it)[1] for it in takes]                        # each answered when its cell is full
         await element.confirm()
 
-Requests that stand in the pipe together are put on the disk as groups. Where the program ends before all is answered it
-is started again, and what isn't answered is sent again, in the order in which it was asked. Like `client.py` it keeps no
-file: an element begins at the first request that it hasn't confirmed. It has at most 64 requests that aren't confirmed.
+Requests that stand in the pipe together are put on the disk as groups. Where the program ends before all is answered
+it is started again, and what isn't answered is sent again, in the order in which it was asked. Like `client.py` it
+keeps no file: an element begins at the first request that it hasn't confirmed. At most 64 requests of an element may be
+unconfirmed.
 """
 import asyncio
 from collections import deque
@@ -20,7 +21,7 @@ class Refused(Exception):
 
 
 class Memory:
-    """The program, and the lines that aren't answered yet, each with its future, in the order in which they were asked."""
+    """The program, and the futures of the lines that aren't answered yet, in the order in which they were asked."""
 
     def __init__(self, words):
         self.words, self.program, self.is_closed = words, None, False

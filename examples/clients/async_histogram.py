@@ -1,7 +1,7 @@
-"""A histogram by six elements over `imem serve`, which is killed at random moments and started again. Each element takes
-eight counters at once, adds one to each as it comes, and puts them back.
+"""A histogram by six elements over `imem serve`, which is killed at random moments and started again. Each element
+takes eight counters at once, adds one to each as it comes, and puts them back.
 
-usage: async_histogram.py KILLS SEED IMEM IMAGE      IMAGE is made by 'imem format --new', or by a run that was killed itself
+usage: async_histogram.py KILLS SEED IMEM IMAGE      IMAGE is new, or left by a run that was killed
 
 The program keeps nothing but the image: an element's number tells which round comes next. The status is 0 where each
 count comes out exact.
@@ -67,7 +67,8 @@ async def main(kills, seed, imem, image):
         counts = Counter(word for element, at in rounds for word in words(element, at))
         kept = [int((await maker.request(f"take {base + at}"))[1]) for at in range(COUNTERS)]
     losses = sum(abs(kept[at] - counts[at]) for at in range(COUNTERS))
-    print(f"kills {int(kills) - memory.left} rounds {len(rounds)} lines {memory.asked} again {memory.again} losses {losses}")
+    made = int(kills) - memory.left
+    print(f"kills {made} rounds {len(rounds)} lines {memory.asked} again {memory.again} losses {losses}")
     return 0 if losses == 0 else 1
 
 

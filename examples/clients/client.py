@@ -1,5 +1,5 @@
-"""A memory behind two pipes, asked from Python: each request is done exactly once, also where the program is killed, or the
-client.
+"""A memory behind two pipes, asked from Python: each request is done exactly once, also where the program is killed, or
+the client.
 
     memory = Memory(["imem", "serve", "a.img"])
     element = Element(memory, 1)
@@ -66,7 +66,7 @@ class Memory:
 
 
 class Element:
-    """An element, which has one request under way at a time, and its next number: at first that of the first request that
+    """An element with one request under way at a time, and the number of its next one: at first of the first one that
     isn't confirmed."""
 
     def __init__(self, memory, element):

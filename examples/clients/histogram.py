@@ -1,7 +1,7 @@
-"""A histogram by three elements over `imem serve`, which is killed at random moments and started again. Each element takes
-a counter, adds one and puts it back: a counter that is away is waited for.
+"""A histogram by three elements over `imem serve`, which is killed at random moments and started again. Each element
+takes a counter, adds one and puts it back: a counter that is away is waited for.
 
-usage: histogram.py KILLS SEED IMEM IMAGE      IMAGE is made by 'imem format --new', or by a run that was killed itself
+usage: histogram.py KILLS SEED IMEM IMAGE      IMAGE is new, or left by a run that was killed
 
 The program keeps nothing but the image: an element's number tells which word comes next. The status is 0 where each
 count comes out exact.

@@ -15,8 +15,8 @@
 %% often windows were read anew as one was behind another.
 -record(element, {number, config, lines = #{}, answers = #{}, away = #{}, returns = [], since = 0, behind = 0}).
 
--define(LEAST_PAUSE, 200).
--define(MOST_PAUSE, 3200).
+-define(LEAST_PAUSE, 100).
+-define(MOST_PAUSE, 1600).
 
 start_link(E, C) -> {ok, proc_lib:spawn_link(?MODULE, init, [E, C])}.
 
@@ -52,7 +52,8 @@ numbered(S = #element{number = E, config = C}) ->
 
 %% From the first round that no module was told is done, to the end.
 go_on({Rounds, End}, Windows, S0) ->
-    IsDone = fun({Before, _, _, _}) -> lists:any(fun({K, {Base, _}}) -> Base > map_get(K, Before) end, maps:to_list(Windows)) end,
+    IsTold = fun({K, {Base, _}}, Before) -> Base > map_get(K, Before) end,
+    IsDone = fun({Before, _, _, _}) -> lists:any(fun(It) -> IsTold(It, Before) end, maps:to_list(Windows)) end,
     Left = lists:dropwhile(IsDone, Rounds),
     Begin = case Left of [{Before, _, _, _} | _] -> Before; [] -> End end,
     not_behind([K || {K, {_, Next}} <- maps:to_list(Windows), Next < map_get(K, Begin)], S0),
@@ -141,12 +142,14 @@ send_due(S = #element{lines = Lines}) ->
 
 watch(K, #element{config = C}) -> monitor(process, imem_module:at(K, C)).
 
-%% A module that is gone is looked for again and again; when it answers, it was away for so long.
+%% A module that is gone is looked for until it answers, more seldom the longer it is away.
 gone(Where, Reason, S = #element{config = C, away = Away}) ->
     [K] = [It || It <- modules(S), imem_module:at(It, C) =:= Where],
-    erlang:send_after(20, self(), {again, K}),
+    Now = erlang:monotonic_time(millisecond),
     By = case Reason of noconnection -> node; _ -> program end,
-    S#element{away = maps:merge(#{K => {By, erlang:monotonic_time(millisecond)}}, Away)}.
+    {_, Since} = Gone = maps:get(K, Away, {By, Now}),
+    erlang:send_after(max(20, min(1000, (Now - Since) div 8)), self(), {again, K}),
+    S#element{away = Away#{K => Gone}}.
 
 returned(K, S = #element{away = Away, returns = Returns}) ->
     case maps:take(K, Away) of

@@ -37,7 +37,8 @@ check(Lines, S = #module{port = Port}) ->
 checked([], S) -> {noreply, S};
 checked([{Line, Wanted} | Lines], S = #module{port = Port, config = C}) ->
     receive
-        {Port, {data, {eol, <<"refused ", Refusal/binary>>}}} -> checked([{Line, Wanted} | Lines], S#module{refused = Refusal});
+        {Port, {data, {eol, <<"refused ", Refusal/binary>>}}} ->
+            checked([{Line, Wanted} | Lines], S#module{refused = Refusal});
         {Port, {data, {eol, Wanted}}} -> checked(Lines, S);
         {Port, {data, {eol, Told}}} ->
             case Wanted =:= about andalso is_enough(binary:split(Told, <<" ">>, [global]), C) of
@@ -45,11 +46,12 @@ checked([{Line, Wanted} | Lines], S = #module{port = Port, config = C}) ->
                 false -> stop({wrong_image, S#module.number, iolist_to_binary(Line), Told}, S)
             end;
         {Port, {exit_status, Status}} -> ended(Status, S);
-        {'EXIT', Port, Reason} -> {stop, Reason, S}
+        {'EXIT', Port, Reason} -> {stop, {port_ended, Reason}, S}
     end.
 
 %% Whether the image has an element for each of ours. A program that knows no `about` says `error`.
-is_enough([<<"about">>, _Version, _Cells, Elements | _], #{elements := Ours}) ->
+is_enough([<<"about">> | Words], #{elements := Ours}) ->
+    [<<"elements">>, Elements | _] = lists:dropwhile(fun(Word) -> Word =/= <<"elements">> end, Words),
     binary_to_integer(Elements) > lists:max([0 | [E || {E, _} <- Ours]]);
 is_enough([First | _], _) -> First =:= <<"error">>.
 
@@ -67,7 +69,7 @@ handle_info({Port, {data, {eol, Answer}}}, S = #module{port = Port, asked = Aske
         _ -> {{value, From}, Rest} = queue:out(Asked), {noreply, tell(From, Answer, S#module{asked = Rest})}
     end;
 handle_info({Port, {exit_status, Status}}, S = #module{port = Port}) -> ended(Status, S);
-handle_info({'EXIT', Port, Reason}, S = #module{port = Port}) -> {stop, Reason, S};
+handle_info({'EXIT', Port, Reason}, S = #module{port = Port}) -> {stop, {port_ended, Reason}, S};
 handle_info(_, S) -> {noreply, S}.
 
 tell(nobody, _, S) -> S;

@@ -1,6 +1,6 @@
-%% A node: the supervisor of those modules and elements that the cluster's file gives it. What ends by a fault is started
-%% again; an element that is done stays so, and so does what can't go on. Where too much ends too fast the node ends, and
-%% `erl -heart` starts it anew.
+%% A node: the supervisor of those modules and elements that the cluster's file gives it. What ends by a fault is
+%% started again; an element that is done stays so, and so does what can't go on. Where too much ends too fast the node
+%% ends, and `erl -heart` starts it anew.
 -module(imem_node).
 -behaviour(application).
 -behaviour(supervisor).

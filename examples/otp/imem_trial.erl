@@ -1,5 +1,5 @@
-%% What a trial adds to a cluster, by `trial => #{..}` in its file: messages that are lost or come twice, an end, and a node
-%% that is told who is done. Without that word nothing here does anything.
+%% What a trial adds to a cluster, by `trial => #{..}` in its file: messages that are lost or come twice, an end, and a
+%% node that is told who is done. Without that word nothing here does anything.
 -module(imem_trial).
 -export([send/2, guard/2, done/4, hear/0]).
 
