@@ -6,13 +6,18 @@
 -behaviour(supervisor).
 -export([start/0, start/2, stop/1, init/1]).
 
-%% For `erl -s imem_node`: the file is the one that IMEM_CLUSTER names.
-start() -> ok = application:start(imem_cluster, permanent).
+%% For `erl -s imem_node`: the file is the one that IMEM_CLUSTER names. Without it there is nothing to do, for good.
+start() ->
+    case file:consult(os:getenv("IMEM_CLUSTER")) of
+        {ok, [C]} ->
+            imem_trial:guard(C),
+            application:set_env(imem_cluster, cluster, C),
+            ok = application:start(imem_cluster, permanent);
+        _ -> init:stop()
+    end.
 
 start(_, _) ->
-    File = os:getenv("IMEM_CLUSTER"),
-    {ok, [C]} = file:consult(File),
-    imem_trial:guard(File, C),
+    {ok, C} = application:get_env(imem_cluster, cluster),
     supervisor:start_link({local, ?MODULE}, ?MODULE, C).
 
 stop(_) -> ok.

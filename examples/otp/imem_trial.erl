@@ -1,7 +1,7 @@
 %% What a trial adds to a cluster, by `trial => #{..}` in its file: messages that are lost or come twice, an end, and a
 %% node that is told who is done. Without that word nothing here does anything.
 -module(imem_trial).
--export([send/2, guard/2, done/4, hear/0]).
+-export([send/2, guard/1, done/4, hear/0]).
 
 %% Sends a message, or none, or two.
 send(Send, #{trial := #{lose := Lose, double := Double}}) ->
@@ -13,8 +13,8 @@ send(Send, #{trial := #{lose := Lose, double := Double}}) ->
 send(Send, _) -> Send().
 
 %% Ends the node when its file is gone, and at a time of the clock: so nothing outlives a trial.
-guard(File, #{trial := #{until := Until}}) -> spawn(fun() -> guard_until(File, Until) end);
-guard(_, _) -> ok.
+guard(#{trial := #{until := Until}}) -> spawn(fun() -> guard_until(os:getenv("IMEM_CLUSTER"), Until) end);
+guard(_) -> ok.
 
 guard_until(File, Until) ->
     case filelib:is_regular(File) andalso erlang:system_time(second) < Until of
@@ -30,11 +30,13 @@ done(_, _, _, _) -> ok.
 
 %% The trial's node prints a line for each that is done.
 hear() ->
-    File = os:getenv("IMEM_CLUSTER"),
-    {ok, [C]} = file:consult(File),
-    guard(File, C),
-    register(?MODULE, self()),
-    hear_more().
+    case file:consult(os:getenv("IMEM_CLUSTER")) of
+        {ok, [C]} ->
+            guard(C),
+            register(?MODULE, self()),
+            hear_more();
+        _ -> init:stop()
+    end.
 
 hear_more() ->
     receive
