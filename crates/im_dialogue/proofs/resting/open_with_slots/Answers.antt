@@ -1,5 +1,5 @@
 use Rattle.im_dialogue.proofs.DialogueLemmas.{same_start}
-use Rattle.im_dialogue.proofs.resting.open_with_half.Goals as goal
+use Rattle.im_dialogue.proofs.resting.open_with_slots.Goals as goal
 
 pub returns-in-Ok-clause-leaves : goal.returns-in-Ok-clause-leaves
 returns-in-Ok-clause-leaves g c = λ h. let e = c.in-Ok.ensures in let same = c.len.ensures.same (e.honest h) in
