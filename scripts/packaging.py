@@ -97,3 +97,35 @@ def faults():
     for name in names():
         if not name.startswith(("lt_", "lts_", "ltf_")):
             yield f"include/: {name} doesn't begin as the library's calls do"
+
+
+# ---- What a program says of its own making
+
+MARK = b"commit ------------, not proved"
+
+
+def commit():
+    """The commit of the checkout, in twelve letters; the last is + where its crates have changed since."""
+    try:
+        words = ["git", "-C", TOP, "rev-parse", "HEAD"]
+        told = subprocess.run(words, capture_output=True, text=True, check=True).stdout.strip()
+        changed = ["git", "-C", TOP, "status", "--porcelain", "--", "crates", "crates.txt", "HANDLES"]
+        has_changed = subprocess.run(changed, capture_output=True, text=True, check=True).stdout.strip()
+    except (OSError, subprocess.CalledProcessError):
+        return "no checkout "
+    return f"{told[:11]}+" if has_changed else told[:12]
+
+
+def stamp(program, proved):
+    """Writes over the words that the program prints at `--version` of which commit it is, and whether all was proved.
+
+    They are letters of a text that no contract reads, as many as before.
+    """
+    data = program.read_bytes()
+    words = f"commit {commit()}, {'all' if proved else 'not'} proved".encode()
+    if MARK not in data or len(words) != len(MARK):
+        raise SystemExit(f"{program}: there is no place for its commit")
+    made = program.with_name(f"{program.name}.new")
+    made.write_bytes(data.replace(MARK, words))
+    made.chmod(0o755)
+    made.replace(program)

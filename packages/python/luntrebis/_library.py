@@ -1,4 +1,4 @@
-"""The library, as it lies beside this file, or where LUNTREBIS_LIBRARY says."""
+"""The library: where LUNTREBIS_LIBRARY says, beside this file, or in out/ of the checkout that this lies in."""
 import ctypes as c
 import os
 import pathlib
@@ -8,8 +8,10 @@ from ._calls import CALLS
 
 def load() -> c.CDLL:
     """The library, its calls with their types. One that an older library lacks is left out."""
-    beside = pathlib.Path(__file__).with_name("libluntrebis.so")
-    library = c.CDLL(os.environ.get("LUNTREBIS_LIBRARY") or str(beside))
+    here = pathlib.Path(__file__).resolve()
+    places = [here.with_name("libluntrebis.so"), *(it / "out" / "libluntrebis.so.1" for it in here.parents[3:4])]
+    there = next((it for it in places if it.exists()), places[0])
+    library = c.CDLL(os.environ.get("LUNTREBIS_LIBRARY") or str(there))
     for name, (gives, *given) in CALLS.items():
         if hasattr(library, name):
             call = getattr(library, name)
