@@ -13,6 +13,7 @@ VERSION = (TOP / "VERSION").read_text().strip()
 SERIES = "1"  # Of the calls: another number where a program that was built before would not run as before.
 SONAME = f"libluntrebis.so.{SERIES}"
 ARCHIVE, SHARED, IMEM = OUT / "libluntrebis.a", OUT / SONAME, OUT / "imem"
+PROVED = OUT / "libluntrebis.proved"  # Of which commit the library is, and what the prover said of it.
 FLAGS = ["-std=c11", "-O2", "-fPIC", "-Wall", "-Wextra", "-Werror"]
 SAFE = "-Wl,-z,defs,-z,relro,-z,now,-z,noexecstack"
 
@@ -109,7 +110,7 @@ def commit():
     try:
         words = ["git", "-C", TOP, "rev-parse", "HEAD"]
         told = subprocess.run(words, capture_output=True, text=True, check=True).stdout.strip()
-        changed = ["git", "-C", TOP, "status", "--porcelain", "--", "crates", "crates.txt", "HANDLES"]
+        changed = ["git", "-C", TOP, "status", "--porcelain", "--", "crates", "crates.txt", "HANDLES", "include"]
         has_changed = subprocess.run(changed, capture_output=True, text=True, check=True).stdout.strip()
     except (OSError, subprocess.CalledProcessError):
         return "no checkout "
