@@ -9,7 +9,7 @@ from sources import TOP
 
 FOLDER = TOP / "include"
 TOKEN = re.compile(r"/\*.*?\*/|^[ \t]*#(?:[^\n]*\\\n)*[^\n]*$|extern \"C\" \{|[{};]|[^{};/#\n]+|.|\n", re.M | re.S)
-CALL = re.compile(r"^(?P<gives>[\w ]+?[ *]+)(?P<name>lts?_\w+)\s*\((?P<given>.*)\)$", re.S)
+CALL = re.compile(r"^(?P<gives>[\w ]+?[ *]+)(?P<name>lt[a-z]?_\w+)\s*\((?P<given>.*)\)$", re.S)
 
 
 @dataclass
@@ -49,7 +49,7 @@ def pieces(text):
                     yield comment, ""
                 comment = token
         elif token.lstrip().startswith("#") and not depth:
-            if found := re.match(r"\s*#define (LTS?_[A-Z_0-9]+) +(\S.*)", token):
+            if found := re.match(r"\s*#define (LT[A-Z]?_[A-Z_0-9]+) +(\S.*)", token):
                 yield comment, f"#define {found[1]} {found[2].split('/*')[0].strip()}"
                 comment = ""
         elif token == 'extern "C" {' or (token == "}" and not depth):

@@ -50,4 +50,10 @@ from ._words import (
     WrongLength,
 )
 
-__all__ = [name for name in dir() if not name.startswith("_")]
+__all__ = [
+    "Answer", "Answered", "BadHeader", "BadLength", "BadLimits", "BadPage", "BadRecord", "Clash", "Deferred",
+    "Device", "Element", "Failed", "Forgotten", "Gap", "Image", "JournalFull", "Memory", "Mismatch", "NoBlock",
+    "NoCall", "NoCell", "NoElement", "NoHeader", "NoMemory", "NoSpace", "NotAnswered", "OldVersion", "Refused",
+    "Reply", "Request", "Shared", "SharedElement", "StillWaiting", "SyncFailed", "Tag", "Waiting", "Window",
+    "WindowFull", "WrongKind", "WrongLength", "answered", "create", "inspect", "open",
+]

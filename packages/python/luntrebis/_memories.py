@@ -14,6 +14,8 @@ from ._words import Answer, JournalFull, Refused, Reply, Request, Tag, Waiting, 
 
 Path = Union[str, "os.PathLike[str]"]
 KEPT = 64
+SWEEPS = hasattr(LIB, "lt_sweep")
+SWEPT_AT_ONCE = 64
 
 
 class Held:
@@ -159,7 +161,7 @@ class Image(Held):
     def _serve(self, command: lt_command) -> lt_outcome:
         """One command, with turns of a checkpoint where the journal is full."""
         outcome = self._call("lt_serve", command)
-        while outcome.refusal == JournalFull.number and self.turn():
+        while outcome.refusal == JournalFull.number and self.make_room():
             outcome = self._call("lt_serve", command)
         return outcome
 
@@ -170,7 +172,7 @@ class Image(Held):
     def ask_all(self, requests: Iterable[Request]) -> list[Union[Reply, Refused]]:
         """1 to 16 requests, each of another element, put on the disk together: of each its reply, or its refusal."""
         asked = [spelled(it) for it in requests]
-        while self.room < len(asked) and self.turn():
+        while self.room < len(asked) and self.make_room():
             pass
         commands, outcomes = (lt_command * len(asked))(*asked), (lt_outcome * len(asked))()
         refused = self._pass("lt_serve_group", commands, len(asked), to=[outcomes, len(asked)]) if asked else 255
@@ -187,6 +189,15 @@ class Image(Held):
         outcome = self._call("lt_turn")
         passed(outcome.refusal)
         return bool(outcome.tag != lt_turn_tag.IDLE)
+
+    def make_room(self) -> bool:
+        """Frees slots of the journal that a checkpoint holds, else goes on with one. Whether there was anything to do."""
+        if SWEEPS:
+            outcome = self._call("lt_sweep", SWEPT_AT_ONCE)
+            passed(outcome.refusal)
+            if outcome.value:
+                return True
+        return self.turn()
 
     def window(self, element: int) -> Window:
         """Which numbers of an element are kept."""

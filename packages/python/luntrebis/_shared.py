@@ -212,7 +212,7 @@ class Owner:
         """Takes what was asked, and keeps a checkpoint going while nobody asks. Whether there is more to do."""
         while not self.ends:
             try:
-                one = self.asked.get(block=not self.ready and not self.turn_if_low())
+                one = self.asked.get(block=not self.ready and not self.make_room_if_low())
             except queue.Empty:
                 if self.ready:
                     break
@@ -231,18 +231,18 @@ class Owner:
         except BaseException as fault:
             give(called.future, fault)
 
-    def turn_if_low(self) -> bool:
-        """A turn, where less than half of the room is left. Whether there was anything to do."""
+    def make_room_if_low(self) -> bool:
+        """Makes room, where less than half of it is left. Whether there was anything to do."""
         with contextlib.suppress(OSError, Refused):
             room = self.image.room
             self.most_room = max(self.most_room, room)
-            return 2 * room < self.most_room and self.image.turn()
+            return 2 * room < self.most_room and self.image.make_room()
         return False
 
     def serve(self) -> None:
         """Serves a group: the first request of up to sixteen elements."""
         group = [it for it in map(self.take, list(self.ready)[:MOST]) if it]
-        self.turn_if_low()
+        self.make_room_if_low()
         try:
             replies = self.image.ask_all(it.request for it in group) if group else []
         except BaseException as fault:

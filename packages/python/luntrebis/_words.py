@@ -4,9 +4,10 @@ from __future__ import annotations
 from dataclasses import dataclass
 from typing import NamedTuple
 
-from ._calls import lt_answer as Answer
-from ._calls import lt_command, lt_outcome
-from ._calls import lt_tag as Tag
+from ._calls import lt_answer, lt_command, lt_outcome, lt_tag
+
+Answer = lt_answer
+Tag = lt_tag
 
 
 class Refused(Exception):

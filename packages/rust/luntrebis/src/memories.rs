@@ -152,7 +152,7 @@ impl Image {
         if requests.is_empty() {
             return Err(Error::Refused(Refusal::NoCall));
         }
-        while (self.room() as usize) < requests.len() && self.turn()? {}
+        while (self.room() as usize) < requests.len() && self.make_room()? {}
         let commands: Vec<_> = requests.iter().map(spelled).collect();
         let mut outcomes = vec![sys::lt_outcome::default(); commands.len()];
         let (handle, count) = (self.held.image, commands.len());
@@ -210,6 +210,11 @@ impl Image {
         Ok(outcome.tag != sys::LT_IDLE)
     }
 
+    /// Goes on with a checkpoint, which makes room in the journal. Whether there was anything to do.
+    pub fn make_room(&mut self) -> Result<bool> {
+        self.turn()
+    }
+
     /// One command, with turns of a checkpoint where the journal is full.
     fn serve(&mut self, command: &sys::lt_command) -> Result<sys::lt_outcome> {
         loop {
@@ -217,7 +222,7 @@ impl Image {
             // SAFETY: as above.
             let steps = unsafe { sys::lt_serve(handle, command, &mut self.held.image, &mut outcome) };
             self.carry_out(steps)?;
-            if outcome.refusal != sys::LT_JOURNAL_FULL || !self.turn()? {
+            if outcome.refusal != sys::LT_JOURNAL_FULL || !self.make_room()? {
                 return Ok(outcome);
             }
         }

@@ -62,7 +62,7 @@ impl Owner {
     /// Takes what was asked, and keeps a checkpoint going while nobody asks. Whether there is more to do.
     fn take_in(&mut self) -> bool {
         while !self.ends {
-            let rests = self.order.is_empty() && !self.turn_if_low();
+            let rests = self.order.is_empty() && !self.make_room_if_low();
             let message =
                 if rests { self.asked.recv().map_err(|_| TryRecvError::Disconnected) } else { self.asked.try_recv() };
             match message {
@@ -89,12 +89,12 @@ impl Owner {
         }
     }
 
-    /// A turn of a checkpoint, where less than half of the room is left. Whether there was anything to do. What failed
-    /// is told by the next request.
-    fn turn_if_low(&mut self) -> bool {
+    /// Makes room, where less than half of it is left. Whether there was anything to do. What failed is told by the
+    /// next request.
+    fn make_room_if_low(&mut self) -> bool {
         let room = self.image.room();
         self.most_room = self.most_room.max(room);
-        2 * room < self.most_room && self.image.turn().unwrap_or(false)
+        2 * room < self.most_room && self.image.make_room().unwrap_or(false)
     }
 
     /// Serves a group: the first request of up to sixteen elements.
@@ -104,7 +104,7 @@ impl Owner {
         if group.is_empty() {
             return;
         }
-        self.turn_if_low();
+        self.make_room_if_low();
         let requests: Vec<Request> = group.iter().map(|it| it.request).collect();
         let replies = match self.image.ask_all(&requests) {
             Ok(replies) => replies,
