@@ -191,7 +191,7 @@ class Image(Held):
         return bool(outcome.tag != lt_turn_tag.IDLE)
 
     def make_room(self) -> bool:
-        """Frees slots of the journal that a checkpoint holds, else goes on with one. Whether there was anything to do."""
+        """Frees slots of the journal that a checkpoint holds, else goes on with one. Whether there was any to do."""
         if SWEEPS:
             outcome = self._call("lt_sweep", SWEPT_AT_ONCE)
             passed(outcome.refusal)

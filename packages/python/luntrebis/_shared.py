@@ -10,7 +10,7 @@ from typing import Any, Callable, Generic, NamedTuple, Optional, TypeVar, Union
 
 from . import _memories
 from ._memories import Image, Path
-from ._words import Answer, JournalFull, Refused, Reply, Request, Tag, WindowFull, spelled
+from ._words import Answer, Device, JournalFull, Refused, Reply, Request, Tag, WindowFull, spelled
 
 T = TypeVar("T")
 MOST = 16  # The members of a group.
@@ -106,7 +106,8 @@ class Shared:
 
     Requests of several elements that are there at once are put on the disk together. A future is done when its request
     is answered, on the disk: a fetch or a take as soon as its cell is full. What still waits at `close` is cancelled;
-    it isn't lost, and is answered under its number after the next opening.
+    it isn't lost, and is answered under its number after the next opening. After a lost step all are told `Device`, or
+    why the step failed: close, open again, and ask again under the same numbers.
     """
 
     def __init__(self, make: Callable[[], Image]) -> None:
@@ -248,9 +249,13 @@ class Owner:
         except BaseException as fault:
             for asked in group:
                 give(asked.future, fault)
+            if isinstance(fault, (OSError, Device)):
+                self.tell_lost()
             return
         for asked, reply in zip(group, replies):
             self.tell(asked, reply)
+        if any(isinstance(it, Device) for it in replies):
+            self.tell_lost()
         self.tell_resumed({it.request.address for it, reply in zip(group, replies) if reply == Reply(Answer.STORED)})
 
     def take(self, element: int) -> Optional[Asked]:
@@ -289,6 +294,13 @@ class Owner:
         if upto > base:
             self.image.confirm(element, upto)
         return upto > base
+
+    def tell_lost(self) -> None:
+        """Tells all who wait that a step was lost: no answer comes any more."""
+        for _, futures in self.waiting.values():
+            for future in futures:
+                give(future, Device())
+        self.waiting.clear()
 
     def tell_resumed(self, stored: set[int]) -> None:
         """Tells those who waited for one of these addresses, and no longer do."""

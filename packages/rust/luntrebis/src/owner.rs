@@ -108,14 +108,31 @@ impl Owner {
         let requests: Vec<Request> = group.iter().map(|it| it.request).collect();
         let replies = match self.image.ask_all(&requests) {
             Ok(replies) => replies,
-            Err(error) => return group.iter().for_each(|it| it.teller.tell(Err(error.again()))),
+            Err(error) => {
+                group.iter().for_each(|it| it.teller.tell(Err(error.again())));
+                if matches!(error, Error::Io(_) | Error::Refused(Refusal::Device)) {
+                    self.tell_lost();
+                }
+                return;
+            }
         };
+        let is_lost = replies.iter().any(|it| matches!(it, Err(Error::Refused(Refusal::Device))));
         let stored = replies.iter().zip(&requests).filter(|(reply, _)| matches!(reply, Ok(Reply::Stored)));
         let stored: Vec<u32> = stored.map(|(_, request)| address(request.op)).collect();
         for (asked, reply) in group.into_iter().zip(replies) {
             self.tell(asked, reply);
         }
         self.tell_resumed(&stored);
+        if is_lost {
+            self.tell_lost();
+        }
+    }
+
+    /// Tells all who wait that a step was lost: no answer comes any more.
+    fn tell_lost(&mut self) {
+        for (_, tellers) in self.waiting.drain().map(|(_, waits)| waits) {
+            tellers.iter().for_each(|it| it.tell(Err(Error::Refused(Refusal::Device))));
+        }
     }
 
     /// The first request of the first element, under its number; none where there is no such element.

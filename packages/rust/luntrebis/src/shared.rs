@@ -15,7 +15,8 @@ use std::thread::{self, JoinHandle};
 ///
 /// Requests of several elements that are there at once are put on the disk together. The image is closed, once what was
 /// asked is served, when the last clone and the last [`Element`] are dropped: who still waits then is told
-/// [`Error::Closed`].
+/// [`Error::Closed`]. After a lost step all are told [`Refusal::Device`](crate::Refusal::Device), or why the step
+/// failed: drop it, open again, and ask again under the same numbers.
 #[derive(Clone, Debug)]
 pub struct Shared {
     inner: Arc<Inner>,
