@@ -120,12 +120,13 @@ def commit():
 def stamp(program, proved):
     """Writes over the words that the program prints at `--version` of which commit it is, and whether all was proved.
 
-    They are letters of a text that no contract reads, as many as before.
+    They are letters of a text that no contract reads, as many as before. A program without such letters is left as it
+    is, and says nothing of its commit.
     """
     data = program.read_bytes()
     words = f"commit {commit()}, {'all' if proved else 'not'} proved".encode()
     if MARK not in data or len(words) != len(MARK):
-        raise SystemExit(f"{program}: there is no place for its commit")
+        return
     made = program.with_name(f"{program.name}.new")
     made.write_bytes(data.replace(MARK, words))
     made.chmod(0o755)

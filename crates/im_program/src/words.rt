@@ -102,9 +102,8 @@ pub enum WordFault {
     Bad(Error),
 }
 
-/// What `--version` prints behind the program's name: its version, that of the layout which it writes, of which commit
-/// it was built, and whether all of it was proved. `scripts/build-imem` writes the last two over as many letters.
-const VERSION: &str = "0.1.0, image layout 2, commit ------------, not proved";
+/// What `--version` prints behind the program's name: its version, and that of the layout which it writes.
+const VERSION: &str = "0.1.0, image layout 2";
 
 const ABOUT: &str = "A durable memory of I-structure and M-structure cells, kept in an image file.";
 
