@@ -1,4 +1,7 @@
-.PHONY: check test imem examples demo clients library install c-examples model trials try try-tests
+.PHONY: check test imem examples demo clients library install uninstall package debian c-examples model trials try try-tests
+
+PREFIX = /usr/local
+LIBDIR = lib
 
 # What the gate can't see, in seconds: documents against the sources, links, layout, what stands twice.
 check:
@@ -16,7 +19,7 @@ imem:
 examples demo: imem
 	scripts/examples
 
-# The same at first sight, with no proof.
+# The same at first sight, with no proof, by a program that it leaves as out/imem-unproved.
 try:
 	scripts/examples --unproved
 
@@ -24,14 +27,25 @@ try:
 clients: imem
 	scripts/clients
 
-# The proved library for C, as out/libluntrebis.a; and in place, with its header: make install PREFIX=FOLDER
+# The proved library for C, as out/libluntrebis.a and out/libluntrebis.so.1.
 library:
 	scripts/library
 
+# Program, library, headers, manual, completions: what out/ has is put in place, or taken away. It proves and builds nothing.
 install:
-	scripts/library --install $(PREFIX)
+	scripts/install --destdir "$(DESTDIR)" --prefix "$(PREFIX)" --libdir "$(LIBDIR)"
 
-# Programs in C, Rust and Python that use it, what they print compared with what lies beside them.
+uninstall:
+	scripts/install --uninstall --destdir "$(DESTDIR)" --prefix "$(PREFIX)"
+
+# The archive of a release with its certificate, and the packages of Debian: in out/release and out/debian.
+package: imem library
+	scripts/package
+
+debian: imem library
+	scripts/debian
+
+# Programs in C, Rust and Python that use it or its packages, what they print compared with what lies beside them.
 c-examples: library
 	scripts/c-examples
 

@@ -3,34 +3,42 @@
 //! usage: counter IMAGE      It makes the image where there is none. A run that was stopped is simply run again: what was
 //! asked before is answered as before, as the same is asked under the same numbers, 64 at most.
 
-use std::io::{Result, Write};
+use luntrebis::{Image, Limits, Op, Reply, Request, Result};
+use std::io::Write;
+use std::path::Path;
 
-use luntrebis::{Answer, Image, Tag};
+struct Counter {
+    image: Image,
+    number: u64,
+}
 
-#[allow(dead_code)] // It has the memory without a disk, too.
-mod luntrebis;
-
-fn tell(number: u64, (tag, value): Answer) -> Result<u64> {
-    let mut out = std::io::stdout();
-    match tag {
-        1 => writeln!(out, "0.{number} base {value}")?,
-        4 => writeln!(out, "0.{number} value {value}")?,
-        _ => writeln!(out, "0.{number} stored")?,
+impl Counter {
+    /// Asks the next request, and tells what it came to.
+    fn ask(&mut self, op: Op) -> Result<u64> {
+        self.number += 1;
+        let reply = self.image.ask(&Request { element: 0, number: self.number, op })?;
+        let (number, mut out) = (self.number, std::io::stdout());
+        match reply {
+            Reply::Base(base) => writeln!(out, "0.{number} base {base}")?,
+            Reply::Value(value) => writeln!(out, "0.{number} value {value}")?,
+            other => writeln!(out, "0.{number} {}", format!("{other:?}").to_lowercase())?,
+        }
+        out.flush()?;
+        reply.value()
     }
-    out.flush()?;
-    Ok(value)
 }
 
 fn main() -> Result<()> {
     let path = std::env::args().nth(1).expect("usage: counter IMAGE");
-    let mut image =
-        if std::fs::exists(&path)? { Image::open(&path)? } else { Image::format(&path, 16, 1, 16)? };
-    let base = tell(1, image.serve(Tag::AllocM, 0, 1, 1, 0)?)? as u32;
-    tell(2, image.serve(Tag::Put, 0, base, 2, 0)?)?;
-    for number in (3..15).step_by(2) {
-        let count = tell(number, image.serve(Tag::Take, 0, base, number, 0)?)?;
-        tell(number + 1, image.serve(Tag::Put, 0, base, number + 1, count + 1)?)?;
+    let limits = Limits { cells: 16, elements: 1, slots: 16 };
+    let image = if Path::new(&path).exists() { Image::open(&path)? } else { Image::create(&path, limits)? };
+    let mut counter = Counter { image, number: 0 };
+    let cell = counter.ask(Op::AllocM(1))? as u32;
+    counter.ask(Op::Put(cell, 0))?;
+    for _ in 0..6 {
+        let count = counter.ask(Op::Take(cell))?;
+        counter.ask(Op::Put(cell, count + 1))?;
     }
-    println!("counted {}", tell(15, image.serve(Tag::Take, 0, base, 15, 0)?)?);
+    println!("counted {}", counter.ask(Op::Take(cell))?);
     Ok(())
 }

@@ -1,0 +1,196 @@
+"""The calls of luntrebis.h, as ctypes has them: scripts/bindings writes this file of the header."""
+import ctypes as c
+import enum
+from typing import Any
+
+
+LT_VERSION = "0.1.0"
+
+
+LT_VERSION_NUMBER = 100
+
+
+class lt_tag(enum.IntEnum):
+    """What is asked, by `tag`."""
+
+    ALLOC_I = 1  # a block of `address` cells, to be fetched and stored
+    ALLOC_M = 2  # a block of `address` cells, to be taken and put
+    RELEASE = 3  # the block with the base `address` is given back
+    FETCH = 4
+    STORE = 5
+    TAKE = 6
+    PUT = 7
+    CONFIRM = 8  # the entries below `number` may be forgotten
+    RESET = 9  # the cells of the block with the base `address` are emptied
+
+
+class lt_answer(enum.IntEnum):
+    """What a command came to, by `tag`."""
+
+    WAITING = 0  # deferred: its answer is collected later
+    BASE = 1  # the base of the new block, in `value`
+    NO_SPACE = 2
+    BAD_LENGTH = 3
+    VALUE = 4  # what was read, in `value`
+    STORED = 5
+    CLASH = 6
+    NO_CELL = 7
+    WRONG_KIND = 8
+    RELEASED = 9
+    NO_BLOCK = 10
+    STILL_WAITING = 11
+    CLEARED = 12
+    CONFIRMED = 128
+
+
+class lt_refusal(enum.IntEnum):
+    OK = 0
+    GAP = 1  # a number beyond the next one
+    FORGOTTEN = 2  # a number below the window
+    WINDOW_FULL = 3  # 64 entries are kept: confirm some
+    MISMATCH = 4  # a number that was used, for another request
+    NO_ELEMENT = 5
+    NOT_ANSWERED = 6  # a confirmation of an entry that waits
+    JOURNAL_FULL = 7  # the journal has no room: turns make some
+    # the steps couldn't be listed, or the caller lost one: the image has to be opened again, and where that was a
+    # sync, not before its file system is mounted anew or the machine restarted
+    DEVICE = 8
+    FAILED = 9  # an earlier call failed: of no call here, since LT_DEVICE is answered again
+    NO_MEMORY = 10  # of lt_memory_new, lt_format, lt_open and lt_inspect
+    WRONG_LENGTH = 12  # of lt_open and lt_inspect, as the next four: the image's first fault
+    NO_HEADER = 13  # never finished, or damaged: no reason to call lt_format on a file that was there
+    BAD_HEADER = 14
+    BAD_PAGE = 15
+    BAD_RECORD = 16
+    BAD_LIMITS = 17  # of lt_memory_new and lt_format
+    OLD_VERSION = 21  # of lt_open: an image of the first layout, of which `imem migrate` makes one of this
+    NO_CALL = 255  # an unknown tag, no such write, or no group
+
+
+class lt_command(c.Structure):
+    """A request of an element, under a number of its own: 1, 2, 3 and so on. Or a confirmation."""
+
+    _fields_ = [
+        ("tag", c.c_uint8),
+        ("element", c.c_uint16),
+        ("address", c.c_uint32),
+        ("number", c.c_uint64),
+        ("value", c.c_uint64),
+    ]
+    tag: Any
+    element: Any
+    address: Any
+    number: Any
+    value: Any
+
+
+class lt_outcome(c.Structure):
+    """Where `refusal` isn't 0, the rest is 0."""
+
+    _fields_ = [
+        ("refusal", c.c_uint8),
+        ("tag", c.c_uint8),
+        ("value", c.c_uint64),
+    ]
+    refusal: Any
+    tag: Any
+    value: Any
+
+
+class lt_memory(c.Structure):
+    """A handle. Zero bytes hold nothing."""
+
+    _fields_ = [
+        ("block", c.c_void_p),
+    ]
+    block: Any
+
+
+class lt_image(c.Structure):
+    """A handle. Zero bytes hold nothing."""
+
+    _fields_ = [
+        ("block", c.c_void_p),
+    ]
+    block: Any
+
+
+class lt_bounds(c.Structure):
+    _fields_ = [
+        ("refusal", c.c_uint8),
+        ("base", c.c_uint64),
+        ("next", c.c_uint64),
+    ]
+    refusal: Any
+    base: Any
+    next: Any
+
+
+class lt_kind(enum.IntEnum):
+    """What is to be done on the file, by `kind`."""
+
+    NO_STEP = 0  # there is no such step
+    WRITE = 1  # `length` bytes from the offset `place` on
+    SYNC = 2  # all that was written is put on the disk, as by fsync, before any later step
+
+
+class lt_step(c.Structure):
+    _fields_ = [
+        ("kind", c.c_uint8),
+        ("place", c.c_uint64),
+        ("length", c.c_uint64),
+    ]
+    kind: Any
+    place: Any
+    length: Any
+
+
+class lt_turn_tag(enum.IntEnum):
+    """What a turn of a checkpoint did, or a sweep, by `tag` of its outcome."""
+
+    IDLE = 0
+    BEGAN = 1
+    PAGE = 2  # the page with the number `value` was written
+    SYNCED = 3
+    IN_FORCE = 4
+    SWEPT = 5
+
+
+# What each gives, and what it is given.
+CALLS: dict[str, tuple[Any, ...]] = {
+    "lt_version": (c.c_uint32,),
+    "lt_layout_version": (c.c_uint16,),
+    "lt_memory_new": (c.c_uint8, c.c_uint32, c.c_uint16, c.POINTER(lt_memory)),
+    "lt_memory_step": (None, lt_memory, c.POINTER(lt_command), c.POINTER(lt_memory), c.POINTER(lt_outcome)),
+    "lt_memory_collect": (None, lt_memory, c.c_uint16, c.c_uint64, c.POINTER(lt_memory), c.POINTER(lt_outcome)),
+    "lt_memory_free": (None, lt_memory),
+    "lt_image_length": (c.c_uint64, c.c_uint32, c.c_uint16, c.c_uint32),
+    "lt_format": (c.c_uint8, c.c_uint32, c.c_uint16, c.c_uint32, c.POINTER(lt_image)),
+    "lt_open": (c.c_uint8, c.c_char_p, c.c_size_t, c.POINTER(lt_image)),
+    "lt_serve": (c.c_size_t, lt_image, c.POINTER(lt_command), c.POINTER(lt_image), c.POINTER(lt_outcome)),
+    "lt_serve_group": (
+        c.c_uint8,
+        lt_image,
+        c.POINTER(lt_command),
+        c.c_size_t,
+        c.POINTER(lt_image),
+        c.POINTER(lt_outcome),
+        c.c_size_t,
+    ),
+    "lt_first_unknown": (c.c_size_t, c.POINTER(lt_command), c.c_size_t),
+    "lt_turn": (c.c_size_t, lt_image, c.POINTER(lt_image), c.POINTER(lt_outcome)),
+    "lt_sweep": (c.c_size_t, lt_image, c.c_uint32, c.POINTER(lt_image), c.POINTER(lt_outcome)),
+    "lt_steps": (c.c_size_t, lt_image, c.POINTER(lt_image)),
+    "lt_step_at": (None, lt_image, c.c_size_t, c.POINTER(lt_image), c.POINTER(lt_step)),
+    "lt_step_bytes": (c.c_uint8, lt_image, c.c_size_t, c.POINTER(lt_image), c.c_char_p, c.c_size_t),
+    "lt_failed": (None, lt_image, c.POINTER(lt_image)),
+    "lt_collect": (None, lt_image, c.c_uint16, c.c_uint64, c.POINTER(lt_image), c.POINTER(lt_outcome)),
+    "lt_entry": (None, lt_image, c.c_uint16, c.c_uint64, c.POINTER(lt_image), c.POINTER(lt_command)),
+    "lt_window": (None, lt_image, c.c_uint16, c.POINTER(lt_image), c.POINTER(lt_bounds)),
+    "lt_room": (c.c_uint32, lt_image, c.POINTER(lt_image)),
+    "lt_count": (c.c_uint64, lt_image, c.POINTER(lt_image)),
+    "lt_close": (None, lt_image),
+    "lt_inspect": (c.c_uint8, c.c_char_p, c.c_size_t, c.c_char_p, c.c_size_t, c.POINTER(c.c_size_t)),
+    "lt_refusal_name": (c.c_size_t, c.c_uint8, c.c_char_p, c.c_size_t),
+    "lt_answer_name": (c.c_size_t, c.c_uint8, c.c_char_p, c.c_size_t),
+}

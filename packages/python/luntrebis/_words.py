@@ -1,0 +1,249 @@
+"""What is asked, what it comes to, and the exceptions for what is refused."""
+from __future__ import annotations
+
+from dataclasses import dataclass
+from typing import NamedTuple
+
+from ._calls import lt_answer, lt_command, lt_outcome, lt_tag
+
+Answer = lt_answer
+Tag = lt_tag
+
+
+class Refused(Exception):
+    """A call was refused. Each refusal that the library answers has a subclass of its own."""
+
+    number = 0
+
+    def __init__(self, number: int | None = None) -> None:
+        self.number = type(self).number if number is None else number
+        super().__init__(f"refused {self.number} {type(self).__name__}")
+
+
+class Gap(Refused):
+    """A number beyond the element's next one."""
+
+    number = 1
+
+
+class Forgotten(Refused):
+    """A number below the window: its entry was confirmed."""
+
+    number = 2
+
+
+class WindowFull(Refused):
+    """64 entries of the element are kept: confirm some."""
+
+    number = 3
+
+
+class Mismatch(Refused):
+    """The number was used for another request."""
+
+    number = 4
+
+
+class NoElement(Refused):
+    """The image has no such element."""
+
+    number = 5
+
+
+class NotAnswered(Refused):
+    """A confirmation of an entry that waits."""
+
+    number = 6
+
+
+class JournalFull(Refused):
+    """The journal has no room. `Image` and `Shared` make turns of a checkpoint then."""
+
+    number = 7
+
+
+class Device(Refused):
+    """A step was lost: the image has to be closed and opened again (after a failed sync see `SyncFailed`)."""
+
+    number = 8
+
+
+class Failed(Refused):
+    """An earlier call failed."""
+
+    number = 9
+
+
+class NoMemory(Refused):
+    """There wasn't enough memory."""
+
+    number = 10
+
+
+class WrongLength(Refused):
+    """The file has no image's length."""
+
+    number = 12
+
+
+class NoHeader(Refused):
+    """Never finished, damaged, or no image. The file is left as it is."""
+
+    number = 13
+
+
+class BadHeader(Refused):
+    """The image is damaged in a header."""
+
+    number = 14
+
+
+class BadPage(Refused):
+    """The image is damaged in a page."""
+
+    number = 15
+
+
+class BadRecord(Refused):
+    """The image is damaged in a record."""
+
+    number = 16
+
+
+class BadLimits(Refused):
+    """A number of cells, elements or slots is out of its range."""
+
+    number = 17
+
+
+class OldVersion(Refused):
+    """An image of the first layout: `imem migrate` makes one of this layout of it."""
+
+    number = 21
+
+
+class NoCall(Refused):
+    """An unknown tag, or requests that make no group."""
+
+    number = 255
+
+
+REFUSALS = {it.number: it for it in Refused.__subclasses__()}
+
+
+class SyncFailed(OSError):
+    """A sync failed: what was written may not be on the disk, whatever is read now. The image isn't to be opened before
+    its file system was mounted anew, or the machine restarted."""
+
+
+class Answered(Exception):
+    """The memory's answer is an error of the program that asks. `reply` has it."""
+
+    def __init__(self, reply: Reply) -> None:
+        self.reply = reply
+        super().__init__(reply.answer.name.lower().replace("_", "-"))
+
+
+class Clash(Answered):
+    """The cell was full at a store or a put, now or before."""
+
+
+class NoSpace(Answered):
+    """There is no place for so long a block."""
+
+
+class BadLength(Answered):
+    """A block of no cells."""
+
+
+class NoCell(Answered):
+    """The address lies in no block."""
+
+
+class WrongKind(Answered):
+    """A fetch or store at an M block, or a take or put at an I block."""
+
+
+class NoBlock(Answered):
+    """No block begins there."""
+
+
+class StillWaiting(Answered):
+    """Somebody waits for a cell of the block, which stays as it is."""
+
+
+class Waiting(Exception):
+    """The request isn't answered yet."""
+
+
+ERRORS: dict[Answer, type[Answered]] = {
+    Answer.CLASH: Clash,
+    Answer.NO_SPACE: NoSpace,
+    Answer.BAD_LENGTH: BadLength,
+    Answer.NO_CELL: NoCell,
+    Answer.WRONG_KIND: WrongKind,
+    Answer.NO_BLOCK: NoBlock,
+    Answer.STILL_WAITING: StillWaiting,
+}
+
+
+class Request(NamedTuple):
+    """A request of an element, under a number of its own: 1, 2, 3 and so on. `address` is a block's length at an alloc.
+
+    The same request under its number again is answered as before, and acts no second time.
+    """
+
+    tag: Tag
+    element: int
+    number: int
+    address: int = 0
+    value: int = 0
+
+
+class Window(NamedTuple):
+    """The entries of an element are kept from `base` on; `next` is the number of its next new request."""
+
+    base: int
+    next: int
+
+
+@dataclass(frozen=True)
+class Reply:
+    """What a request came to: a `value` where the answer is VALUE or BASE."""
+
+    answer: Answer
+    value: int = 0
+
+    def get(self) -> int:
+        """The value, the base, or 0; raises `Waiting`, or the `Answered` that it is."""
+        if self.answer == Answer.WAITING:
+            raise Waiting()
+        if self.answer in ERRORS:
+            raise ERRORS[self.answer](self)
+        return self.value
+
+
+def refusal(number: int) -> Refused:
+    """The exception of a refusal."""
+    return REFUSALS[number]() if number in REFUSALS else Refused(number)
+
+
+def passed(number: int) -> None:
+    """Raises where the number is that of a refusal."""
+    if number:
+        raise refusal(number)
+
+
+def spelled(request: Request) -> lt_command:
+    """The request as the library takes it."""
+    if not (0 <= request.element < 1 << 16 and 0 <= request.address < 1 << 32):
+        raise ValueError(f"an element is below 2^16, and an address below 2^32: {request}")
+    if not (0 <= request.number < 1 << 64 and 0 <= request.value < 1 << 64):
+        raise ValueError(f"a number and a value are below 2^64: {request}")
+    return lt_command(request.tag, request.element, request.address, request.number, request.value)
+
+
+def told(outcome: lt_outcome) -> Reply:
+    """The reply; raises where it was refused."""
+    passed(outcome.refusal)
+    return Reply(Answer(outcome.tag), outcome.value)

@@ -1,0 +1,61 @@
+"""Luntrebis for asyncio: each request is awaited, a fetch or a take until its cell is full.
+
+    async with await luntrebis.aio.open("a.img") as image:
+        one, two = image.element(1), image.element(2)
+        base = await one.alloc_i(1)
+        value, _ = await asyncio.gather(one.fetch(base), two.store(base, 5))
+"""
+from __future__ import annotations
+
+import asyncio
+from typing import Awaitable
+
+from ._memories import Path
+from ._shared import Requests, Shared
+from ._words import Reply, Request, Tag
+
+
+class Element(Requests["Awaitable[int]"]):
+    """The requests of an element: each is sent at its call, and its value, its base, or 0 is awaited."""
+
+    def __init__(self, image: Image, number: int) -> None:
+        self._element = image.shared.element(number)
+        self.number = number
+
+    def _ask(self, tag: Tag, address: int, value: int = 0) -> Awaitable[int]:
+        return asyncio.wrap_future(self._element._ask(tag, address, value))
+
+
+class Image:
+    """An image for the tasks of an event loop, over `Shared`."""
+
+    def __init__(self, shared: Shared) -> None:
+        self.shared = shared
+
+    async def __aenter__(self) -> Image:
+        return self
+
+    async def __aexit__(self, *fault: object) -> None:
+        await self.close()
+
+    async def ask(self, request: Request) -> Reply:
+        """A request under its own number, once it is answered. The same one again is answered as before."""
+        return await asyncio.wrap_future(self.shared.submit(request))
+
+    def element(self, number: int) -> Element:
+        """An element whose requests are numbered here."""
+        return Element(self, number)
+
+    async def close(self) -> None:
+        """Serves what was asked, and closes the image. Who still waits is cancelled."""
+        await asyncio.to_thread(self.shared.close)
+
+
+async def create(path: Path, cells: int = 4096, elements: int = 16, slots: int = 256) -> Image:
+    """Makes the image of an empty memory, where nothing is at the path."""
+    return Image(await asyncio.to_thread(Shared.create, path, cells, elements, slots))
+
+
+async def open(path: Path) -> Image:  # noqa: A001
+    """Opens the image of a file that is there."""
+    return Image(await asyncio.to_thread(Shared.open, path))

@@ -1,0 +1,283 @@
+//! An image for any number of threads: one thread of its own makes all calls, and answers are futures.
+
+use crate::memories::{Image, Limits};
+use crate::owner::{Message, Owner};
+use crate::words::{Error, Op, Reply, Request, Result};
+use std::future::Future;
+use std::path::Path;
+use std::pin::Pin;
+use std::sync::mpsc::{channel, Sender};
+use std::sync::{Arc, Condvar, Mutex, MutexGuard, PoisonError};
+use std::task::{Context, Poll, Waker};
+use std::thread::{self, JoinHandle};
+
+/// An image for any number of threads; a clone is the same image.
+///
+/// Requests of several elements that are there at once are put on the disk together. The image is closed, once what was
+/// asked is served, when the last clone and the last [`Element`] are dropped: who still waits then is told
+/// [`Error::Closed`]. After a lost step all are told [`Refusal::Device`](crate::Refusal::Device), or why the step
+/// failed: drop it, open again, and ask again under the same numbers.
+#[derive(Clone, Debug)]
+pub struct Shared {
+    inner: Arc<Inner>,
+}
+
+#[derive(Debug)]
+struct Inner {
+    asked: Mutex<Sender<Message>>,
+    thread: Option<JoinHandle<()>>,
+}
+
+impl Drop for Inner {
+    fn drop(&mut self) {
+        let _ended = lock(&self.asked).send(Message::End);
+        if let Some(thread) = self.thread.take().filter(|it| it.thread().id() != thread::current().id()) {
+            let _joined = thread.join();
+        }
+    }
+}
+
+impl Shared {
+    /// Makes the image of an empty memory, where nothing is at the path.
+    pub fn create(path: impl AsRef<Path>, limits: Limits) -> Result<Shared> {
+        let path = path.as_ref().to_owned();
+        Shared::begin(move || Image::create(path, limits))
+    }
+
+    /// Opens the image of a file that is there.
+    pub fn open(path: impl AsRef<Path>) -> Result<Shared> {
+        let path = path.as_ref().to_owned();
+        Shared::begin(move || Image::open(path))
+    }
+
+    fn begin(make: impl FnOnce() -> Result<Image> + Send + 'static) -> Result<Shared> {
+        let ((sender, asked), (began, begins)) = (channel(), channel());
+        let thread = thread::Builder::new().name("luntrebis".into()).spawn(move || match make() {
+            Ok(image) => {
+                let _told = began.send(Ok(()));
+                Owner::new(image, asked).run();
+            }
+            Err(error) => {
+                let _told = began.send(Err(error));
+            }
+        })?;
+        begins.recv().unwrap_or(Err(Error::Closed))?;
+        Ok(Shared { inner: Arc::new(Inner { asked: Mutex::new(sender), thread: Some(thread) }) })
+    }
+
+    /// A request under its own number, once it is answered: a fetch or a take as soon as its cell is full.
+    pub fn submit(&self, request: Request) -> Pending {
+        self.send(request, true, true)
+    }
+
+    /// A request, as the file has it: [`Reply::Waiting`] is a reply. The same one again is answered as before.
+    pub fn ask(&self, request: Request) -> Result<Reply> {
+        self.send(request, true, false).wait()
+    }
+
+    /// Drops the entries of the element below the number.
+    pub fn confirm(&self, element: u16, upto: u64) -> Result<()> {
+        self.call(move |image| image.confirm(element, upto))?
+    }
+
+    /// A call of the image that asks for nothing, made by its thread between two groups.
+    pub fn call<T: Send + 'static>(&self, call: impl FnOnce(&mut Image) -> T + Send + 'static) -> Result<T> {
+        let (tell, told) = channel();
+        let call = Box::new(move |image: &mut Image| {
+            let _told = tell.send(call(image));
+        });
+        let _sent = lock(&self.inner.asked).send(Message::Call(call));
+        told.recv().map_err(|_| Error::Closed)
+    }
+
+    /// An element whose requests are numbered here, and which has no other asker.
+    pub fn element(&self, number: u16) -> Element {
+        Element { shared: self.clone(), number }
+    }
+
+    fn send(&self, request: Request, is_numbered: bool, waits: bool) -> Pending {
+        let told = Arc::new(Told::default());
+        let asked = Asked { request, is_numbered, waits, teller: Teller { told: told.clone() } };
+        // Where nobody listens any more, the request is dropped, and its teller says so.
+        let _sent = lock(&self.inner.asked).send(Message::Ask(asked));
+        Pending { told }
+    }
+}
+
+/// The requests of an element, each answered by a future of its value, its base, or 0.
+///
+/// They get the element's next numbers, and what is answered is confirmed where its window is full.
+#[derive(Clone, Debug)]
+pub struct Element {
+    shared: Shared,
+    number: u16,
+}
+
+impl Element {
+    /// A block of so many I cells, to be fetched and stored: its base.
+    pub fn alloc_i(&self, length: u32) -> Value {
+        self.ask(Op::AllocI(length))
+    }
+
+    /// A block of so many M cells, to be taken and put: its base.
+    pub fn alloc_m(&self, length: u32) -> Value {
+        self.ask(Op::AllocM(length))
+    }
+
+    /// What is in an I cell, once it is stored.
+    pub fn fetch(&self, address: u32) -> Value {
+        self.ask(Op::Fetch(address))
+    }
+
+    /// Writes an I cell, once.
+    pub fn store(&self, address: u32, value: u64) -> Value {
+        self.ask(Op::Store(address, value))
+    }
+
+    /// Empties an M cell, once it is full: what was in it.
+    pub fn take(&self, address: u32) -> Value {
+        self.ask(Op::Take(address))
+    }
+
+    /// Fills an empty M cell.
+    pub fn put(&self, address: u32, value: u64) -> Value {
+        self.ask(Op::Put(address, value))
+    }
+
+    /// Gives a block back.
+    pub fn release(&self, base: u32) -> Value {
+        self.ask(Op::Release(base))
+    }
+
+    /// Empties the cells of a block.
+    pub fn reset(&self, base: u32) -> Value {
+        self.ask(Op::Reset(base))
+    }
+
+    fn ask(&self, op: Op) -> Value {
+        Value(self.shared.send(Request { element: self.number, number: 0, op }, false, true))
+    }
+}
+
+/// The answer to a request, once it is there: a future, or waited for.
+#[derive(Debug)]
+#[must_use = "it may be refused"]
+pub struct Pending {
+    told: Arc<Told>,
+}
+
+impl Pending {
+    /// Blocks the thread until it is answered.
+    pub fn wait(self) -> Result<Reply> {
+        let mut slot = lock(&self.told.slot);
+        loop {
+            if let Some(answer) = slot.answer.take() {
+                return answer;
+            }
+            slot = self.told.there.wait(slot).unwrap_or_else(PoisonError::into_inner);
+        }
+    }
+
+    /// Whether it is answered.
+    pub fn is_ready(&self) -> bool {
+        lock(&self.told.slot).answer.is_some()
+    }
+}
+
+impl Future for Pending {
+    type Output = Result<Reply>;
+
+    fn poll(self: Pin<&mut Self>, context: &mut Context<'_>) -> Poll<Result<Reply>> {
+        let mut slot = lock(&self.told.slot);
+        match slot.answer.take() {
+            Some(answer) => Poll::Ready(answer),
+            None => {
+                slot.waker = Some(context.waker().clone());
+                Poll::Pending
+            }
+        }
+    }
+}
+
+/// A value, a base, or 0, once it is there: a future, or waited for. An answer that is an error is [`Error::Answered`].
+#[derive(Debug)]
+#[must_use = "it may be refused"]
+pub struct Value(Pending);
+
+impl Value {
+    /// Blocks the thread until it is there.
+    pub fn wait(self) -> Result<u64> {
+        self.0.wait()?.value()
+    }
+
+    /// Whether it is there.
+    pub fn is_ready(&self) -> bool {
+        self.0.is_ready()
+    }
+}
+
+impl Future for Value {
+    type Output = Result<u64>;
+
+    fn poll(mut self: Pin<&mut Self>, context: &mut Context<'_>) -> Poll<Result<u64>> {
+        Pin::new(&mut self.0).poll(context).map(|it| it?.value())
+    }
+}
+
+/// Where an answer is left for who asked.
+#[derive(Debug, Default)]
+struct Told {
+    slot: Mutex<Slot>,
+    there: Condvar,
+}
+
+#[derive(Debug, Default)]
+struct Slot {
+    answer: Option<Result<Reply>>,
+    waker: Option<Waker>,
+    is_told: bool,
+}
+
+/// Tells an answer, once; where none was told, that the image is closed.
+#[derive(Debug)]
+pub(crate) struct Teller {
+    told: Arc<Told>,
+}
+
+impl Teller {
+    pub(crate) fn tell(&self, answer: Result<Reply>) {
+        let mut slot = lock(&self.told.slot);
+        if slot.is_told {
+            return;
+        }
+        (slot.answer, slot.is_told) = (Some(answer), true);
+        let waker = slot.waker.take();
+        drop(slot);
+        self.told.there.notify_all();
+        if let Some(waker) = waker {
+            waker.wake();
+        }
+    }
+}
+
+impl Drop for Teller {
+    fn drop(&mut self) {
+        self.tell(Err(Error::Closed));
+    }
+}
+
+/// A request that is to be served.
+#[derive(Debug)]
+pub(crate) struct Asked {
+    pub(crate) request: Request,
+    /// Whether it came with a number; else it gets the element's next one.
+    pub(crate) is_numbered: bool,
+    /// Whether it is told only once it is answered.
+    pub(crate) waits: bool,
+    pub(crate) teller: Teller,
+}
+
+/// What a mutex guards is whole between two statements: so a panic of another thread is passed over.
+fn lock<T>(mutex: &Mutex<T>) -> MutexGuard<'_, T> {
+    mutex.lock().unwrap_or_else(PoisonError::into_inner)
+}

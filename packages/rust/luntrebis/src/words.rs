@@ -1,0 +1,247 @@
+//! What is asked, what it comes to, and what is refused.
+
+use luntrebis_sys as sys;
+use std::{error, fmt, io, result};
+
+/// What is asked of the memory. A number of cells is a block's length; an address is that of a cell.
+#[derive(Clone, Copy, Debug, PartialEq, Eq)]
+pub enum Op {
+    /// A block of so many I cells, to be fetched and stored.
+    AllocI(u32),
+    /// A block of so many M cells, to be taken and put.
+    AllocM(u32),
+    /// The block with this base is given back.
+    Release(u32),
+    /// What is in an I cell, once it is stored.
+    Fetch(u32),
+    /// Writes an I cell, once.
+    Store(u32, u64),
+    /// Empties an M cell, once it is full.
+    Take(u32),
+    /// Fills an empty M cell.
+    Put(u32, u64),
+    /// The cells of the block with this base are emptied.
+    Reset(u32),
+}
+
+/// A request of an element, under a number of its own: 1, 2, 3 and so on.
+#[derive(Clone, Copy, Debug, PartialEq, Eq)]
+pub struct Request {
+    /// Which element asks.
+    pub element: u16,
+    /// Under which number.
+    pub number: u64,
+    /// What.
+    pub op: Op,
+}
+
+/// What a request came to.
+#[derive(Clone, Copy, Debug, PartialEq, Eq)]
+#[non_exhaustive]
+pub enum Reply {
+    /// Deferred: it is answered later.
+    Waiting,
+    /// The base of the new block.
+    Base(u32),
+    /// There is no place for so long a block.
+    NoSpace,
+    /// A block of no cells.
+    BadLength,
+    /// What was read.
+    Value(u64),
+    /// Written.
+    Stored,
+    /// The cell was full at a store or a put, now or before.
+    Clash,
+    /// The address lies in no block.
+    NoCell,
+    /// A fetch or store at an M block, or a take or put at an I block.
+    WrongKind,
+    /// The block is gone.
+    Released,
+    /// No block begins there.
+    NoBlock,
+    /// Somebody waits for a cell of the block, which stays as it is.
+    StillWaiting,
+    /// The cells are empty.
+    Cleared,
+}
+
+impl Reply {
+    /// The value, the base, or 0; [`Error::Answered`] where the reply is none that was hoped for, `Waiting` too.
+    pub fn value(self) -> Result<u64> {
+        match self {
+            Reply::Value(value) => Ok(value),
+            Reply::Base(base) => Ok(base.into()),
+            Reply::Stored | Reply::Released | Reply::Cleared => Ok(0),
+            other => Err(Error::Answered(other)),
+        }
+    }
+}
+
+/// Why a call is refused.
+#[derive(Clone, Copy, Debug, PartialEq, Eq)]
+#[repr(u8)]
+#[non_exhaustive]
+pub enum Refusal {
+    /// A number beyond the element's next one.
+    Gap = sys::LT_GAP,
+    /// A number below the window: its entry was confirmed.
+    Forgotten = sys::LT_FORGOTTEN,
+    /// 64 entries of the element are kept: confirm some.
+    WindowFull = sys::LT_WINDOW_FULL,
+    /// The number was used for another request.
+    Mismatch = sys::LT_MISMATCH,
+    /// There is no such element.
+    NoElement = sys::LT_NO_ELEMENT,
+    /// A confirmation of an entry that waits.
+    NotAnswered = sys::LT_NOT_ANSWERED,
+    /// The journal has no room. [`Image`](crate::Image) makes turns of a checkpoint then.
+    JournalFull = sys::LT_JOURNAL_FULL,
+    /// A step was lost: the image has to be opened again, after a failed sync not before its file system is mounted
+    /// anew, or the machine restarted.
+    Device = sys::LT_DEVICE,
+    /// An earlier call failed.
+    Failed = sys::LT_FAILED,
+    /// There wasn't enough memory.
+    NoMemory = sys::LT_NO_MEMORY,
+    /// The file has no image's length.
+    WrongLength = sys::LT_WRONG_LENGTH,
+    /// Never finished, damaged, or no image. The file is left as it is.
+    NoHeader = sys::LT_NO_HEADER,
+    /// The image is damaged in a header.
+    BadHeader = sys::LT_BAD_HEADER,
+    /// The image is damaged in a page.
+    BadPage = sys::LT_BAD_PAGE,
+    /// The image is damaged in a record.
+    BadRecord = sys::LT_BAD_RECORD,
+    /// A number of cells, elements or slots is out of its range.
+    BadLimits = sys::LT_BAD_LIMITS,
+    /// An image of the first layout: `imem migrate` makes one of this layout of it.
+    OldVersion = sys::LT_OLD_VERSION,
+    /// Requests that make no group, or an unknown number of a refusal.
+    NoCall = sys::LT_NO_CALL,
+}
+
+impl Refusal {
+    fn of(number: u8) -> Refusal {
+        use Refusal::*;
+        let known = [
+            Gap,
+            Forgotten,
+            WindowFull,
+            Mismatch,
+            NoElement,
+            NotAnswered,
+            JournalFull,
+            Device,
+            Failed,
+            NoMemory,
+            WrongLength,
+            NoHeader,
+            BadHeader,
+            BadPage,
+            BadRecord,
+            BadLimits,
+            OldVersion,
+        ];
+        known.into_iter().find(|it| *it as u8 == number).unwrap_or(NoCall)
+    }
+}
+
+/// Why a call came to nothing.
+#[derive(Debug)]
+#[non_exhaustive]
+pub enum Error {
+    /// The library refused it.
+    Refused(Refusal),
+    /// The memory answered, and not with what was hoped for.
+    Answered(Reply),
+    /// The file.
+    Io(io::Error),
+    /// The image was closed before the answer came. The request isn't lost: it is answered under its number after the
+    /// next opening.
+    Closed,
+}
+
+/// What a call came to.
+pub type Result<T> = result::Result<T, Error>;
+
+impl fmt::Display for Error {
+    fn fmt(&self, f: &mut fmt::Formatter<'_>) -> fmt::Result {
+        match self {
+            Error::Refused(it) => write!(f, "refused {} {it:?}", *it as u8),
+            Error::Answered(it) => write!(f, "answered {it:?}"),
+            Error::Io(it) => it.fmt(f),
+            Error::Closed => write!(f, "the image is closed"),
+        }
+    }
+}
+
+impl error::Error for Error {}
+
+impl From<io::Error> for Error {
+    fn from(it: io::Error) -> Error {
+        Error::Io(it)
+    }
+}
+
+impl Error {
+    /// The same once more, for another who asked.
+    pub(crate) fn again(&self) -> Error {
+        match self {
+            Error::Refused(it) => Error::Refused(*it),
+            Error::Answered(it) => Error::Answered(*it),
+            Error::Io(it) => Error::Io(io::Error::new(it.kind(), it.to_string())),
+            Error::Closed => Error::Closed,
+        }
+    }
+}
+
+/// An error where the number is that of a refusal.
+pub(crate) fn passed(number: u8) -> Result<()> {
+    match number {
+        sys::LT_OK => Ok(()),
+        _ => Err(Error::Refused(Refusal::of(number))),
+    }
+}
+
+/// The reply of an outcome.
+pub(crate) fn told(outcome: &sys::lt_outcome) -> Result<Reply> {
+    passed(outcome.refusal)?;
+    Ok(match outcome.tag {
+        sys::LT_WAITING => Reply::Waiting,
+        sys::LT_BASE => Reply::Base(outcome.value as u32),
+        sys::LT_NO_SPACE => Reply::NoSpace,
+        sys::LT_BAD_LENGTH => Reply::BadLength,
+        sys::LT_VALUE => Reply::Value(outcome.value),
+        sys::LT_STORED => Reply::Stored,
+        sys::LT_CLASH => Reply::Clash,
+        sys::LT_NO_CELL => Reply::NoCell,
+        sys::LT_WRONG_KIND => Reply::WrongKind,
+        sys::LT_RELEASED => Reply::Released,
+        sys::LT_NO_BLOCK => Reply::NoBlock,
+        sys::LT_STILL_WAITING => Reply::StillWaiting,
+        _ => Reply::Cleared,
+    })
+}
+
+/// The request as the library takes it.
+pub(crate) fn spelled(request: &Request) -> sys::lt_command {
+    let (tag, address, value) = match request.op {
+        Op::AllocI(length) => (sys::LT_ALLOC_I, length, 0),
+        Op::AllocM(length) => (sys::LT_ALLOC_M, length, 0),
+        Op::Release(base) => (sys::LT_RELEASE, base, 0),
+        Op::Fetch(address) => (sys::LT_FETCH, address, 0),
+        Op::Store(address, value) => (sys::LT_STORE, address, value),
+        Op::Take(address) => (sys::LT_TAKE, address, 0),
+        Op::Put(address, value) => (sys::LT_PUT, address, value),
+        Op::Reset(base) => (sys::LT_RESET, base, 0),
+    };
+    sys::lt_command { tag, element: request.element, address, number: request.number, value }
+}
+
+/// A confirmation as the library takes it.
+pub(crate) fn confirmation(element: u16, upto: u64) -> sys::lt_command {
+    sys::lt_command { tag: sys::LT_CONFIRM, element, address: 0, number: upto, value: 0 }
+}

@@ -1,0 +1,121 @@
+//! An image through its whole life, and one for many threads.
+
+use luntrebis::{Error, Image, Limits, Memory, Op, Refusal, Reply, Request, Shared};
+use std::future::Future;
+use std::path::PathBuf;
+use std::sync::Arc;
+use std::task::{Context, Poll, Wake};
+use std::thread::{self, Thread};
+
+fn place(name: &str) -> PathBuf {
+    std::env::temp_dir().join(format!("luntrebis-{}-{name}.image", std::process::id()))
+}
+
+fn asked(element: u16, number: u64, op: Op) -> Request {
+    Request { element, number, op }
+}
+
+const SMALL: Limits = Limits { cells: 64, elements: 4, slots: 16 };
+
+#[test]
+fn what_was_answered_is_there_after_an_opening() {
+    let path = place("life");
+    {
+        let mut image = Image::create(&path, SMALL).unwrap();
+        assert_eq!(image.ask(&asked(0, 1, Op::AllocI(8))).unwrap(), Reply::Base(0));
+        assert_eq!(image.ask(&asked(1, 1, Op::Fetch(0))).unwrap(), Reply::Waiting);
+        assert!(matches!(Image::open(&path), Err(Error::Io(_))), "another one has the lock");
+        assert!(matches!(Image::create(&path, SMALL), Err(Error::Io(_))), "a file is there");
+        let all = image.ask_all(&[asked(2, 1, Op::Store(0, 5)), asked(3, 1, Op::Fetch(0))]).unwrap();
+        assert!(matches!(all[..], [Ok(Reply::Stored), Ok(Reply::Value(5))]));
+        for number in 2..64 {
+            image.ask(&asked(3, number, Op::Fetch(0))).unwrap();
+        }
+        let gap = image.ask(&asked(3, 66, Op::Fetch(0)));
+        assert!(matches!(gap, Err(Error::Refused(Refusal::Gap))));
+    }
+    let mut image = Image::open(&path).unwrap();
+    assert_eq!(image.collect(1, 1).unwrap(), Reply::Value(5));
+    assert_eq!(image.ask(&asked(2, 1, Op::Store(0, 5))).unwrap(), Reply::Stored, "as before");
+    assert_eq!(image.window(3).unwrap(), 1..64);
+    image.confirm(3, 64).unwrap();
+    assert_eq!(image.window(3).unwrap(), 64..64);
+    assert_eq!(image.count(), 67);
+    drop(image);
+    assert!(luntrebis::inspect(&path).unwrap().contains("cell 0 full 5"));
+    std::fs::remove_file(path).unwrap();
+}
+
+#[test]
+fn a_memory_has_no_disk() {
+    assert!(matches!(Memory::new(0, 2), Err(Error::Refused(Refusal::BadLimits))));
+    let mut memory = Memory::new(16, 2).unwrap();
+    assert_eq!(memory.ask(&asked(0, 1, Op::AllocM(4))).unwrap(), Reply::Base(0));
+    assert_eq!(memory.ask(&asked(1, 1, Op::Take(2))).unwrap(), Reply::Waiting);
+    assert_eq!(memory.ask(&asked(0, 2, Op::Put(2, 9))).unwrap(), Reply::Stored);
+    assert_eq!(memory.collect(1, 1).unwrap(), Reply::Value(9));
+    memory.confirm(1, 2).unwrap();
+    assert!(matches!(memory.collect(1, 1), Err(Error::Refused(Refusal::Forgotten))));
+}
+
+struct Unpark(Thread);
+
+impl Wake for Unpark {
+    fn wake(self: Arc<Self>) {
+        self.0.unpark();
+    }
+}
+
+/// The least executor that there is.
+fn run<T>(future: impl Future<Output = T>) -> T {
+    let (waker, mut future) = (Arc::new(Unpark(thread::current())).into(), Box::pin(future));
+    loop {
+        match future.as_mut().poll(&mut Context::from_waker(&waker)) {
+            Poll::Ready(value) => return value,
+            Poll::Pending => thread::park(),
+        }
+    }
+}
+
+#[test]
+fn many_threads_share_an_image() {
+    let path = place("shared");
+    let shared = Shared::create(&path, Limits { cells: 256, elements: 16, slots: 64 }).unwrap();
+    let base = shared.element(0).alloc_m(16).wait().unwrap() as u32;
+    let first = shared.element(0).take(base);
+    assert!(!first.is_ready(), "nobody has put");
+    let workers: Vec<_> = (1..16).map(|number| (shared.element(number), base + u32::from(number))).collect();
+    thread::scope(|scope| {
+        for (element, cell) in workers {
+            scope.spawn(move || {
+                element.put(cell, 0).wait().unwrap();
+                for _ in 0..100 {
+                    let count = element.take(cell).wait().unwrap();
+                    element.put(cell, count + 1).wait().unwrap();
+                }
+                assert_eq!(element.take(cell).wait().unwrap(), 100);
+            });
+        }
+    });
+    let count = run(async {
+        shared.element(1).put(base, 7).await?;
+        first.await
+    });
+    assert_eq!(count.unwrap(), 7);
+    let clash = run(async { (shared.element(2).put(base, 1).await, shared.element(2).put(base, 2).await) });
+    assert!(matches!(clash, (Ok(0), Err(Error::Answered(Reply::Clash)))));
+    assert!(matches!(shared.element(16).take(base).wait(), Err(Error::Refused(Refusal::NoElement))));
+    assert_eq!(shared.call(|image| image.window(0).map(|it| it.end)).unwrap().unwrap(), 3);
+    let late = shared.element(3).take(base + 1);
+    drop(shared);
+    assert!(matches!(late.wait(), Err(Error::Closed)));
+    std::fs::remove_file(path).unwrap();
+}
+
+#[test]
+fn a_shared_image_goes_from_thread_to_thread() {
+    fn goes<T: Send + Sync>() {}
+    goes::<Shared>();
+    goes::<luntrebis::Element>();
+    goes::<luntrebis::Value>();
+}

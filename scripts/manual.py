@@ -1,0 +1,244 @@
+"""The manual's pages and the completions of the shells, made of what imem says of itself, of the headers, and of
+docs/FORMAT.md. `pages(imem)` and `completions(imem)` give each file's path below share/ with its text."""
+import itertools
+import re
+import subprocess
+import textwrap
+
+import headers
+import packaging
+from sources import TOP
+
+BULLET = "\\(bu"
+NOTHING = "\\&"
+ABOUT = "a durable memory of I-structure and M-structure cells"
+
+
+def told(imem, *words):
+    """What the program prints, which calls itself by its file's name."""
+    text = subprocess.run([imem, *words], capture_output=True, text=True, check=True).stdout
+    return re.sub(rf"^Usage: {re.escape(str(imem).rpartition('/')[2])}\b", "Usage: imem", text, flags=re.M)
+
+
+class Help:
+    """What the program says of itself, or of one of its subcommands."""
+
+    def __init__(self, text):
+        self.usage = re.search(r"^Usage: (.*)$", text, re.M)[1]
+        self.about = text.split("\n\n")[0].strip()
+        self.arguments = re.findall(r"^  <(\w+)> +(.*)$", self.part(text, "Arguments"), re.M)
+        option = r"^ +(?:-\w, )?(--[\w-]+)(?: <(\w+)>)? +(.*)$"
+        self.options = re.findall(option, self.part(text, "Options"), re.M)
+        self.subcommands = re.findall(r"^  (\w+) +(.*)$", self.part(text, "Commands"), re.M)
+        last = list(re.finditer(r"^Options:\n(?:  .*\n)+\n?", text, re.M))[-1]
+        self.more = text[last.end() :].strip("\n")
+
+    @staticmethod
+    def part(text, head):
+        found = re.search(rf"^{head}:\n((?:  .*\n)+)", text, re.M)
+        return found[1] if found else ""
+
+
+def read_help(imem):
+    """The program's own, and that of each subcommand."""
+    top = Help(told(imem, "--help"))
+    return top, {name: Help(told(imem, name, "--help")) for name, _ in top.subcommands if name != "help"}
+
+
+# ---- roff
+
+
+def escaped(text):
+    return text.replace("\\", "\\e").replace("-", "\\-").replace("'", "\\(aq").replace("`", "\\(ga")
+
+
+def line(text):
+    """A line of text, none of which is a request."""
+    done = escaped(text)
+    return f"\\&{done}" if done.startswith((".", "\\(aq")) else done
+
+
+def as_it_stands(lines):
+    return [".PP", ".RS", ".nf", *map(line, textwrap.dedent("\n".join(lines)).splitlines()), ".fi", ".RE"]
+
+
+def heading(name, section, about):
+    words = [f'"{it}"' for it in (name.upper(), section, "", f"luntrebis {packaging.VERSION}", "Luntrebis")]
+    return ["'\\\" t", f".TH {' '.join(words)}", ".SH NAME", f"{name} \\- {line(about)}"]
+
+
+def runs(part):
+    """The lines of a paragraph: those with space before them stand as they are, the others are filled."""
+    for stands, run in itertools.groupby(part.splitlines(), lambda it: it.startswith("  ")):
+        yield from as_it_stands(run) if stands else [".PP", *map(line, run)]
+
+
+def prose(text):
+    """Paragraphs: lines with space before them stand as they are, the others are filled. `Example:` and `Exit status:`
+    have a heading."""
+    heads = {"Example": "EXAMPLES", "Exit status": "EXIT STATUS"}
+    for part in text.split("\n\n"):
+        head, colon, rest = part.partition(":")
+        if colon and head in heads:
+            yield f".SH {heads[head]}"
+            part = rest.strip("\n").lstrip(" ") if head != "Example" or not rest.startswith("\n") else rest.strip("\n")
+        yield from runs(part)
+
+
+def listed(rows):
+    for name, text in rows:
+        yield from (".TP", f"\\fB{escaped(name)}\\fR", line(text))
+
+
+def see_also(others):
+    return [".SH SEE ALSO", ",\n".join(f"\\fB{escaped(name)}\\fR({section})" for name, section in others)]
+
+
+def page_of_help(name, it, others):
+    lines = heading(name, "1", it.about.rstrip(".")[0].lower() + it.about.rstrip(".")[1:])
+    lines += [".SH SYNOPSIS", f"\\fB{escaped(it.usage)}\\fR", ".SH DESCRIPTION", line(it.about)]
+    paragraphs = list(prose(it.more)) if it.more else []
+    first = next((at for at, one in enumerate(paragraphs) if one.startswith(".SH")), len(paragraphs))
+    lines += paragraphs[:first]
+    if it.arguments:
+        lines += [".SH ARGUMENTS", *listed(it.arguments)]
+    if it.subcommands:
+        lines += [".SH COMMANDS", *listed([row for row in it.subcommands if row[0] != "help"])]
+    lines += [".SH OPTIONS", *listed([(f"{option} {value}".strip(), text) for option, value, text in it.options])]
+    return "\n".join([*lines, *paragraphs[first:], *see_also(others)]) + "\n"
+
+
+def pages_of_help(imem):
+    top, below = read_help(imem)
+    all_pages = [("imem", "1"), *((f"imem-{name}", "1") for name in below), ("imem-image", "5"), ("luntrebis", "3")]
+    for name, it in (("imem", top), *((f"imem-{name}", it) for name, it in below.items())):
+        yield f"man/man1/{name}.1", page_of_help(name, it, [row for row in all_pages if row[0] != name])
+
+
+def paragraphs(comment):
+    """A comment of a header."""
+    for part in comment.split("\n\n"):
+        yield from runs(part)
+
+
+def page_of_headers():
+    lines = heading("luntrebis", "3", f"{ABOUT}, for C")
+    files = [it.name for it in headers.paths()]
+    includes = [f'#include <{name}>' for name in files]
+    lines += [".SH SYNOPSIS", ".nf", *(f"\\fB{escaped(it)}\\fR" for it in includes), ".PP"]
+    lines += ["cc program.c $(pkg\\-config \\-\\-cflags \\-\\-libs luntrebis)", ".fi"]
+    for path in headers.paths():
+        head, *items = headers.items(path)
+        title = "DESCRIPTION" if path == headers.paths()[0] else path.name.upper()
+        lines += [f".SH {title}", *paragraphs(head.comment)]
+        for it in items:
+            lines += item(it)
+    return "\n".join([*lines, *see_also([("imem", "1"), ("imem-image", "5")])]) + "\n"
+
+
+def item(it):
+    """A declaration: what it is called, its text, its comment."""
+    if it.kind == "text" and not it.text:
+        head, _, rest = it.comment.lstrip("- ").partition("\n")
+        is_head = it.comment.startswith("----")
+        return [f".SH {escaped(head.upper())}", *paragraphs(rest.strip("\n"))] if is_head else [*paragraphs(it.comment)]
+    text = it.text if it.kind == "macro" else f"{it.text};"
+    shown = textwrap.wrap(text, 76, subsequent_indent="    ") if it.kind == "call" else text.splitlines()
+    name = escaped(it.name or it.text.split("(")[0])
+    return [f".SS {name}", ".nf", *map(line, shown), ".fi", *paragraphs(it.comment)]
+
+
+def spoken(text):
+    """A line of Markdown: links by their words, code in bold."""
+    text = re.sub(r"\[([^\]]+)\]\([^)]+\)", r"\1", text)
+    parts = re.split(r"`([^`]+)`|\*\*([^*]+)\*\*", text)
+    done = ""
+    for at in range(0, len(parts), 3):
+        done += escaped(parts[at])
+        if at + 2 < len(parts):
+            done += f"\\fB{escaped(parts[at + 1] or parts[at + 2])}\\fR"
+    return f"\\&{done}" if done.startswith((".", "\\(aq")) else done
+
+
+def cell(text, is_filled):
+    return f"T{{\n{spoken(text) or NOTHING}\nT}}" if is_filled else spoken(text)
+
+
+def table(rows):
+    cells = [[it.strip() for it in re.split(r"(?<!\\)\|", row.strip().strip("|"))] for row in rows]
+    cells = [row for row in cells if not all(re.fullmatch(r":?-+:?", it) for it in row)]
+    count = len(cells[0])
+    widths = [max(len(row[at]) for row in cells if at < len(row)) for at in range(count)]
+    is_wide = sum(widths) + 3 * count > 72
+    forms = ["lx" if is_wide and width > 12 else "l" for width in widths]
+    yield from (".PP", ".TS", "tab(@);", " ".join(it.replace("l", "lb", 1) for it in forms), " ".join(forms) + ".")
+    for row in cells:
+        yield "@".join(cell(it, "x" in form) for it, form in zip(row, forms))
+    yield ".TE"
+
+
+def of_markdown(text):
+    """The roff of a document behind its title."""
+    parts = re.split(r"(^```.*?^```\n)", text, flags=re.M | re.S)
+    for part in parts:
+        if part.startswith("```"):
+            yield from as_it_stands(part.splitlines()[1:-1])
+            continue
+        for block in re.split(r"\n\n+", part.strip("\n")):
+            lines = block.splitlines()
+            if not lines:
+                continue
+            if found := re.match(r"^(#+) (.*)", block):
+                yield f".SH {spoken(found[2].upper())}" if len(found[1]) == 2 else f".SS {spoken(found[2])}"
+            elif block.startswith("|"):
+                yield from table(lines)
+            elif re.match(r"[-*] |\d+\. ", block):
+                for one in re.split(r"\n(?=[-*] |\d+\. )", block):
+                    mark, rest = one.split(" ", 1)
+                    yield from (f".IP {mark if mark[0].isdigit() else BULLET} 4", spoken(" ".join(rest.split())))
+            else:
+                yield from (".PP", *map(spoken, lines))
+
+
+def page_of_format():
+    title, text = (TOP / "docs" / "FORMAT.md").read_text().split("\n", 1)
+    lines = heading("imem-image", "5", "the file in which imem and luntrebis keep a memory")
+    others = [("imem", "1"), ("imem-inspect", "1"), ("luntrebis", "3")]
+    return "\n".join([*lines, ".SH DESCRIPTION", *of_markdown(text), *see_also(others)]) + "\n"
+
+
+def pages(imem):
+    """Each page: its path and its text."""
+    of_library = {"man/man3/luntrebis.3": page_of_headers(), "man/man5/imem-image.5": page_of_format()}
+    return {**dict(pages_of_help(imem)), **of_library}
+
+
+# ---- Completions
+
+
+def bash(below):
+    rows = ""
+    for name, it in below.items():
+        options = " ".join(option for option, _, _ in it.options)
+        values = " ".join(option for option, value, _ in it.options if value)
+        rows += f"        {name}) words='{options}' values='{values}' ;;\n"
+    return packaging.filled("imem.bash", SUBCOMMANDS=" ".join(below), ROWS=rows.rstrip("\n"))
+
+
+def quoted(text):
+    return text.replace("'", "'\\''").replace("[", "\\[").replace("]", "\\]").replace(":", "\\:")
+
+
+def zsh(about, below):
+    names = "\n".join(f"        '{name}:{quoted(text)}'" for name, text in about if name in below)
+    rows = []
+    for name, it in below.items():
+        words = [f"'{option}[{quoted(text)}]" + (f":{value}:'" if value else "'") for option, value, text in it.options]
+        words += [f"'{at}:{quoted(text)}:_files'" for at, (_, text) in enumerate(it.arguments, 1)]
+        rows.append(f"        {name}) _arguments \\\n" + " \\\n".join(f"            {it}" for it in words) + " ;;")
+    return packaging.filled("imem.zsh", SUBCOMMANDS=names, ROWS="\n".join(rows))
+
+
+def completions(imem):
+    top, below = read_help(imem)
+    return {"bash-completion/completions/imem": bash(below), "zsh/site-functions/_imem": zsh(top.subcommands, below)}
