@@ -2,7 +2,7 @@
 ghost use Rattle.std.specs.Prelude.{◌≡◌, ◌++◌, OnOk, string_bytes};
 ghost use Rattle.im_text.specs.Printing.{refused_line, told_line};
 ghost use Rattle.im_dialogue.specs.Answers.{about_line, answer_text, cells_said, confirmed_line, element_refused};
-ghost use Rattle.im_dialogue.specs.Answers.{elements_said, kept_line, operation_line, progress_said};
+ghost use Rattle.im_dialogue.specs.Answers.{kept_line, operation_line};
 ghost use Rattle.im_dialogue.specs.Answers.{request_refused, served_line, turn_text, window_line, wrong_line};
 
 use crate::about::About;
@@ -185,32 +185,18 @@ fn add_cells(out: &mut String, about: About) -> Result<(), AllocError>
     write!(out, "version {version} cells {cells}")
 }
 
-// Adds `elements E slots S`.
-fn add_elements(out: &mut String, about: About) -> Result<(), AllocError>
-    ensures { OnOk result (string_bytes out.new ≡ string_bytes out.old ++ elements_said about) }
-{
-    let elements = about.elements;
-    let slots = about.slots;
-    write!(out, " elements {elements} slots {slots}")
-}
-
-// Adds `count N room R`.
-fn add_progress(out: &mut String, about: About) -> Result<(), AllocError>
-    ensures { OnOk result (string_bytes out.new ≡ string_bytes out.old ++ progress_said about) }
-{
-    let count = about.count;
-    let room = about.room;
-    write!(out, " count {count} room {room}\n")
-}
-
 // Adds what is told about an image.
 fn add_about(out: &mut String, about: About) -> Result<(), AllocError>
     ensures { OnOk result (string_bytes out.new ≡ string_bytes out.old ++ about_line about) }
 {
+    let elements = about.elements;
+    let slots = about.slots;
+    let count = about.count;
+    let room = about.room;
     out.push_str("about ")?;
     add_cells(out, about)?;
-    add_elements(out, about)?;
-    add_progress(out, about)
+    write!(out, " elements {elements} slots {slots}")?;
+    write!(out, " count {count} room {room}\n")
 }
 
 // Adds what a turn did.

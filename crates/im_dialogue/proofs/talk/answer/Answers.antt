@@ -33,4 +33,5 @@ returns-in-About-clause-answered g c =
     let engine = c.args.engine.now in
     says_as g.D.Disk.now g.D.Disk.past g.D.Disk.honest engine engine _ (Some c.args.asked) _ (ap Some c.in-About.is)
     (quiet g.D.Disk.now g.D.Disk.past g.D.Disk.honest engine (Some About) c.about.result
-    (λ m. ap (λ (a : Answer). put_by m a) c.about.ensures) (λ f. (c.args.slots, c.args.engine.now.room, c.about.ensures)))
+    (λ m. ap (λ (a : Answer). put_by m a) c.about.ensures)
+    (λ f. (c.args.slots, c.args.engine.now.room, c.about.ensures)))
