@@ -9,7 +9,7 @@ use Rattle.im_journal.specs.Holding.{JournalState, to_sweep, with_room}
 use Rattle.im_pages.specs.PageSets.{pages_from}
 use Rattle.im_checkpoint.specs.declared.checkpoint.TurnDone.{TurnDone}
 use Rattle.im_checkpoint.specs.Step.{Step, NoCheckpoint, PagesLeft, PagesDone, Synced, CheckpointState}
-use Rattle.im_checkpoint.specs.Step.{PagedCheckpoint, IsUnderWay, with_left, turns_left}
+use Rattle.im_checkpoint.specs.Step.{PagedCheckpoint, IsUnderWay, with_left, turns_left, changed_in}
 use Rattle.im_checkpoint.specs.Turns.{Turned, Moved, is_due, next_header}
 use Rattle.im_checkpoint.specs.Keeping.{IsBetween, StepFits, Fits, ComesTo}
 
@@ -58,7 +58,8 @@ room_fits c m j n it = record {
     by_step (Synced count) fits = record { from = fits.from; to = fits.to }
 
 module _ (before : PagedCheckpoint) (j : JournalState) (m : Contents) (answer : TurnDone) (after : PagedCheckpoint)
-    (k : JournalState) (turned : Turned before.state j answer after.state k) (moved : Moved before answer after)
+    (k : JournalState) (turned : Turned before.state j answer after.state k)
+    (moved : Moved (changed_in before) answer after.state.step (changed_in after))
     (fits : Fits before.state m j) where
   abbrev old : CheckpointState
   old = before.state

@@ -24,6 +24,7 @@ use Rattle.im_checkpoint.specs.declared.checkpoint.TurnDone.{TurnDone}
 use Rattle.im_checkpoint.specs.Copied.{copy_of}
 use Rattle.im_checkpoint.specs.Step.{Step, NoCheckpoint, PagesLeft, PagesDone, Synced, CheckpointState}
 use Rattle.im_checkpoint.specs.Step.{PagedCheckpoint, IsUnderWay, IsPagesLeft, IsSynced, turns_left, left_in}
+use Rattle.im_checkpoint.specs.Step.{changed_in}
 use Rattle.im_checkpoint.specs.Turns.{Turned, Moved}
 
 -- the file means this memory after as many commands as the journal has, with its room at the least
@@ -71,7 +72,7 @@ pub record ComesTo (old : PagedCheckpoint) (j : JournalState) (m : Contents) (an
   -- its answer and what it changes are as the table of turns says
   pub turned : Turned old.state j answer new.state k
   -- and so is what becomes of the pages that changed
-  pub moved : Moved old answer new
+  pub moved : Moved (changed_in old) answer new.state.step (changed_in new)
   -- a checkpoint under way has a turn less to go: one for each page and two more, whatever is served between
   pub nearer : IsUnderWay old.state.step → turns_left old.state.step ≡ turns_left new.state.step + 1
   -- the count of all commands stays
@@ -203,7 +204,7 @@ pub record Prepares (old : PagedCheckpoint) (m : MemoryState) (command : Command
   pub size : length new.recent ≡ length old.recent
   -- pages are added to those that changed, as many as the command may change at most, and none is taken out
   pub kept : IsWithin old.recent new.recent
-  pub few : size_of new.recent ≤ size_of old.recent + most_pages (length old.recent) m.contents command
+  pub few : size_of new.recent ≤ size_of old.recent + most_pages m.contents command
   -- whichever records the command leaves, those of any other page are as before
   pub others : KeepsOutside m command new.recent
   -- a page that is left and changes now for the first time is copied as it is

@@ -27,6 +27,16 @@ pub record PagedCheckpoint : Type 0 where
   pub older : List Bool
   pub copies : List (List ℕ)
 
+-- the pages that changed: those since the last checkpoint began, and those since the one before it began and before the
+-- last one did
+pub record Changed : Type 0 where
+  pub recent : List Bool
+  pub older : List Bool
+
+-- the pages of a checkpoint that changed
+abbrev pub changed_in : PagedCheckpoint → Changed
+changed_in c = record { recent = c.recent; older = c.older }
+
 -- the state once these pages are left
 abbrev pub with_left : ℕ → List ℕ → Step
 with_left count [] = PagesDone count

@@ -11,7 +11,7 @@ use Rattle.im_checkpoint.specs.declared.checkpoint.TurnDone.TheVariants.{Idle, B
 use Rattle.im_checkpoint.specs.declared.checkpoint.TurnDone.TheVariants.{InForce, Swept}
 use Rattle.im_pages.specs.PageSets.{union, pages_from}
 use Rattle.im_checkpoint.specs.Step.{Step, NoCheckpoint, PagesLeft, PagesDone, Synced, CheckpointState}
-use Rattle.im_checkpoint.specs.Step.{PagedCheckpoint, with_left, turns_left, left_in}
+use Rattle.im_checkpoint.specs.Step.{PagedCheckpoint, Changed, with_left, turns_left, left_in}
 
 -- there are commands since the header's count, and there may be a later generation
 abbrev pub is_due : Header → JournalState → Bool
@@ -67,10 +67,10 @@ pub record Turned (old : CheckpointState) (j : JournalState) (answer : TurnDone)
   pub in_force : (count : ℕ) → old.step ≡ Synced count
       → (answer ≡ InForce) × (new ≡ record { header = next_header old.header count; step = NoCheckpoint }) × (k ≡ begun_at count j)
 
--- What a turn does with the pages that changed.
-pub record Moved (old : PagedCheckpoint) (answer : TurnDone) (new : PagedCheckpoint) : Type 0 where
+-- What a turn does with the pages that changed, where this is how far the checkpoint has come then.
+pub record Moved (old : Changed) (answer : TurnDone) (step : Step) (new : Changed) : Type 0 where
   -- a checkpoint that begins writes the pages that changed since the other area's last one began, in rising order and no others, and none has changed since then
-  pub begun : answer ≡ Began → (left_in new.state.step ≡ pages_from 0 (union old.older old.recent)) × (new.older ≡ old.recent) × (new.recent ≡ replicate (length old.older) false)
+  pub begun : answer ≡ Began → (left_in step ≡ pages_from 0 (union old.older old.recent)) × (new.older ≡ old.recent) × (new.recent ≡ replicate (length old.older) false)
   -- any other turn leaves the pages
   pub stays : answer ≢ Began → (new.older ≡ old.older) × (new.recent ≡ old.recent)
 

@@ -34,7 +34,7 @@ ghost use Rattle.im_image.specs.Headers.{seen};
 ghost use Rattle.im_image.specs.Encoding.{IsAreaPage};
 ghost use Rattle.im_checkpoint.specs.Step.{NoCheckpoint, PagesLeft, CheckpointState, PagedCheckpoint};
 ghost use Rattle.im_checkpoint.specs.Copied.{copy_of};
-ghost use Rattle.im_checkpoint.specs.Step.{with_left, step_of};
+ghost use Rattle.im_checkpoint.specs.Step.{with_left, step_of, changed_in};
 ghost use Rattle.im_checkpoint.specs.Step.{IsPagesLeft, IsPagesDone, IsSynced};
 ghost use Rattle.im_checkpoint.specs.Turns.{Turned, Moved, Begins, IsIdle, is_due, most_calls};
 ghost use Rattle.im_checkpoint.specs.Turns.{swept_at_once, calls_for_slots, calls_to_sweep};
@@ -359,7 +359,7 @@ impl Checkpoint {
         requires inside { D.honest disk.old
             → layout.journal_at layout_in_use self.old.state.header.sizes ≤ length (D.now disk.old).bytes }
         ensures turned { IfOk result (λ answer. ((j : JournalState) → Turned self.old.state j answer self.new.state j)
-            × Moved self.old answer self.new) }
+            × Moved (changed_in self.old) answer self.new.state.step (changed_in self.new)) }
         ensures same { OnErr result (self.new ≡ self.old) }
         ensures keeps { D.honest disk.new → (m : Contents) (j : JournalState)
             → IsKept self.old.state (paged self.old memory.now) m j (D.now disk.old)
@@ -388,7 +388,7 @@ impl Checkpoint {
         requires step { IsPagesDone self.old.state.step }
         requires inside { D.honest disk.old → 8192 ≤ length (D.now disk.old).bytes }
         ensures turned { IfOk result (λ answer. ((j : JournalState) → Turned self.old.state j answer self.new.state j)
-            × Moved self.old answer self.new) }
+            × Moved (changed_in self.old) answer self.new.state.step (changed_in self.new)) }
         ensures same { OnErr result (self.new ≡ self.old) }
         ensures keeps { D.honest disk.new → (n : MemoryState) (m : Contents) (j : JournalState)
             → IsKept self.old.state (paged self.old n) m j (D.now disk.old)
@@ -414,7 +414,7 @@ impl Checkpoint {
         requires ready { IsReady self.old.state journal.old }
         requires closed { D.honest disk.old → IsClosed (4096 * other self.old.state.header) 64 (D.now disk.old) }
         ensures turned { IfOk result (λ answer. Turned self.old.state journal.old answer self.new.state journal.new
-            × Moved self.old answer self.new) }
+            × Moved (changed_in self.old) answer self.new.state.step (changed_in self.new)) }
         ensures same { OnErr result ((self.new ≡ self.old) × (journal.new ≡ journal.old)) }
         ensures keeps { D.honest disk.new → (n : MemoryState) (m : Contents)
             → IsKept self.old.state (paged self.old n) m journal.old (D.now disk.old)
@@ -441,7 +441,7 @@ impl Checkpoint {
         requires later { self.old.state.header.generation < LAST }
         requires sizes { HasSizes self.old.state.header.sizes memory.now.contents }
         ensures began { Begins self.old.state.header journal.now.count self.new.state }
-        ensures moved { Moved self.old TurnDone.Began self.new }
+        ensures moved { Moved (changed_in self.old) TurnDone.Began self.new.state.step (changed_in self.new) }
         ensures kept { (now : Moment)
             → IsKept self.old.state (paged self.old memory.now) memory.now.contents journal.now now
             → IsKept self.new.state (paged self.new memory.now) memory.now.contents journal.now now }
@@ -477,7 +477,7 @@ impl Checkpoint {
         requires kept { D.honest disk.old
             → IsKept self.old.state (paged self.old memory.now) memory.now.contents journal.old (D.now disk.old) }
         ensures turned { IfOk result (λ answer. Turned self.old.state journal.old answer self.new.state journal.new
-            × Moved self.old answer self.new) }
+            × Moved (changed_in self.old) answer self.new.state.step (changed_in self.new)) }
         ensures same { OnErr result ((self.new ≡ self.old) × (journal.new ≡ journal.old)) }
         ensures keeps { D.honest disk.new
             → KeepsMeaning D.now D.past disk.old disk.new memory.now.contents journal.old result self.new.state

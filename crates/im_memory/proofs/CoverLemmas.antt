@@ -1,10 +1,10 @@
 -- Which pages show what a command touches.
-use Rattle.std.proofs.Common.{◌≡◌, ◌≢◌, ℕ, zero, suc, ◌+◌, ◌<◌, ◌≤◌, List, [], ◌∷◌, Bool, true, false, Option, None}
-use Rattle.std.proofs.Common.{Some, Ok, Err, map, length, refl, sym, ap, subst, ◌∙◌, arith, true≢false}
+use Rattle.std.proofs.Common.{◌≡◌, ◌≢◌, ℕ, zero, suc, ◌+◌, ◌-◌, ◌<◌, ◌≤◌, List, [], ◌∷◌, Bool, true, false, Option}
+use Rattle.std.proofs.Common.{None, Some, Ok, Err, map, length, refl, sym, ap, subst, ◌∙◌, arith, true≢false}
 use Rattle.std.specs.Prelude.{cond, ◌==◌}
 use Rattle.std.proofs.lemmas.Bool.Decides.{nat_tests}
 use Rattle.im_types.specs.declared.operations.Kind.{Kind}
-use Rattle.im_types.specs.declared.operations.Op.TheVariants.{Alloc, Release}
+use Rattle.im_types.specs.declared.operations.Op.TheVariants.{Alloc}
 use Rattle.im_types.specs.declared.operations.Block.{Block}
 use Rattle.im_types.specs.declared.operations.Reply.{Reply}
 use Rattle.im_types.specs.declared.operations.Reply.TheVariants.{NoCell, WrongKind}
@@ -28,21 +28,15 @@ use Rattle.im_istore.specs.Access.{access_in, replies_to}
 use Rattle.im_istore.specs.Agreement.{has_some, Agree}
 use Rattle.im_istore.proofs.Cells.{held_at-cells}
 use Rattle.im_pages.specs.Places.{page_of_cell, page_of_node, page_of_session}
-use Rattle.im_pages.specs.PageSets.{has, size_of}
+use Rattle.im_pages.specs.PageSets.{has, with_pages}
 use Rattle.im_memory.specs.State.{MemoryState, rows_of}
 use Rattle.im_memory.specs.Touched.{IsOther, Places, nowhere, one_cell, addresses, first_at, last_at, next_at}
 use Rattle.im_memory.specs.Touched.{nodes_from, nodes_behind, by_fetch, by_take, by_put, by_store, at_kind, places_at}
 use Rattle.im_memory.specs.Touched.{places_from, places_of, elements_in, touched}
 use Rattle.im_memory.specs.Changing.{places_in}
-use Rattle.im_memory.specs.Covering.{AreIn, HasPlaces, Covers, KeepsOutside, most_at}
+use Rattle.im_memory.specs.Covering.{AreIn, HasPlaces, Covers, KeepsOutside, most_at, block_pages, with_cells}
 use Rattle.im_memory.proofs.CellsLemmas.{no_list, place-cells, with_base-cells}
 use Rattle.im_memory.proofs.TouchLemmas.{named, found-base, look, refused, there}
-
--- no more pages than there are
-pub size-length : (set : List Bool) → size_of set ≤ length set
-size-length [] = omega arith
-size-length (true ∷ set) = let h = size-length set in omega arith
-size-length (false ∷ set) = let h = size-length set in omega arith
 
 -- what stands on a page outside the set is none of what the set has the pages of
 outside : (page : ℕ → ℕ) (set : List Bool) (xs : List ℕ) (p n : ℕ) → AreIn page set xs → has set p ≡ false → page n
@@ -352,6 +346,34 @@ put-tells v (IsEmpty (w ∷ ws)) e = cc
 put-tells v (IsFull w) e = cc
 put-tells v (IsClashed w) e = cc
 
+-- the pages from that of the first cell up to that of the last one
+pub cells-count : (base n low high : ℕ) → n ≢ 0 → low ≡ page_of_cell base → high ≡ page_of_cell (base + n - 1)
+    → high + 1 - low ≡ block_pages base n
+cells-count base zero low high some from to = absurd (some refl)
+cells-count base (suc n) low high some from to =
+    let at : base + suc n - 1 ≡ base + n = omega arith in
+    ap (λ k. k + 1 - low) (to ∙ ap page_of_cell at) ∙ ap (λ k. page_of_cell (base + n) + 1 - k) from
+
+pub cells-more : (set : List Bool) (base n low high : ℕ) → n ≢ 0 → low ≡ page_of_cell base
+    → high ≡ page_of_cell (base + n - 1) → with_pages set low (high + 1 - low) ≡ with_cells set base n
+cells-more set base zero low high some from to = absurd (some refl)
+cells-more set base (suc n) low high some from to =
+    ap (λ k. with_pages set k (high + 1 - low)) from
+    ∙ ap (λ k. with_pages set (page_of_cell base) k) (cells-count base (suc n) low high some from to)
+
+-- the block that is released or reset, if there is one
+module _ (slots : List (Option Slot)) (arena : Shown) (a : ℕ) where
+  abbrev pub block_in : Option Block
+  block_in = block_with_base a (held_at (cells_of slots arena) a)
+
+  pub is-inner : (block : Block) → Some block ≡ block_at slots a → block.base ≢ a → None ≡ block_in
+  is-inner block e base =
+      let t : (block.base == a) ≡ false = grind (arith, nat_tests) in
+      sym (with_base-cells slots arena a ∙ ap (slot_with_base a) (sym e) ∙ ap (λ b. cond b (Some block) None) t)
+
+  pub is-none : None ≡ block_at slots a → None ≡ block_in
+  is-none e = sym (with_base-cells slots arena a ∙ ap (slot_with_base a) (sym e))
+
 -- the cells of a block that is released or reset, and of none
 module _ (slots : List (Option Slot)) (arena : Shown) (a n : ℕ) (set : List Bool) where
   pub whole-block : (block : Block) → Some block ≡ block_at slots a → block.base ≡ a
@@ -362,16 +384,13 @@ module _ (slots : List (Option Slot)) (arena : Shown) (a n : ℕ) (set : List Bo
 
   pub whole-inner : (block : Block) → Some block ≡ block_at slots a → block.base ≢ a
       → HasPlaces n (places_of (block_with_base a (held_at (cells_of slots arena) a))) set
-  whole-inner block e base =
-      let t : (block.base == a) ≡ false = grind (arith, nat_tests) in
-      let none : None ≡ block_with_base a (held_at (cells_of slots arena) a) =
-      sym (with_base-cells slots arena a ∙ ap (slot_with_base a) (sym e) ∙ ap (λ b. cond b (Some block) None) t) in
-      subst (λ o. HasPlaces n (places_of o) set) none (record { of_cells = tt; of_nodes = tt })
+  whole-inner block e base = subst (λ o. HasPlaces n (places_of o) set) (is-inner slots arena a block e base)
+      (record { of_cells = tt; of_nodes = tt })
 
   pub whole-none : None ≡ block_at slots a
       → HasPlaces n (places_of (block_with_base a (held_at (cells_of slots arena) a))) set
-  whole-none e = subst (λ o. HasPlaces n (places_of o) set)
-      (sym (with_base-cells slots arena a ∙ ap (slot_with_base a) (sym e))) (record { of_cells = tt; of_nodes = tt })
+  whole-none e = subst (λ o. HasPlaces n (places_of o) set) (is-none slots arena a e)
+      (record { of_cells = tt; of_nodes = tt })
 
 -- the cells of a new block, and of none
 module _ (slots : List (Option Slot)) (arena : Shown) (kind : Kind) (length n : ℕ) (set : List Bool) where

@@ -1,5 +1,6 @@
 -- Which pages a set must have, so that no record of a page outside it changes. (Own.)
-use Rattle.std.specs.Prelude.{◌≡◌, ℕ, ◌+◌, List, [], ◌∷◌, Bool, true, false, length, Option}
+use Rattle.std.specs.Prelude.{◌≡◌, ℕ, zero, suc, ◌+◌, ◌*◌, ◌-◌, List, [], ◌∷◌, Bool, true, false, length, Option, None}
+use Rattle.std.specs.Prelude.{Some}
 use Rattle.im_types.specs.declared.operations.Kind.{Kind}
 use Rattle.im_types.specs.declared.operations.Kind.TheVariants.{I, M}
 use Rattle.im_types.specs.declared.operations.Op.{Op}
@@ -9,11 +10,13 @@ use Rattle.im_types.specs.declared.commands.Command.TheVariants.{Request as Asks
 use Rattle.im_types.specs.Contents.{CellState, Empty, Full, Clashed, Held, Contents, held_at}
 use Rattle.im_types.specs.declared.operations.Reply.TheVariants.{NoCell}
 use Rattle.im_types.specs.declared.operations.Entry.TheVariants.{Answered}
-use Rattle.im_types.specs.Act.{act}
+use Rattle.im_types.specs.declared.operations.Block.{Block}
+use Rattle.im_types.specs.Place.{place}
+use Rattle.im_types.specs.Act.{act, block_with_base}
 use Rattle.im_types.specs.Step.{asker}
 use Rattle.im_types.specs.Pages.{Records}
 use Rattle.im_pages.specs.Places.{page_of_cell, page_of_node, page_of_session, AgreeOnPage}
-use Rattle.im_pages.specs.PageSets.{has, with_page, IsWithin}
+use Rattle.im_pages.specs.PageSets.{has, with_page, with_pages, IsWithin}
 use Rattle.im_memory.specs.State.{MemoryState}
 use Rattle.im_memory.specs.Touched.{Places, Touched, at_kind, touched, ChangesOnly}
 
@@ -52,27 +55,73 @@ KeepsOutside m command set =
 abbrev pub most_at : Kind → (CellState → ℕ) → Option Held → ℕ
 most_at kind most held = at_kind 0 kind most held
 
--- by a store, where there are so many pages in all: the nodes of readers, and their sessions, may be on any of them
-abbrev pub most_by_store : ℕ → CellState → ℕ
-most_by_store all (Empty []) = 1
-most_by_store all (Empty (reader ∷ readers)) = all
-most_by_store all (Full v) = 1
-most_by_store all (Clashed v) = 1
+-- by a store: the page of the cell, and of each reader that of its node and that of its session
+abbrev pub most_by_store : CellState → ℕ
+most_by_store (Empty readers) = 1 + 2 * length readers
+most_by_store (Full v) = 1
+most_by_store (Clashed v) = 1
+
+-- how many pages show so many cells from this address on
+abbrev pub block_pages : ℕ → ℕ → ℕ
+block_pages base zero = 0
+block_pages base (suc n) = page_of_cell (base + n) + 1 - page_of_cell base
+
+-- by a new block of so many cells: the pages of its cells, if there is a base for it
+abbrev pub most_by_new : ℕ → Option ℕ → ℕ
+most_by_new n None = 0
+most_by_new n (Some base) = block_pages base n
+
+-- by a block that ends or is reset: the pages of its cells, if there is one
+abbrev pub most_by_block : Option Block → ℕ
+most_by_block None = 0
+most_by_block (Some block) = block_pages block.base block.length
 
 -- by an operation, besides the page of the own session
-abbrev pub most_by : ℕ → List (Option Held) → Op → ℕ
-most_by all cells (Alloc kind n) = all
-most_by all cells (Release a) = all
-most_by all cells (Reset a) = all
-most_by all cells (Fetch a) = most_at I (λ state. 3) (held_at cells a)
-most_by all cells (Store a v) = most_at I (most_by_store all) (held_at cells a)
-most_by all cells (Take a) = most_at M (λ state. 3) (held_at cells a)
-most_by all cells (Put a v) = most_at M (λ state. 3) (held_at cells a)
+abbrev pub most_by : List (Option Held) → Op → ℕ
+most_by cells (Alloc kind n) = most_by_new n (place n cells)
+most_by cells (Release a) = most_by_block (block_with_base a (held_at cells a))
+most_by cells (Reset a) = most_by_block (block_with_base a (held_at cells a))
+most_by cells (Fetch a) = most_at I (λ state. 3) (held_at cells a)
+most_by cells (Store a v) = most_at I most_by_store (held_at cells a)
+most_by cells (Take a) = most_at M (λ state. 3) (held_at cells a)
+most_by cells (Put a v) = most_at M (λ state. 3) (held_at cells a)
 
--- the most pages on which a command may change a record, where there are so many in all
-abbrev pub most_pages : ℕ → Contents → Command → ℕ
-most_pages all m (Asks r) = 1 + most_by all m.cells r.op
-most_pages all m (Confirm element upto) = 1
+-- the most pages on which a command may change a record
+abbrev pub most_pages : Contents → Command → ℕ
+most_pages m (Asks r) = 1 + most_by m.cells r.op
+most_pages m (Confirm element upto) = 1
+
+-- the set with the pages of so many cells more, from this address on
+abbrev pub with_cells : List Bool → ℕ → ℕ → List Bool
+with_cells set base zero = set
+with_cells set base (suc n) = with_pages set (page_of_cell base) (block_pages base (suc n))
+
+-- the set with the pages of a new block of so many cells more, if there is a base for it
+abbrev pub with_new : List Bool → ℕ → Option ℕ → List Bool
+with_new set n None = set
+with_new set n (Some base) = with_cells set base n
+
+-- the set with the pages of a block's cells more, if there is one
+abbrev pub with_block : List Bool → Option Block → List Bool
+with_block set None = set
+with_block set (Some block) = with_cells set block.base block.length
+
+-- by an operation on a block the set has the pages of the block's cells more, and no other page
+abbrev pub HasBlockMore : List (Option Held) → Op → List Bool → List Bool → Type 0
+HasBlockMore cells (Alloc kind n) old new = new ≡ with_new old n (place n cells)
+HasBlockMore cells (Release a) old new = new ≡ with_block old (block_with_base a (held_at cells a))
+HasBlockMore cells (Reset a) old new = new ≡ with_block old (block_with_base a (held_at cells a))
+HasBlockMore cells (Fetch a) old new = Unit {0}
+HasBlockMore cells (Store a v) old new = Unit {0}
+HasBlockMore cells (Take a) old new = Unit {0}
+HasBlockMore cells (Put a v) old new = Unit {0}
+
+-- the set has the page of the own session more and, where a block is asked for, ends or is reset, those of its cells,
+-- and no other page
+abbrev pub IsOfBlock : Contents → Command → List Bool → List Bool → Type 0
+IsOfBlock m (Asks r) old new =
+    HasBlockMore m.cells r.op (with_page old (page_of_session (length m.cells) (length m.windows) r.element)) new
+IsOfBlock m (Confirm element upto) old new = Unit {0}
 
 -- the set has one page more, that of the own session, where the answer is that the cell isn't there, and for a confirmation
 abbrev pub IsAlone : Contents → Command → List Bool → List Bool → Type 0

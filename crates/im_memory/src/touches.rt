@@ -1,6 +1,6 @@
 //! Which pages a command may change: those of the records that it touches. Each function puts pages into a set, and
 //! takes none out of it.
-ghost use Rattle.std.specs.Prelude.{◌≡◌, ◌∷◌, ◌+◌, ◌<◌, ◌≤◌, List, length, map, true, Err};
+ghost use Rattle.std.specs.Prelude.{◌≡◌, ◌∷◌, ◌+◌, ◌*◌, ◌<◌, ◌≤◌, List, length, map, true, Err};
 ghost use Rattle.im_types.specs.declared.operations.Waiter.{Waiter as Asker};
 ghost use Rattle.im_types.specs.declared.operations.Kind.TheVariants.{I, M};
 ghost use Rattle.im_types.specs.declared.operations.Reply.{Reply as Told};
@@ -8,6 +8,7 @@ ghost use Rattle.im_types.specs.declared.operations.Reply.TheVariants.{NoCell};
 ghost use Rattle.im_types.specs.declared.operations.Entry.TheVariants.{Answered};
 ghost use Rattle.im_types.specs.Contents.{held_at};
 ghost use Rattle.im_types.specs.Act.{act, at_cell, block_with_base, put, store};
+ghost use Rattle.im_types.specs.Place.{place};
 ghost use Rattle.im_arena.specs.Lists.{list_at, ends_at, first_in, last_in, IsThreaded};
 ghost use Rattle.im_cell.specs.Slots.{slot_at};
 ghost use Rattle.im_istore.specs.Joined.{cells_of};
@@ -17,7 +18,9 @@ ghost use Rattle.im_pages.specs.Places as pages_of;
 ghost use Rattle.im_pages.specs.PageSets.{has, with_page, size_of, IsWithin};
 ghost use Rattle.im_memory.specs.Touched.{addresses, next_at, nodes_from, places_of, elements_in};
 ghost use Rattle.im_memory.specs.Changing.{places_in};
-ghost use Rattle.im_memory.specs.Covering.{AreIn, HasPlaces, Grows, Covers, KeepsOutside, IsAlone, most_by, most_pages};
+ghost use Rattle.im_memory.specs.Covering.{AreIn, HasPlaces, Grows, Covers, KeepsOutside, IsAlone, IsOfBlock};
+ghost use Rattle.im_memory.specs.Covering.{HasBlockMore, block_pages, most_by, most_by_block, most_by_new, most_pages};
+ghost use Rattle.im_memory.specs.Covering.{with_block, with_cells, with_new};
 
 use crate::memory::Memory;
 use crate::records::are_threaded;
@@ -88,9 +91,11 @@ fn touch_session(arena: &Arena, elements: u16, element: u16, pages: &mut PageSet
 // So many cells from a base on.
 fn touch_cells(base: u32, n: u32, pages: &mut PageSet)
     requires { base + n ≤ MAX_CELLS }
+    ensures state { pages.new ≡ with_cells pages.old base n }
     ensures cells { AreIn pages_of.page_of_cell pages.new (addresses base n) }
     ensures kept { IsWithin pages.old pages.new }
     ensures length { length pages.new ≡ length pages.old }
+    ensures few { size_of pages.new ≤ size_of pages.old + block_pages base n }
 {
     if n == 0 {
         return;
@@ -123,6 +128,7 @@ fn touch_readers(arena: &Arena, elements: u16, a: u32, pages: &mut PageSet)
         (map (λ (w : Asker). w.element) (list_at arena.now.held a)) }
     ensures kept { IsWithin pages.old pages.new }
     ensures length { length pages.new ≡ length pages.old }
+    ensures few { size_of pages.new ≤ size_of pages.old + 2 * length (list_at arena.now.held a) }
 {
     let mut at = first_node(arena, a);
     for reader in arena.waiters(a) {
@@ -138,7 +144,7 @@ fn touch_fetch(table: &CellTable, arena: &Arena, a: u32, pages: &mut PageSet)
     ensures places { HasPlaces (length arena.now.held.lists) (places_in table.now arena.now (Op.Fetch a)) pages.new }
     ensures grows { Grows pages.old pages.new }
     ensures few { size_of pages.new ≤ size_of pages.old
-        + most_by (length pages.old) (cells_of table.now arena.now) (Op.Fetch a) }
+        + most_by (cells_of table.now arena.now) (Op.Fetch a) }
     ensures refused { (told : Told) → access_in I (slot_at table.now a) ≡ Err told → pages.new ≡ pages.old }
 {
     let cell = match look(table, a, Kind::I) {
@@ -161,7 +167,7 @@ fn touch_take(table: &CellTable, arena: &Arena, a: u32, pages: &mut PageSet)
     ensures places { HasPlaces (length arena.now.held.lists) (places_in table.now arena.now (Op.Take a)) pages.new }
     ensures grows { Grows pages.old pages.new }
     ensures few { size_of pages.new ≤ size_of pages.old
-        + most_by (length pages.old) (cells_of table.now arena.now) (Op.Take a) }
+        + most_by (cells_of table.now arena.now) (Op.Take a) }
     ensures refused { (told : Told) → access_in M (slot_at table.now a) ≡ Err told → pages.new ≡ pages.old }
 {
     let Ok(cell) = look(table, a, Kind::M) else {
@@ -193,7 +199,7 @@ fn touch_store(
         (elements_in (at_cell I (store value) cells a (held_at cells a)).resumed) }
     ensures grows { Grows pages.old pages.new }
     ensures few { size_of pages.new ≤ size_of pages.old
-        + most_by (length pages.old) (cells_of table.now arena.now) (Op.Store a value) }
+        + most_by (cells_of table.now arena.now) (Op.Store a value) }
     ensures refused { (told : Told) → access_in I (slot_at table.now a) ≡ Err told → pages.new ≡ pages.old }
 {
     let cell = match look(table, a, Kind::I) {
@@ -242,7 +248,7 @@ fn touch_put(
         (elements_in (at_cell M (put value) cells a (held_at cells a)).resumed) }
     ensures grows { Grows pages.old pages.new }
     ensures few { size_of pages.new ≤ size_of pages.old
-        + most_by (length pages.old) (cells_of table.now arena.now) (Op.Put a value) }
+        + most_by (cells_of table.now arena.now) (Op.Put a value) }
     ensures refused { (told : Told) → access_in M (slot_at table.now a) ≡ Err told → pages.new ≡ pages.old }
 {
     let Ok(cell) = look(table, a, Kind::M) else {
@@ -260,6 +266,8 @@ fn touch_alloc(table: &CellTable, arena: &Arena, kind: Kind, n: u32, pages: &mut
     ensures places { let op = Op.Alloc kind n in
         HasPlaces (length arena.now.held.lists) (places_in table.now arena.now op) pages.new }
     ensures grows { Grows pages.old pages.new }
+    ensures few { size_of pages.new ≤ size_of pages.old + most_by_new n (place n (cells_of table.now arena.now)) }
+    ensures block { pages.new ≡ with_new pages.old n (place n (cells_of table.now arena.now)) }
 {
     if n == 0 {
         return;
@@ -275,6 +283,10 @@ fn touch_block(table: &CellTable, arena: &Arena, a: u32, pages: &mut PageSet)
     ensures places { let cells = cells_of table.now arena.now in
         HasPlaces (length arena.now.held.lists) (places_of (block_with_base a (held_at cells a))) pages.new }
     ensures grows { Grows pages.old pages.new }
+    ensures few { let cells = cells_of table.now arena.now in
+        size_of pages.new ≤ size_of pages.old + most_by_block (block_with_base a (held_at cells a)) }
+    ensures block { let cells = cells_of table.now arena.now in
+        pages.new ≡ with_block pages.old (block_with_base a (held_at cells a)) }
 {
     if let Some(block) = table.block_of(a) {
         if block.base == a {
@@ -285,8 +297,7 @@ fn touch_block(table: &CellTable, arena: &Arena, a: u32, pages: &mut PageSet)
 
 // An operation: what it changes of the cells and the nodes, and the sessions of those that it resumes.
 fn touch_op(table: &CellTable, arena: &Arena, elements: u16, op: Op, pages: &mut PageSet)
-    requires agree { Agree table.now arena.now }
-    requires threaded { IsThreaded arena.now }
+    requires agree { Agree table.now arena.now × IsThreaded arena.now }
     requires few { length table.now ≤ MAX_CELLS }
     ensures places { HasPlaces (length arena.now.held.lists) (places_in table.now arena.now op) pages.new }
     ensures sessions { (who : Asker) →
@@ -294,7 +305,8 @@ fn touch_op(table: &CellTable, arena: &Arena, elements: u16, op: Op, pages: &mut
         (elements_in (act (cells_of table.now arena.now) who op).resumed) }
     ensures grows { Grows pages.old pages.new }
     ensures few { size_of pages.new ≤ size_of pages.old
-        + most_by (length pages.old) (cells_of table.now arena.now) op }
+        + most_by (cells_of table.now arena.now) op }
+    ensures block { HasBlockMore (cells_of table.now arena.now) op pages.old pages.new }
     ensures alone { (who : Asker) → (act (cells_of table.now arena.now) who op).entry ≡ Answered NoCell
         → pages.new ≡ pages.old }
 {
@@ -311,15 +323,17 @@ fn touch_op(table: &CellTable, arena: &Arena, elements: u16, op: Op, pages: &mut
 
 impl Memory {
     /// Puts each page into the set on which [`Memory::step`] of this command may change a record: of a fetch, a take or
-    /// a put at most four pages, of a store to a cell that isn't waiting two, and of a confirmation, or of a request
-    /// whose cell isn't there, the page of its element's session alone. It takes no memory.
+    /// a put at most four pages, of a store two and two more for each reader that waits, and of a confirmation, or of a
+    /// request whose cell isn't there, the page of its element's session alone. Of a block that is asked for, ends or
+    /// is reset these are the pages of its cells and that of the session, and no others. It takes no memory.
     pub fn touches(&self, command: &Command, pages: &mut PageSet)
         ensures covers { Covers self.now command.now pages.new }
         ensures others { KeepsOutside self.now command.now pages.new }
         ensures kept { IsWithin pages.old pages.new }
         ensures length { length pages.new ≡ length pages.old }
         ensures few { size_of pages.new ≤ size_of pages.old
-            + most_pages (length pages.old) self.now.contents command.now }
+            + most_pages self.now.contents command.now }
+        ensures block { IsOfBlock self.now.contents command.now pages.old pages.new }
         ensures alone { IsAlone self.now.contents command.now pages.old pages.new }
     {
         are_threaded(&self.arena);

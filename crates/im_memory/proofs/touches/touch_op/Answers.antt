@@ -1,17 +1,7 @@
-use Rattle.std.proofs.Common.{arith}
 use Rattle.im_types.specs.declared.operations.Kind.TheVariants.{I, M}
 use Rattle.im_types.specs.Act.{fetch, store, take_from, put}
-use Rattle.im_memory.proofs.CoverLemmas.{no_cell, fetch-tells, store-tells, take-tells, put-tells, size-length}
+use Rattle.im_memory.proofs.CoverLemmas.{no_cell, fetch-tells, store-tells, take-tells, put-tells}
 use Rattle.im_memory.proofs.touches.touch_op.Goals as goal
-
-pub returns-in-Alloc-clause-few : goal.returns-in-Alloc-clause-few
-returns-in-Alloc-clause-few c = rw c.in-Alloc.is (omega (arith, size-length c.touch_alloc.new.pages))
-
-pub returns-in-Release-clause-few : goal.returns-in-Release-clause-few
-returns-in-Release-clause-few c = rw c.in-Release.is (omega (arith, size-length c.touch_block.new.pages))
-
-pub returns-in-Reset-clause-few : goal.returns-in-Reset-clause-few
-returns-in-Reset-clause-few c = rw c.in-Reset.is (omega (arith, size-length c.touch_block-in-Reset.new.pages))
 
 pub returns-in-Fetch-clause-alone : goal.returns-in-Fetch-clause-alone
 returns-in-Fetch-clause-alone c =

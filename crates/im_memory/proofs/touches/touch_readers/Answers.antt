@@ -1,4 +1,4 @@
-use Rattle.std.proofs.Common.{length, ◌∙◌}
+use Rattle.std.proofs.Common.{length, ap, ◌∙◌, arith}
 use Rattle.im_pages.specs.Places.{page_of_node, page_of_session}
 use Rattle.im_memory.proofs.CoverLemmas.{nodes-more, nodes-end, sessions-more, sessions-end}
 use Rattle.im_memory.proofs.touches.touch_readers.Goals as goal
@@ -18,6 +18,13 @@ loop-reader-preserved c =
           (within _ c.touch_session.ensures.session) among);
       kept = λ p e. c.touch_session.ensures.kept p (c.touch_node.ensures.kept p (c.loop-reader.invariant.kept p e));
       length = c.touch_session.ensures.length ∙ c.touch_node.ensures.length ∙ c.loop-reader.invariant.length;
+      few = omega (
+        arith,
+        c.touch_session.ensures.few,
+        c.touch_node.ensures.few,
+        c.loop-reader.invariant.few,
+        ap length steps,
+      );
     }
 
 pub returns-clause-nodes : goal.returns-clause-nodes

@@ -1,7 +1,7 @@
-use Rattle.std.proofs.Common.{◌≡◌, List, Bool, length}
+use Rattle.std.proofs.Common.{◌≡◌, ◌≤◌, ◌+◌, ◌*◌, List, Bool, length}
 use Rattle.im_arena.specs.Lists.{list_at, ends_at, first_in}
 use Rattle.im_pages.specs.Places.{page_of_node, page_of_session}
-use Rattle.im_pages.specs.PageSets.{IsWithin}
+use Rattle.im_pages.specs.PageSets.{size_of, IsWithin}
 use Rattle.im_memory.specs.Touched.{nodes_from}
 use Rattle.im_memory.specs.Covering.{AreIn}
 use Rattle.im_memory.proofs.CoverLemmas.{elements_of}
@@ -19,5 +19,7 @@ invariant-loop-reader l = record {
       → AreIn (page_of_session (length l.arena.held.lists) l.elements) set (elements_of l.reader-iterator)
       → AreIn (page_of_session (length l.arena.held.lists) l.elements) set (elements_of (list_at l.arena.held l.a));
   kept : IsWithin l.initial.pages l.pages;
+  few : size_of l.pages + 2 * length l.reader-iterator
+      ≤ size_of l.initial.pages + 2 * length (list_at l.arena.held l.a);
   length : length l.pages ≡ length l.initial.pages;
 }

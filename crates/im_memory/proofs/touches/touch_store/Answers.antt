@@ -1,17 +1,15 @@
 use Rattle.std.proofs.Common.{Ok, ◌≡◌, [], refl, length, sym, ap, ◌∙◌, arith}
 use Rattle.im_types.specs.declared.operations.Kind.TheVariants.{I}
 use Rattle.im_types.specs.declared.cells.Cell.TheVariants.{Waiting}
-use Rattle.im_types.specs.Contents.{held_at, Empty as IsEmpty}
 use Rattle.im_types.specs.Act.{store}
 use Rattle.im_arena.specs.Lists.{list_at}
-use Rattle.im_istore.specs.Joined.{cells_of}
 use Rattle.im_pages.specs.Places.{page_of_session}
 use Rattle.im_memory.specs.State.{rows_of}
 use Rattle.im_memory.specs.Touched.{by_store, first_at}
-use Rattle.im_memory.specs.Covering.{most_at, most_by_store}
+use Rattle.im_memory.specs.Covering.{most_by_store}
 use Rattle.im_memory.proofs.CoverLemmas.{HasPlaces-err, HasPlaces-ok, resumed-err, resumed-ok, most-ok, nobody}
-use Rattle.im_memory.proofs.CoverLemmas.{somebody, store-readers, other-cell, quiet-state, quiet-cell, told-none}
-use Rattle.im_memory.proofs.CoverLemmas.{told-readers, size-length}
+use Rattle.im_memory.proofs.CoverLemmas.{store-readers, other-cell, quiet-state, quiet-cell, told-none}
+use Rattle.im_memory.proofs.CoverLemmas.{told-readers}
 use Rattle.im_memory.proofs.touches.touch_store.Goals as goal
 
 pub returns-in-Err-clause-places : goal.returns-in-Err-clause-places
@@ -42,13 +40,9 @@ returns-in-Waiting-clause-sessions c =
 
 pub returns-in-Waiting-clause-few : goal.returns-in-Waiting-clause-few
 returns-in-Waiting-clause-few c =
-    let waits = sym c.in-Ok.ensures ∙ ap (λ x. Ok x) c.in-Waiting.is in
-    let some = somebody I c.args.table.now c.args.arena.now c.args.a waits c.requires.agree in
-    let all = length c.args.pages.now in
-    let most : most_at I (most_by_store all) (held_at (cells_of c.args.table.now c.args.arena.now) c.args.a)
-    ≡ all = most-ok I c.args.table.now c.args.arena.now c.args.a (most_by_store all) Waiting waits
-    ∙ ap (λ ws. most_by_store all (IsEmpty ws)) some.2 in
-    omega (arith, size-length c.touch_readers.new.pages)
+    let most = most-ok I c.args.table.now c.args.arena.now c.args.a most_by_store Waiting
+    (sym c.in-Ok.ensures ∙ ap (λ x. Ok x) c.in-Waiting.is) in
+    omega arith
 
 pub returns-in_default-clause-places : goal.returns-in_default-clause-places
 returns-in_default-clause-places c =
@@ -76,9 +70,8 @@ pub returns-in_default-clause-few : goal.returns-in_default-clause-few
 returns-in_default-clause-few c =
     let none = nobody I c.args.table.now c.args.arena.now c.args.a c.in-Ok.cell
     (sym c.in-Ok.ensures) c.requires.agree (quiet-cell c.in-Ok.cell c.in_default.not-Waiting) in
-    let all = length c.args.pages.now in
-    let most = most-ok I c.args.table.now c.args.arena.now c.args.a (most_by_store all) c.in-Ok.cell
+    let most = most-ok I c.args.table.now c.args.arena.now c.args.a most_by_store c.in-Ok.cell
     (sym c.in-Ok.ensures)
-    ∙ quiet-state (λ state. most_by_store all state ≡ 1) c.in-Ok.cell _ c.in_default.not-Waiting none refl
+    ∙ quiet-state (λ state. most_by_store state ≡ 1) c.in-Ok.cell _ c.in_default.not-Waiting none refl
     (λ v. refl) (λ v. refl) in
     omega arith

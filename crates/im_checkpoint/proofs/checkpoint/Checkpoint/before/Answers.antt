@@ -21,7 +21,7 @@ returns-in_default c =
       size = c.touches.ensures.length ∙ ap length recent;
       kept = subst (λ (s : List Bool). IsWithin s c.touches.new.pages) recent c.touches.ensures.kept;
       few = subst (λ (s : List Bool). size_of c.touches.new.pages ≤ size_of s + most_pages
-          (length s) m.contents c.args.command.now) recent c.touches.ensures.few;
+          m.contents c.args.command.now) recent c.touches.ensures.few;
       others = c.touches.ensures.others;
       copied = λ page lt among fresh there. let it = subst (λ (l : List ℕ). Contains l page) none among in absurd
           (omega (arith, it.1));

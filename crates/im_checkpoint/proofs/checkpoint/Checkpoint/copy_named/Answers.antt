@@ -49,17 +49,11 @@ returns c =
     ≡ c.args.self.now.state.header = header_is c.args.self.now (seen e.header) e.step e.count
     (pages_from e.next e.left) e.recent e.older e.copies c.self.view_is in
     let recent : e.recent ≡ c.args.self.now.recent = ap (λ (s : PagedCheckpoint). s.recent) c.self.view_is in
-    let few : size_of c.touches.new.pages ≤ 0 + most_pages
-    (length c.args.self.now.recent) m.contents c.args.command.now =
-    subst (λ (n : ℕ). size_of c.touches.new.pages ≤ 0 + most_pages n m.contents c.args.command.now)
-    (c.self.invariant.named_size ∙ sym c.self.invariant.recent_size ∙ ap length recent)
-    (subst (λ (n : ℕ). size_of c.touches.new.pages ≤ n + most_pages (length e.named) m.contents c.args.command.now)
+    let few : size_of c.touches.new.pages ≤ 0 + most_pages m.contents c.args.command.now =
+    subst (λ (n : ℕ). size_of c.touches.new.pages ≤ n + most_pages m.contents c.args.command.now)
     (size_none (length e.named))
-    (subst (λ (n : ℕ). size_of c.touches.new.pages ≤ size_of
-    (replicate (length e.named) false) + most_pages n m.contents c.args.command.now)
-    (length-replicate (length e.named) false)
-    (subst (λ (s : List Bool). size_of c.touches.new.pages ≤ size_of s + most_pages
-    (length s) m.contents c.args.command.now) c.clear.ensures c.touches.ensures.few))) in
+    (subst (λ (s : List Bool). size_of c.touches.new.pages ≤ size_of s + most_pages m.contents c.args.command.now)
+    c.clear.ensures c.touches.ensures.few) in
     let left : left_in c.args.self.now.state.step
     ≡ pages_from e.next e.left = ap left_in
     (step_left c.args.self.now (seen e.header) e.step e.count
