@@ -23,6 +23,16 @@
 extern "C" {
 #endif
 
+/* The version of this header, and of the library that it came with. */
+#define LT_VERSION "0.1.0"
+#define LT_VERSION_NUMBER 100
+
+/* The library's: 10,000 for each major version, 100 for each minor one, 1 for each patch. */
+uint32_t lt_version(void);
+
+/* The version of the layout in which images are made and opened. */
+uint16_t lt_layout_version(void);
+
 /* What is asked, by `tag`. */
 enum lt_tag {
     LT_ALLOC_I = 1, /* a block of `address` cells, to be fetched and stored */
@@ -118,9 +128,9 @@ void lt_memory_free(struct lt_memory memory);
 /* ---- An image
  *
  * The caller reads the file, hands its bytes to lt_open, and does all writing. Each of lt_format, lt_open, lt_serve,
- * lt_serve_group and lt_turn leaves a list of steps (lt_steps, lt_step_at, lt_step_bytes). The caller carries them out
- * on its file, all of them, in their order, before it tells anybody the answer and before the next such call: that
- * begins a new list, where this one ended. Where it can't carry out a step it calls lt_failed, and opens the file anew.
+ * lt_serve_group, lt_turn and lt_sweep leaves a list of steps (lt_steps, lt_step_at, lt_step_bytes). The caller carries them out
+ * on its file, all of them, in their order, before it passes on what any call here told, and before the next such call:
+ * that begins a new list, where this one ended. Where it can't carry out a step it calls lt_failed, and opens the file anew.
  * A crash at any moment on the way leaves a file that means the memory before the call or after it.
  *
  * After a sync that failed the system may show bytes that the disk hasn't got, and the next sync succeeds: the file
@@ -154,7 +164,7 @@ struct lt_step {
     uint64_t length;
 };
 
-/* What a turn of a checkpoint did, by `tag` of its outcome. */
+/* What a turn of a checkpoint did, or a sweep, by `tag` of its outcome. */
 enum lt_turn_tag {
     LT_IDLE = 0,
     LT_BEGAN = 1,
@@ -189,8 +199,17 @@ size_t lt_serve(struct lt_image image, const struct lt_command *command, struct 
 uint8_t lt_serve_group(struct lt_image image, const struct lt_command *commands, size_t count, struct lt_image *next,
                        struct lt_outcome *outcomes, size_t places);
 
+/* The place of the first of these commands, from 0, that is no request, as of a tag that no request has, and that so keeps
+ * lt_serve_group from taking them: `count` where there is none. */
+size_t lt_first_unknown(const struct lt_command *commands, size_t count);
+
 /* One turn of a checkpoint: what it did, at `outcome`. It returns how many steps it left. */
 size_t lt_turn(struct lt_image image, struct lt_image *next, struct lt_outcome *outcome);
+
+/* Frees up to `most` slots of the journal that are to be swept, since the area in force holds their commands, with one sync
+ * for all, where a turn frees three: LT_SWEPT at `outcome`, and how many they were, none while a checkpoint is under way.
+ * It returns how many steps it left: one for each slot, and the sync. */
+size_t lt_sweep(struct lt_image image, uint32_t most, struct lt_image *next, struct lt_outcome *outcome);
 
 /* How many steps the last call left. */
 size_t lt_steps(struct lt_image image, struct lt_image *next);
@@ -210,6 +229,10 @@ void lt_failed(struct lt_image image, struct lt_image *next);
  * are added. */
 void lt_collect(struct lt_image image, uint16_t element, uint64_t number, struct lt_image *next,
                 struct lt_outcome *outcome);
+
+/* The request that is kept under an element's number, at `asked`, with the tag 0 where none is, and after a lost step. No
+ * steps are added. */
+void lt_entry(struct lt_image image, uint16_t element, uint64_t number, struct lt_image *next, struct lt_command *asked);
 
 /* The window of an element, at `window`: LT_NO_ELEMENT, or its bounds. */
 void lt_window(struct lt_image image, uint16_t element, struct lt_image *next, struct lt_bounds *window);
@@ -232,6 +255,9 @@ uint8_t lt_inspect(const uint8_t *bytes, size_t length, char *buffer, size_t roo
  * the start of the buffer where it has room for it, of which the rest is as it was. LT_OK, and any other number, has no
  * letter, and none has more than 11. */
 size_t lt_refusal_name(uint8_t refusal, char *buffer, size_t room);
+
+/* The name of an answer by its tag, in the same way. None has more than 12 letters. */
+size_t lt_answer_name(uint8_t tag, char *buffer, size_t room);
 
 #ifdef __cplusplus
 }

@@ -7,13 +7,13 @@
  * was asked before is answered as before, as each element asks the same under the same numbers, 64 at most. */
 #include <inttypes.h>
 #include <stdio.h>
-#include <unistd.h>
+#include <stdlib.h>
 
-#include "image.h"
+#include "luntrebis_file.h"
 
 enum { SIDE = 6, SLOTS = 16 };
 
-static struct image image;
+static struct ltf *file;
 
 static uint64_t grid[SIDE][SIDE];
 
@@ -32,9 +32,19 @@ static void tell(uint16_t element, uint64_t number, struct lt_outcome outcome) {
     fflush(stdout);
 }
 
+/* Ends the program at what is no answer. */
+static void need(int answer) {
+    char why[128];
+    if (answer == 0) return;
+    ltf_say(answer, why, sizeof why);
+    fprintf(stderr, "wavefront: %s\n", why);
+    exit(1);
+}
+
 static struct lt_outcome ask(uint8_t tag, uint16_t element, uint32_t address, uint64_t number, uint64_t value) {
     struct lt_command command = {tag, element, address, number, value};
-    struct lt_outcome outcome = image_serve(&image, command);
+    struct lt_outcome outcome;
+    need(ltf_serve(file, &command, &outcome));
     if (outcome.tag != LT_WAITING) tell(element, number, outcome);
     return outcome;
 }
@@ -44,7 +54,7 @@ static int64_t above(uint16_t at) {
     struct row *row = &rows[at];
     struct lt_outcome outcome;
     if (row->waits) {
-        outcome = image_collect(&image, at, row->number);
+        need(ltf_collect(file, at, row->number, &outcome));
         if (outcome.tag != LT_WAITING) tell(at, row->number, outcome);
     } else {
         outcome = ask(LT_FETCH, at, (uint32_t)(at - 1) * SIDE + row->column, row->number, 0);
@@ -74,10 +84,7 @@ static int go_on(uint16_t at) {
 int main(int count, char **words) {
     int ended = 0;
     if (count != 2) return 2;
-    if (access(words[1], F_OK) == 0)
-        image_open(&image, words[1]);
-    else
-        image_format(&image, words[1], SIDE * SIDE, SIDE, SLOTS);
+    need(ltf_open_or_create(words[1], SIDE * SIDE, SIDE, SLOTS, &file));
     ask(LT_ALLOC_I, 0, SIDE * SIDE, 1, 0);
     for (uint16_t at = 0; at < SIDE; at++) rows[at] = (struct row){0, at == 0 ? 2 : 1, 0};
     /* The last row first: each asks before there is an answer. */
@@ -88,6 +95,6 @@ int main(int count, char **words) {
     for (int at = 0; at < SIDE; at++)
         for (int column = 0; column < SIDE; column++)
             printf("%" PRIu64 "%s", grid[at][column], column < SIDE - 1 ? " " : "\n");
-    image_close(&image);
+    ltf_close(file);
     return 0;
 }

@@ -1,11 +1,14 @@
-"""A memory behind two pipes, asked from Python: each request is done exactly once, also where the program is killed.
+"""A memory behind two pipes, asked from Python: each request is done exactly once, also where the program is killed, or
+the client.
 
     memory = Memory(["imem", "serve", "a.img"])
     element = Element(memory, 1)
     reply = finish(element.request("take 0"))       # ["value", "42"], waited for where the cell is empty
+    element.confirm()
 
-The numbers live as long as the client. One that may be stopped itself writes a request's line to a file before it is
-sent, and sends it again when it starts: docs/SERVE.md, Exactly once.
+A client keeps no file where an element's number alone tells what it asks next. It begins at the first request that it
+hasn't confirmed and asks from there on again; what was done is answered as before. So it confirms only at places where
+its program can begin anew: docs/SERVE.md, "A client with no file". `async_client.py` has many requests under way.
 """
 import subprocess
 
@@ -63,22 +66,26 @@ class Memory:
 
 
 class Element:
-    """An element, which has one request under way at a time, and its next number."""
+    """An element with one request under way at a time, and the number of its next one: at first of the first one that
+    isn't confirmed."""
 
     def __init__(self, memory, element):
         self.memory, self.element = memory, element
-        self.number = int(memory.ask(f"window {element}")[2])
+        self.number = int(memory.ask(f"window {element}")[1])
 
     def request(self, what):
-        """Asks it, yields while it waits, and confirms it. The words of the reply."""
+        """Asks it, and yields while it waits. The words of the reply."""
         number = self.number
         reply = self.memory.ask(f"{self.element}.{number} {what}")
         self.number = number + 1
         while reply == ["waiting"]:
             yield
             reply = self.memory.ask(f"collect {self.element}.{number}")
-        self.memory.ask(f"confirm {self.element} {self.number}")
         return reply
+
+    def confirm(self):
+        """Confirms all that was asked: the element begins behind it from now on."""
+        self.memory.ask(f"confirm {self.element} {self.number}")
 
 
 def finish(request):

@@ -1,14 +1,16 @@
-"""A histogram by three elements over `imem serve`, which is killed at random moments and started again. Each element takes
-a counter, adds one and puts it back: a counter that is away is waited for.
+"""A histogram by three elements over `imem serve`, which is killed at random moments and started again. Each element
+takes a counter, adds one and puts it back: a counter that is away is waited for.
 
-usage: histogram.py KILLS SEED IMEM IMAGE      IMAGE is new, made by 'imem format --new'
+usage: histogram.py KILLS SEED IMEM IMAGE      IMAGE is new, or left by a run that was killed
 
-The status is 0 where each count comes out exact.
+The program keeps nothing but the image: an element's number tells which word comes next. The status is 0 where each
+count comes out exact.
 """
 import random
 import signal
 import sys
 import time
+from collections import Counter
 
 from client import Element, Memory, finish
 
@@ -43,28 +45,35 @@ class Killed(Memory):
             self.kill()
 
 
-def count_words(element, base, line, counts, goes_on):
+def words_counted(element, line):
+    """The words that an element has counted: each took two requests, and was confirmed then."""
+    words = line.split()
+    return [words[it % len(words)] for it in range(element.number // 2)]
+
+
+def count_words(element, base, line, goes_on):
     """Counts the words of a line, again and again."""
+    words = line.split()
     while goes_on():
-        for word in line.split():
-            at = base + NAMES.index(word)
-            value = int((yield from element.request(f"take {at}"))[1])
-            yield
-            yield from element.request(f"put {at} {value + 1}")
-            counts[word] += 1
+        at = base + NAMES.index(words[element.number // 2 % len(words)])
+        value = int((yield from element.request(f"take {at}"))[1])
+        yield
+        yield from element.request(f"put {at} {value + 1}")
+        element.confirm()
 
 
 def main(kills, seed, imem, image):
     random.seed(int(seed))
     memory = Killed([imem, "serve", image], int(kills))
-    maker = Element(memory, 0)
+    maker = Element(memory, 0)  # It confirms nothing, so its requests are the same each time.
     base = int(finish(maker.request(f"alloc m {len(NAMES)}"))[1])
     for at in range(len(NAMES)):
         finish(maker.request(f"put {base + at} 0"))
-    counts = dict.fromkeys(NAMES, 0)
-    runs = [count_words(Element(memory, 1 + at), base, line, counts, lambda: memory.left) for at, line in enumerate(LINES)]
+    elements = [Element(memory, 1 + at) for at in range(len(LINES))]
+    runs = [count_words(element, base, line, lambda: memory.left) for element, line in zip(elements, LINES)]
     while runs:
         runs = [run for run in runs if next(run, "end") != "end"]
+    counts = Counter(word for element, line in zip(elements, LINES) for word in words_counted(element, line))
     kept = {name: int(finish(maker.request(f"take {base + at}"))[1]) for at, name in enumerate(NAMES)}
     memory.close()
     losses = sum(abs(kept[name] - counts[name]) for name in NAMES)

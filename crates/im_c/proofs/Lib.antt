@@ -3,3 +3,4 @@ mod AsImage
 pub mod Boxes
 pub mod Groups
 pub mod Faults
+mod Crosses

@@ -1,6 +1,6 @@
 -- A group of requests on an image, as C spells it.
-use Rattle.std.specs.Prelude.{◌≡◌, ℕ, ◌<◌, ◌≤◌, true, false, List, [], ◌∷◌, ◌++◌, length, map, Option, Some, None, Ok}
-use Rattle.std.specs.Prelude.{Err}
+use Rattle.std.specs.Prelude.{◌≡◌, ℕ, ◌<◌, ◌≤◌, true, false, List, [], ◌∷◌, ◌++◌, ◌+◌, length, map, Option, Some, None}
+use Rattle.std.specs.Prelude.{Ok, Err}
 use Rattle.im_types.specs.declared.operations.Op.{Op}
 use Rattle.im_types.specs.declared.commands.Request.{Request}
 use Rattle.im_types.specs.declared.groups.Served.{Served}
@@ -29,6 +29,16 @@ request_in c = request_with c (op_of c.tag c.address c.value)
 abbrev pub requests_of : List LtCommand → List Request
 requests_of [] = []
 requests_of (c ∷ cs) = request_in c ++ requests_of cs
+
+-- one more where the command means a request, and else 0
+abbrev pub one_more_for : List Request → ℕ → ℕ
+one_more_for [] later = 0
+one_more_for (r ∷ rs) later = later + 1
+
+-- the place of the first command that means no request, from 0, or how many there are
+abbrev pub first_unknown : List LtCommand → ℕ
+first_unknown [] = 0
+first_unknown (c ∷ cs) = one_more_for (request_in c) (first_unknown cs)
 
 -- The commands are 1 to 16 requests of as many elements, and so many are the places for answers.
 pub record IsGroup (commands : List LtCommand) (places : ℕ) : Type 0 where

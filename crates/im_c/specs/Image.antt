@@ -5,13 +5,17 @@ use Rattle.im_types.specs.declared.commands.Outcome.{Outcome}
 use Rattle.im_types.specs.declared.refusals.Refusal.{Refusal}
 use Rattle.im_types.specs.declared.refusals.Refusal.TheVariants.{Device}
 use Rattle.im_types.specs.Refusals.{number_of}
+use Rattle.im_types.specs.Agreement.{address_of}
+use Rattle.im_types.specs.Bytes.{op_code, op_value}
+use Rattle.im_types.specs.Contents.{kept_for}
+use Rattle.im_types.specs.declared.operations.Kept.{Kept}
 use Rattle.im_types.specs.Window.{ask, bounds}
 use Rattle.im_types.specs.Layout.{Sizes, image_length, layout_in_use}
 use Rattle.im_disk.specs.Moment.{Moment}
 use Rattle.im_checkpoint.specs.declared.checkpoint.TurnDone.{TurnDone}
 use Rattle.im_checkpoint.specs.declared.checkpoint.TurnDone.TheVariants.{Idle, Began, Page, Synced, InForce, Swept}
 use Rattle.im_engine.specs.State.{MeansState, MeansEither}
-use Rattle.im_engine.specs.Run.{Answered, TurnAnswered}
+use Rattle.im_engine.specs.Run.{Answered, SweepAnswered, TurnAnswered}
 use Rattle.im_listed.specs.Listing.{Task, Puts, Settles}
 use Rattle.im_listed.specs.History.{given}
 use Rattle.im_listed.specs.Image.{ImageState, Carries, begun_in}
@@ -67,10 +71,37 @@ pub record Turns (old : ImageState) (out : LtOutcome) (new : ImageState) : Type 
       → (answer : Result TurnDone Refusal) × (out ≡ turn_outcome answer) × TurnAnswered (begun_in old) answer new.engine
       × Carries old.engine.disk.now new (MeansState (begun_in old))
 
+-- what stands for a sweep: how many slots it closed
+abbrev pub sweep_outcome : Result ℕ Refusal → LtOutcome
+sweep_outcome (Ok swept) = record { refusal = 0; tag = 5; value = swept }
+sweep_outcome (Err refusal) = refused (number_of refusal)
+
+-- what a sweep comes to, and what the caller's file does on the way
+pub record SweepsBy (old : ImageState) (most : ℕ) (out : LtOutcome) (new : ImageState) : Type 0 where
+  pub lost : old.lost ≡ true → (out ≡ outcome_of (Err Device)) × (new ≡ old)
+  -- so the answer isn't `Failed`
+  pub works : old.lost ≡ false → old.engine.failed ≡ false
+  pub alive : old.lost ≡ false
+      → (answer : Result ℕ Refusal) × (out ≡ sweep_outcome answer) × SweepAnswered (begun_in old) most answer new.engine
+      × Carries old.engine.disk.now new (MeansState (begun_in old))
+
 -- what is kept under an element's number
 pub record CollectsFrom (i : ImageState) (element number : ℕ) (out : LtOutcome) : Type 0 where
   pub lost : i.lost ≡ true → out ≡ entry_outcome (Err Device)
   pub alive : i.lost ≡ false → out ≡ entry_outcome (ask i.engine.memory.windows (record { element = element; number = number }))
+
+-- the request of an element under a number, as it is kept; its tag is 0 where it isn't
+abbrev pub asked_as : ℕ → ℕ → Option Kept → LtCommand
+asked_as element number None = record { tag = 0; element = element; address = 0; number = number; value = 0 }
+asked_as element number (Some k) =
+    record { tag = op_code k.op; element = element; address = address_of k.op; number = number; value = op_value k.op }
+
+-- what was asked under an element's number
+pub record TellsAsked (i : ImageState) (element number : ℕ) (asked : LtCommand) : Type 0 where
+  pub lost : i.lost ≡ true → asked ≡ asked_as element number None
+  pub alive : i.lost ≡ false
+      → asked ≡ asked_as element number
+      (kept_for i.engine.memory.windows (record { element = element; number = number }))
 
 -- a window's bounds, or why there are none
 abbrev pub window_of : Result (ℕ × ℕ) Refusal → LtBounds

@@ -62,3 +62,22 @@ refusal_name number =
     else if number == 24 then codes "PaneGone"
     else if number == 255 then codes "NoCall"
     else codes ""
+
+-- the name of the answer with this tag
+abbrev pub answer_name : ℕ → List ℕ
+answer_name tag =
+    if tag == 0 then codes "Waiting"
+    else if tag == 1 then codes "Base"
+    else if tag == 2 then codes "NoSpace"
+    else if tag == 3 then codes "BadLength"
+    else if tag == 4 then codes "Value"
+    else if tag == 5 then codes "Stored"
+    else if tag == 6 then codes "Clash"
+    else if tag == 7 then codes "NoCell"
+    else if tag == 8 then codes "WrongKind"
+    else if tag == 9 then codes "Released"
+    else if tag == 10 then codes "NoBlock"
+    else if tag == 11 then codes "StillWaiting"
+    else if tag == 12 then codes "Cleared"
+    else if tag == 128 then codes "Confirmed"
+    else codes ""

@@ -1,7 +1,7 @@
 //! A group of requests on an image, as C spells it.
 ghost use Rattle.std.specs.Prelude.{◌≡◌, ◌↔◌, ◌<◌, ◌≤◌, ◌++◌, [], length, map, IsSome, IsTrue};
 ghost use Rattle.im_c.specs.Handing.{Becomes};
-ghost use Rattle.im_c.specs.Group.{IsGroup, ServesGroup, outcome_served, request_in, requests_of};
+ghost use Rattle.im_c.specs.Group.{IsGroup, ServesGroup, first_unknown, outcome_served, request_in, requests_of};
 
 use crate::image::LtImage;
 use crate::plain::{LtCommand, LtOutcome, NO_CALL, outcome_of, refused};
@@ -59,6 +59,22 @@ fn gathered(commands: &[LtCommand], places: usize, members: &mut ArrayVec<Reques
         return false;
     }
     are_apart(members.as_slice())
+}
+
+// The place of the first command that means no request.
+fn first_unknown(commands: &[LtCommand]) -> usize
+    ensures { result ≡ first_unknown commands.now }
+{
+    let mut rest = commands;
+    let mut place = 0;
+    while let Some((command, later)) = rest.split_first() {
+        match op_of(command.tag, command.address, command.value) {
+            Some(_) => place += 1,
+            None => return place,
+        }
+        rest = later;
+    }
+    place
 }
 
 // What stands for a member's answer.
@@ -131,4 +147,13 @@ pub extern "C" fn lt_serve_group(
     let number = serve_group(&mut held, commands, outcomes);
     *next = LtImage::of_box(held);
     number
+}
+
+/// The place of the first of these commands, from 0, that is no request, as of a tag that no request has: it keeps them
+/// from being a group. As many as there are where each is a request.
+#[unsafe(no_mangle)]
+pub extern "C" fn lt_first_unknown(commands: &[LtCommand]) -> usize
+    ensures place { result ≡ first_unknown commands.now }
+{
+    first_unknown(commands)
 }

@@ -13,8 +13,9 @@ ghost use Rattle.im_listed.specs.History.{given};
 ghost use Rattle.im_c.specs.Handing.{Shows, Becomes};
 ghost use Rattle.im_c.specs.Held.{holds_image};
 ghost use Rattle.im_c.specs.Telling.{TellsFault};
-ghost use Rattle.im_c.specs.Image.{Serves, Turns, CollectsFrom, ShowsWindow, blank, turn_code, turn_page};
-ghost use Rattle.im_c.specs.Image.{turn_outcome, window_of, step_of, Copies, CopiesBytes};
+ghost use Rattle.im_c.specs.Image.{Serves, SweepsBy, Turns, CollectsFrom, TellsAsked, ShowsWindow, asked_as};
+ghost use Rattle.im_c.specs.Image.{sweep_outcome, blank};
+ghost use Rattle.im_c.specs.Image.{turn_code, turn_page, turn_outcome, window_of, step_of, Copies, CopiesBytes};
 ghost use Rattle.im_types.specs.Sizes.{AreLimits};
 
 use crate::parts::Parts;
@@ -23,8 +24,9 @@ use crate::plain::{
 };
 use im_checkpoint::TurnDone;
 use im_listed::{Image, Step};
+use im_types::codes::{address_of, op_code, op_value};
 use im_types::layout::image_length;
-use im_types::{Limits, Refusal};
+use im_types::{Kept, Limits, Refusal};
 use std::alloc::Global;
 use std::marker::Model;
 
@@ -42,6 +44,9 @@ pub struct LtImage {
 impl Model for LtImage {
     ghost also_owns = { λ h. holds_image h.alloc h.ptr h.value };
 }
+
+// It may go to another thread, as its block may.
+unsafe impl Send for LtImage {}
 
 impl LtImage {
     fn of_parts(parts: Parts<Image, Global>) -> LtImage
@@ -181,11 +186,64 @@ fn turn(image: &mut Image) -> LtOutcome
     turn_outcome(image.turn())
 }
 
+// What stands for a sweep.
+fn sweep_outcome(answer: Result<u32, Refusal>) -> LtOutcome
+    ensures { result ≡ sweep_outcome answer }
+{
+    match answer {
+        Ok(swept) => LtOutcome {
+            refusal: 0,
+            tag: 5,
+            value: swept as u64,
+        },
+        Err(refusal) => refused(refusal.number()),
+    }
+}
+
+// One sweep, as C spells it.
+fn sweep(image: &mut Image, most: u32) -> LtOutcome
+    ensures { SweepsBy image.old most result image.new }
+{
+    sweep_outcome(image.sweep(most))
+}
+
 // What is kept under an element's number, as C spells it.
 fn collected(image: &Image, element: u16, number: u64) -> LtOutcome
     ensures { CollectsFrom image.now element number result }
 {
     entry_outcome(image.collect(element, number))
+}
+
+// The request of an element under a number, as C spells it.
+fn asked_as(element: u16, number: u64, kept: Option<Kept>) -> LtCommand
+    ensures { result ≡ asked_as element number kept }
+{
+    match kept {
+        Some(kept) => LtCommand {
+            tag: op_code(kept.op),
+            element,
+            address: address_of(kept.op),
+            number,
+            value: op_value(kept.op),
+        },
+        None => LtCommand {
+            tag: 0,
+            element,
+            address: 0,
+            number,
+            value: 0,
+        },
+    }
+}
+
+// What was asked under an element's number, as C spells it.
+fn asked_in(image: &Image, element: u16, number: u64) -> LtCommand
+    ensures { TellsAsked image.now element number result }
+{
+    match image.is_lost() {
+        true => asked_as(element, number, None),
+        false => asked_as(element, number, image.kept(element, number)),
+    }
 }
 
 // The bounds of a window, as C spells them.
@@ -240,6 +298,16 @@ fn count_of(steps: &[Step]) -> usize
     ensures { result ≡ length (map task_of steps.now) }
 {
     steps.len()
+}
+
+// Hands an image out again: how many steps it has.
+fn hand_out(held: Box<Image>, next: &mut LtImage) -> usize
+    ensures handed { next.new.value ≡ Some held.value }
+    ensures steps { result ≡ length (steps_of held.value) }
+{
+    let count = count_of(held.steps());
+    *next = LtImage::of_box(held);
+    count
 }
 
 // The step with this index, as C spells it.
@@ -381,9 +449,7 @@ pub extern "C" fn lt_serve(
 {
     let mut held = image.into_box();
     *outcome = serve(&mut held, command);
-    let steps = count_of(held.steps());
-    *next = LtImage::of_box(held);
-    steps
+    hand_out(held, next)
 }
 
 /// One turn of a checkpoint, and how many steps the caller has to carry out. At `outcome` the tag says what it did: 0
@@ -397,9 +463,26 @@ pub extern "C" fn lt_turn(image: LtImage, next: &mut LtImage, outcome: &mut LtOu
 {
     let mut held = image.into_box();
     *outcome = turn(&mut held);
-    let count = count_of(held.steps());
-    *next = LtImage::of_box(held);
-    count
+    hand_out(held, next)
+}
+
+/// Closes the gates of so many slots at most that are to be swept, with one sync, and how many steps the caller has to
+/// carry out. At `outcome` the tag is 5 and `value` how many there were, none while a checkpoint is under way. Or the
+/// refusal, `Device`.
+#[unsafe(no_mangle)]
+pub extern "C" fn lt_sweep(
+    image: LtImage,
+    most: u32,
+    next: &mut LtImage,
+    outcome: &mut LtOutcome,
+) -> usize
+    requires some { IsSome image.value }
+    ensures swept { Becomes image.value next.new.value (λ i n. SweepsBy i most outcome.new n) }
+    ensures steps { IfSome next.new.value (λ n. result ≡ length (steps_of n)) }
+{
+    let mut held = image.into_box();
+    *outcome = sweep(&mut held, most);
+    hand_out(held, next)
 }
 
 /// What is kept under an element's number, at `outcome`. Refused with `NoElement`, with `Forgotten` below the window,
@@ -418,6 +501,24 @@ pub extern "C" fn lt_collect(
     let held = image.into_box();
     *outcome = collected(&held, element, number);
     *next = LtImage::of_box(held);
+}
+
+/// The request that is kept under an element's number, at `asked`. Its tag is 0 where none is, and after a lost step.
+/// Nothing changes.
+#[unsafe(no_mangle)]
+pub extern "C" fn lt_entry(
+    image: LtImage,
+    element: u16,
+    number: u64,
+    next: &mut LtImage,
+    asked: &mut LtCommand,
+)
+    requires some { IsSome image.value }
+    ensures found { Shows image.value next.new.value (λ i. TellsAsked i element number asked.new) }
+{
+    let held = image.into_box();
+    *asked = asked_in(&held, element, number);
+    hand_out(held, next);
 }
 
 /// The window of an element, at `window`. Refused with `NoElement` and with `Device`. Nothing changes.
@@ -460,17 +561,14 @@ pub extern "C" fn lt_failed(image: LtImage, next: &mut LtImage)
     *next = LtImage::of_box(held);
 }
 
-/// How many steps the last call left to carry out: of `lt_format`, `lt_open`, `lt_serve`, `lt_serve_group` and
-/// `lt_turn`.
+/// How many steps the last call left to carry out: of `lt_format`, `lt_open`, `lt_serve`, `lt_serve_group`,
+/// `lt_turn` and `lt_sweep`.
 #[unsafe(no_mangle)]
 pub extern "C" fn lt_steps(image: LtImage, next: &mut LtImage) -> usize
     requires some { IsSome image.value }
     ensures count { Shows image.value next.new.value (λ i. result ≡ length (steps_of i)) }
 {
-    let held = image.into_box();
-    let count = count_of(held.steps());
-    *next = LtImage::of_box(held);
-    count
+    hand_out(image.into_box(), next)
 }
 
 /// The step with this index, from 0, at `step`.

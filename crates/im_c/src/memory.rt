@@ -32,6 +32,9 @@ impl Model for LtMemory {
     ghost also_owns = { λ h. holds_memory h.alloc h.ptr h.value };
 }
 
+// It may go to another thread, as its block may.
+unsafe impl Send for LtMemory {}
+
 impl LtMemory {
     fn of_parts(parts: Parts<Memory, Global>) -> LtMemory
         ensures { result.value ≡ Some parts.value }

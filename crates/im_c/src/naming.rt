@@ -1,6 +1,6 @@
-//! The names of refusals, told to C.
+//! The names of refusals and of answers, told to C.
 ghost use Rattle.std.specs.Prelude.{◌≡◌, length};
-ghost use Rattle.im_c.specs.Telling.{PutsText, refusal_name};
+ghost use Rattle.im_c.specs.Telling.{PutsText, answer_name, refusal_name};
 
 use crate::inspecting::put_text;
 
@@ -38,6 +38,37 @@ fn name_of(number: u8) -> &'static str
     }
 }
 
+// The name of the answer with this tag.
+fn answer_of(tag: u8) -> &'static str
+    ensures { result.now ≡ answer_name tag }
+{
+    match tag {
+        0 => "Waiting",
+        1 => "Base",
+        2 => "NoSpace",
+        3 => "BadLength",
+        4 => "Value",
+        5 => "Stored",
+        6 => "Clash",
+        7 => "NoCell",
+        8 => "WrongKind",
+        9 => "Released",
+        10 => "NoBlock",
+        11 => "StillWaiting",
+        12 => "Cleared",
+        _ => { if tag == 128 { "Confirmed" } else { "" } }
+    }
+}
+
+// A name's length, and the name at the start of the buffer, if it fits.
+fn tell_name(name: &'static str, buffer: &mut [u8]) -> usize
+    ensures length { result ≡ length name.now }
+    ensures name { PutsText name.now buffer.old buffer.new }
+{
+    put_text(name.as_bytes(), buffer);
+    name.len()
+}
+
 /// The length of the name of the refusal with this number, and the name at the start of `buffer` where it fits, of
 /// which the rest is as it was. The name of 0, and of a number that is no refusal, has no letter.
 #[unsafe(no_mangle)]
@@ -45,7 +76,15 @@ pub extern "C" fn lt_refusal_name(refusal: u8, buffer: &mut [u8]) -> usize
     ensures length { result ≡ length (refusal_name refusal) }
     ensures name { PutsText (refusal_name refusal) buffer.old buffer.new }
 {
-    let name = name_of(refusal).as_bytes();
-    put_text(name, buffer);
-    name.len()
+    tell_name(name_of(refusal), buffer)
+}
+
+/// The length of the name of the answer with this tag, and the name at the start of `buffer` where it fits, of which
+/// the rest is as it was. The name of a tag that no answer has, has no letter.
+#[unsafe(no_mangle)]
+pub extern "C" fn lt_answer_name(tag: u8, buffer: &mut [u8]) -> usize
+    ensures length { result ≡ length (answer_name tag) }
+    ensures name { PutsText (answer_name tag) buffer.old buffer.new }
+{
+    tell_name(answer_of(tag), buffer)
 }

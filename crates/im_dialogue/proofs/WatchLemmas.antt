@@ -15,7 +15,7 @@ use Rattle.im_types.specs.declared.commands.Outcome.{Outcome}
 use Rattle.im_types.specs.declared.refusals.Refusal.{Refusal}
 use Rattle.im_types.specs.Contents.{CellState, Empty, Full, Clashed, Held, Contents, held_at}
 use Rattle.im_types.specs.Place.{place, fill, change_each}
-use Rattle.im_types.specs.Act.{Served, act, at_cell, allocate_at, unless_waited_for, release_block, emptied, reset_block, block_with_base, is_waiting_cell, fetch, take_from, same_kind, serve_cell, only_tells}
+use Rattle.im_types.specs.Act.{Served, act, at_cell, allocate_at, unless_waited_for, emptied, block_with_base, is_waiting_cell, fetch, take_from, same_kind, serve_cell, only_tells}
 use Rattle.im_dialogue.specs.declared.asking.Asked.{Asked}
 use Rattle.im_dialogue.specs.declared.asking.Asked.TheVariants as asks
 use Rattle.im_dialogue.specs.declared.answers.Answer.{Answer}
@@ -88,10 +88,14 @@ told_is watch m n (Some (asks.Serve command)) answer (outcome, is, of) = by_answ
     by_answer : (a : Answer) (o : Result Outcome Refusal) → a ≡ ServedAs command o → told_with a (told_by watch m (Some (asks.Serve command))) ≡ watch_text watch m a
     by_answer a o is = subst (λ (x : Answer). told_with x (told_by watch m (Some (asks.Serve command))) ≡ watch_text watch m x) (sym is) (by_outcome o)
 told_is watch m n (Some (asks.Collect who)) answer is = subst (λ (x : Answer). told_with x [] ≡ watch_text watch m x) (sym is) refl
+told_is watch m n (Some (asks.Entry who)) answer is =
+    subst (λ (x : Answer). told_with x [] ≡ watch_text watch m x) (sym is) refl
 told_is watch m n (Some (asks.Window element)) answer is = subst (λ (x : Answer). told_with x [] ≡ watch_text watch m x) (sym is) refl
 told_is watch m n (Some asks.Room) answer (room, is) = subst (λ (x : Answer). told_with x [] ≡ watch_text watch m x) (sym is) refl
 told_is watch m n (Some asks.Turn) answer (done, is) = subst (λ (x : Answer). told_with x [] ≡ watch_text watch m x) (sym is) refl
 told_is watch m n (Some asks.Count) answer is = subst (λ (x : Answer). told_with x [] ≡ watch_text watch m x) (sym is) refl
+told_is watch m n (Some asks.About) answer (slots, room, is) =
+    subst (λ (x : Answer). told_with x [] ≡ watch_text watch m x) (sym is) refl
 told_is watch m n (Some asks.Quit) answer none = absurd none
 told_is watch m n None answer (number, (fault, is)) = subst (λ (x : Answer). told_with x [] ≡ watch_text watch m x) (sym is) refl
 

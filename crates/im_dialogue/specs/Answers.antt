@@ -1,6 +1,7 @@
 -- The line that each answer of a dialogue is. (Own.)
 use Rattle.std.specs.Prelude.{ℕ, List, [], ◌++◌, codes, decimal, Result, Ok, Err}
 use Rattle.im_types.specs.declared.operations.Entry.{Entry}
+use Rattle.im_types.specs.declared.operations.Kept.{Kept as KeptEntry}
 use Rattle.im_types.specs.declared.commands.Command.{Command}
 use Rattle.im_types.specs.declared.commands.Command.TheVariants.{Request as Asks, Confirm}
 use Rattle.im_types.specs.declared.commands.Outcome.{Outcome}
@@ -8,10 +9,12 @@ use Rattle.im_types.specs.declared.commands.Outcome.TheVariants.{Entry as Tells,
 use Rattle.im_types.specs.declared.refusals.Refusal.{Refusal}
 use Rattle.im_checkpoint.specs.declared.checkpoint.TurnDone.{TurnDone}
 use Rattle.im_checkpoint.specs.declared.checkpoint.TurnDone.TheVariants.{Idle, Began, Page, Synced, InForce, Swept}
-use Rattle.im_text.specs.Texts.{line_feed}
+use Rattle.im_text.specs.Texts.{entry_text, line_feed, op_text}
 use Rattle.im_text.specs.Printing.{told_line, refused_line}
+use Rattle.im_dialogue.specs.declared.about.About.{About}
 use Rattle.im_dialogue.specs.declared.answers.Answer.{Answer}
-use Rattle.im_dialogue.specs.declared.answers.Answer.TheVariants.{Served, Kept, Window, Room, Turned, Count, Wrong}
+use Rattle.im_dialogue.specs.declared.answers.Answer.TheVariants.{Served, Kept, Entry as Recalled, Window}
+use Rattle.im_dialogue.specs.declared.answers.Answer.TheVariants.{Room, Turned, Count, About as Facts, Wrong}
 
 -- E.N refused NUMBER NAME
 abbrev pub request_refused : ℕ → ℕ → Refusal → List ℕ → List ℕ
@@ -25,6 +28,16 @@ element_refused element refusal name = decimal element ++ codes " " ++ refused_l
 abbrev pub kept_line : ℕ → ℕ → List ℕ → Result Entry Refusal → List ℕ
 kept_line element number name (Ok entry) = told_line element number entry
 kept_line element number name (Err refusal) = request_refused element number refusal name
+
+-- E.N entry OPERATION -> REPLY
+abbrev pub operation_line : ℕ → ℕ → KeptEntry → List ℕ
+operation_line element number kept = decimal element ++ codes "." ++ decimal number ++ codes " entry "
+    ++ op_text kept.op ++ codes " -> " ++ entry_text kept.entry ++ line_feed
+
+-- the same, or E.N refused NUMBER NAME
+abbrev pub recalled_line : ℕ → ℕ → List ℕ → Result KeptEntry Refusal → List ℕ
+recalled_line element number name (Ok kept) = operation_line element number kept
+recalled_line element number name (Err refusal) = request_refused element number refusal name
 
 -- E confirmed UPTO
 abbrev pub confirmed_line : ℕ → ℕ → List ℕ
@@ -42,6 +55,22 @@ served_line name (Confirm element upto) (Err refusal) = element_refused element 
 abbrev pub window_line : ℕ → List ℕ → Result (ℕ × ℕ) Refusal → List ℕ
 window_line element name (Ok (base, next)) = decimal element ++ codes " window " ++ decimal base ++ codes " " ++ decimal next ++ line_feed
 window_line element name (Err refusal) = element_refused element refusal name
+
+-- version V cells C
+abbrev pub cells_said : About → List ℕ
+cells_said a = codes "version " ++ decimal a.version ++ codes " cells " ++ decimal a.cells
+
+-- elements E slots S
+abbrev pub elements_said : About → List ℕ
+elements_said a = codes " elements " ++ decimal a.elements ++ codes " slots " ++ decimal a.slots
+
+-- count N room R: how far it has come
+abbrev pub progress_said : About → List ℕ
+progress_said a = codes " count " ++ decimal a.count ++ codes " room " ++ decimal a.room ++ line_feed
+
+-- what is told about an image
+abbrev pub about_line : About → List ℕ
+about_line a = codes "about " ++ cells_said a ++ elements_said a ++ progress_said a
 
 -- what a turn did
 abbrev pub turn_text : TurnDone → List ℕ
@@ -61,8 +90,10 @@ wrong_line number words = codes "error " ++ decimal number ++ codes ": " ++ word
 abbrev pub answer_text : List ℕ → Answer → List ℕ
 answer_text name (Served command outcome) = served_line name command outcome
 answer_text name (Kept who answer) = kept_line who.element who.number name answer
+answer_text name (Recalled who answer) = recalled_line who.element who.number name answer
 answer_text name (Window element answer) = window_line element name answer
 answer_text name (Room room) = codes "room " ++ decimal room ++ line_feed
 answer_text name (Turned done) = turn_text done ++ line_feed
 answer_text name (Count count) = codes "count " ++ decimal count ++ line_feed
+answer_text name (Facts about) = about_line about
 answer_text name (Wrong number fault) = wrong_line number name

@@ -1,12 +1,16 @@
 -- A dialogue over an engine: what was asked, what it was answered, and what a crash leaves of it. (Own.)
-use Rattle.std.specs.Prelude.{◌≡◌, ◌⊎◌, ℕ, ◌+◌, ◌≤◌, Bool, true, false, List, [], ◌∷◌, ◌++◌, length, Option, None, Some, Result, Err}
+use Rattle.std.specs.Prelude.{◌≡◌, ◌⊎◌, ℕ, ◌+◌, ◌≤◌, nat_lt, Bool, true, false, List, [], ◌∷◌, ◌++◌, length}
+use Rattle.std.specs.Prelude.{Option, None, Some, Result, Ok, Err, if◌then◌else◌}
 use Rattle.im_types.specs.declared.TheConstants.{MAX_GROUP}
 use Rattle.std.specs.Io.KnownBytes.{Appends}
 use Rattle.im_types.specs.declared.commands.Command.{Command}
 use Rattle.im_types.specs.declared.commands.Outcome.{Outcome}
 use Rattle.im_types.specs.declared.refusals.Refusal.{Refusal}
-use Rattle.im_types.specs.declared.refusals.Refusal.TheVariants.{JournalFull, Device, Failed}
-use Rattle.im_types.specs.Contents.{Contents}
+use Rattle.im_types.specs.declared.refusals.Refusal.TheVariants.{Gap, Forgotten, JournalFull, Device, Failed}
+use Rattle.im_types.specs.declared.operations.Waiter.{Waiter}
+use Rattle.im_types.specs.declared.operations.Kept.{Kept as KeptEntry}
+use Rattle.im_types.specs.Layout.{layout_in_use}
+use Rattle.im_types.specs.Contents.{Contents, Window as WindowOf, kept_for}
 use Rattle.im_types.specs.Window.{ask, bounds}
 use Rattle.im_types.specs.Step.{step, is_accepted}
 use Rattle.im_types.specs.Run.{after}
@@ -19,8 +23,10 @@ use Rattle.im_checkpoint.specs.declared.checkpoint.TurnDone.{TurnDone}
 use Rattle.im_dialogue.specs.declared.asking.Asked.{Asked}
 use Rattle.im_dialogue.specs.declared.asking.Asked.TheVariants as asks
 use Rattle.im_script.specs.declared.faults.LineFault.{LineFault}
+use Rattle.im_dialogue.specs.declared.about.About.{About}
 use Rattle.im_dialogue.specs.declared.answers.Answer.{Answer}
-use Rattle.im_dialogue.specs.declared.answers.Answer.TheVariants.{Served, Kept, Window, Room, Turned, Count, Wrong}
+use Rattle.im_dialogue.specs.declared.answers.Answer.TheVariants.{Served, Kept, Entry, Window, Room, Turned, Count}
+use Rattle.im_dialogue.specs.declared.answers.Answer.TheVariants.{About as Facts, Wrong}
 use Rattle.im_dialogue.specs.Asking.{asked_of}
 use Rattle.im_dialogue.specs.Answers.{answer_text}
 use Rattle.im_dialogue.specs.Watching.{watch_text}
@@ -38,14 +44,37 @@ pub record Exchange : Type 0 where
 abbrev pub IsOf : Contents → Command → Result Outcome Refusal → Type 0
 IsOf m command answer = (answer ≡ (step m command).answer) ⊎ ((is_accepted m command ≡ true) × (answer ≡ Err JournalFull))
 
+-- what is kept for a request with its operation; where nothing is, why, as for `collect`, by the bounds of the window
+abbrev pub recalled : ℕ → Result (ℕ × ℕ) Refusal → Option KeptEntry → Result KeptEntry Refusal
+recalled number (Err refusal) kept = Err refusal
+recalled number (Ok (base, next)) (Some kept) = Ok kept
+recalled number (Ok (base, next)) None = Err (if nat_lt number base then Forgotten else Gap)
+
+-- what was asked by a request and is kept for it, or why nothing is
+abbrev pub recall : List WindowOf → Waiter → Result KeptEntry Refusal
+recall windows who = recalled who.number (bounds windows who.element) (kept_for windows who)
+
+-- what is told about an image with this memory and so many slots after so many commands, with this room
+abbrev pub about_of : Contents → ℕ → ℕ → ℕ → About
+about_of m slots commands room = record {
+  version = layout_in_use.version;
+  cells = length m.cells;
+  elements = length m.windows;
+  slots = slots;
+  count = commands;
+  room = room;
+}
+
 -- the answer to what is asked, on this memory after so many commands
 abbrev pub Answers : Contents → ℕ → Option Asked → Answer → Type 0
 Answers m commands (Some (asks.Serve command)) answer = (outcome : Result Outcome Refusal) × (answer ≡ Served command outcome) × IsOf m command outcome
 Answers m commands (Some (asks.Collect who)) answer = answer ≡ Kept who (ask m.windows who)
+Answers m commands (Some (asks.Entry who)) answer = answer ≡ Entry who (recall m.windows who)
 Answers m commands (Some (asks.Window element)) answer = answer ≡ Window element (bounds m.windows element)
 Answers m commands (Some asks.Room) answer = (room : ℕ) × (answer ≡ Room room)
 Answers m commands (Some asks.Turn) answer = (done : TurnDone) × (answer ≡ Turned done)
 Answers m commands (Some asks.Count) answer = answer ≡ Count commands
+Answers m commands (Some asks.About) answer = (slots room : ℕ) × (answer ≡ Facts (about_of m slots commands room))
 Answers m commands (Some asks.Quit) answer = ⊥
 Answers m commands None answer = (number : ℕ) × ((fault : LineFault) × (answer ≡ Wrong number fault))
 

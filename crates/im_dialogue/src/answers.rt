@@ -1,13 +1,15 @@
 //! What a line is answered.
 ghost use Rattle.std.specs.Prelude.{◌≡◌, ◌++◌, OnOk, string_bytes};
 ghost use Rattle.im_text.specs.Printing.{refused_line, told_line};
-ghost use Rattle.im_dialogue.specs.Answers.{answer_text, confirmed_line, element_refused, kept_line};
+ghost use Rattle.im_dialogue.specs.Answers.{about_line, answer_text, cells_said, confirmed_line, element_refused};
+ghost use Rattle.im_dialogue.specs.Answers.{elements_said, kept_line, operation_line, progress_said};
 ghost use Rattle.im_dialogue.specs.Answers.{request_refused, served_line, turn_text, window_line, wrong_line};
 
+use crate::about::About;
 use im_checkpoint::TurnDone;
 use im_script::LineFault;
-use im_text::add_entry;
-use im_types::{Command, Entry, Outcome, Refusal, Waiter};
+use im_text::{add_entry, add_op};
+use im_types::{Command, Entry, Kept, Outcome, Refusal, Waiter};
 use std::alloc::AllocError;
 
 /// What a line of a dialogue is answered.
@@ -17,6 +19,8 @@ pub enum Answer {
     Served(Command, Result<Outcome, Refusal>),
     /// To `collect E.N`: what is kept.
     Kept(Waiter, Result<Entry, Refusal>),
+    /// To `entry E.N`: what was asked, and what is kept for it.
+    Entry(Waiter, Result<Kept, Refusal>),
     /// To `window E`: the first number that is kept, and the next one.
     Window(u16, Result<(u64, u64), Refusal>),
     /// To `room`: for so many more commands there is room.
@@ -25,6 +29,8 @@ pub enum Answer {
     Turned(TurnDone),
     /// To `count`: so many commands were accepted.
     Count(u64),
+    /// To `about`: what the image is, and how far it has come.
+    About(About),
     /// To the line with this number, from 1, which isn't in the grammar: where it goes wrong.
     Wrong(u64, LineFault),
 }
@@ -35,6 +41,7 @@ impl Answer {
         match *self {
             Answer::Served(_, Err(refusal)) => Some(refusal),
             Answer::Kept(_, Err(refusal)) => Some(refusal),
+            Answer::Entry(_, Err(refusal)) => Some(refusal),
             Answer::Window(_, Err(refusal)) => Some(refusal),
             _ => None,
         }
@@ -105,6 +112,20 @@ fn add_kept(
     }
 }
 
+// Adds `E.N entry OPERATION -> REPLY`.
+fn add_operation(out: &mut String, who: Waiter, kept: Kept) -> Result<(), AllocError>
+    ensures { OnOk result (string_bytes out.new
+        ≡ string_bytes out.old ++ operation_line who.element who.number kept) }
+{
+    let element = who.element;
+    let number = who.number;
+    write!(out, "{element}.{number} entry ")?;
+    add_op(out, kept.op)?;
+    out.push_str(" -> ")?;
+    add_entry(out, kept.entry)?;
+    out.push_str("\n")
+}
+
 // Adds `E confirmed UPTO`.
 fn add_confirmed(out: &mut String, element: u16, upto: u64) -> Result<(), AllocError>
     ensures { OnOk result (string_bytes out.new ≡ string_bytes out.old ++ confirmed_line element upto) }
@@ -155,6 +176,43 @@ fn add_window(
     }
 }
 
+// Adds `version V cells C`.
+fn add_cells(out: &mut String, about: About) -> Result<(), AllocError>
+    ensures { OnOk result (string_bytes out.new ≡ string_bytes out.old ++ cells_said about) }
+{
+    let version = about.version;
+    let cells = about.cells;
+    write!(out, "version {version} cells {cells}")
+}
+
+// Adds `elements E slots S`.
+fn add_elements(out: &mut String, about: About) -> Result<(), AllocError>
+    ensures { OnOk result (string_bytes out.new ≡ string_bytes out.old ++ elements_said about) }
+{
+    let elements = about.elements;
+    let slots = about.slots;
+    write!(out, " elements {elements} slots {slots}")
+}
+
+// Adds `count N room R`.
+fn add_progress(out: &mut String, about: About) -> Result<(), AllocError>
+    ensures { OnOk result (string_bytes out.new ≡ string_bytes out.old ++ progress_said about) }
+{
+    let count = about.count;
+    let room = about.room;
+    write!(out, " count {count} room {room}\n")
+}
+
+// Adds what is told about an image.
+fn add_about(out: &mut String, about: About) -> Result<(), AllocError>
+    ensures { OnOk result (string_bytes out.new ≡ string_bytes out.old ++ about_line about) }
+{
+    out.push_str("about ")?;
+    add_cells(out, about)?;
+    add_elements(out, about)?;
+    add_progress(out, about)
+}
+
 // Adds what a turn did.
 fn add_turn(out: &mut String, done: TurnDone) -> Result<(), AllocError>
     ensures { OnOk result (string_bytes out.new ≡ string_bytes out.old ++ turn_text done) }
@@ -184,6 +242,8 @@ pub fn add_answer(out: &mut String, answer: Answer, name: &str) -> Result<(), Al
     match answer {
         Answer::Served(command, answer) => add_served(out, command, answer, name),
         Answer::Kept(who, answer) => add_kept(out, who, answer, name),
+        Answer::Entry(who, Ok(kept)) => add_operation(out, who, kept),
+        Answer::Entry(who, Err(refusal)) => add_request_refused(out, who, refusal, name),
         Answer::Window(element, answer) => add_window(out, element, answer, name),
         Answer::Room(room) => write!(out, "room {room}\n"),
         Answer::Turned(done) => {
@@ -191,6 +251,7 @@ pub fn add_answer(out: &mut String, answer: Answer, name: &str) -> Result<(), Al
             out.push_str("\n")
         }
         Answer::Count(count) => write!(out, "count {count}\n"),
+        Answer::About(about) => add_about(out, about),
         Answer::Wrong(number, _) => add_wrong(out, number, name),
     }
 }

@@ -1,7 +1,7 @@
 //! What a line asks.
 ghost use Rattle.std.specs.Prelude.{◌≡◌, ◌==◌, ◌∷◌, [], IfOk};
 ghost use Rattle.im_types.specs.declared.commands.Command.TheVariants.{Request as Asks};
-ghost use Rattle.im_dialogue.specs.declared.asking.Asked.TheVariants.{Collect, Serve, Window};
+ghost use Rattle.im_dialogue.specs.declared.asking.Asked.TheVariants.{Collect, Entry, Serve, Window};
 ghost use Rattle.std.specs.List.{slice_split};
 ghost use Rattle.std.specs.Option.{option_and_then, option_map, option_or};
 ghost use Rattle.im_script.specs.Grammar.{texts, words_of};
@@ -20,6 +20,8 @@ pub enum Asked {
     Serve(Command),
     /// `collect E.N`: what is kept for a request.
     Collect(Waiter),
+    /// `entry E.N`: what was asked, and what is kept for it.
+    Entry(Waiter),
     /// `window E`: the first number that an element keeps, and its next one.
     Window(u16),
     /// `room`: for how many more commands the journal has room.
@@ -28,6 +30,8 @@ pub enum Asked {
     Turn,
     /// `count`: how many commands were accepted.
     Count,
+    /// `about`: the layout and sizes of the image, how many commands were accepted, and the room.
+    About,
     /// `quit`: the end of the dialogue.
     Quit,
 }
@@ -95,6 +99,8 @@ pub(crate) fn read_one(word: &[u8]) -> Option<Asked>
         Some(Asked::Turn)
     } else if word == b"count".as_slice() {
         Some(Asked::Count)
+    } else if word == b"about".as_slice() {
+        Some(Asked::About)
     } else if word == b"quit".as_slice() {
         Some(Asked::Quit)
     } else {
@@ -122,6 +128,16 @@ fn ask_collect(who: Option<Waiter>) -> Option<Asked>
     }
 }
 
+// What was asked by a request, and what is kept for it.
+fn ask_entry(who: Option<Waiter>) -> Option<Asked>
+    ensures { result ≡ option_map Entry who }
+{
+    match who {
+        Some(who) => Some(Asked::Entry(who)),
+        None => None,
+    }
+}
+
 // A line of two words.
 fn read_two(alloc: Global, word: &[u8], what: &[u8]) -> Result<Option<Asked>, AllocError>
     ensures { IfOk result (λ asked. asked ≡ asked_by_two word.now what.now) }
@@ -129,6 +145,9 @@ fn read_two(alloc: Global, word: &[u8], what: &[u8]) -> Result<Option<Asked>, Al
     if word == b"collect".as_slice() {
         let who = read_waiter(alloc, what)?;
         Ok(ask_collect(who))
+    } else if word == b"entry".as_slice() {
+        let who = read_waiter(alloc, what)?;
+        Ok(ask_entry(who))
     } else if word == b"window".as_slice() {
         Ok(read_window(what))
     } else {

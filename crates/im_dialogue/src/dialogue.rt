@@ -4,8 +4,8 @@ ghost use Rattle.im_disk.specs.Since.{LeavesNow};
 ghost use Rattle.im_engine.specs.State.{MeansState};
 ghost use Rattle.im_dialogue.specs.Dialogue.{Closed, NotOpened, Talked};
 
-use crate::resting::open_with_half;
-use crate::serving::serve_lines;
+use crate::resting::open_with_slots;
+use crate::serving::{Setting, serve_lines};
 use im_disk::Disk;
 use im_engine::Engine;
 use im_listening::Ear;
@@ -38,8 +38,11 @@ pub fn dialogue_on<D: Disk, R: BufRead + Ear, W: Write, N: Observer>(
         ⊎ Talked watch D.now D.past disk result.1 (W.contents out.old) (W.contents out.new) result.0 }
     ensures honest { D.honest result.1 → D.honest disk }
 {
-    match open_with_half(alloc, disk) {
-        Ok((engine, half)) => talk_on(alloc, engine, input, half, watch, out, observer),
+    match open_with_slots(alloc, disk) {
+        Ok((engine, slots)) => {
+            let setting = Setting { watch, slots };
+            talk_on(alloc, engine, input, setting, out, observer)
+        }
         Err((refusal, mut disk)) => {
             let reason = diagnose(alloc, &mut disk, refusal);
             (end(alloc, Err(reason), out, observer), disk)
@@ -52,8 +55,7 @@ fn talk_on<D: Disk, R: BufRead + Ear, W: Write, N: Observer>(
     alloc: Global,
     mut engine: Engine<D>,
     input: &mut R,
-    least: u32,
-    watch: bool,
+    setting: Setting,
     out: &mut W,
     observer: &mut N,
 ) -> (u8, D)
@@ -61,10 +63,10 @@ fn talk_on<D: Disk, R: BufRead + Ear, W: Write, N: Observer>(
     requires means { D.honest engine.disk → LeavesNow (D.now engine.disk) (MeansState engine) }
     ensures status { result.0 ≤ 1 }
     ensures closed { D.honest result.1
-        → Closed watch D.now D.past engine result.1 (W.contents out.old) (W.contents out.new) result.0 }
+        → Closed setting.watch D.now D.past engine result.1 (W.contents out.old) (W.contents out.new) result.0 }
     ensures honest { D.honest result.1 → D.honest engine.disk }
 {
-    match serve_lines(alloc, &mut engine, input, least, watch, out) {
+    match serve_lines(alloc, &mut engine, input, setting, out) {
         Ok(()) => (0, engine.close()),
         Err(reason) => (end(alloc, Err(reason), out, observer), engine.close()),
     }

@@ -15,7 +15,7 @@ fn behind(word: &[u8]) -> Option<&'static [Expected]> {
     if read_one(word).is_some() {
         return Some(&[]);
     }
-    if word == b"collect".as_slice() {
+    if word == b"collect".as_slice() || word == b"entry".as_slice() {
         Some(&[Expected::Waiter])
     } else if word == b"confirm".as_slice() {
         Some(&[Expected::Asker, Expected::Number])

@@ -1,6 +1,7 @@
 //! A dialogue over an image: a line asked, a line answered.
 #![tactic(auto)]
 
+mod about;
 mod answers;
 mod asking;
 mod dialogue;
@@ -12,8 +13,9 @@ mod talk;
 mod together;
 mod watching;
 
+pub use about::About;
 pub use answers::{Answer, add_answer};
 pub use asking::{Asked, read_asked};
 pub use dialogue::dialogue_on;
-pub use serving::serve_lines;
+pub use serving::{Setting, serve_lines};
 pub use talk::{answer, make_room};

@@ -47,7 +47,7 @@ fn line_len(text: &[u8]) -> usize
 
 /// Why the input of a dialogue can't be read.
 pub(crate) fn unread(kind: ErrorKind) -> Reason {
-    Reason::ScriptFile(kind)
+    Reason::Input(kind)
 }
 
 // Reads what there is of a line, up to its line feed.

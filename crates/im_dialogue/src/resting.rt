@@ -1,4 +1,4 @@
-//! When a dialogue makes room while nobody asks.
+//! How many slots the journal of an image has, and when a dialogue makes room while nobody asks.
 ghost use Rattle.std.specs.Prelude.{◌≡◌, ◌≤◌, ◌/◌, ℕ, false, length, IfOk, MatchResult};
 ghost use Rattle.im_types.specs.Layout.{image_length as length_of_image, layout_in_use};
 ghost use Rattle.im_types.specs.Sizes.{AreLimits};
@@ -22,25 +22,32 @@ fn slots_in(bytes: usize, least: Limits) -> u32
     least.slots + more.min((MAX_SLOTS - least.slots) as usize) as u32
 }
 
-// Half as many commands as the journal of an image of so many bytes has slots.
-fn half_of<D: Disk>(engine: &Engine<D>, bytes: usize) -> u32
+/// Half of what a journal of so many slots holds: with less room turns are taken while nobody asks.
+pub(crate) fn half_of(slots: u32) -> u32
+    ensures { result ≡ slots / 2 }
+{
+    slots / 2
+}
+
+// How many slots the journal of an image of so many bytes has.
+fn slots_of<D: Disk>(engine: &Engine<D>, bytes: usize) -> u32
     ensures { (slots : ℕ) → AreLimits (length engine.now.memory.cells) (length engine.now.memory.windows) slots
         → bytes ≡ length_of_image layout_in_use (record {
           cells = length engine.now.memory.cells;
           elements = length engine.now.memory.windows;
           slots = slots;
         })
-        → result ≡ slots / 2 }
+        → result ≡ slots }
 {
     let memory = engine.memory();
     match Limits::new(memory.cells(), memory.elements(), MIN_SLOTS) {
-        Some(least) => slots_in(bytes, least) / 2,
+        Some(least) => slots_in(bytes, least),
         None => 0,
     }
 }
 
-/// Opens the image of a disk. With the engine comes half of the commands that its journal has room for.
-pub(crate) fn open_with_half<D: Disk>(
+/// Opens the image of a disk. With the engine comes how many slots its journal has.
+pub(crate) fn open_with_slots<D: Disk>(
     alloc: Global,
     mut disk: D,
 ) -> Result<(Engine<D>, u32), (Refusal, D)>
@@ -55,8 +62,8 @@ pub(crate) fn open_with_half<D: Disk>(
     // A stop in it leaves what a stop before it leaves: an opening writes nothing.
     match Engine::open(alloc, disk) {
         Ok(engine) => {
-            let half = half_of(&engine, bytes);
-            Ok((engine, half))
+            let slots = slots_of(&engine, bytes);
+            Ok((engine, slots))
         }
         Err(refused) => Err(refused),
     }

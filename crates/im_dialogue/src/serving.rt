@@ -10,6 +10,7 @@ use crate::answers::{Answer, add_answer};
 use crate::asking::{Asked, read_asked};
 use crate::explaining::explain;
 use crate::lines::next_line;
+use crate::resting::half_of;
 use crate::talk::{answer, make_room, turn_while_quiet, wrong};
 use crate::together::{gather, serve_members};
 use crate::watching::{make_nows, told_with};
@@ -64,6 +65,15 @@ fn say<W: Write>(
     }
 }
 
+/// How a dialogue is held.
+#[derive(Clone, Copy, Debug, PartialEq, Eq)]
+pub struct Setting {
+    /// It is watched: who waited is told when its answer comes.
+    pub watch: bool,
+    /// How many slots the journal of the image has.
+    pub slots: u32,
+}
+
 // What is made anew for each line, in memory that is kept from line to line.
 #[derive(Drop)]
 struct Drafts {
@@ -80,20 +90,22 @@ fn serve_asked<D: Disk, W: Write>(
     alloc: Global,
     engine: &mut Engine<D>,
     asked: Asked,
-    watch: bool,
+    setting: Setting,
     text: &mut String,
     nows: &mut String,
     out: &mut W,
 ) -> Result<bool, Reason>
     ensures { (line : List ℕ) → asked_of line ≡ Some asked → MatchResult result
-        (λ _. TalksOn watch D.now D.past D.honest engine.old (W.contents out.old) engine.new (W.contents out.new))
-        (λ _. TalkEnds watch D.now D.past D.honest engine.old (W.contents out.old) engine.new (W.contents out.new)) }
+        (λ _. TalksOn setting.watch D.now D.past D.honest
+        engine.old (W.contents out.old) engine.new (W.contents out.new))
+        (λ _. TalkEnds setting.watch D.now D.past D.honest
+        engine.old (W.contents out.old) engine.new (W.contents out.new)) }
 {
     // Who waits is looked up before the command acts: then they are resumed.
-    if let Err(_) = make_nows(nows, engine.memory(), asked, watch) {
+    if let Err(_) = make_nows(nows, engine.memory(), asked, setting.watch) {
         return Err(Reason::Memory);
     }
-    match answer(engine, asked) {
+    match answer(engine, setting.slots, asked) {
         Ok(None) => Ok(false),
         // The command is on the disk before its line is printed: a stop between them leaves it to be asked again.
         Ok(Some(answer)) => match say(alloc, text, answer, told_with(answer, nows.as_str()), out) {
@@ -150,18 +162,20 @@ fn serve_line<D: Disk, W: Write>(
     alloc: Global,
     engine: &mut Engine<D>,
     number: u64,
-    watch: bool,
+    setting: Setting,
     line: &[u8],
     text: &mut String,
     nows: &mut String,
     out: &mut W,
 ) -> Result<bool, Reason>
     ensures { MatchResult result
-        (λ _. TalksOn watch D.now D.past D.honest engine.old (W.contents out.old) engine.new (W.contents out.new))
-        (λ _. TalkEnds watch D.now D.past D.honest engine.old (W.contents out.old) engine.new (W.contents out.new)) }
+        (λ _. TalksOn setting.watch D.now D.past D.honest
+        engine.old (W.contents out.old) engine.new (W.contents out.new))
+        (λ _. TalkEnds setting.watch D.now D.past D.honest
+        engine.old (W.contents out.old) engine.new (W.contents out.new)) }
 {
     match read_asked(alloc, line) {
-        Ok(Some(asked)) => serve_asked(alloc, engine, asked, watch, text, nows, out),
+        Ok(Some(asked)) => serve_asked(alloc, engine, asked, setting, text, nows, out),
         Ok(None) => match explain_line(alloc, engine, number, line, text, out) {
             Ok(()) => Ok(true),
             Err(reason) => Err(reason),
@@ -176,16 +190,18 @@ fn serve_together<D: Disk, R: BufRead, W: Write>(
     alloc: Global,
     engine: &mut Engine<D>,
     input: &mut R,
-    watch: bool,
+    setting: Setting,
     text: &mut String,
     out: &mut W,
 ) -> Result<u64, Reason>
     ensures { MatchResult result
-        (λ _. TalksOn watch D.now D.past D.honest engine.old (W.contents out.old) engine.new (W.contents out.new))
-        (λ _. TalkEnds watch D.now D.past D.honest engine.old (W.contents out.old) engine.new (W.contents out.new)) }
+        (λ _. TalksOn setting.watch D.now D.past D.honest
+        engine.old (W.contents out.old) engine.new (W.contents out.new))
+        (λ _. TalkEnds setting.watch D.now D.past D.honest
+        engine.old (W.contents out.old) engine.new (W.contents out.new)) }
 {
     let mut members: ArrayVec<Request, 16> = ArrayVec::new();
-    let taken = match gather(alloc, input, watch, MAX_GROUP, &mut members) {
+    let taken = match gather(alloc, input, setting.watch, MAX_GROUP, &mut members) {
         Ok(taken) => taken,
         Err(reason) => return Err(reason),
     };
@@ -200,7 +216,7 @@ fn serve_together<D: Disk, R: BufRead, W: Write>(
         return Ok(0); // Each by itself is given what room turns can make.
     }
     input.consume(taken);
-    match serve_members(alloc, engine, watch, &members, text, out) {
+    match serve_members(alloc, engine, setting.watch, &members, text, out) {
         Ok(()) => Ok(many as u64),
         Err(reason) => Err(reason),
     }
@@ -212,13 +228,15 @@ fn serve_alone<D: Disk, R: BufRead, W: Write>(
     engine: &mut Engine<D>,
     input: &mut R,
     number: u64,
-    watch: bool,
+    setting: Setting,
     drafts: &mut Drafts,
     out: &mut W,
 ) -> Result<u64, Reason>
     ensures { MatchResult result
-        (λ _. TalksOn watch D.now D.past D.honest engine.old (W.contents out.old) engine.new (W.contents out.new))
-        (λ _. TalkEnds watch D.now D.past D.honest engine.old (W.contents out.old) engine.new (W.contents out.new)) }
+        (λ _. TalksOn setting.watch D.now D.past D.honest
+        engine.old (W.contents out.old) engine.new (W.contents out.new))
+        (λ _. TalkEnds setting.watch D.now D.past D.honest
+        engine.old (W.contents out.old) engine.new (W.contents out.new)) }
 {
     match next_line(input, &mut drafts.line) {
         Ok(true) => {}
@@ -230,7 +248,7 @@ fn serve_alone<D: Disk, R: BufRead, W: Write>(
         alloc,
         engine,
         number,
-        watch,
+        setting,
         line,
         &mut drafts.text,
         &mut drafts.nows,
@@ -248,42 +266,45 @@ fn serve_next<D: Disk, R: BufRead, W: Write>(
     engine: &mut Engine<D>,
     input: &mut R,
     number: u64,
-    watch: bool,
+    setting: Setting,
     drafts: &mut Drafts,
     out: &mut W,
 ) -> Result<u64, Reason>
     ensures { MatchResult result
-        (λ _. TalksOn watch D.now D.past D.honest engine.old (W.contents out.old) engine.new (W.contents out.new))
-        (λ _. TalkEnds watch D.now D.past D.honest engine.old (W.contents out.old) engine.new (W.contents out.new)) }
+        (λ _. TalksOn setting.watch D.now D.past D.honest
+        engine.old (W.contents out.old) engine.new (W.contents out.new))
+        (λ _. TalkEnds setting.watch D.now D.past D.honest
+        engine.old (W.contents out.old) engine.new (W.contents out.new)) }
 {
-    match serve_together(alloc, engine, input, watch, &mut drafts.text, out) {
-        Ok(0) => serve_alone(alloc, engine, input, number, watch, drafts, out),
+    match serve_together(alloc, engine, input, setting, &mut drafts.text, out) {
+        Ok(0) => serve_alone(alloc, engine, input, number, setting, drafts, out),
         Ok(many) => Ok(many),
         Err(reason) => Err(reason),
     }
 }
 
-// Takes turns while nothing is there to be read and there is room for less than so many commands, and serves what is
-// read next. How many lines, or none where the dialogue is at its end.
+// Takes turns while nothing is there to be read and there is room for less than half of what the journal holds, and
+// serves what is read next. How many lines, or none where the dialogue is at its end.
 fn serve_rested<D: Disk, R: BufRead + Ear, W: Write>(
     alloc: Global,
     engine: &mut Engine<D>,
     input: &mut R,
     number: u64,
-    least: u32,
-    watch: bool,
+    setting: Setting,
     drafts: &mut Drafts,
     out: &mut W,
 ) -> Result<u64, Reason>
     ensures { MatchResult result
-        (λ _. TalksOn watch D.now D.past D.honest engine.old (W.contents out.old) engine.new (W.contents out.new))
-        (λ _. TalkEnds watch D.now D.past D.honest engine.old (W.contents out.old) engine.new (W.contents out.new)) }
+        (λ _. TalksOn setting.watch D.now D.past D.honest
+        engine.old (W.contents out.old) engine.new (W.contents out.new))
+        (λ _. TalkEnds setting.watch D.now D.past D.honest
+        engine.old (W.contents out.old) engine.new (W.contents out.new)) }
 {
     // All that was asked is answered by now: nobody waits for these turns.
-    if let Err(refusal) = turn_while_quiet(engine, input, least) {
+    if let Err(refusal) = turn_while_quiet(engine, input, half_of(setting.slots)) {
         return Err(Reason::Image(refusal, Damage::Unknown));
     }
-    serve_next(alloc, engine, input, number, watch, drafts, out)
+    serve_next(alloc, engine, input, number, setting, drafts, out)
 }
 
 /// Serves a dialogue on an engine, until the input ends or `quit` is asked. Each line of the input is answered by one
@@ -296,9 +317,9 @@ fn serve_rested<D: Disk, R: BufRead + Ear, W: Write>(
 /// waits for another. All other lines are answered before the next one is read.
 ///
 /// While nothing is there to be read, as the reader tells, turns of a checkpoint are taken if there is room for less
-/// than so many commands (`least`).
+/// than half as many commands as the journal has slots.
 ///
-/// Where it is watched (`watch`), the line of a request is followed by a line `E.N now REPLY` for each request that
+/// Where it is watched, the line of a request is followed by a line `E.N now REPLY` for each request that
 /// waited and is answered by it, in the order in which they came. A request that may bring such lines is then served by
 /// itself.
 ///
@@ -310,13 +331,14 @@ pub fn serve_lines<D: Disk, R: BufRead + Ear, W: Write>(
     alloc: Global,
     engine: &mut Engine<D>,
     input: &mut R,
-    least: u32,
-    watch: bool,
+    setting: Setting,
     out: &mut W,
 ) -> Result<(), Reason>
     ensures { MatchResult result
-        (λ _. TalksOn watch D.now D.past D.honest engine.old (W.contents out.old) engine.new (W.contents out.new))
-        (λ _. TalkEnds watch D.now D.past D.honest engine.old (W.contents out.old) engine.new (W.contents out.new)) }
+        (λ _. TalksOn setting.watch D.now D.past D.honest
+        engine.old (W.contents out.old) engine.new (W.contents out.new))
+        (λ _. TalkEnds setting.watch D.now D.past D.honest
+        engine.old (W.contents out.old) engine.new (W.contents out.new)) }
 {
     let mut drafts = Drafts {
         line: Vec::new(alloc),
@@ -325,7 +347,7 @@ pub fn serve_lines<D: Disk, R: BufRead + Ear, W: Write>(
     };
     let mut number: u64 = 1;
     for _served in 0..u64::MAX {
-        match serve_rested(alloc, engine, input, number, least, watch, &mut drafts, out) {
+        match serve_rested(alloc, engine, input, number, setting, &mut drafts, out) {
             Ok(0) => return Ok(()),
             Ok(many) => number = number.saturating_add(many),
             Err(reason) => return Err(reason),

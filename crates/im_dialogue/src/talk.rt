@@ -1,18 +1,21 @@
 //! What is asked, done on an engine.
 ghost use Rattle.std.specs.Prelude.{◌≡◌, ◌≤◌, true, Some, None, MatchOption, MatchResult};
-ghost use Rattle.im_dialogue.specs.declared.asking.Asked.TheVariants.{Collect, Count, Quit, Room, Serve, Turn, Window};
+ghost use Rattle.im_dialogue.specs.declared.asking.Asked.TheVariants.{Collect, Count, Quit, Room};
+ghost use Rattle.im_dialogue.specs.declared.asking.Asked.TheVariants.{Serve, Turn, Window};
 ghost use Rattle.im_dialogue.specs.declared.answers.Answer.TheVariants as answer;
-ghost use Rattle.im_dialogue.specs.Talk.{GoesOn, Halts, Says, is_end};
+ghost use Rattle.im_dialogue.specs.Talk.{GoesOn, Halts, Says, about_of, is_end, recall};
 
+use crate::about::About;
 use crate::answers::Answer;
 use crate::asking::Asked;
 use im_checkpoint::TurnDone;
 use im_disk::Disk;
 use im_engine::Engine;
 use im_listening::Ear;
+use im_memory::Memory;
 use im_script::LineFault;
-use im_types::layout::MOST_AREA_PAGES;
-use im_types::{Command, Refusal, Waiter};
+use im_types::layout::{MOST_AREA_PAGES, Version};
+use im_types::{Command, Kept, Refusal, Waiter};
 
 // As many turns as two checkpoints take at the largest sizes: the rest of one that is under way, and a whole one.
 const MOST_TURNS: usize = 2 * (MOST_AREA_PAGES + 4);
@@ -143,6 +146,31 @@ fn collect<D: Disk>(engine: &Engine<D>, who: Waiter) -> Answer
     Answer::Kept(who, engine.collect(who.element, who.number))
 }
 
+// What was asked by a request and is kept for it: refused with `NoElement`, with `Forgotten` below the window, and with
+// `Gap` where the number isn't used yet.
+fn recall(memory: &Memory, who: Waiter) -> Result<Kept, Refusal>
+    ensures { result ≡ recall memory.now.contents.windows who }
+{
+    let (base, _next) = memory.window(who.element)?;
+    match memory.kept(who.element, who.number) {
+        Some(kept) => Ok(kept),
+        None => {
+            if who.number < base {
+                Err(Refusal::Forgotten)
+            } else {
+                Err(Refusal::Gap)
+            }
+        }
+    }
+}
+
+// Answers what was asked by a request, and what is kept for it.
+fn entry<D: Disk>(engine: &Engine<D>, who: Waiter) -> Answer
+    ensures { result ≡ answer.Entry who (recall engine.now.memory.windows who) }
+{
+    Answer::Entry(who, recall(engine.memory(), who))
+}
+
 // Answers an element's window.
 fn window<D: Disk>(engine: &Engine<D>, element: u16) -> Answer
     ensures { Says D.now D.past D.honest engine.now engine.now (Some (Window element)) result }
@@ -165,6 +193,21 @@ fn room<D: Disk>(engine: &Engine<D>) -> Answer
     Answer::Room(engine.room())
 }
 
+// Answers what the image is, whose journal has so many slots, and how far it has come.
+fn about<D: Disk>(engine: &Engine<D>, slots: u32) -> Answer
+    ensures { result ≡ answer.About (about_of engine.now.memory slots engine.now.count engine.now.room) }
+{
+    let memory = engine.memory();
+    Answer::About(About {
+        version: Version::Two.number(),
+        cells: memory.cells(),
+        elements: memory.elements(),
+        slots,
+        count: engine.count(),
+        room: engine.room(),
+    })
+}
+
 /// Answers the line with this number, which isn't in the grammar: where it goes wrong.
 pub fn wrong<D: Disk>(engine: &Engine<D>, number: u64, fault: LineFault) -> Answer
     ensures answered { Says D.now D.past D.honest engine.now engine.now None result }
@@ -174,11 +217,15 @@ pub fn wrong<D: Disk>(engine: &Engine<D>, number: u64, fault: LineFault) -> Answ
 }
 
 /// Does on an engine what is asked, and answers it; `None` where that is the end of the dialogue. Before a command
-/// turns of a checkpoint are taken while there is no room for one.
+/// turns of a checkpoint are taken while there is no room for one. `slots` is how many the journal has.
 ///
 /// `Device` or `Failed`, where a call of the disk failed: then a command is in doubt, at most, and what was said before
 /// stays. Any other refusal is an answer.
-pub fn answer<D: Disk>(engine: &mut Engine<D>, asked: Asked) -> Result<Option<Answer>, Refusal>
+pub fn answer<D: Disk>(
+    engine: &mut Engine<D>,
+    slots: u32,
+    asked: Asked,
+) -> Result<Option<Answer>, Refusal>
     ensures answered { MatchResult result
         (λ given. MatchOption given ((asked ≡ Quit) × (engine.new ≡ engine.old))
         (λ answer. Says D.now D.past D.honest engine.old engine.new (Some asked) answer))
@@ -195,9 +242,11 @@ pub fn answer<D: Disk>(engine: &mut Engine<D>, asked: Asked) -> Result<Option<An
             Err(refusal) => Err(refusal),
         },
         Asked::Collect(who) => Ok(Some(collect(engine, who))),
+        Asked::Entry(who) => Ok(Some(entry(engine, who))),
         Asked::Window(element) => Ok(Some(window(engine, element))),
         Asked::Room => Ok(Some(room(engine))),
         Asked::Count => Ok(Some(count(engine))),
+        Asked::About => Ok(Some(about(engine, slots))),
         Asked::Quit => Ok(None),
     }
 }

@@ -86,3 +86,8 @@ replay first outcomes (e ∷ earlier) = after_call e.call e.at e.ok e.bytes (rep
 abbrev pub is_usable : List Event → Bool
 is_usable [] = true
 is_usable (e ∷ earlier) = (e.ok || not (e.call == 4)) && is_usable earlier
+
+-- The length was asked for and answered since the last sync, and so before whatever was written since.
+abbrev pub is_measured : List Event → Bool
+is_measured [] = false
+is_measured (e ∷ earlier) = (e.call == 1 && e.ok) || (not (e.call == 4) && is_measured earlier)

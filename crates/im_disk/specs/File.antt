@@ -1,8 +1,9 @@
 -- A file of the operating system, as the account of its calls has it.
-use Rattle.std.specs.Prelude.{Bool, not}
+use Rattle.std.specs.Prelude.{◌≡◌, ℕ, Bool, not, List}
 use Rattle.im_disk.specs.declared.file.FileDisk.{FileDisk}
 use Rattle.im_disk.specs.declared.start.Start.{Ghosts}
-use Rattle.im_disk.specs.Account.{Account, replay, is_usable}
+use Rattle.im_disk.specs.Account.{Account, IsHonest, replay, is_usable}
+use Rattle.im_disk.specs.Moment.{Ticks, MayTick, Torn, written}
 
 module _ {S : Type 0} where
   -- what an honest file with this start would have come to, after the calls so far
@@ -12,3 +13,21 @@ module _ {S : Type 0} where
   -- a sync of the file has failed since it was opened: what was written may be lost
   abbrev pub has_failed_sync : (start : Ghosts S) → FileDisk S start → Bool
   has_failed_sync start f = not (is_usable f.ledger.events)
+
+  -- The file is as it was, and was honest where it is.
+  abbrev pub IsAsBefore : (start : Ghosts S) → FileDisk S start → FileDisk S start → Type 0
+  IsAsBefore start old new = IsHonest (account_of start new) → IsHonest (account_of start old)
+      × (((account_of start new).now ≡ (account_of start old).now)
+      × ((account_of start new).past ≡ (account_of start old).past))
+
+  -- These bytes were written.
+  abbrev pub HasWritten : (start : Ghosts S) → ℕ → List ℕ → FileDisk S start → FileDisk S start → Type 0
+  HasWritten start at bytes old new = IsHonest (account_of start new)
+      → Ticks (λ m n. n ≡ written at bytes m) (account_of start old).now (account_of start new).now
+      (account_of start old).past (account_of start new).past
+
+  -- A range of this length may hold anything, and the file was honest where it is.
+  abbrev pub HasTorn : (start : Ghosts S) → ℕ → ℕ → FileDisk S start → FileDisk S start → Type 0
+  HasTorn start at n old new = IsHonest (account_of start new) → IsHonest (account_of start old)
+      × MayTick (Torn at n) (account_of start old).now (account_of start new).now
+      (account_of start old).past (account_of start new).past

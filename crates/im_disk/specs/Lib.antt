@@ -7,3 +7,4 @@ pub mod Gate
 pub mod Account
 pub mod Failing
 pub mod File
+pub mod Runs

@@ -1,9 +1,11 @@
 //! A disk over a file of the operating system.
-ghost use Rattle.std.specs.Prelude.{◌≡◌, ◌∷◌, [], not, nat_lt, is_some, replicate, IsTrue, IfOk};
-ghost use Rattle.im_disk.specs.Account.{event_of, is_usable};
+ghost use Rattle.std.specs.Prelude.{◌≡◌, ◌+◌, ◌≤◌, ◌∷◌, [], not, nat_lt, is_some, length, replicate};
+ghost use Rattle.std.specs.Prelude.{IsTrue, IsOk, IfOk, OnOk};
+ghost use Rattle.im_disk.specs.Account.{IsHonest, event_of, is_measured, is_usable};
 ghost use Rattle.im_disk.specs.Failing.{is_of_sync};
 
 use crate::account::Ledger;
+use crate::calls::{MADE, MEASURED, READ, SYNCED, WRITTEN, is_inside, note, note_written};
 use crate::failing::Failing;
 use crate::opening::{made, made_new, readable, removed, settled};
 use crate::{DeviceFault, Disk, Failure, OpenFault, Start};
@@ -11,17 +13,6 @@ use std::fs::File;
 use std::marker::PhantomData;
 use std::os::unix::fs::FileExt;
 use std::rt::Files;
-
-// How a call is noted.
-const MADE: u64 = 0;
-
-const MEASURED: u64 = 1;
-
-const READ: u64 = 2;
-
-const WRITTEN: u64 = 3;
-
-const SYNCED: u64 = 4;
 
 /// A file of the operating system.
 ///
@@ -39,22 +30,26 @@ pub struct FileDisk<S: Start> {
     len: u64,
     /// No sync has failed, and each length was that one. Else each call fails, and asks nothing of the file.
     usable: bool,
+    /// Its length was looked at since the last sync. Else nothing is written.
+    measured: bool,
     failing: Failing,
     ledger: Ledger,
     start: PhantomData<S>,
+    ghost looked: { IsTrue measured → IsTrue (is_measured ledger.events) },
     ghost held: { IsTrue usable → IsTrue (is_usable ledger.events) },
     ghost told: { is_of_sync failing.first ≡ not (is_usable ledger.events) },
 }
 
 impl<S: Start> FileDisk<S> {
-    ghost use Rattle.im_disk.specs.File.{has_failed_sync};
+    ghost use Rattle.im_disk.specs.File.{HasTorn, HasWritten, IsAsBefore, account_of, has_failed_sync};
+    ghost use Rattle.im_disk.specs.Moment.{Counts};
 
     /// Makes a file of so many zero bytes at the path, also over one that is there, and puts it and its name on the
     /// disk. It is locked before a byte is changed, for as long as the disk lives.
     ///
-    /// `InUse` where another opening has its lock, and `NotFile` where what is there is no regular file: then nothing
-    /// is changed. `System` where a call of the system fails, and what is at the path may then be any file. That the
-    /// bytes are zero and none is in doubt is what an honest file would have, as everywhere.
+    /// `InUse` where another opening has its lock for longer than the start waits, and `NotFile` where what is there
+    /// is no regular file: then nothing is changed. `System` where a call of the system fails, and what is at the path
+    /// may then be any file. That the bytes are zero and none is in doubt is what an honest file would have.
     pub fn create<R: Files<File = File>>(
         rt: &R,
         path: &str,
@@ -67,7 +62,8 @@ impl<S: Start> FileDisk<S> {
         ensures past { IfOk result (λ disk. ⟦<FileDisk<S> as Disk>⟧.past disk ≡ []) }
         ensures honest { IfOk result (λ disk. ⟦<FileDisk<S> as Disk>⟧.honest disk) }
     {
-        let file = made(rt, path, len)?;
+        let mut start = start;
+        let file = made(rt, path, len, &mut start)?;
         Ok(noted(over(file, len as u64, start), len))
     }
 
@@ -93,9 +89,9 @@ impl<S: Start> FileDisk<S> {
     }
 
     /// Opens the file at the path to read and write it, and puts it on the disk. It is locked for as long as the disk
-    /// lives. `InUse` where another opening has its lock, `NotFile` where it is no regular file, `Sync` where putting
-    /// it on the disk fails, `System` where another call of the system does. Its bytes aren't changed, and none is
-    /// read.
+    /// lives. `InUse` where another opening has its lock for longer than the start waits, `NotFile` where it is no
+    /// regular file, `Sync` where putting it on the disk fails, `System` where another call of the system does. Its
+    /// bytes aren't changed, and none is read.
     pub fn open<R: Files<File = File>>(
         rt: &R,
         path: &str,
@@ -106,13 +102,14 @@ impl<S: Start> FileDisk<S> {
         ensures past { IfOk result (λ disk. ⟦<FileDisk<S> as Disk>⟧.past disk ≡ []) }
         ensures honest { IfOk result (λ disk. ⟦<FileDisk<S> as Disk>⟧.honest disk) }
     {
-        let (file, len) = settled(rt, path)?;
+        let mut start = start;
+        let (file, len) = settled(rt, path, &mut start)?;
         Ok(over(file, len, start))
     }
 
     /// Opens the file at the path to read it alone: each write to it fails. Others may read it at the same time.
-    /// `InUse` where one that writes it has its lock, `NotFile` where it is no regular file, `System` where a call of
-    /// the system fails. No byte is read.
+    /// `InUse` where one that writes it has its lock for longer than the start waits, `NotFile` where it is no regular
+    /// file, `System` where a call of the system fails. No byte is read.
     pub fn open_to_read<R: Files<File = File>>(
         rt: &R,
         path: &str,
@@ -123,7 +120,8 @@ impl<S: Start> FileDisk<S> {
         ensures past { IfOk result (λ disk. ⟦<FileDisk<S> as Disk>⟧.past disk ≡ []) }
         ensures honest { IfOk result (λ disk. ⟦<FileDisk<S> as Disk>⟧.honest disk) }
     {
-        let (file, len) = readable(rt, path)?;
+        let mut start = start;
+        let (file, len) = readable(rt, path, &mut start)?;
         Ok(over(file, len, start))
     }
 
@@ -136,8 +134,78 @@ impl<S: Start> FileDisk<S> {
         self.failing.first()
     }
 
-    /// Takes the name at the path away, where it is this file's, and puts that on the disk. `Exists` where another file
-    /// has that name: then nothing is changed. `System` where a call of the system fails.
+    // Looks whether the length is that of the opening. Where it isn't, each later call fails.
+    fn look(&mut self) -> Result<(), DeviceFault>
+        ensures len { IfOk result (λ _. IsHonest (account_of S.Start self.new)
+            → self.new.len ≡ length (account_of S.Start self.old).now.bytes) }
+        ensures measured { IsOk result → IsTrue (is_measured self.new.ledger.events) }
+        ensures same { IsAsBefore S.Start self.old self.new }
+        ensures failures { Counts result self.old.failing.failures self.new.failing.failures }
+    {
+        if !self.usable {
+            return Err(self.failing.fail(Failure::Length));
+        }
+        match self.file.metadata() {
+            Ok(data) => {
+                let len = data.len();
+                note(&mut self.ledger, &[MEASURED, len, 1], &[]);
+                if len != self.len {
+                    self.usable = false;
+                    return Err(self.failing.fail(Failure::Length));
+                }
+                Ok(())
+            }
+            Err(_) => {
+                note(&mut self.ledger, &[MEASURED, 0, 0], &[]);
+                Err(self.failing.fail(Failure::Length))
+            }
+        }
+    }
+
+    // Looks at the length where that wasn't done since the last sync: a file that was cut isn't written behind its end.
+    fn measure(&mut self) -> Result<(), DeviceFault>
+        ensures measured { IsOk result → IsTrue (is_measured self.new.ledger.events) }
+        ensures same { IsAsBefore S.Start self.old self.new }
+        ensures failures { Counts result self.old.failing.failures self.new.failing.failures }
+    {
+        if self.measured {
+            return Ok(());
+        }
+        match self.look() {
+            Ok(()) => {
+                self.measured = true;
+                Ok(())
+            }
+            Err(fault) => Err(fault),
+        }
+    }
+
+    // Writes the bytes from `at` on.
+    fn put(&mut self, at: usize, bytes: &[u8]) -> Result<(), DeviceFault>
+        requires measured { IsTrue (is_measured self.old.ledger.events) }
+        requires inside { IsHonest (account_of S.Start self.old)
+            → at + length bytes.now ≤ length (account_of S.Start self.old).now.bytes }
+        ensures tick { OnOk result (HasWritten S.Start at bytes.now self.old self.new) }
+        ensures moment { HasTorn S.Start at (length bytes.now) self.old self.new }
+        ensures failures { Counts result self.old.failing.failures self.new.failing.failures }
+    {
+        if !self.usable || !is_inside(at, bytes.len(), self.len) {
+            return Err(self.failing.fail(Failure::Length));
+        }
+        match self.file.write_all_at(bytes, at as u64) {
+            Ok(()) => {
+                note_written(&mut self.ledger, &[WRITTEN, at as u64, 1], bytes);
+                Ok(())
+            }
+            Err(error) => {
+                note_written(&mut self.ledger, &[WRITTEN, at as u64, 0], bytes);
+                Err(self.failing.fail(Failure::Write(error.kind())))
+            }
+        }
+    }
+
+    /// Takes the name at the path away, where it is this file's, and puts that on the disk. `Exists` where another
+    /// file has that name: then nothing is changed. `System` where a call of the system fails.
     pub fn remove<R: Files<File = File>>(self, rt: &R, path: &str) -> Result<(), OpenFault> {
         removed(rt, path, &self.file)
     }
@@ -152,6 +220,7 @@ fn over<S: Start>(file: File, len: u64, _start: S) -> FileDisk<S>
         file,
         len,
         usable: true,
+        measured: false,
         failing: Failing::new(),
         ledger: Ledger::new(),
         start: PhantomData,
@@ -170,22 +239,7 @@ fn noted<S: Start>(disk: FileDisk<S>, len: usize) -> FileDisk<S>
     disk
 }
 
-// Notes a call of the system. There is none after a sync that failed.
-fn note(ledger: &mut Ledger, numbers: &[u64], bytes: &[u8])
-    requires usable { IsTrue (is_usable ledger.old.events) }
-    ensures { ledger.new.events ≡ event_of numbers.now bytes.now ∷ ledger.old.events }
-{
-    ledger.note(numbers, bytes);
-}
-
-// Whether the range lies inside a file of this length.
-fn is_inside(at: usize, size: usize, len: u64) -> bool {
-    let (at, size) = (at as u64, size as u64);
-    size <= len && at <= len - size
-}
-
 impl<S: Start> Disk for FileDisk<S> {
-    ghost use Rattle.im_disk.specs.Account.{IsHonest};
     ghost use Rattle.im_disk.specs.File.{account_of};
 
     ghost now = { λ f. (account_of S.Start f).now };
@@ -197,23 +251,9 @@ impl<S: Start> Disk for FileDisk<S> {
     ghost honest = { λ f. IsHonest (account_of S.Start f) };
 
     fn len(&mut self) -> Result<usize, DeviceFault> {
-        if !self.usable {
-            return Err(self.failing.fail(Failure::Length));
-        }
-        match self.file.metadata() {
-            Ok(data) => {
-                let len = data.len();
-                note(&mut self.ledger, &[MEASURED, len, 1], &[]);
-                if len != self.len {
-                    self.usable = false;
-                    return Err(self.failing.fail(Failure::Length));
-                }
-                Ok(len as usize)
-            }
-            Err(_) => {
-                note(&mut self.ledger, &[MEASURED, 0, 0], &[]);
-                Err(self.failing.fail(Failure::Length))
-            }
+        match self.look() {
+            Ok(()) => Ok(self.len as usize),
+            Err(fault) => Err(fault),
         }
     }
 
@@ -234,22 +274,14 @@ impl<S: Start> Disk for FileDisk<S> {
     }
 
     fn write_at(&mut self, at: usize, bytes: &[u8]) -> Result<(), DeviceFault> {
-        if !self.usable || !is_inside(at, bytes.len(), self.len) {
-            return Err(self.failing.fail(Failure::Length));
-        }
-        match self.file.write_all_at(bytes, at as u64) {
-            Ok(()) => {
-                note(&mut self.ledger, &[WRITTEN, at as u64, 1], bytes);
-                Ok(())
-            }
-            Err(error) => {
-                note(&mut self.ledger, &[WRITTEN, at as u64, 0], bytes);
-                Err(self.failing.fail(Failure::Write(error.kind())))
-            }
+        match self.measure() {
+            Ok(()) => self.put(at, bytes),
+            Err(fault) => Err(fault),
         }
     }
 
     fn sync(&mut self) -> Result<(), DeviceFault> {
+        self.measured = false;
         if !self.usable {
             return Err(self.failing.fail(Failure::Length));
         }

@@ -1,8 +1,8 @@
 //! Bytes behind a gate: they count only once the gate, their first byte, is open.
 ghost use Rattle.std.specs.Prelude.{◌≡◌, ◌+◌, ◌≤◌, ◌<◌, [], ◌∷◌, length, slice_index, OnOk};
 ghost use Rattle.im_types.specs.Bytes.{open_gate};
-ghost use Rattle.im_disk.specs.Moment.{Counts, written, synced};
-ghost use Rattle.im_disk.specs.Since.{LeavesOnly, CallsBy};
+ghost use Rattle.im_disk.specs.Moment.{written, synced};
+ghost use Rattle.im_disk.specs.Runs.{Runs};
 ghost use Rattle.im_disk.specs.Gate.{IsClosed, MayWrite, MayOpen};
 
 use crate::{DeviceFault, Disk};
@@ -14,12 +14,9 @@ use im_types::layout::OPEN;
 /// of the gate. Once it has answered `Ok`, the gate is open for good, over all that was written.
 pub fn open_gate<D: Disk>(disk: &mut D, at: usize) -> Result<(), DeviceFault>
     requires inside { D.honest disk.old → at + 1 ≤ length (D.now disk.old).bytes }
-    ensures leaves { D.honest disk.new → LeavesOnly D.now D.past disk.old disk.new (MayOpen at (D.now disk.old)) }
+    ensures runs { Runs D.Disk disk.old disk.new result 3 (MayOpen at (D.now disk.old)) }
     ensures opened { OnOk result (D.honest disk.new
         → D.now disk.new ≡ synced (written at (open_gate ∷ []) (D.now disk.old))) }
-    ensures calls { D.honest disk.new → CallsBy D.past disk.old disk.new 3 result }
-    ensures honest { D.honest disk.new → D.honest disk.old }
-    ensures failures { Counts result (D.failures disk.old) (D.failures disk.new) }
 {
     disk.sync()?; // A stop leaves what it could leave before: the gate isn't written yet.
     disk.write_at(at, &[OPEN])?; // A stop leaves any byte there, and all that is behind it is on the disk.
@@ -34,13 +31,9 @@ pub fn write_behind_gate<D: Disk>(disk: &mut D, at: usize, bytes: &[u8]) -> Resu
     requires below { at < usize.MAX }
     requires gate { slice_index bytes.now 0 ≡ open_gate }
     requires closed { D.honest disk.old → IsClosed at (length bytes.now) (D.now disk.old) }
-    ensures leaves { D.honest disk.new
-        → LeavesOnly D.now D.past disk.old disk.new (MayWrite at bytes.now (D.now disk.old)) }
+    ensures runs { Runs D.Disk disk.old disk.new result 4 (MayWrite at bytes.now (D.now disk.old)) }
     ensures written { OnOk result (D.honest disk.new
         → D.now disk.new ≡ synced (written at bytes.now (D.now disk.old))) }
-    ensures calls { D.honest disk.new → CallsBy D.past disk.old disk.new 4 result }
-    ensures honest { D.honest disk.new → D.honest disk.old }
-    ensures failures { Counts result (D.failures disk.old) (D.failures disk.new) }
 {
     disk.write_at(at + 1, &bytes[1..])?; // The gate is closed: what a stop leaves behind it doesn't count.
     open_gate(disk, at)

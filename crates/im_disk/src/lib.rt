@@ -4,6 +4,7 @@
 #![tactic(auto)]
 
 mod account;
+mod calls;
 mod disk;
 mod failing;
 mod failure;

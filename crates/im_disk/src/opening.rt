@@ -2,6 +2,7 @@
 ghost use Rattle.std.specs.Prelude.{◌≡◌, true};
 ghost use Rattle.std.specs.Fs.{asks_create_new};
 
+use crate::Start;
 use im_types::Refusal;
 use std::fs::{self, File, OpenOptions, TryLockError};
 use std::io::{self, ErrorKind};
@@ -72,8 +73,13 @@ fn check_file(file: &File) -> Result<u64, OpenFault> {
     }
 }
 
+// Whether it is still to be tried: another opening has the file's lock, and the start waits for it.
+fn is_awaited<T, S: Start>(opened: &Result<T, OpenFault>, start: &mut S) -> bool {
+    matches!(opened, Err(OpenFault::InUse)) && start.tries_again()
+}
+
 // Makes the file, or takes the one that is there. It is locked before a byte is changed.
-fn taken<R: Files<File = File>>(rt: &R, path: &str) -> Result<File, OpenFault> {
+fn taken_now<R: Files<File = File>>(rt: &R, path: &str) -> Result<File, OpenFault> {
     match check_path(rt, path) {
         Ok(()) | Err(OpenFault::System(ErrorKind::NotFound)) => {}
         Err(fault) => return Err(fault),
@@ -87,6 +93,21 @@ fn taken<R: Files<File = File>>(rt: &R, path: &str) -> Result<File, OpenFault> {
     check_file(&file)?;
     file.try_lock()?;
     Ok(file)
+}
+
+// The same, where the lock is waited for as long as the start does.
+fn taken<R: Files<File = File>, S: Start>(
+    rt: &R,
+    path: &str,
+    start: &mut S,
+) -> Result<File, OpenFault> {
+    for _ in 0..u64::MAX {
+        let opened = taken_now(rt, path);
+        if !is_awaited(&opened, start) {
+            return opened;
+        }
+    }
+    Err(OpenFault::InUse)
 }
 
 // How a file is opened that has to be new.
@@ -135,13 +156,15 @@ fn fill<R: Files<File = File>>(
     Ok(())
 }
 
-/// Makes a file of so many zero bytes, also over one that is there, locked. It and its name are on the disk.
-pub(crate) fn made<R: Files<File = File>>(
+/// Makes a file of so many zero bytes, also over one that is there, locked. It and its name are on the disk. The lock
+/// is waited for as long as the start does.
+pub(crate) fn made<R: Files<File = File>, S: Start>(
     rt: &R,
     path: &str,
     len: usize,
+    start: &mut S,
 ) -> Result<File, OpenFault> {
-    let file = taken(rt, path)?;
+    let file = taken(rt, path, start)?;
     fill(rt, path, &file, len)?;
     Ok(file)
 }
@@ -177,8 +200,8 @@ pub(crate) fn removed<R: Files<File = File>>(
     Ok(())
 }
 
-/// Opens a file to read and write it, locked and synced; and its length.
-pub(crate) fn settled<R: Files<File = File>>(rt: &R, path: &str) -> Result<(File, u64), OpenFault> {
+// Opens a file to read and write it, locked and synced; and its length.
+fn settled_now<R: Files<File = File>>(rt: &R, path: &str) -> Result<(File, u64), OpenFault> {
     check_path(rt, path)?;
     let file = OpenOptions::new().read(true).write(true).open(rt, path)?;
     check_file(&file)?;
@@ -190,14 +213,42 @@ pub(crate) fn settled<R: Files<File = File>>(rt: &R, path: &str) -> Result<(File
     Ok((file, len))
 }
 
-/// Opens a file to read it, with a lock that others who read it may have too; and its length.
-pub(crate) fn readable<R: Files<File = File>>(
+/// Opens a file to read and write it, locked and synced; and its length. The lock is waited for as long as the start
+/// does: each time the path is opened anew, since another file may have its name by then.
+pub(crate) fn settled<R: Files<File = File>, S: Start>(
     rt: &R,
     path: &str,
+    start: &mut S,
 ) -> Result<(File, u64), OpenFault> {
+    for _ in 0..u64::MAX {
+        let opened = settled_now(rt, path);
+        if !is_awaited(&opened, start) {
+            return opened;
+        }
+    }
+    Err(OpenFault::InUse)
+}
+
+// Opens a file to read it, with a lock that others who read it may have too; and its length.
+fn readable_now<R: Files<File = File>>(rt: &R, path: &str) -> Result<(File, u64), OpenFault> {
     check_path(rt, path)?;
     let file = OpenOptions::new().read(true).open(rt, path)?;
     file.try_lock_shared()?;
     let len = check_file(&file)?;
     Ok((file, len))
+}
+
+/// The same, where the lock is waited for as long as the start does.
+pub(crate) fn readable<R: Files<File = File>, S: Start>(
+    rt: &R,
+    path: &str,
+    start: &mut S,
+) -> Result<(File, u64), OpenFault> {
+    for _ in 0..u64::MAX {
+        let opened = readable_now(rt, path);
+        if !is_awaited(&opened, start) {
+            return opened;
+        }
+    }
+    Err(OpenFault::InUse)
 }

@@ -44,9 +44,9 @@ impl From<FileFault> for Refusal {
     }
 }
 
-/// Opens the file of an image to read and write it, as [`FileDisk::open`] does. Its note is looked at while the file is
-/// locked, and before a byte of it is read: `Unsynced` where the note stands, and an earlier one is taken away. The
-/// file's bytes aren't changed.
+/// Opens the file of an image to read and write it, as [`FileDisk::open`] does, which waits for the lock as the start
+/// does. The note is looked at while the file is locked, and before a byte of it is read: `Unsynced` where the note
+/// stands, and an earlier one is taken away. The file's bytes aren't changed.
 pub fn open_image<R: Files<File = File> + AllocGlobal, S: Start>(
     rt: &R,
     path: &str,

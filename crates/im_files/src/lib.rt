@@ -11,6 +11,7 @@ mod beside;
 mod image;
 mod notes;
 mod noting;
+mod waiting;
 
 pub use beside::{FileNotes, note_name, note_path};
 pub use image::{
@@ -19,3 +20,4 @@ pub use image::{
 };
 pub use notes::{Notes, Noting, Sight};
 pub use noting::{admit, note_on, stands};
+pub use waiting::Waiting;

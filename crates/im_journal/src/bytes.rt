@@ -1,7 +1,7 @@
 // How a part of a disk is read.
 ghost use Rattle.std.specs.Prelude.{◌≡◌, ◌⊎◌, ◌+◌, ◌≤◌, length, take, drop, IfOk, IfErr, OnOk, IsErrOf};
-ghost use Rattle.im_disk.specs.Moment.{Faults};
-ghost use Rattle.im_disk.specs.Since.{OnlyReads, Calls};
+ghost use Rattle.im_disk.specs.Runs.{ReadsOrRefuses};
+ghost use Rattle.im_disk.specs.Since.{Calls};
 
 use im_disk::Disk;
 use im_types::Refusal;
@@ -17,11 +17,9 @@ pub(crate) fn read_bytes<D: Disk>(
     requires inside { D.honest disk.old → at + len ≤ length (D.now disk.old).bytes }
     ensures bytes { IfOk result (λ v. D.honest disk.new → v.items ≡ take len (drop at (D.now disk.old).bytes)) }
     ensures size { IfOk result (λ v. length v.items ≡ len) }
-    ensures reads { D.honest disk.new → OnlyReads D.now D.past disk.old disk.new }
+    ensures reads { ReadsOrRefuses D.Disk disk.old disk.new result
+        (λ e. (e ≡ Refusal.NoMemory) ⊎ (e ≡ Refusal.Device)) }
     ensures calls { OnOk result (D.honest disk.new → Calls D.past disk.old disk.new 1) }
-    ensures faults { Faults (λ e. (e ≡ Refusal.NoMemory) ⊎ (e ≡ Refusal.Device)) result
-        (D.failures disk.old) (D.failures disk.new) }
-    ensures honest { D.honest disk.new → D.honest disk.old }
 {
     let Ok(mut bytes) = vec![in alloc; 0; len] else {
         return Err(Refusal::NoMemory);

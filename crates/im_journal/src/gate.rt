@@ -1,7 +1,6 @@
 // How the gates of slots are closed.
 ghost use Rattle.std.specs.Prelude.{◌≡◌, ◌+◌, ◌*◌, ◌≤◌, ◌<◌, ◌^◌, length, OnOk};
-ghost use Rattle.im_disk.specs.Moment.{Counts};
-ghost use Rattle.im_disk.specs.Since.{LeavesOnly, CallsBy};
+ghost use Rattle.im_disk.specs.Runs.{Runs};
 ghost use Rattle.im_journal.specs.Gates.{IsRing, MayClose, AreShut};
 ghost use Rattle.im_journal.specs.Holding.{ring_at};
 
@@ -21,13 +20,10 @@ pub(crate) fn close_gates<D: Disk>(
     requires ring { IsRing base slots }
     requires last { from + count < 2 ^ 64 }
     requires inside { D.honest disk.old → base + 64 * slots ≤ length (D.now disk.old).bytes }
-    ensures leaves { D.honest disk.new
-        → LeavesOnly D.now D.past disk.old disk.new (MayClose (ring_at base slots) from count (D.now disk.old)) }
+    ensures runs { Runs D.Disk disk.old disk.new result (count + 1)
+        (MayClose (ring_at base slots) from count (D.now disk.old)) }
     ensures closed { OnOk result (D.honest disk.new
         → AreShut (ring_at base slots) from count (D.now disk.old) (D.now disk.new)) }
-    ensures calls { D.honest disk.new → CallsBy D.past disk.old disk.new (count + 1) result }
-    ensures honest { D.honest disk.new → D.honest disk.old }
-    ensures failures { Counts result (D.failures disk.old) (D.failures disk.new) }
 {
     for i in 0..count {
         let at = base + 64 * (((from + i as u64) % slots as u64) as usize);

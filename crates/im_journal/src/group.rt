@@ -1,7 +1,6 @@
 // How the bodies of a group of commands are written.
 ghost use Rattle.std.specs.Prelude.{◌≡◌, ◌+◌, ◌*◌, ◌≤◌, length, OnOk};
-ghost use Rattle.im_disk.specs.Moment.{Counts};
-ghost use Rattle.im_disk.specs.Since.{LeavesOnly, CallsBy};
+ghost use Rattle.im_disk.specs.Runs.{Runs};
 ghost use Rattle.im_journal.specs.Groups.{count_at, FitsRing, MayWriteBodies, AreWritten};
 ghost use Rattle.im_journal.specs.Holding.{ring_at};
 
@@ -27,13 +26,10 @@ pub(crate) fn write_bodies<D: Disk>(
 ) -> Result<(), DeviceFault>
     requires fits { FitsRing base slots from (length commands.now) }
     requires inside { D.honest disk.old → base + 64 * slots ≤ length (D.now disk.old).bytes }
-    ensures leaves { D.honest disk.new → LeavesOnly D.now D.past disk.old disk.new
+    ensures runs { Runs D.Disk disk.old disk.new result (length commands.now)
         (MayWriteBodies (ring_at base slots) from (length commands.now) (D.now disk.old)) }
     ensures written { OnOk result (D.honest disk.new
         → AreWritten (ring_at base slots) from commands.now (D.now disk.old) (D.now disk.new)) }
-    ensures calls { D.honest disk.new → CallsBy D.past disk.old disk.new (length commands.now) result }
-    ensures honest { D.honest disk.new → D.honest disk.old }
-    ensures failures { Counts result (D.failures disk.old) (D.failures disk.new) }
 {
     let group = commands.len() as u8;
     for i in 0..commands.len() {

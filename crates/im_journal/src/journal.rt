@@ -3,8 +3,8 @@
 ghost use Rattle.std.specs.Prelude.{◌≡◌, ◌⊎◌, ◌+◌, ◌*◌, ◌-◌, ◌≤◌, ◌<◌, List, [], ◌∷◌, ℕ, length, drop, min, Some, None};
 ghost use Rattle.std.specs.Prelude.{◌&&◌, nat_le, OnOk, IfOk, MatchResult};
 ghost use Rattle.im_types.specs.Journal.{IsBoundary, tail};
-ghost use Rattle.im_disk.specs.Moment.{Faults};
-ghost use Rattle.im_disk.specs.Since.{LeavesOnly, OnlyReads, Calls, CallsBy};
+ghost use Rattle.im_disk.specs.Runs.{RunsOrRefuses, ReadsOrRefuses};
+ghost use Rattle.im_disk.specs.Since.{Calls};
 ghost use Rattle.im_journal.specs.Holding.{ring_in, ring_under, IsJournal, Holds, AllHold, AreClosed, IsTail};
 ghost use Rattle.im_journal.specs.Holding.{room_after, longer, MayAppend, Adds, IsFullBy};
 ghost use Rattle.im_journal.specs.Holding.{to_sweep, MaySweep, IsSwept, IsSweptBy, Sweeps};
@@ -111,11 +111,9 @@ impl Journal {
             → tail (ring_in version limits) from (D.now disk.old).bytes ≡ None) }
         ensures journal { IfOk result
             (λ r. (r.0.ring ≡ ring_in version limits) × (r.0.first ≡ from) × (r.0.count ≡ from + length r.1.items)) }
-        ensures faults { Faults (λ e. (e ≡ Refusal.BadRecord) ⊎ (e ≡ Refusal.NoMemory) ⊎ (e ≡ Refusal.Device)) result
-            (D.failures disk.old) (D.failures disk.new) }
-        ensures reads { D.honest disk.new → OnlyReads D.now D.past disk.old disk.new }
+        ensures reads { ReadsOrRefuses D.Disk disk.old disk.new result
+            (λ e. (e ≡ Refusal.BadRecord) ⊎ (e ≡ Refusal.NoMemory) ⊎ (e ≡ Refusal.Device)) }
         ensures calls { OnOk result (D.honest disk.new → Calls D.past disk.old disk.new 1) }
-        ensures honest { D.honest disk.new → D.honest disk.old }
     {
         let base = version.journal_at(limits);
         let slots = limits.slots as usize;
@@ -196,17 +194,14 @@ impl Journal {
     pub fn append<D: Disk>(&mut self, disk: &mut D, command: &Command) -> Result<(), Refusal>
         requires holds { D.honest disk.old → AllHold self.old (D.now disk.old) }
         // Each file that a crash may leave, from the start on, has the old run, or the old run and the command.
-        ensures leaves { D.honest disk.new
-            → LeavesOnly D.now D.past disk.old disk.new (MayAppend self.old (command.now ∷ []) (D.now disk.old)) }
+        ensures runs { RunsOrRefuses D.Disk disk.old disk.new result
+            (λ e. (e ≡ Refusal.JournalFull) ⊎ (e ≡ Refusal.Device)) 4
+            (MayAppend self.old (command.now ∷ []) (D.now disk.old)) }
         // Once it is done, each has the command.
         ensures added { OnOk result (D.honest disk.new
             → Adds self.old self.new (command.now ∷ []) (D.now disk.old) (D.now disk.new)) }
         ensures state { MatchResult result (λ _. self.new ≡ longer 1 self.old) (λ _. self.new ≡ self.old) }
-        ensures calls { D.honest disk.new → CallsBy D.past disk.old disk.new 4 result }
         ensures full { IsFullBy (self.old.room ≡ 0) disk.old disk.new result }
-        ensures faults { Faults (λ e. (e ≡ Refusal.JournalFull) ⊎ (e ≡ Refusal.Device)) result
-            (D.failures disk.old) (D.failures disk.new) }
-        ensures honest { D.honest disk.new → D.honest disk.old }
     {
         self.append_group(disk, &[*command])
     }
@@ -227,20 +222,17 @@ impl Journal {
         requires few { length commands.now ≤ MAX_GROUP }
         requires holds { D.honest disk.old → AllHold self.old (D.now disk.old) }
         // Each file that a crash may leave, from the start on, has the old run, or the old run and all of the commands.
-        ensures leaves { D.honest disk.new
-            → LeavesOnly D.now D.past disk.old disk.new (MayAppend self.old commands.now (D.now disk.old)) }
+        ensures runs { RunsOrRefuses D.Disk disk.old disk.new result
+            (λ e. (e ≡ Refusal.JournalFull) ⊎ (e ≡ Refusal.Device)) (length commands.now + 3)
+            (MayAppend self.old commands.now (D.now disk.old)) }
         // Once it is done, each has the commands.
         ensures added { OnOk result (D.honest disk.new
             → Adds self.old self.new commands.now (D.now disk.old) (D.now disk.new)) }
         ensures state { MatchResult result (λ _. self.new ≡ longer (length commands.now) self.old)
             (λ _. self.new ≡ self.old) }
-        ensures calls { D.honest disk.new → CallsBy D.past disk.old disk.new (length commands.now + 3) result }
         ensures full { IsFullBy ((self.old.room < length commands.now) ⊎ (LAST < self.old.count + length commands.now))
             disk.old disk.new result }
         ensures known { IsJournal self.old }
-        ensures faults { Faults (λ e. (e ≡ Refusal.JournalFull) ⊎ (e ≡ Refusal.Device)) result
-            (D.failures disk.old) (D.failures disk.new) }
-        ensures honest { D.honest disk.new → D.honest disk.old }
     {
         let group = commands.len();
         if !has_room(self.count, self.room, group) {
@@ -270,16 +262,12 @@ impl Journal {
         requires some { 0 < to_sweep self.old }
         requires holds { D.honest disk.old → AllHold self.old (D.now disk.old) }
         // Each file that a crash may leave, from the start on, has the run and the known room.
-        ensures leaves { D.honest disk.new
-            → LeavesOnly D.now D.past disk.old disk.new (MaySweep self.old (D.now disk.old)) }
+        ensures runs { RunsOrRefuses D.Disk disk.old disk.new result (λ e. e ≡ Refusal.Device)
+            (min most (to_sweep self.old) + 1) (MaySweep self.old (D.now disk.old)) }
         // Once it is done, the room is on the disk.
         ensures swept { OnOk result (D.honest disk.new
             → Sweeps self.old self.new (D.now disk.old) (D.now disk.new)) }
         ensures room { MatchResult result (λ n. IsSweptBy most self.old n self.new) (λ _. self.new ≡ self.old) }
-        ensures calls { D.honest disk.new
-            → CallsBy D.past disk.old disk.new (min most (to_sweep self.old) + 1) result }
-        ensures faults { Faults (λ e. e ≡ Refusal.Device) result (D.failures disk.old) (D.failures disk.new) }
-        ensures honest { D.honest disk.new → D.honest disk.old }
     {
         let next = self.count + self.room as u64;
         let swept = at_once(self.to_sweep(), most);
@@ -300,15 +288,12 @@ impl Journal {
         requires some { 0 < to_sweep self.old }
         requires holds { D.honest disk.old → AllHold self.old (D.now disk.old) }
         // Each file that a crash may leave, from the start on, has the run and the known room.
-        ensures leaves { D.honest disk.new
-            → LeavesOnly D.now D.past disk.old disk.new (MaySweep self.old (D.now disk.old)) }
+        ensures runs { RunsOrRefuses D.Disk disk.old disk.new result (λ e. e ≡ Refusal.Device)
+            (min 3 (to_sweep self.old) + 1) (MaySweep self.old (D.now disk.old)) }
         // Once it is done, the room is on the disk.
         ensures swept { OnOk result (D.honest disk.new
             → Sweeps self.old self.new (D.now disk.old) (D.now disk.new)) }
         ensures room { MatchResult result (λ n. IsSwept self.old n self.new) (λ _. self.new ≡ self.old) }
-        ensures calls { D.honest disk.new → CallsBy D.past disk.old disk.new (min 3 (to_sweep self.old) + 1) result }
-        ensures faults { Faults (λ e. e ≡ Refusal.Device) result (D.failures disk.old) (D.failures disk.new) }
-        ensures honest { D.honest disk.new → D.honest disk.old }
     {
         self.sweep(disk, 3)
     }

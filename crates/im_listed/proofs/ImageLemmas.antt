@@ -12,7 +12,7 @@ use Rattle.im_disk.specs.Since.{Leaves, LeavesNow}
 use Rattle.im_disk.proofs.SinceLemmas.{only_now, left_now, left_synced, leaves_now}
 use Rattle.im_checkpoint.specs.declared.checkpoint.TurnDone.{TurnDone}
 use Rattle.im_engine.specs.State.{EngineState, MeansState, IsFirstFault}
-use Rattle.im_engine.specs.Run.{Answered, TurnAnswered, TurnTaken, is_device}
+use Rattle.im_engine.specs.Run.{Answered, SweepAnswered, TurnAnswered, TurnTaken, is_device}
 use Rattle.im_listed.specs.History.{given}
 use Rattle.im_listed.specs.Numbers.{told}
 use Rattle.im_listed.specs.Listing.{Listing, carried, over, with_no_steps, LeftOnTheWay, Accounts}
@@ -124,6 +124,15 @@ steady_turn s new (Ok done) before after a f alive on = f
 steady_turn s new (Err refusal) before after a f alive on = ⊎_elim
     (λ (l : (done : TurnDone) × (Err refusal ≡ Ok done) × TurnTaken s done new). absurd
     (false≢true (ap (λ (r : Result TurnDone Refusal). tells_ok r) l.1)))
+    (λ r. absurd (false≢true (sym on ∙ ap (λ (t : EngineState Listing). t.failed) r.1)))
+    (a.alive alive)
+
+pub steady_sweep : (s new : EngineState Listing) (most : ℕ) (answer : Result ℕ Refusal) (before after : ℕ)
+    → SweepAnswered s most answer new → Faults (λ e. Unit {0}) answer before after → s.failed ≡ false
+    → new.failed ≡ false → after ≡ before
+steady_sweep s new most (Ok swept) before after a f alive on = f
+steady_sweep s new most (Err refusal) before after a f alive on = ⊎_elim
+    (λ l. absurd (false≢true (ap (λ (r : Result ℕ Refusal). tells_ok r) l.0)))
     (λ r. absurd (false≢true (sym on ∙ ap (λ (t : EngineState Listing). t.failed) r.1)))
     (a.alive alive)
 

@@ -15,6 +15,9 @@ impl Model for Ledger {
     ghost also_owns = { λ _. ftrue };
 }
 
+// It owns nothing, so it may go to another thread.
+unsafe impl Send for Ledger {}
+
 impl Ledger {
     // A list of no call.
     pub(crate) fn new() -> Ledger

@@ -1,7 +1,7 @@
 //! An image in the hands of a caller that carries out the writes and syncs itself.
 ghost use Rattle.std.specs.Prelude.{◌≡◌, ◌+◌, ◌⊎◌, Bool, true, false, List, [], map, replicate, length, Ok, Err};
 ghost use Rattle.std.specs.Prelude.{IfOk, IfErr, OnOk};
-ghost use Rattle.im_types.specs.Contents.{empty_contents};
+ghost use Rattle.im_types.specs.Contents.{empty_contents, kept_for};
 ghost use Rattle.im_types.specs.Groups.{AreApart};
 ghost use Rattle.im_types.specs.Layout.{image_length, layout_in_use, sizes_of};
 ghost use Rattle.im_types.specs.Window.{ask, bounds};
@@ -9,7 +9,7 @@ ghost use Rattle.im_disk.specs.Moment.{synced};
 ghost use Rattle.im_disk.specs.Since.{LeavesNow};
 ghost use Rattle.im_checkpoint.specs.Step.{NoCheckpoint};
 ghost use Rattle.im_engine.specs.State.{MeansState, MeansEither, IsFound};
-ghost use Rattle.im_engine.specs.Run.{Answered, TurnAnswered};
+ghost use Rattle.im_engine.specs.Run.{Answered, SweepAnswered, TurnAnswered};
 ghost use Rattle.im_engine.specs.Groups.{GroupAnswered, MeansGroup, all_refused};
 ghost use Rattle.im_listed.specs.Listing.{Accounts, task_of, carried};
 ghost use Rattle.im_listed.specs.History.{given};
@@ -22,7 +22,7 @@ use im_checkpoint::TurnDone;
 use im_disk::{DeviceFault, Disk};
 use im_engine::Engine;
 use im_types::layout::image_length;
-use im_types::{Command, Entry, Limits, Outcome, Refusal, Request, Served};
+use im_types::{Command, Entry, Kept, Limits, Outcome, Refusal, Request, Served};
 use std::alloc::Global;
 use std::marker::Model;
 
@@ -186,12 +186,10 @@ impl Image {
         members: &ArrayVec<Request, 16>,
         served: &mut ArrayVec<Served, 16>,
     )
-        // Each element asks once at most.
         requires apart { AreApart members.now.items }
         requires empty { served.old.items ≡ [] }
         ensures lost { self.old.lost ≡ true
             → (served.new.items ≡ []) × (self.new ≡ self.old) }
-        // So no answer is `Failed`.
         ensures works { self.old.lost ≡ false → self.old.engine.failed ≡ false }
         ensures answered { self.old.lost ≡ false
             → GroupAnswered (begun_in self.old) members.now.items served.new.items self.new.engine }
@@ -229,6 +227,24 @@ impl Image {
         answer
     }
 
+    /// Sweeps so many slots at most, as [`Engine::sweep`] does. `Device` where a step couldn't be listed, or was lost.
+    pub fn sweep(&mut self, most: u32) -> Result<u32, Refusal>
+        ensures lost { self.old.lost ≡ true → (result ≡ Err Refusal.Device) × (self.new ≡ self.old) }
+        ensures works { self.old.lost ≡ false → self.old.engine.failed ≡ false }
+        ensures answered { self.old.lost ≡ false → SweepAnswered (begun_in self.old) most result self.new.engine }
+        ensures carried { self.old.lost ≡ false
+            → Carries self.old.engine.disk.now self.new (MeansState (begun_in self.old)) }
+    {
+        if self.lost {
+            return Err(Refusal::Device);
+        }
+        let _ = known(&self.engine);
+        self.engine.empty_list();
+        let answer = self.engine.sweep(most);
+        self.lost = known(&self.engine);
+        answer
+    }
+
     /// The entry that is kept under an element's number, as [`Engine::collect`] has it. `Device` where a step was lost.
     pub fn collect(&self, element: u16, number: u64) -> Result<Entry, Refusal>
         ensures lost { self.now.lost ≡ true → result ≡ Err Refusal.Device }
@@ -239,6 +255,13 @@ impl Image {
             true => Err(Refusal::Device),
             false => self.engine.collect(element, number),
         }
+    }
+
+    /// What is kept under an element's number, if anything is: what was asked, and what it came to.
+    pub fn kept(&self, element: u16, number: u64) -> Option<Kept>
+        ensures { result ≡ kept_for self.now.engine.memory.windows (record { element = element; number = number }) }
+    {
+        self.engine.memory().kept(element, number)
     }
 
     /// The base of an element's window and the number of its next new request, as [`Engine::window`] has them. `Device`

@@ -76,7 +76,8 @@ impl Expected {
             Expected::End => "the end of the line",
             Expected::Ascii => "ASCII",
             Expected::AsciiRemark => "ASCII, in a remark as elsewhere,",
-            Expected::Asked => "E.N, collect, confirm, window, room, turn, count or quit",
+            Expected::Asked =>
+                "E.N, collect, entry, confirm, window, room, turn, count, about or quit",
             Expected::Waiter => {
                 "E.N, with an element's number E from 0 to 65535 and a request's number N,"
             }

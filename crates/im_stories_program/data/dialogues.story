@@ -163,7 +163,7 @@ format 4096 16 256 = formatted
 script 1.1 fetch 0 / 2.1 fetch 0 / mend / 1.2 get 0 / collect 1 / confirm 1 / window / room now / = 8 lines
 talk = 0, 5 calls
 printed = 8 lines
-printed 2 = error 3: 'mend', where E.N, collect, confirm, window, room, turn, count or quit is expected
+printed 2 = error 3: 'mend', where E.N, collect, entry, confirm, window, room, turn, count, about or quit is expected
 printed 3 = error 4: 'get', where alloc, fetch, store, take, put, release or reset is expected
 printed 4 = error 5: '1', where E.N, with an element's number E from 0 to 65535 and a request's number N, is expected
 printed 5 = error 6: the line ends, where a request's number is expected
@@ -189,8 +189,8 @@ printed 8 = error 9: '1.x', where E.N, with an element's number E from 0 to 6553
 printed 9 = error 10: 'x', where an element's number from 0 to 65535 is expected
 printed 10 = error 11: '65536', where an element's number from 0 to 65535 is expected
 printed 11 = error 12: '\xc3\xa9', where ASCII is expected
-printed 12 = error 13: the line ends, where E.N, collect, confirm, window, room, turn, count or quit is expected
-printed 13 = error 14: '#', where E.N, collect, confirm, window, room, turn, count or quit is expected
+printed 12 = error 13: the line ends, where E.N, collect, entry, confirm, window, room, turn, count, about or quit is expected
+printed 13 = error 14: '#', where E.N, collect, entry, confirm, window, room, turn, count, about or quit is expected
 
 # A line may have 4,096 bytes; a longer one is told so, and read on to its line feed
 disk 450560 = 450560 bytes
@@ -204,7 +204,7 @@ script x / 2.1 fetch 0 / = 4 lines
 talk = 0, 8 calls
 printed = 4 lines
 printed 0 = 1.1 nocell
-printed 1 = error 2: 'xxxxxxxxxxxxxxxxxxxxxxxxxxxxxxxx..', where E.N, collect, confirm, window, room, turn, count or quit is expected
+printed 1 = error 2: 'xxxxxxxxxxxxxxxxxxxxxxxxxxxxxxxx..', where E.N, collect, entry, confirm, window, room, turn, count, about or quit is expected
 printed 2 = error 3: the line is too long
 printed 3 = 2.1 nocell
 
@@ -380,3 +380,84 @@ printed 0 = 0.1 refused 7 JournalFull
 printed 1 = 0.1 refused 1 Gap
 printed 2 = 0 window 1 1
 printed 3 = room 0
+
+# What was asked is told with what is kept for it, or why nothing is
+disk 450560 = 450560 bytes
+format 4096 16 256 = formatted
+script 0.1 alloc i 2 / 0.2 alloc m 1 / 1.1 fetch 0 / entry 1.1 / 2.1 store 0 42 / entry 1.1 / entry 2.1 / entry 0.2 / = 8 lines
+script confirm 2 2 / entry 2.1 / entry 2.2 / entry 16.1 / 2.2 put 2 7 / 1.2 take 2 / 3.1 release 0 / 3.2 reset 0 / = 16 lines
+script entry 2.2 / entry 1.2 / entry 3.1 / entry 3.2 / entry 0.1 / entry 1.3 / entry 1.18446744073709551615 / entry 1.0 / = 24 lines
+-- Eight requests and a confirmation.
+talk slowly = 0, 36 calls
+printed = 24 lines
+printed 3 = 1.1 entry fetch 0 -> waiting
+printed 5 = 1.1 entry fetch 0 -> value 42
+printed 6 = 2.1 entry store 0 42 -> stored
+printed 7 = 0.2 entry alloc m 1 -> base 2
+printed 8 = 2 confirmed 2
+printed 9 = 2.1 refused 2 Forgotten
+printed 10 = 2.2 refused 1 Gap
+printed 11 = 16.1 refused 5 NoElement
+printed 16 = 2.2 entry put 2 7 -> stored
+printed 17 = 1.2 entry take 2 -> value 7
+printed 18 = 3.1 entry release 0 -> released
+printed 19 = 3.2 entry reset 0 -> noblock
+printed 20 = 0.1 entry alloc i 2 -> base 0
+printed 21 = 1.3 refused 1 Gap
+printed 22 = 1.18446744073709551615 refused 1 Gap
+-- Numbers are from 1: the base of a new window.
+printed 23 = 1.0 refused 2 Forgotten
+
+# What an image is, and how far it has come
+disk 435200 = 435200 bytes
+format 4096 16 16 = formatted
+script about / 1.1 fetch 0 / about / 1.1 fetch 0 / about / confirm 1 2 / about / = 7 lines
+talk slowly = 0, 8 calls
+printed 0 = about version 2 cells 4096 elements 16 slots 16 count 0 room 16
+printed 2 = about version 2 cells 4096 elements 16 slots 16 count 1 room 15
+-- A repeat is no command more.
+printed 4 = about version 2 cells 4096 elements 16 slots 16 count 1 room 15
+printed 6 = about version 2 cells 4096 elements 16 slots 16 count 2 room 14
+
+# The same of the least image, and of one whose count of commands is the last that there is
+disk 33792 = 33792 bytes
+format 1 1 16 = formatted
+script about / = 1 lines
+talk = 0, 0 calls
+printed 0 = about version 2 cells 1 elements 1 slots 16 count 0 room 16
+write 23 40 = 00
+script about / = 1 lines
+talk = 0, 0 calls
+printed 0 = about version 2 cells 1 elements 1 slots 16 count 4611686018427387904 room 0
+
+# Words of these two that are wrong
+disk 450560 = 450560 bytes
+format 4096 16 256 = formatted
+script entry / entry 1 / entry 1.1 1 / about 1 / abouts / = 5 lines
+talk = 0, 0 calls
+printed 0 = error 1: the line ends, where E.N, with an element's number E from 0 to 65535 and a request's number N, is expected
+printed 1 = error 2: '1', where E.N, with an element's number E from 0 to 65535 and a request's number N, is expected
+printed 2 = error 3: '1', where the end of the line is expected
+printed 3 = error 4: '1', where the end of the line is expected
+printed 4 = error 5: 'abouts', where E.N, collect, entry, confirm, window, room, turn, count, about or quit is expected
+
+# An input that can't be read ends a dialogue as the fault of a device that it is, and its reason says so
+disk 450560 = 450560 bytes
+format 4096 16 256 = formatted
+script 1.1 fetch 0 / 2.1 fetch 0 / 3.1 fe = 2 lines
+talk broken = 1, 5 calls
+printed = 3 lines
+printed 0 = 1.1 nocell
+printed 1 = 2.1 nocell
+printed 2 = refused 8 Device
+told = 1 lines
+told 0 = the input can't be read: it is a folder
+-- The same byte by byte, and with nothing said.
+script 1.2 fetch 0 / = 1 lines
+talk slowly broken = 1, 4 calls
+printed 0 = 1.2 nocell
+printed 1 = refused 8 Device
+talk broken = 1, 0 calls
+printed = 1 lines
+printed 0 = refused 8 Device
+count = 3

@@ -348,6 +348,7 @@ reason one file = the old file and the new one are one file
 reason no permission = there is no permission for it
 reason fifo = it is no ordinary file
 reason input closed = standard input is closed
+reason input folder = the input can't be read: it is a folder
 -- What the system doesn't name is no word of the system's.
 reason output unknown = the output can't be written: a call of the system failed
 reason unsynced = a sync of it failed since this machine was started, so what is read of it may not be on the disk: mount its file system anew and remove the note, or restart the machine
@@ -368,6 +369,7 @@ status of image not blank = 5
 status of no folder = 5
 status of no permission = 5
 status of fifo = 5
+status of input folder = 5
 -- What else there is may be mended, or comes from the words.
 status of there = 1
 status of unsynced = 1
@@ -376,6 +378,7 @@ status of image unread = 1
 status of full disk new = 1
 status of output unknown = 1
 status of input closed = 1
+status of input unknown = 1
 status of no memory = 1
 status of slots 15 = 1
 status of window full = 1

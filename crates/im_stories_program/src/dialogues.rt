@@ -10,17 +10,22 @@ use im_listening::Ear;
 use im_story::{number, place};
 use im_types::LAST;
 use std::alloc::Global;
-use std::io::{self, BufReader, Read};
+use std::io::{self, BufReader, ErrorKind, Read};
 
-// What a client says, who is silent whenever it is asked whether something is there, or never.
+// What a client says, who is silent whenever it is asked whether something is there, or never. Behind what is said can
+// be a fault.
 #[derive(Drop)]
 struct Client<'a> {
     text: &'a [u8],
     is_silent: bool,
+    is_broken: bool,
 }
 
 impl<'a> Read for Client<'a> {
     fn read(&mut self, buf: &mut [u8]) -> io::Result<usize> {
+        if self.is_broken && self.text.is_empty() {
+            return Err(ErrorKind::IsADirectory.into());
+        }
         self.text.read(buf)
     }
 }
@@ -31,12 +36,14 @@ impl<'a> Ear for Client<'a> {
     }
 }
 
-// How a dialogue is held: how many bytes the buffer has, whether the client is silent whenever it is empty, whether it
-// is watched, the disk's calls until it fails, and the writer's bytes until it does.
+// How a dialogue is held: how many bytes the buffer has, whether the client is silent whenever it is empty, whether a
+// fault of the input stands behind what is said, whether it is watched, the disk's calls until it fails, and the
+// writer's bytes until it does.
 #[derive(Clone, Copy)]
 struct Manner {
     buffer: usize,
     is_silent: bool,
+    is_broken: bool,
     watch: bool,
     passes: u64,
     bytes: usize,
@@ -45,6 +52,7 @@ struct Manner {
 const PLAIN: Manner = Manner {
     buffer: 8192,
     is_silent: false,
+    is_broken: false,
     watch: false,
     passes: LAST,
     bytes: usize::MAX,
@@ -52,8 +60,11 @@ const PLAIN: Manner = Manner {
 
 // Holds a dialogue in which this is said. The status, and how many calls the disk was asked.
 fn hold(alloc: Global, desk: &mut Desk, text: &[u8], manner: Manner) -> Result<(u8, u64)> {
-    let is_silent = manner.is_silent;
-    let client = Client { text, is_silent };
+    let client = Client {
+        text,
+        is_silent: manner.is_silent,
+        is_broken: manner.is_broken,
+    };
     let mut input = BufReader::with_capacity(alloc, manner.buffer, client)?;
     let disk = FuseDisk::new(desk.image.take()?, manner.passes, Mode::Stop);
     let mut out = Paper::new(alloc, manner.bytes);
@@ -91,6 +102,10 @@ fn manner_of(words: &[&str]) -> Result<Option<Manner>> {
     }
     if let ["silently", later @ ..] = rest {
         manner.is_silent = true;
+        rest = later;
+    }
+    if let ["broken", later @ ..] = rest {
+        manner.is_broken = true;
         rest = later;
     }
     if let ["watched", later @ ..] = rest {

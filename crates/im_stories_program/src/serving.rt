@@ -125,6 +125,8 @@ fn reason_in(words: &[&str]) -> Result<Reason> {
         ["unsynced"] => Reason::File(PathFault::Unsynced),
         ["no", "permission"] => Reason::File(PathFault::System(ErrorKind::PermissionDenied)),
         ["output", "unknown"] => Reason::Output(ErrorKind::Uncategorized),
+        ["input", "folder"] => Reason::Input(ErrorKind::IsADirectory),
+        ["input", "unknown"] => Reason::Input(ErrorKind::Uncategorized),
         ["input", "closed"] => Reason::NoInput,
         ["full", "disk", "new"] => Reason::Unmade(Some(FULL), false),
         ["full", "disk", "old"] => Reason::Unmade(Some(FULL), true),

@@ -17,6 +17,8 @@ pub enum Reason {
     Output(ErrorKind),
     /// The script can't be read.
     ScriptFile(ErrorKind),
+    /// The input of a dialogue can't be read.
+    Input(ErrorKind),
     /// The script isn't in the grammar: at which line and word, and what was expected there.
     Script(ScriptFault),
     /// Standard input, from which the script was to be read, was closed.
@@ -100,6 +102,8 @@ impl Reason {
             Reason::Memory => Some(Refusal::NoMemory),
             Reason::Output(_) => None,
             Reason::ScriptFile(ErrorKind::OutOfMemory) => Some(Refusal::NoMemory),
+            Reason::Input(ErrorKind::OutOfMemory) => Some(Refusal::NoMemory),
+            Reason::Input(_) => Some(Refusal::Device),
             Reason::Script(fault) => Some(fault.refusal()),
             Reason::ScriptFile(_) | Reason::NoInput => Some(Refusal::BadScript),
             Reason::Block(_) | Reason::Place(_) => Some(Refusal::BadScript),
@@ -166,6 +170,10 @@ impl Display for Reason {
             Reason::ScriptFile(kind) => {
                 let words = Words(kind);
                 write!(f, "the script can't be read: {words}")
+            }
+            Reason::Input(kind) => {
+                let words = Words(kind);
+                write!(f, "the input can't be read: {words}")
             }
             Reason::NoInput => f.write_str("standard input is closed"),
             Reason::Script(fault) => write!(f, "{fault}"),

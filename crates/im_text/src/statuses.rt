@@ -66,7 +66,7 @@ impl Reason {
         match *self {
             Reason::File(fault) | Reason::NewFile(fault) => of_file(fault),
             Reason::Image(refusal, _) | Reason::New(refusal) => of_image(refusal),
-            Reason::ScriptFile(kind) => of_system(kind),
+            Reason::ScriptFile(kind) | Reason::Input(kind) => of_system(kind),
             Reason::Current => USELESS,
             _ => 1,
         }

@@ -4,6 +4,12 @@ import enum
 from typing import Any
 
 
+LT_VERSION = "0.1.0"
+
+
+LT_VERSION_NUMBER = 100
+
+
 class lt_tag(enum.IntEnum):
     """What is asked, by `tag`."""
 
@@ -140,7 +146,7 @@ class lt_step(c.Structure):
 
 
 class lt_turn_tag(enum.IntEnum):
-    """What a turn of a checkpoint did, by `tag` of its outcome."""
+    """What a turn of a checkpoint did, or a sweep, by `tag` of its outcome."""
 
     IDLE = 0
     BEGAN = 1
@@ -152,6 +158,8 @@ class lt_turn_tag(enum.IntEnum):
 
 # What each gives, and what it is given.
 CALLS: dict[str, tuple[Any, ...]] = {
+    "lt_version": (c.c_uint32,),
+    "lt_layout_version": (c.c_uint16,),
     "lt_memory_new": (c.c_uint8, c.c_uint32, c.c_uint16, c.POINTER(lt_memory)),
     "lt_memory_step": (None, lt_memory, c.POINTER(lt_command), c.POINTER(lt_memory), c.POINTER(lt_outcome)),
     "lt_memory_collect": (None, lt_memory, c.c_uint16, c.c_uint64, c.POINTER(lt_memory), c.POINTER(lt_outcome)),
@@ -169,16 +177,20 @@ CALLS: dict[str, tuple[Any, ...]] = {
         c.POINTER(lt_outcome),
         c.c_size_t,
     ),
+    "lt_first_unknown": (c.c_size_t, c.POINTER(lt_command), c.c_size_t),
     "lt_turn": (c.c_size_t, lt_image, c.POINTER(lt_image), c.POINTER(lt_outcome)),
+    "lt_sweep": (c.c_size_t, lt_image, c.c_uint32, c.POINTER(lt_image), c.POINTER(lt_outcome)),
     "lt_steps": (c.c_size_t, lt_image, c.POINTER(lt_image)),
     "lt_step_at": (None, lt_image, c.c_size_t, c.POINTER(lt_image), c.POINTER(lt_step)),
     "lt_step_bytes": (c.c_uint8, lt_image, c.c_size_t, c.POINTER(lt_image), c.c_char_p, c.c_size_t),
     "lt_failed": (None, lt_image, c.POINTER(lt_image)),
     "lt_collect": (None, lt_image, c.c_uint16, c.c_uint64, c.POINTER(lt_image), c.POINTER(lt_outcome)),
+    "lt_entry": (None, lt_image, c.c_uint16, c.c_uint64, c.POINTER(lt_image), c.POINTER(lt_command)),
     "lt_window": (None, lt_image, c.c_uint16, c.POINTER(lt_image), c.POINTER(lt_bounds)),
     "lt_room": (c.c_uint32, lt_image, c.POINTER(lt_image)),
     "lt_count": (c.c_uint64, lt_image, c.POINTER(lt_image)),
     "lt_close": (None, lt_image),
     "lt_inspect": (c.c_uint8, c.c_char_p, c.c_size_t, c.c_char_p, c.c_size_t, c.POINTER(c.c_size_t)),
     "lt_refusal_name": (c.c_size_t, c.c_uint8, c.c_char_p, c.c_size_t),
+    "lt_answer_name": (c.c_size_t, c.c_uint8, c.c_char_p, c.c_size_t),
 }

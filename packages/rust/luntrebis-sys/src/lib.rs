@@ -4,6 +4,11 @@
 #![no_std]
 #![allow(non_camel_case_types)]
 
+/// The version of this header, and of the library that it came with.
+pub const LT_VERSION: &str = "0.1.0";
+
+pub const LT_VERSION_NUMBER: u32 = 100;
+
 /// A block of `address` cells, to be fetched and stored
 pub const LT_ALLOC_I: u8 = 1;
 
@@ -197,25 +202,31 @@ pub struct lt_step {
     pub length: u64,
 }
 
-/// What a turn of a checkpoint did, by `tag` of its outcome.
+/// What a turn of a checkpoint did, or a sweep, by `tag` of its outcome.
 pub const LT_IDLE: u8 = 0;
 
-/// What a turn of a checkpoint did, by `tag` of its outcome.
+/// What a turn of a checkpoint did, or a sweep, by `tag` of its outcome.
 pub const LT_BEGAN: u8 = 1;
 
 /// The page with the number `value` was written
 pub const LT_PAGE: u8 = 2;
 
-/// What a turn of a checkpoint did, by `tag` of its outcome.
+/// What a turn of a checkpoint did, or a sweep, by `tag` of its outcome.
 pub const LT_SYNCED: u8 = 3;
 
-/// What a turn of a checkpoint did, by `tag` of its outcome.
+/// What a turn of a checkpoint did, or a sweep, by `tag` of its outcome.
 pub const LT_IN_FORCE: u8 = 4;
 
-/// What a turn of a checkpoint did, by `tag` of its outcome.
+/// What a turn of a checkpoint did, or a sweep, by `tag` of its outcome.
 pub const LT_SWEPT: u8 = 5;
 
 extern "C" {
+    /// The library's: 10,000 for each major version, 100 for each minor one, 1 for each patch.
+    pub fn lt_version() -> u32;
+
+    /// The version of the layout in which images are made and opened.
+    pub fn lt_layout_version() -> u16;
+
     /// A memory of 1 to 1,048,576 cells and 1 to 64 elements: 0, and `next` holds it; else the refusal, and `next` is
     /// as it was.
     pub fn lt_memory_new(cells: u32, elements: u16, next: *mut lt_memory) -> u8;
@@ -275,8 +286,17 @@ extern "C" {
         places: usize,
     ) -> u8;
 
+    /// The place of the first of these commands, from 0, that is no request, as of a tag that no request has, and that
+    /// so keeps lt_serve_group from taking them: `count` where there is none.
+    pub fn lt_first_unknown(commands: *const lt_command, count: usize) -> usize;
+
     /// One turn of a checkpoint: what it did, at `outcome`. It returns how many steps it left.
     pub fn lt_turn(image: lt_image, next: *mut lt_image, outcome: *mut lt_outcome) -> usize;
+
+    /// Frees up to `most` slots of the journal that are to be swept, since the area in force holds their commands, with
+    /// one sync for all, where a turn frees three: LT_SWEPT at `outcome`, and how many they were, none while a
+    /// checkpoint is under way. It returns how many steps it left: one for each slot, and the sync.
+    pub fn lt_sweep(image: lt_image, most: u32, next: *mut lt_image, outcome: *mut lt_outcome) -> usize;
 
     /// How many steps the last call left.
     pub fn lt_steps(image: lt_image, next: *mut lt_image) -> usize;
@@ -295,6 +315,10 @@ extern "C" {
     /// What is kept under an element's number, at `outcome`: LT_NO_ELEMENT, LT_FORGOTTEN, LT_GAP, or the entry. No
     /// steps are added.
     pub fn lt_collect(image: lt_image, element: u16, number: u64, next: *mut lt_image, outcome: *mut lt_outcome);
+
+    /// The request that is kept under an element's number, at `asked`, with the tag 0 where none is, and after a lost
+    /// step. No steps are added.
+    pub fn lt_entry(image: lt_image, element: u16, number: u64, next: *mut lt_image, asked: *mut lt_command);
 
     /// The window of an element, at `window`: LT_NO_ELEMENT, or its bounds.
     pub fn lt_window(image: lt_image, element: u16, next: *mut lt_image, window: *mut lt_bounds);
@@ -323,4 +347,7 @@ extern "C" {
     /// it, at the start of the buffer where it has room for it, of which the rest is as it was. LT_OK, and any other
     /// number, has no letter, and none has more than 11.
     pub fn lt_refusal_name(refusal: u8, buffer: *mut core::ffi::c_char, room: usize) -> usize;
+
+    /// The name of an answer by its tag, in the same way. None has more than 12 letters.
+    pub fn lt_answer_name(tag: u8, buffer: *mut core::ffi::c_char, room: usize) -> usize;
 }

@@ -8,7 +8,7 @@ pub returns-in-Ok-clause-keeps : goal.returns-in-Ok-clause-keeps
 returns-in-Ok-clause-keeps g c = λ h s x m is kept. record {
   leaves = only_weaker g.D.Disk.now g.D.Disk.past c.args.disk.now c.sweep_turn.new.disk
       (MaySweep c.args.journal.now (g.D.Disk.now c.args.disk.now)) (MeansWith m c.args.journal.now)
-      (c.sweep_turn.ensures.leaves h)
+      (c.sweep_turn.ensures.runs.leaves h)
       (sweep_means s x m c.args.journal.now (g.D.Disk.now c.args.disk.now) is kept);
   kept = sweep_done s x m c.args.journal.now (g.D.Disk.now c.args.disk.now) is kept
       (g.D.Disk.now c.sweep_turn.new.disk) _ c.sweep_turn.new.self c.in-Ok.ensures.room.room
@@ -19,7 +19,7 @@ pub returns-in-Err-clause-keeps : goal.returns-in-Err-clause-keeps
 returns-in-Err-clause-keeps g c = λ h s x m is kept. record {
   leaves = only_weaker g.D.Disk.now g.D.Disk.past c.args.disk.now c.sweep_turn.new.disk
       (MaySweep c.args.journal.now (g.D.Disk.now c.args.disk.now)) (MeansWith m c.args.journal.now)
-      (c.sweep_turn.ensures.leaves h)
+      (c.sweep_turn.ensures.runs.leaves h)
       (sweep_means s x m c.args.journal.now (g.D.Disk.now c.args.disk.now) is kept);
   kept = tt;
 }

@@ -15,7 +15,7 @@ returns-clause-leaves g c = λ h old n x m j is kept.
     let long : length c.spell-bytes.result ≡ 64 = search rules in
     only_weaker g.D.Disk.now g.D.Disk.past c.args.disk.now c.write_behind_gate.new.disk
     (MayWrite (4096 * c.args.next.now.area) c.spell-bytes.result (g.D.Disk.now c.args.disk.now)) (MeansWith m j)
-    (c.write_behind_gate.ensures.leaves h)
+    (c.write_behind_gate.ensures.runs.leaves h)
     (opening_means (seen c.args.next.now) c.spell-bytes.result c.spell-bytes.ensures long old n is x m j
     (g.D.Disk.now c.args.disk.now) kept)
 

@@ -3,15 +3,15 @@ use Rattle.im_dialogue.proofs.TalkLemmas.{ends_after, goes_talk, halts_talk, on_
 use Rattle.im_dialogue.proofs.serving.serve_together.Goals as goal
 
 pub returns-in-Err : goal.returns-in-Err
-returns-in-Err g c = talk_ends_here g.D.Disk.now g.D.Disk.past g.D.Disk.honest c.args.watch c.args.engine.now (g.W.Write.contents c.args.out.now)
+returns-in-Err g c = talk_ends_here g.D.Disk.now g.D.Disk.past g.D.Disk.honest c.args.setting.watch c.args.engine.now (g.W.Write.contents c.args.out.now)
 
 pub returns-in-Err-make_room : goal.returns-in-Err-make_room
-returns-in-Err-make_room g c = halts_talk g.D.Disk.now g.D.Disk.past g.D.Disk.honest c.args.watch c.args.engine.now c.make_room.new.engine (g.W.Write.contents c.args.out.now) c.make_room.ensures.honest (search rules)
+returns-in-Err-make_room g c = halts_talk g.D.Disk.now g.D.Disk.past g.D.Disk.honest c.args.setting.watch c.args.engine.now c.make_room.new.engine (g.W.Write.contents c.args.out.now) c.make_room.ensures.honest (search rules)
 
 pub returns-in-Ok-serve_members : goal.returns-in-Ok-serve_members
-returns-in-Ok-serve_members g c = on_after g.D.Disk.now g.D.Disk.past g.D.Disk.honest c.args.watch c.args.engine.now c.make_room.new.engine c.serve_members.new.engine (g.W.Write.contents c.args.out.now) (g.W.Write.contents c.args.out.now) (g.W.Write.contents c.serve_members.new.out)
-    (goes_talk g.D.Disk.now g.D.Disk.past g.D.Disk.honest c.args.watch c.args.engine.now c.make_room.new.engine (g.W.Write.contents c.args.out.now) c.make_room.ensures.honest (search rules)) (search rules)
+returns-in-Ok-serve_members g c = on_after g.D.Disk.now g.D.Disk.past g.D.Disk.honest c.args.setting.watch c.args.engine.now c.make_room.new.engine c.serve_members.new.engine (g.W.Write.contents c.args.out.now) (g.W.Write.contents c.args.out.now) (g.W.Write.contents c.serve_members.new.out)
+    (goes_talk g.D.Disk.now g.D.Disk.past g.D.Disk.honest c.args.setting.watch c.args.engine.now c.make_room.new.engine (g.W.Write.contents c.args.out.now) c.make_room.ensures.honest (search rules)) (search rules)
 
 pub returns-in-Err-serve_members : goal.returns-in-Err-serve_members
-returns-in-Err-serve_members g c = ends_after g.D.Disk.now g.D.Disk.past g.D.Disk.honest c.args.watch c.args.engine.now c.make_room.new.engine c.serve_members.new.engine (g.W.Write.contents c.args.out.now) (g.W.Write.contents c.args.out.now) (g.W.Write.contents c.serve_members.new.out)
-    (goes_talk g.D.Disk.now g.D.Disk.past g.D.Disk.honest c.args.watch c.args.engine.now c.make_room.new.engine (g.W.Write.contents c.args.out.now) c.make_room.ensures.honest (search rules)) (search rules)
+returns-in-Err-serve_members g c = ends_after g.D.Disk.now g.D.Disk.past g.D.Disk.honest c.args.setting.watch c.args.engine.now c.make_room.new.engine c.serve_members.new.engine (g.W.Write.contents c.args.out.now) (g.W.Write.contents c.args.out.now) (g.W.Write.contents c.serve_members.new.out)
+    (goes_talk g.D.Disk.now g.D.Disk.past g.D.Disk.honest c.args.setting.watch c.args.engine.now c.make_room.new.engine (g.W.Write.contents c.args.out.now) c.make_room.ensures.honest (search rules)) (search rules)

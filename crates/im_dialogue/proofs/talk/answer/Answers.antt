@@ -1,6 +1,9 @@
 use Rattle.std.proofs.Common.{ap}
 use Rattle.std.specs.Prelude.{Some}
-use Rattle.im_dialogue.proofs.TalkLemmas.{says_as}
+use Rattle.im_dialogue.specs.declared.asking.Asked.TheVariants.{About, Entry}
+use Rattle.im_dialogue.specs.declared.answers.Answer.{Answer}
+use Rattle.im_dialogue.specs.Talk.{put_by}
+use Rattle.im_dialogue.proofs.TalkLemmas.{quiet, says_as}
 use Rattle.im_dialogue.proofs.talk.answer.Goals as goal
 
 pub returns-in-Ok-clause-answered : goal.returns-in-Ok-clause-answered
@@ -17,3 +20,17 @@ returns-in-Window-clause-answered g c = says_as g.D.Disk.now g.D.Disk.past g.D.D
 
 pub returns-in-Count-clause-answered : goal.returns-in-Count-clause-answered
 returns-in-Count-clause-answered g c = says_as g.D.Disk.now g.D.Disk.past g.D.Disk.honest c.args.engine.now c.args.engine.now _ (Some c.args.asked) _ (ap Some c.in-Count.is) c.count.ensures
+
+pub returns-in-Entry-clause-answered : goal.returns-in-Entry-clause-answered
+returns-in-Entry-clause-answered g c =
+    let engine = c.args.engine.now in
+    says_as g.D.Disk.now g.D.Disk.past g.D.Disk.honest engine engine _ (Some c.args.asked) _ (ap Some c.in-Entry.is)
+    (quiet g.D.Disk.now g.D.Disk.past g.D.Disk.honest engine (Some (Entry c.in-Entry.who)) c.entry.result
+    (λ m. ap (λ (a : Answer). put_by m a) c.entry.ensures) (λ f. c.entry.ensures))
+
+pub returns-in-About-clause-answered : goal.returns-in-About-clause-answered
+returns-in-About-clause-answered g c =
+    let engine = c.args.engine.now in
+    says_as g.D.Disk.now g.D.Disk.past g.D.Disk.honest engine engine _ (Some c.args.asked) _ (ap Some c.in-About.is)
+    (quiet g.D.Disk.now g.D.Disk.past g.D.Disk.honest engine (Some About) c.about.result
+    (λ m. ap (λ (a : Answer). put_by m a) c.about.ensures) (λ f. (c.args.slots, c.args.engine.now.room, c.about.ensures)))

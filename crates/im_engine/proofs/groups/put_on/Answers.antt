@@ -39,7 +39,7 @@ pub returns-clause-leaves : goal.returns-clause-leaves
 returns-clause-leaves g c = λ h k x m after accepts kept.
     only_weaker g.D.Disk.now g.D.Disk.past c.args.disk.now c.append_group.new.disk
     (MayAppend c.args.journal.now c.args.commands.now (g.D.Disk.now c.args.disk.now)) _
-    (c.append_group.ensures.leaves h)
+    (c.append_group.ensures.runs.leaves h)
     (may_append_means k x m c.args.journal.now (g.D.Disk.now c.args.disk.now) kept c.args.commands.now after accepts)
 
 pub returns-clause-kept : goal.returns-clause-kept

@@ -20,10 +20,10 @@ read_tail-requires-clause-inside g c = λ h.
 
 pub returns-in-Err-clause-fault : goal.returns-in-Err-clause-fault
 returns-in-Err-clause-fault g c =
-    elim c.in-Err.ensures.faults.0 [
+    elim c.in-Err.ensures.reads.faults.0 [
       | inl is ↦ inr (inr (λ h.
           let file = (g.D.Disk.now c.args.disk.now).bytes in
-          let it = c.requires.shown (c.read_tail.ensures.honest h) in
+          let it = c.requires.shown (c.read_tail.ensures.reads.honest h) in
           let named : layout_of c.layout-version.result ≡ layout_in file = c.layout-version.ensures
           ∙ ap (λ (x : Header). layout_named x.version) it.header.is in
           let none = subst
@@ -38,7 +38,7 @@ returns-in-Err-clause-fault g c =
 pub returns-then-replay-clause-means : goal.returns-then-replay-clause-means
 returns-then-replay-clause-means g c = λ h.
     let file = (g.D.Disk.now c.args.disk.now).bytes in
-    let it = c.requires.shown (c.read_tail.ensures.honest h) in
+    let it = c.requires.shown (c.read_tail.ensures.reads.honest h) in
     let named : layout_of c.layout-version.result ≡ layout_in file = c.layout-version.ensures
     ∙ ap (λ (x : Header). layout_named x.version) it.header.is in
     let run = (c.in-Ok.ensures.tail h).reads in
@@ -59,7 +59,7 @@ returns-then-replay-clause-means g c = λ h.
 pub returns-else-replay-clause-fault : goal.returns-else-replay-clause-fault
 returns-else-replay-clause-fault g c = inr (inr (λ h.
     let file = (g.D.Disk.now c.args.disk.now).bytes in
-    let it = c.requires.shown (c.read_tail.ensures.honest h) in
+    let it = c.requires.shown (c.read_tail.ensures.reads.honest h) in
     let named : layout_of c.layout-version.result ≡ layout_in file = c.layout-version.ensures
     ∙ ap (λ (x : Header). layout_named x.version) it.header.is in
     let reads = subst (λ (l : Layout). tail (ring_of l (sizes_of c.args.header.limits)) c.args.header.count file

@@ -1,4 +1,4 @@
-use Rattle.std.proofs.Common.{◌∙◌, [], ◌∷◌, refl, arith}
+use Rattle.std.proofs.Common.{◌∙◌, [], ◌∷◌, refl, arith, rules}
 use Rattle.im_journal.specs.Gates.{closed_gate}
 use Rattle.im_journal.specs.Holding.{ring_at}
 use Rattle.im_journal.proofs.Closing.{closing_start, torn_leaves, closing_next, synced_leaves, synced_shut}
@@ -12,14 +12,20 @@ loop-i-init g c = record {
   failures = refl;
 }
 
-pub returns-in_err-write_at-clause-leaves : goal.returns-in_err-write_at-clause-leaves
-returns-in_err-write_at-clause-leaves g c = λ h1.
-    let h = c.write_at.ensures.honest h1 in
-    let h0 = c.loop-i.invariant.honest h in
-    torn_leaves g.D.Disk.now g.D.Disk.past
-    (ring_at c.args.base c.args.slots) c.args.«from» c.args.count c.args.disk.now c.loop-i.i c.loop-i-test.true c.requires.ring.0 c.loop-i.disk
-    (c.requires.inside h0) (c.loop-i.invariant.closing h) (closed_gate ∷ []) refl c.write_at.new.self
-    (c.write_at.ensures.moment h1)
+pub returns-in_err-write_at-clause-runs : goal.returns-in_err-write_at-clause-runs
+returns-in_err-write_at-clause-runs g c = record {
+  honest = search rules;
+  leaves = λ h1.
+      let h = c.write_at.ensures.honest h1 in
+      let h0 = c.loop-i.invariant.honest h in
+      torn_leaves g.D.Disk.now g.D.Disk.past
+      (ring_at c.args.base c.args.slots) c.args.«from» c.args.count c.args.disk.now c.loop-i.i c.loop-i-test.true
+      c.requires.ring.0 c.loop-i.disk
+      (c.requires.inside h0) (c.loop-i.invariant.closing h) (closed_gate ∷ []) refl c.write_at.new.self
+      (c.write_at.ensures.moment h1);
+  calls = search rules;
+  failures = search rules;
+}
 
 pub loop-i-preserved : goal.loop-i-preserved
 loop-i-preserved g c = record {
@@ -29,25 +35,36 @@ loop-i-preserved g c = record {
       let h0 = c.loop-i.invariant.honest h in
       let tick = c.in_ok-write_at.ensures.tick h1 in
       closing_next g.D.Disk.now g.D.Disk.past
-      (ring_at c.args.base c.args.slots) c.args.«from» c.args.count c.args.disk.now c.loop-i.i c.loop-i-test.true c.requires.ring.0 c.loop-i.disk
+      (ring_at c.args.base c.args.slots) c.args.«from» c.args.count c.args.disk.now c.loop-i.i c.loop-i-test.true
+      c.requires.ring.0 c.loop-i.disk
       (c.requires.inside h0) (c.loop-i.invariant.closing h) (closed_gate ∷ []) refl c.write_at.new.self tick.now
       (c.write_at.ensures.moment h1) tick.past;
   failures = c.in_ok-write_at.ensures.failures ∙ c.loop-i.invariant.failures;
 }
 
-pub returns-in_err-sync-clause-leaves : goal.returns-in_err-sync-clause-leaves
-returns-in_err-sync-clause-leaves g c = λ h1.
-    let h = c.sync.ensures.honest h1 in
-    synced_leaves g.D.Disk.now g.D.Disk.past
-    (ring_at c.args.base c.args.slots) c.args.«from» c.args.count c.args.disk.now c.loop-i.i c.loop-i.disk
-    (c.loop-i.invariant.closing h) c.sync.new.self (c.sync.ensures.moment h1)
+pub returns-in_err-sync-clause-runs : goal.returns-in_err-sync-clause-runs
+returns-in_err-sync-clause-runs g c = record {
+  honest = search rules;
+  leaves = λ h1.
+      let h = c.sync.ensures.honest h1 in
+      synced_leaves g.D.Disk.now g.D.Disk.past
+      (ring_at c.args.base c.args.slots) c.args.«from» c.args.count c.args.disk.now c.loop-i.i c.loop-i.disk
+      (c.loop-i.invariant.closing h) c.sync.new.self (c.sync.ensures.moment h1);
+  calls = search rules;
+  failures = search rules;
+}
 
-pub returns-clause-leaves : goal.returns-clause-leaves
-returns-clause-leaves g c = λ h1.
-    let h = c.sync.ensures.honest h1 in
-    synced_leaves g.D.Disk.now g.D.Disk.past
-    (ring_at c.args.base c.args.slots) c.args.«from» c.args.count c.args.disk.now c.loop-i.i c.loop-i.disk
-    (c.loop-i.invariant.closing h) c.sync.new.self (c.sync.ensures.moment h1)
+pub returns-clause-runs : goal.returns-clause-runs
+returns-clause-runs g c = record {
+  honest = search rules;
+  leaves = λ h1.
+      let h = c.sync.ensures.honest h1 in
+      synced_leaves g.D.Disk.now g.D.Disk.past
+      (ring_at c.args.base c.args.slots) c.args.«from» c.args.count c.args.disk.now c.loop-i.i c.loop-i.disk
+      (c.loop-i.invariant.closing h) c.sync.new.self (c.sync.ensures.moment h1);
+  calls = search rules;
+  failures = search rules;
+}
 
 pub returns-clause-closed : goal.returns-clause-closed
 returns-clause-closed g c = λ h1.

@@ -1,5 +1,5 @@
 use Rattle.std.proofs.Common.{◌≡◌, ◌∙◌, ◌+◌, ◌<◌, ◌∷◌, ◌++◌, ℕ, suc, List, [], length, get_or, take, ap, refl, arith}
-use Rattle.std.proofs.Common.{length-take}
+use Rattle.std.proofs.Common.{length-take, rules}
 use Rattle.std.proofs.Math.Seq.{take-suc}
 use Rattle.std.proofs.lemmas.List.{take_all}
 use Rattle.im_types.specs.declared.commands.Command.{Command}
@@ -21,17 +21,23 @@ loop-i-init g c = record {
   failures = refl;
 }
 
-pub returns-in_err-write_at-clause-leaves : goal.returns-in_err-write_at-clause-leaves
-returns-in_err-write_at-clause-leaves g c = λ h1.
-    let h = c.write_at.ensures.honest h1 in
-    let h0 = c.loop-i.invariant.honest h in
-    let so_many : length (take c.loop-i.i c.args.commands.now)
-    ≡ c.loop-i.i = omega (arith, length-take c.loop-i.i c.args.commands.now, c.loop-i-test.true) in
-    torn_leaves g.D.Disk.now g.D.Disk.past (ring_at c.args.base c.args.slots) c.args.«from»
-    (length c.args.commands.now) c.args.disk.now
-    (take c.loop-i.i c.args.commands.now) c.loop-i.i so_many c.loop-i-test.true c.requires.fits.once_round c.requires.fits.ring.0 c.loop-i.disk
-    (c.requires.inside h0) (c.loop-i.invariant.writing h) _
-    (spelled_long _ _ _ _ c.spell_in-slot.ensures.bytes) c.write_at.new.self (c.write_at.ensures.moment h1)
+pub returns-in_err-write_at-clause-runs : goal.returns-in_err-write_at-clause-runs
+returns-in_err-write_at-clause-runs g c = record {
+  honest = search rules;
+  leaves = λ h1.
+      let h = c.write_at.ensures.honest h1 in
+      let h0 = c.loop-i.invariant.honest h in
+      let so_many : length (take c.loop-i.i c.args.commands.now)
+      ≡ c.loop-i.i = omega (arith, length-take c.loop-i.i c.args.commands.now, c.loop-i-test.true) in
+      torn_leaves g.D.Disk.now g.D.Disk.past (ring_at c.args.base c.args.slots) c.args.«from»
+      (length c.args.commands.now) c.args.disk.now
+      (take c.loop-i.i c.args.commands.now) c.loop-i.i so_many c.loop-i-test.true c.requires.fits.once_round
+      c.requires.fits.ring.0 c.loop-i.disk
+      (c.requires.inside h0) (c.loop-i.invariant.writing h) _
+      (spelled_long _ _ _ _ c.spell_in-slot.ensures.bytes) c.write_at.new.self (c.write_at.ensures.moment h1);
+  calls = search rules;
+  failures = search rules;
+}
 
 pub loop-i-preserved : goal.loop-i-preserved
 loop-i-preserved g c = record {
@@ -44,7 +50,8 @@ loop-i-preserved g c = record {
       ≡ c.loop-i.i = omega (arith, length-take c.loop-i.i c.args.commands.now, c.loop-i-test.true) in
       writing_next g.D.Disk.now g.D.Disk.past (ring_at c.args.base c.args.slots) c.args.«from»
       (length c.args.commands.now) c.args.disk.now
-      (take c.loop-i.i c.args.commands.now) c.loop-i.i so_many c.loop-i-test.true c.requires.fits.once_round c.requires.fits.ring.0 c.loop-i.disk
+      (take c.loop-i.i c.args.commands.now) c.loop-i.i so_many c.loop-i-test.true c.requires.fits.once_round
+      c.requires.fits.ring.0 c.loop-i.disk
       (c.requires.inside h0) (c.loop-i.invariant.writing h) _
       (spelled_long _ _ _ _ c.spell_in-slot.ensures.bytes) c.write_at.new.self
       _ c.spell_in-slot.ensures.fits

@@ -61,7 +61,7 @@ returns-in_err-write_header-clause-leaves g c = λ h3.
 
 pub returns-clause-leaves : goal.returns-clause-leaves
 returns-clause-leaves g c = λ h4.
-    let h3 = c.open_gate.ensures.honest h4 in
+    let h3 = c.open_gate.ensures.runs.honest h4 in
     let h2 = c.write_header.ensures.honest h3 in
     let h1 = c.close_slots.ensures.honest h2 in
     let h = c.write_pages.ensures.honest h1 in
@@ -90,11 +90,11 @@ returns-clause-leaves g c = λ h4.
     (leaves_laid s limits.in_range c.args.header.now.count c.requires.last r m count shows
     (g.N.Disk.now c.close_slots.new.new).bytes laid apart
     g.N.Disk.now g.N.Disk.past c.args.new.now c.write_header.new.new c.open_gate.new.disk is first
-    (c.open_gate.ensures.leaves h4))
+    (c.open_gate.ensures.runs.leaves h4))
 
 pub returns-clause-laid : goal.returns-clause-laid
 returns-clause-laid g c = on_ok c.open_gate.result c.open_gate.ensures.opened (λ done h4.
-    let h3 = c.open_gate.ensures.honest h4 in
+    let h3 = c.open_gate.ensures.runs.honest h4 in
     let h2 = c.write_header.ensures.honest h3 in
     let h1 = c.close_slots.ensures.honest h2 in
     let h = c.write_pages.ensures.honest h1 in
@@ -122,4 +122,4 @@ returns-clause-laid g c = on_ok c.open_gate.result c.open_gate.ensures.opened (�
     (laid_now s limits.in_range c.args.header.now.count c.requires.last r m count shows
     (g.N.Disk.now c.close_slots.new.new).bytes laid apart
     g.N.Disk.now g.N.Disk.past c.args.new.now c.write_header.new.new c.open_gate.new.disk is first
-    (c.open_gate.ensures.leaves h4) (done h4)))
+    (c.open_gate.ensures.runs.leaves h4) (done h4)))

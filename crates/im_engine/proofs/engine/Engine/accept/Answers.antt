@@ -48,13 +48,13 @@ returns-in-Err-clause-leaves g c = λ h.
     ≡ true = ap (λ (s : EngineState g.row.D.Denot). is_accepted s.memory c.args.command.now) c.self.view_is
     ∙ c.requires.accepted in
     let means = may_append_means e.checkpoint.state (paged e.checkpoint e.memory) e.memory.contents e.journal
-    (g.D.Disk.now e.disk) (c.self.invariant.1 (c.append.ensures.honest h) alive) (c.args.command.now ∷ [])
+    (g.D.Disk.now e.disk) (c.self.invariant.1 (c.append.ensures.runs.honest h) alive) (c.args.command.now ∷ [])
     (step e.memory.contents c.args.command.now).contents
     (accept_one e.memory.contents c.args.command.now accepted) in
     subst (λ (s : EngineState g.row.D.Denot). LeavesOnly g.D.Disk.now g.D.Disk.past s.disk c.append.new.disk
     (MeansEither s c.args.command.now)) c.self.view_is
     (only_weaker g.D.Disk.now g.D.Disk.past e.disk c.append.new.disk
-    (MayAppend e.journal (c.args.command.now ∷ []) (g.D.Disk.now e.disk)) _ (c.append.ensures.leaves h) means)
+    (MayAppend e.journal (c.args.command.now ∷ []) (g.D.Disk.now e.disk)) _ (c.append.ensures.runs.leaves h) means)
 
 pub invariant_of-self-2 : goal.invariant_of-self-2
 invariant_of-self-2 g c =
@@ -69,7 +69,7 @@ invariant_of-self-2 g c =
           (record { cells = c.self.invariant.0.cells; elements = c.self.invariant.0.elements }) c.step.ensures.changes
           c.step.new.self.contents c.append.new.self (g.D.Disk.now c.append.new.disk)
           (kept_with_it e.checkpoint.state (paged e.checkpoint e.memory) e.memory.contents e.journal
-          (g.D.Disk.now e.disk) (c.self.invariant.1 (c.append.ensures.honest h) f) c.args.command.now accepted
+          (g.D.Disk.now e.disk) (c.self.invariant.1 (c.append.ensures.runs.honest h) f) c.args.command.now accepted
           c.step.new.self.contents c.step.ensures.contents c.append.new.self done.state
           (g.D.Disk.now c.append.new.disk) (done.added h).kept (done.added h).calm (done.added h).added
           (done.added h).holds),
@@ -83,19 +83,19 @@ returns-clause-leaves g c = λ h.
     ≡ true = ap (λ (s : EngineState g.row.D.Denot). is_accepted s.memory c.args.command.now) c.self.view_is
     ∙ c.requires.accepted in
     let means = may_append_means e.checkpoint.state (paged e.checkpoint e.memory) e.memory.contents e.journal
-    (g.D.Disk.now e.disk) (c.self.invariant.1 (c.append.ensures.honest h) alive) (c.args.command.now ∷ [])
+    (g.D.Disk.now e.disk) (c.self.invariant.1 (c.append.ensures.runs.honest h) alive) (c.args.command.now ∷ [])
     (step e.memory.contents c.args.command.now).contents
     (accept_one e.memory.contents c.args.command.now accepted) in
     subst (λ (s : EngineState g.row.D.Denot). LeavesOnly g.D.Disk.now g.D.Disk.past s.disk c.append.new.disk
     (MeansEither s c.args.command.now)) c.self.view_is
     (only_weaker g.D.Disk.now g.D.Disk.past e.disk c.append.new.disk
-    (MayAppend e.journal (c.args.command.now ∷ []) (g.D.Disk.now e.disk)) _ (c.append.ensures.leaves h) means)
+    (MayAppend e.journal (c.args.command.now ∷ []) (g.D.Disk.now e.disk)) _ (c.append.ensures.runs.leaves h) means)
 
 pub returns-clause-calls : goal.returns-clause-calls
 returns-clause-calls g c = λ h.
     subst (λ (s : EngineState g.row.D.Denot). CallsBy g.D.Disk.past s.disk c.append.new.disk 4 c.step.result) c.self.view_is
     (calls_after g.D.Disk.past c.self.inside.disk c.append.new.disk 4 c.append.result _ c.step.result c.in_default.is
-    (c.append.ensures.calls h))
+    (c.append.ensures.runs.calls h))
 
 pub returns-clause-means : goal.returns-clause-means
 returns-clause-means g c = λ h f.
@@ -107,6 +107,6 @@ returns-clause-means g c = λ h f.
     all_mean e.checkpoint.state (paged e.checkpoint e.memory) c.step.new.self.contents c.append.new.self
     (g.D.Disk.now c.append.new.disk)
     (kept_with_it e.checkpoint.state (paged e.checkpoint e.memory) e.memory.contents e.journal (g.D.Disk.now e.disk)
-    (c.self.invariant.1 (c.append.ensures.honest h) f) c.args.command.now accepted
+    (c.self.invariant.1 (c.append.ensures.runs.honest h) f) c.args.command.now accepted
     c.step.new.self.contents c.step.ensures.contents c.append.new.self done.state (g.D.Disk.now c.append.new.disk)
     (done.added h).kept (done.added h).calm (done.added h).added (done.added h).holds)

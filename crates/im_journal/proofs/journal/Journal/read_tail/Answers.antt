@@ -37,7 +37,7 @@ returns-clause-tail g c = λ h.
           (g.D.Disk.now c.args.disk.now).bytes c.deref.result.now some at) ∙ c.in-Ok-tail_in.ensures.tail;
       holds = record {
         size = subst (λ (n : ℕ). n + 64 * c.args.limits.slots ≤ length (g.D.Disk.now c.args.disk.now).bytes)
-            (sym c.journal_at-base.ensures.at) (c.requires.inside (c.read_bytes.ensures.honest h));
+            (sym c.journal_at-base.ensures.at) (c.requires.inside (c.read_bytes.ensures.reads.honest h));
         commands = c.in-Ok-tail_in.read.0.items;
         there = c.in-Ok-tail_in.read.1;
         reads = reads;

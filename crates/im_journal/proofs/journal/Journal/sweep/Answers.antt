@@ -1,30 +1,43 @@
+use Rattle.std.proofs.Common.{rules}
 use Rattle.im_journal.specs.Holding.{state_of, to_sweep}
 use Rattle.im_journal.proofs.Sweeping.{no_more, turn_of, sweep_leaves, sweeps}
 use Rattle.im_journal.proofs.journal.Journal.sweep.Goals as goal
 
-pub returns-in-Err-clause-leaves : goal.returns-in-Err-clause-leaves
-returns-in-Err-clause-leaves g c = λ h.
-    let h0 = c.close_gates.ensures.honest h in
-    sweep_leaves g.D.Disk.now g.D.Disk.past c.args.disk.now c.close_gates.new.disk
-    (turn_of (state_of c.self.inside.base c.self.inside.slots c.self.inside.first c.self.inside.count c.self.inside.room) c.args.self.now c.at_once-swept.result (g.D.Disk.now c.args.disk.now)
-    c.self.view_is c.self.invariant c.requires.some (c.requires.holds h0)
-    (no_more c.at_once-swept.result c.args.most c.to_sweep.result
-    (to_sweep c.args.self.now) c.at_once-swept.ensures c.to_sweep.ensures))
-    (c.close_gates.ensures.leaves h)
+pub returns-in-Err-clause-runs : goal.returns-in-Err-clause-runs
+returns-in-Err-clause-runs g c = record {
+  honest = search rules;
+  leaves = λ h.
+      let h0 = c.close_gates.ensures.runs.honest h in
+      sweep_leaves g.D.Disk.now g.D.Disk.past c.args.disk.now c.close_gates.new.disk
+      (turn_of (state_of c.self.inside.base c.self.inside.slots c.self.inside.first c.self.inside.count
+      c.self.inside.room) c.args.self.now c.at_once-swept.result (g.D.Disk.now c.args.disk.now)
+      c.self.view_is c.self.invariant c.requires.some (c.requires.holds h0)
+      (no_more c.at_once-swept.result c.args.most c.to_sweep.result
+      (to_sweep c.args.self.now) c.at_once-swept.ensures c.to_sweep.ensures))
+      (c.close_gates.ensures.runs.leaves h);
+  calls = search rules;
+  faults = search rules;
+}
 
-pub returns-clause-leaves : goal.returns-clause-leaves
-returns-clause-leaves g c = λ h.
-    let h0 = c.close_gates.ensures.honest h in
-    sweep_leaves g.D.Disk.now g.D.Disk.past c.args.disk.now c.close_gates.new.disk
-    (turn_of (state_of c.self.inside.base c.self.inside.slots c.self.inside.first c.self.inside.count c.self.inside.room) c.args.self.now c.at_once-swept.result (g.D.Disk.now c.args.disk.now)
-    c.self.view_is c.self.invariant c.requires.some (c.requires.holds h0)
-    (no_more c.at_once-swept.result c.args.most c.to_sweep.result
-    (to_sweep c.args.self.now) c.at_once-swept.ensures c.to_sweep.ensures))
-    (c.close_gates.ensures.leaves h)
+pub returns-clause-runs : goal.returns-clause-runs
+returns-clause-runs g c = record {
+  honest = search rules;
+  leaves = λ h.
+      let h0 = c.close_gates.ensures.runs.honest h in
+      sweep_leaves g.D.Disk.now g.D.Disk.past c.args.disk.now c.close_gates.new.disk
+      (turn_of (state_of c.self.inside.base c.self.inside.slots c.self.inside.first c.self.inside.count
+      c.self.inside.room) c.args.self.now c.at_once-swept.result (g.D.Disk.now c.args.disk.now)
+      c.self.view_is c.self.invariant c.requires.some (c.requires.holds h0)
+      (no_more c.at_once-swept.result c.args.most c.to_sweep.result
+      (to_sweep c.args.self.now) c.at_once-swept.ensures c.to_sweep.ensures))
+      (c.close_gates.ensures.runs.leaves h);
+  calls = search rules;
+  faults = search rules;
+}
 
 pub returns-clause-swept : goal.returns-clause-swept
 returns-clause-swept g c = λ h.
-    let h0 = c.close_gates.ensures.honest h in
+    let h0 = c.close_gates.ensures.runs.honest h in
     sweeps
     (turn_of (state_of c.self.inside.base c.self.inside.slots c.self.inside.first c.self.inside.count c.self.inside.room) c.args.self.now c.at_once-swept.result (g.D.Disk.now c.args.disk.now)
     c.self.view_is c.self.invariant c.requires.some (c.requires.holds h0)

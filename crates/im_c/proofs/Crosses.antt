@@ -1,0 +1,28 @@
+-- What a handle holds may cross threads.
+use denote.Param.Send.{IsSend, sendable}
+use Rattle.std.proofs.Crossing.{crosses}
+use Rattle.im_memory.specs.contracts.memory.Memory as Memory
+use Rattle.im_checkpoint.specs.contracts.checkpoint.Checkpoint as Checkpoint
+use Rattle.im_listed.specs.contracts.listed.Listed as Listed
+use Rattle.im_listed.proofs.account.Ledger.TheSendSync.{the_send as ledger_send}
+use Rattle.im_listed.specs.contracts.image.Image as Image
+
+Memory-send : IsSend Memory.the_field.row
+Memory-send = search (sendable, crosses) depth 40 fits 30000
+
+pub Memory-row-send : IsSend Memory.the_row
+Memory-row-send = let m = Memory-send in search sendable depth 20
+
+Checkpoint-send : IsSend Checkpoint.the_field.row
+Checkpoint-send = search (sendable, crosses) depth 40
+
+Listed-send : IsSend Listed.the_field.row
+Listed-send = search (sendable, crosses, ledger_send) depth 40 fits 30000
+
+Image-send : IsSend Image.the_field.row
+Image-send =
+    let m = Memory-send in let k = Checkpoint-send in let d = Listed-send in
+    search (sendable, crosses) depth 40 fits 30000
+
+pub Image-row-send : IsSend Image.the_row
+Image-row-send = let i = Image-send in search sendable depth 20

@@ -1,0 +1,27 @@
+use mir.Raw.{raw}
+use base.Shift.{Keyless}
+use denote.Memory.{lone}
+use denote.RawPtr.{Ptr}
+use denote.Struct.Struct.{exits_of}
+use denote.Struct.Owning.{shape, fields, to}
+use denote.Param.Send.{IsSend, AllSend, owning_send, struct_send, sendable}
+use Rattle.std.specs.Prelude.{None, Some}
+use Rattle.std.specs.declared.option.Option.{Option}
+use Rattle.std.specs.Global.{Global}
+use Rattle.std.proofs.Crossing as heap
+use Rattle.std_alloc.proofs.SendSync.{quiet, lies}
+use Rattle.std_heap.proofs.Global.TheSendSync as handle
+use Rattle.im_listed.specs.contracts.image.Image as Image
+use Rattle.im_c.specs.Held.{holds_image}
+use Rattle.im_c.specs.contracts.image.LtImage.{the_row, the_type}
+use Rattle.im_c.proofs.Crosses.{Image-row-send}
+
+held : (a : Global) (p : Ptr) (x : Option Image.the_row.Denot) → Keyless (holds_image a p x)
+held a p None = tt
+held a p (Some x) = (lies Image.the_row Image-row-send p x, heap.frees.frees a (raw (lone Image.the_row.mir)) p)
+
+pub send : IsSend the_row
+send =
+    let all : AllSend (fields the_type) = (search sendable, (handle.the_field_send, tt)) in
+    owning_send the_type all (λ d. held d.alloc d.ptr d.value)
+    (λ k. quiet (to the_type) (exits_of k (fields the_type)) ((struct_send (shape the_type) all).leaving k))

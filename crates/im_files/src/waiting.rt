@@ -1,0 +1,51 @@
+//! Openings that wait for the lock of a file.
+
+use im_disk::Start;
+use std::thread::sleep;
+use std::time::{Clock, Duration, Instant};
+
+// So many milliseconds pass between two tries.
+const PAUSE: u64 = 20;
+
+/// A start of which nothing is known, as of [`Unknown`](im_disk::Unknown). Its opening waits for the file's lock.
+#[derive(Drop)]
+pub struct Waiting<R> {
+    rt: R,
+    // When it was found in use first.
+    began: Option<Instant>,
+    most: Duration,
+}
+
+impl<R: Drop> Waiting<R> {
+    /// An opening that waits for so many seconds at most, from the moment on at which the file is found in use. Where
+    /// the clock can't be read it doesn't wait.
+    pub fn new(rt: R, seconds: u32) -> Waiting<R> {
+        Waiting {
+            rt,
+            began: None,
+            most: Duration::from_secs(u64::from(seconds)),
+        }
+    }
+}
+
+impl<R: Clock + Drop> Start for Waiting<R> {
+    ghost use Rattle.std.specs.Prelude.{[]};
+
+    ghost first = { record { bytes = []; ranges = [] } };
+
+    ghost outcomes = { [] };
+
+    fn tries_again(&mut self) -> bool {
+        let Ok(now) = Instant::now(&self.rt) else {
+            return false;
+        };
+        let began = self.began.unwrap_or(now);
+        self.began = Some(began);
+        let left = self.most.saturating_sub(now.duration_since(began));
+        if left.is_zero() {
+            return false;
+        }
+        sleep(&self.rt, left.min(Duration::from_millis(PAUSE)));
+        true
+    }
+}

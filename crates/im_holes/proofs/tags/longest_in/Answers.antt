@@ -1,0 +1,11 @@
+use Rattle.std.proofs.Common.{max, ◌+◌, ap, sym, ◌∙◌, subst, arith}
+use Rattle.im_holes.specs.Holes.{begin_at}
+use Rattle.im_holes.proofs.Cuts.{IsLargestTo, IsLargestTo-more}
+use Rattle.im_holes.proofs.tags.longest_in.Goals as goal
+
+pub loop-at-preserved : goal.loop-at-preserved
+loop-at-preserved c =
+    subst (IsLargestTo (begin_at c.args.begins.now c.args.tags.now) c.args.leaf (c.loop-at.at + 1))
+    (sym (c.max-longest.ensures ∙ ap (λ n. max n c.loop-at.longest) c.begin.ensures))
+    (IsLargestTo-more (begin_at c.args.begins.now c.args.tags.now) c.args.leaf c.loop-at.at c.loop-at.longest
+    (omega (arith, c.min-at-end.ensures, c.loop-at.auto.at)) c.loop-at.invariant)

@@ -1,0 +1,18 @@
+use Rattle.std.proofs.Common.{arith}
+use Rattle.im_holes.proofs.Nodes.{Reaches-root, Reaches-left, Reaches-right, Reaches-leaf}
+use Rattle.im_holes.proofs.tree.first_from.Goals as goal
+
+pub loop-k-init : goal.loop-k-init
+loop-k-init c = Reaches-root c.args.nodes.now c.args.n c.requires.power.0 c.requires.power.1 c.requires.room
+
+pub loop-k-preserved-then-node-n : goal.loop-k-preserved-then-node-n
+loop-k-preserved-then-node-n c = Reaches-left c.args.nodes.now c.requires.tree.inner c.args.n c.loop-k.k
+    c.loop-k-test.true
+    c.loop-k.invariant (omega (arith, c.node.ensures))
+
+pub loop-k-preserved : goal.loop-k-preserved
+loop-k-preserved c = Reaches-right c.args.nodes.now c.requires.tree.inner c.args.n c.loop-k.k c.loop-k-test.true
+    c.loop-k.invariant (omega (arith, c.node.ensures))
+
+pub returns : goal.returns
+returns c = Reaches-leaf c.args.nodes.now c.args.n c.loop-k.k c.loop-k.invariant (omega arith)

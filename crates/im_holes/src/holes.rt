@@ -1,0 +1,170 @@
+//! The holes of a table of cells.
+ghost use Rattle.std.specs.Prelude.{◌≡◌, ℕ, ◌+◌, ◌<◌, ◌≤◌, length, replicate, slice_set, None, Some, IsSome, IsNone};
+ghost use Rattle.std.specs.Prelude.{IfSome, IfOk};
+ghost use Rattle.im_types.specs.Place.{place, fill};
+ghost use Rattle.im_holes.specs.Holes.{holder_at, begin_at, told_cells, AreTakenFrom, AreHeld, AreHoles};
+
+use crate::tags::{
+    PART, behind_of, count, cut, first_in, front_of, join, no_marks, no_numbers, renew_two, tag,
+};
+use crate::tree::{first_from, node, room_for};
+use std::alloc::{AllocError, Global};
+use std::marker::Model;
+
+/// Which cells are free, and a number for each cell that is held, which its holder may use. Cells are numbered from 0.
+/// Once made it takes no more memory: five bytes a cell, and one or two for the tree.
+#[derive(Drop)]
+pub struct Holes {
+    // Whether a hole begins at the cell.
+    begins: Vec<bool>,
+    // The number of a held cell; of a hole's first cell and its last one its length.
+    tags: Vec<u32>,
+    // A tree of the longest hole that begins among the cells of a leaf.
+    nodes: Vec<u32>,
+}
+
+impl Model for Holes {
+    ghost use Rattle.std.specs.Prelude.{List, Option, ℕ};
+    ghost use Rattle.im_holes.specs.Holes.{told_cells, AreHoles};
+
+    ghost Value = { List (Option ℕ) };
+
+    ghost view = { λ h. told_cells h.begins.items h.tags.items };
+
+    ghost invariant = { λ h. AreHoles h.begins.items h.tags.items h.nodes.items };
+}
+
+// The least base where `n` cells are free.
+fn find(begins: &[bool], tags: &[u32], nodes: &[u32], n: u32) -> Option<u32>
+    requires holes { AreHoles begins.now tags.now nodes.now }
+    requires some { 0 < n }
+    ensures place { result ≡ place n (told_cells begins.now tags.now) }
+    ensures room { IfSome result (λ base. n ≤ begin_at begins.now tags.now base) }
+{
+    if node(nodes, 1) < n {
+        return None;
+    }
+    Some(first_in(begins, tags, first_from(nodes, n), n))
+}
+
+// Takes the first `n` cells of the hole that begins at a cell.
+fn take_at(begins: &mut [bool], tags: &mut [u32], nodes: &mut [u32], base: u32, n: u32)
+    requires holes { AreHoles begins.old tags.old nodes.old }
+    requires some { 0 < n }
+    requires room { n ≤ begin_at begins.old tags.old base }
+    ensures holes { AreHoles begins.new tags.new nodes.new }
+    ensures taken { AreTakenFrom (told_cells begins.old tags.old) (told_cells begins.new tags.new) base n }
+{
+    let base = base as usize;
+    cut(begins, tags, base, n);
+    let rest = (base + n as usize).min(tags.len() - 1);
+    renew_two(nodes, begins, tags, base, rest);
+}
+
+// Makes `n` cells from one on free, which are all held.
+fn give_at(begins: &mut [bool], tags: &mut [u32], nodes: &mut [u32], base: u32, n: u32)
+    requires holes { AreHoles begins.old tags.old nodes.old }
+    requires some { 0 < n }
+    requires held { AreHeld (told_cells begins.old tags.old) base n }
+    ensures holes { AreHoles begins.new tags.new nodes.new }
+    ensures given { told_cells begins.new tags.new ≡ fill (told_cells begins.old tags.old) base n None }
+{
+    let end = base as usize + n as usize;
+    let from = front_of(begins, tags, base as usize);
+    let to = behind_of(begins, tags, end);
+    join(begins, tags, from, end, to);
+    let rest = end.min(tags.len() - 1);
+    renew_two(nodes, begins, tags, from, rest);
+}
+
+impl Holes {
+    /// So many cells, all of them held, each with number 0. `AllocError` where the room for them is refused.
+    pub fn new(alloc: Global, cells: u32) -> Result<Holes, AllocError>
+        ensures { IfOk result (λ holes. holes ≡ replicate cells (Some 0)) }
+    {
+        let begins = no_marks(alloc, cells as usize)?;
+        let tags = no_numbers(alloc, cells as usize)?;
+        let nodes = room_for(alloc, (cells as usize + (PART - 1)) / PART)?;
+        Ok(Holes {
+            begins,
+            tags,
+            nodes,
+        })
+    }
+
+    /// How many cells there are.
+    pub fn cells(&self) -> u32
+        ensures { result ≡ length self.now }
+    {
+        count(self.tags.as_slice())
+    }
+
+    /// The number of a cell that is held.
+    #[inline(always)]
+    pub fn number(&self, k: u32) -> u32
+        requires { IsSome (holder_at self.now k) }
+        ensures { holder_at self.now k ≡ Some result }
+    {
+        tag(self.tags.as_slice(), k as usize)
+    }
+
+    /// Gives a cell that is held another number.
+    pub fn set_number(&mut self, k: u32, number: u32)
+        requires { IsSome (holder_at self.old k) }
+        ensures { self.new ≡ slice_set self.old k (Some number) }
+    {
+        self.tags[k as usize] = number;
+    }
+
+    /// The least base where `n` cells, at least one, are free; `None` where there is no such base.
+    pub fn find(&self, n: u32) -> Option<u32>
+        requires { 0 < n }
+        ensures { result ≡ place n self.now }
+    {
+        find(
+            self.begins.as_slice(),
+            self.tags.as_slice(),
+            self.nodes.as_slice(),
+            n,
+        )
+    }
+
+    /// Takes `n` cells, at least one, at the least base where so many are free, and answers it; `None`, and nothing
+    /// changed, where there is no such base. The number of the first cell is 0; those of the others may be any.
+    pub fn take(&mut self, n: u32) -> Option<u32>
+        requires { 0 < n }
+        ensures place { result ≡ place n self.old }
+        ensures taken { IfSome result (λ base. AreTakenFrom self.old self.new base n) }
+        ensures same { IsNone result → self.new ≡ self.old }
+    {
+        let base = find(
+            self.begins.as_slice(),
+            self.tags.as_slice(),
+            self.nodes.as_slice(),
+            n,
+        )?;
+        take_at(
+            self.begins.as_mut_slice(),
+            self.tags.as_mut_slice(),
+            self.nodes.as_mut_slice(),
+            base,
+            n,
+        );
+        Some(base)
+    }
+
+    /// Makes `n` cells from one on free again, at least one, which are all held.
+    pub fn give(&mut self, base: u32, n: u32)
+        requires some { 0 < n }
+        requires held { AreHeld self.old base n }
+        ensures { self.new ≡ fill self.old base n None }
+    {
+        give_at(
+            self.begins.as_mut_slice(),
+            self.tags.as_mut_slice(),
+            self.nodes.as_mut_slice(),
+            base,
+            n,
+        );
+    }
+}

@@ -1,0 +1,201 @@
+//! Boundary tags: a mark at the cell where a hole begins, and its length there and at its last cell.
+ghost use Rattle.std.specs.Prelude.{◌≡◌, ℕ, false, slice_set, ◌+◌, ◌/◌, ◌<◌, ◌≤◌, ◌^◌, length, replicate};
+ghost use Rattle.std.specs.Prelude.{IfOk};
+ghost use Rattle.im_holes.specs.Tree.{leaf_count, IsMaxTree};
+ghost use Rattle.im_holes.specs.Holes.{mark_at, kept_at, begin_at, IsLargest, HasLeaf, IsLeast};
+ghost use Rattle.im_holes.specs.Holes.{marked, tagged, cut_marks, cut_tags, joined_marks, joined_tags};
+ghost use Rattle.im_holes.specs.Holes.{MeetsHole, IsRenewed};
+
+use crate::tree::put;
+use std::alloc::{AllocError, Global};
+
+/// How many cells a leaf of the tree has.
+pub(crate) const PART: usize = 8;
+
+/// Marks of so many cells, at none of which a hole begins.
+pub(crate) fn no_marks(alloc: Global, cells: usize) -> Result<Vec<bool>, AllocError>
+    ensures { IfOk result (λ begins. begins.items ≡ replicate cells false) }
+{
+    vec![in alloc; false; cells]
+}
+
+/// Numbers of so many cells, all of them 0.
+pub(crate) fn no_numbers(alloc: Global, cells: usize) -> Result<Vec<u32>, AllocError>
+    ensures { IfOk result (λ tags. tags.items ≡ replicate cells 0) }
+{
+    vec![in alloc; 0u32; cells]
+}
+
+/// The number that is kept for a cell.
+#[inline(always)]
+pub(crate) fn tag(tags: &[u32], k: usize) -> u32
+    requires { k < length tags.now }
+    ensures { result ≡ kept_at tags.now k }
+{
+    tags[k]
+}
+
+/// How many cells there are.
+pub(crate) fn count(tags: &[u32]) -> u32
+    requires { length tags.now < 2 ^ 32 }
+    ensures { result ≡ length tags.now }
+{
+    tags.len() as u32
+}
+
+/// The length of the hole that begins at a cell; 0 of none.
+pub(crate) fn begin(begins: &[bool], tags: &[u32], k: usize) -> u32
+    requires marks { k < length begins.now }
+    requires tags { k < length tags.now }
+    ensures { result ≡ begin_at begins.now tags.now k }
+{
+    if begins[k] { tags[k] } else { 0 }
+}
+
+// The length of the longest hole that begins among the cells of a leaf.
+fn longest_in(begins: &[bool], tags: &[u32], leaf: usize) -> u32
+    requires count { length begins.now ≡ length tags.now }
+    requires few { leaf < 2 ^ 32 }
+    ensures { IsLargest (begin_at begins.now tags.now) leaf result }
+{
+    let mut longest = 0;
+    for at in leaf * PART..(leaf * PART + PART).min(tags.len()) {
+        longest = begin(begins, tags, at).max(longest);
+    }
+    longest
+}
+
+/// The first cell of a leaf where so long a hole begins; there is one.
+pub(crate) fn first_in(begins: &[bool], tags: &[u32], leaf: usize, n: u32) -> u32
+    requires count { length begins.now ≡ length tags.now }
+    requires few { length tags.now < 2 ^ 32 }
+    requires some { 0 < n }
+    requires room { (k : ℕ) × (k / PART ≡ leaf) × (n ≤ begin_at begins.now tags.now k) }
+    ensures { IsLeast (begin_at begins.now tags.now) n leaf result }
+{
+    let mut at = leaf * PART;
+    while begin(begins, tags, at) < n {
+        at += 1;
+    }
+    at as u32
+}
+
+// Marks a hole of `n` cells.
+fn mark_hole(begins: &mut [bool], tags: &mut [u32], base: usize, n: u32)
+    requires some { 0 < n }
+    requires marks { base < length begins.old }
+    requires tags { base + n ≤ length tags.old }
+    ensures marks { begins.new ≡ marked begins.old base }
+    ensures tags { tags.new ≡ tagged tags.old base n }
+{
+    begins[base] = true;
+    tags[base] = n;
+    tags[base + n as usize - 1] = n;
+}
+
+/// Takes `n` cells from the front of the hole that begins at a cell; its first cell gets number 0.
+pub(crate) fn cut(begins: &mut [bool], tags: &mut [u32], base: usize, n: u32)
+    requires some { 0 < n }
+    requires count { length begins.old ≡ length tags.old }
+    requires room { n ≤ kept_at tags.old base }
+    requires inside { base + kept_at tags.old base ≤ length tags.old }
+    ensures marks { begins.new ≡ cut_marks begins.old base n (kept_at tags.old base) }
+    ensures tags { tags.new ≡ cut_tags tags.old base n (kept_at tags.old base) }
+{
+    let length = tags[base];
+    begins[base] = false;
+    tags[base] = 0;
+    if n < length {
+        mark_hole(begins, tags, base + n as usize, length - n);
+    }
+}
+
+/// Where the hole begins that ends before a cell; the cell itself where none does. What the cell before it has for a
+/// number is a hole's length only where a hole of that length begins so far before.
+pub(crate) fn front_of(begins: &[bool], tags: &[u32], base: usize) -> usize
+    requires count { length begins.now ≡ length tags.now }
+    requires inside { base ≤ length tags.now }
+    ensures { MeetsHole begins.now tags.now base result }
+{
+    if base == 0 {
+        return base;
+    }
+    let length = tags[base - 1] as usize;
+    if length == 0 || length > base {
+        return base;
+    }
+    let from = base - length;
+    if begin(begins, tags, from) as usize == length {
+        return from;
+    }
+    base
+}
+
+/// Where the hole ends that begins at a cell; at the cell itself where none does.
+pub(crate) fn behind_of(begins: &[bool], tags: &[u32], end: usize) -> usize
+    requires count { length begins.now ≡ length tags.now }
+    requires few { length tags.now < 2 ^ 32 }
+    requires inside { end ≤ length tags.now }
+    ensures { result ≡ end + begin_at begins.now tags.now end }
+{
+    if end == tags.len() {
+        return end;
+    }
+    end + begin(begins, tags, end) as usize
+}
+
+// Takes a mark away, if there is such a cell.
+fn unmark(begins: &mut [bool], at: usize)
+    ensures { begins.new ≡ slice_set begins.old at false }
+{
+    if at < begins.len() {
+        begins[at] = false;
+    }
+}
+
+/// Makes the cells from one up to another one a hole, in which one began at `end`.
+pub(crate) fn join(begins: &mut [bool], tags: &mut [u32], from: usize, end: usize, to: usize)
+    requires count { length begins.old ≡ length tags.old }
+    requires some { from < end }
+    requires order { end ≤ to }
+    requires inside { to ≤ length tags.old }
+    requires few { length tags.old < 2 ^ 32 }
+    ensures marks { begins.new ≡ joined_marks begins.old from end }
+    ensures tags { tags.new ≡ joined_tags tags.old from to }
+{
+    unmark(begins, end);
+    mark_hole(begins, tags, from, (to - from) as u32);
+}
+
+// Makes the leaf that has a cell anew, and the nodes above it.
+fn renew(nodes: &mut [u32], begins: &[bool], tags: &[u32], at: usize)
+    requires count { length begins.now ≡ length tags.now }
+    requires few { at < 2 ^ 32 }
+    requires tree { IsMaxTree nodes.old }
+    requires inside { at / PART < leaf_count nodes.old }
+    ensures { IsRenewed begins.now tags.now nodes.old nodes.new at at }
+{
+    put(nodes, at / PART, longest_in(begins, tags, at / PART));
+}
+
+/// Makes the leaves that have two cells anew, and the nodes above them.
+pub(crate) fn renew_two(
+    nodes: &mut [u32],
+    begins: &[bool],
+    tags: &[u32],
+    first: usize,
+    second: usize,
+)
+    requires count { length begins.now ≡ length tags.now }
+    requires first_few { first < 2 ^ 32 }
+    requires second_few { second < 2 ^ 32 }
+    requires tree { IsMaxTree nodes.old }
+    requires first { first / PART < leaf_count nodes.old }
+    requires second { second / PART < leaf_count nodes.old }
+    ensures { IsRenewed begins.now tags.now nodes.old nodes.new first second }
+{
+    if second / PART != first / PART {
+        renew(nodes, begins, tags, second);
+    }
+    renew(nodes, begins, tags, first);
+}

@@ -1,0 +1,84 @@
+//! A tree of maxima, complete and in one list: node 1 is its root, and the nodes below node k are 2 k and 2 k + 1.
+//! What is at a leaf is the caller's.
+ghost use Rattle.std.specs.Prelude.{◌≡◌, ℕ, false, slice_set, max, ◌+◌, ◌*◌, ◌<◌, ◌≤◌, ◌^◌, length, IfOk};
+ghost use Rattle.im_holes.specs.Tree.{at_node, row_length, leaf_count, IsMaxTree, IsPut, IsUp, IsUpTo, IsFirst};
+ghost use Rattle.im_holes.specs.Tree.{IsZeroTree};
+
+use std::alloc::{AllocError, Global};
+
+/// A node.
+pub(crate) fn node(nodes: &[u32], k: usize) -> u32
+    requires { k < length nodes.now }
+    ensures { result ≡ at_node nodes.now k }
+{
+    nodes[k]
+}
+
+/// Room for a tree with so many leaves, or up to twice as many, all of them 0.
+pub(crate) fn room_for(alloc: Global, leaves: usize) -> Result<Vec<u32>, AllocError>
+    requires { leaves < 2 ^ 31 }
+    ensures { IfOk result (λ nodes. IsZeroTree nodes.items leaves) }
+{
+    let mut count = 1;
+    while count < leaves {
+        count *= 2;
+    }
+    vec![in alloc; 0u32; 2 * count]
+}
+
+// Makes a node the larger of the two below it; whether that changed it.
+fn join_node(nodes: &mut [u32], k: usize) -> bool
+    requires { 2 * k + 1 < length nodes.old }
+    ensures joined { nodes.new ≡
+        slice_set nodes.old k (max (at_node nodes.old (2 * k)) (at_node nodes.old (2 * k + 1))) }
+    ensures same { result ≡ false → at_node nodes.new k ≡ at_node nodes.old k }
+{
+    let old = node(nodes, k);
+    let new = node(nodes, 2 * k).max(node(nodes, 2 * k + 1));
+    nodes[k] = new;
+    new != old
+}
+
+// Makes the nodes above a node anew, up to one that stays as it was.
+fn renew_path(nodes: &mut [u32], from: usize)
+    requires { IsUpTo nodes.old nodes.old from }
+    ensures { IsUp nodes.old nodes.new }
+{
+    let mut k = from;
+    while k > 1 {
+        k /= 2;
+        if !join_node(nodes, k) {
+            return;
+        }
+    }
+}
+
+/// Puts another number at a leaf.
+pub(crate) fn put(nodes: &mut [u32], leaf: usize, new: u32)
+    requires tree { IsMaxTree nodes.old }
+    requires inside { leaf < leaf_count nodes.old }
+    ensures { IsPut nodes.old nodes.new leaf new }
+{
+    let from = nodes.len() / 2 + leaf;
+    nodes[from] = new;
+    renew_path(nodes, from);
+}
+
+/// The first leaf with at least this number, where the root has it.
+pub(crate) fn first_from(nodes: &[u32], n: u32) -> usize
+    requires power { (height : ℕ) × (leaf_count nodes.now ≡ row_length height) }
+    requires tree { IsMaxTree nodes.now }
+    requires room { n ≤ at_node nodes.now 1 }
+    ensures { IsFirst nodes.now n result }
+{
+    let leaves = nodes.len() / 2;
+    let mut k = 1;
+    while k < leaves {
+        if node(nodes, 2 * k) >= n {
+            k = 2 * k;
+        } else {
+            k = 2 * k + 1;
+        }
+    }
+    k - leaves
+}

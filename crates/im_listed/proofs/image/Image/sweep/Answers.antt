@@ -1,0 +1,26 @@
+use Rattle.std.proofs.Common.{◌≡◌, List, ℕ, false, sym, ◌∙◌, ap}
+use Rattle.im_engine.specs.State.{EngineState, MeansState}
+use Rattle.im_listed.specs.Listing.{Listing}
+use Rattle.im_listed.specs.Numbers.{told}
+use Rattle.im_listed.specs.Image.{ImageState, begun_in}
+use Rattle.im_listed.proofs.ImageLemmas.{carries_on, start_of, steady_sweep}
+use Rattle.im_listed.proofs.image.Image.sweep.Goals as goal
+
+pub returns-clause-carried : goal.returns-clause-carried
+returns-clause-carried c = λ alive.
+    let s = c.empty_list.new.self in
+    let e = c.self.inside.engine in
+    let on : e.failed ≡ false = c.self.invariant c.if-self.false in
+    let here : s.failed ≡ false = ap (λ (t : EngineState Listing). t.failed) c.empty_list.ensures.emptied ∙ on in
+    let new : ImageState = record { engine = c.sweep-answer.new.self; lost = c.known-self-inside-2.result } in
+    let calm : new.lost ≡ false → new.engine.failed ≡ false = λ is. sym c.known-self-inside-2.ensures.failed ∙ is in
+    carries_on c.args.self.now new (λ (t : EngineState Listing) (file : List ℕ). MeansState t file) s
+    (c.empty_list.ensures.emptied ∙ ap (λ (i : ImageState). begun_in i) c.self.view_is) (record {
+      same = λ is. steady_sweep s new.engine c.args.most c.sweep-answer.result
+          (told s.disk.failed s.disk.begun) (told new.engine.disk.failed new.engine.disk.begun)
+          c.sweep-answer.ensures.answered c.sweep-answer.ensures.faults here (calm is);
+      leaves = c.sweep-answer.ensures.leaves tt here;
+      start = start_of e s c.empty_list.ensures.emptied (c.known-self-inside.ensures.means on);
+      account = c.known-self-inside-2.ensures.account;
+      means = λ is. c.known-self-inside-2.ensures.means (calm is);
+    })

@@ -1,0 +1,512 @@
+#define _GNU_SOURCE
+#include "luntrebis_file.h"
+
+#include <errno.h>
+#include <fcntl.h>
+#include <libgen.h>
+#include <stdio.h>
+#include <stdlib.h>
+#include <string.h>
+#include <sys/file.h>
+#include <sys/stat.h>
+#include <unistd.h>
+
+enum { MEMBERS = 16, SWEPT_AT_ONCE = 64, BOOT_NAME = 37 };
+
+/* What the library has, and what is known of the file. A `const struct ltf` points to it, so a call that only tells may
+ * have the handle handed on. */
+struct held {
+    struct lt_image image;
+    struct ltf_counts work;
+};
+
+struct ltf {
+    struct held *held;
+    int file;
+    char *note; /* the path of the note of a failed sync */
+    uint8_t *bytes; /* of writes that touch */
+    size_t room;
+    uint32_t cells, slots;
+    uint16_t elements;
+    struct ltf_fault failure;
+};
+
+/* ---- Steps */
+
+static int write_all(int file, const uint8_t *bytes, size_t length, off_t place) {
+    while (length > 0) {
+        ssize_t done = pwrite(file, bytes, length, place);
+        if (done < 0 && errno == EINTR) continue;
+        if (done == 0) errno = EIO;
+        if (done <= 0) return -1;
+        bytes += done;
+        place += done;
+        length -= (size_t)done;
+    }
+    return 0;
+}
+
+static ssize_t read_short(const char *path, char *bytes, size_t room) {
+    int file = open(path, O_RDONLY | O_CLOEXEC | O_NONBLOCK);
+    ssize_t length = file < 0 ? -1 : read(file, bytes, room);
+    if (file >= 0) close(file);
+    return length;
+}
+
+static ssize_t boot_name(char *name) {
+    return read_short("/proc/sys/kernel/random/boot_id", name, 64);
+}
+
+/* Leaves the note, in which the kernel's name of its present run stands. Whether it is left. */
+static int leave_note(const char *path) {
+    char name[64];
+    int file, left;
+    if (boot_name(name) != BOOT_NAME) return 0;
+    unlink(path);
+    file = open(path, O_WRONLY | O_CREAT | O_EXCL | O_CLOEXEC, 0666);
+    if (file < 0) return 0;
+    left = write_all(file, (const uint8_t *)name, BOOT_NAME, 0) == 0;
+    close(file);
+    if (!left) unlink(path);
+    return left;
+}
+
+/* Whether the note keeps the file from being opened. One of an earlier run of the machine is taken away. */
+static int note_stands(const char *path) {
+    char was[64], is[64];
+    struct stat seen;
+    if (lstat(path, &seen) < 0 && errno == ENOENT) return 0;
+    if (!S_ISREG(seen.st_mode)) return 1;
+    if (read_short(path, was, sizeof was) != BOOT_NAME || boot_name(is) != BOOT_NAME) return 1;
+    if (memcmp(was, is, BOOT_NAME) == 0) return 1;
+    unlink(path);
+    return 0;
+}
+
+static int lost(const struct ltf *file) {
+    return file->failure.error != 0;
+}
+
+static void lose(struct ltf *file, int sync) {
+    file->failure.error = errno ? errno : EIO;
+    file->failure.sync = sync;
+    if (sync) file->failure.noted = leave_note(file->note);
+    lt_failed(file->held->image, &file->held->image);
+}
+
+/* Adds the bytes of a write to those of the writes before it. */
+static int add_bytes(struct ltf *file, size_t index, size_t used, size_t length) {
+    if (used + length > file->room) {
+        size_t room = 2 * (used + length);
+        uint8_t *more = realloc(file->bytes, room);
+        if (!more) return -1;
+        memset(more + file->room, 0, room - file->room);
+        file->bytes = more;
+        file->room = room;
+    }
+    return lt_step_bytes(file->held->image, index, &file->held->image, file->bytes + used, length) ? -1 : 0;
+}
+
+/* The write with this index, and those right behind it that go on where it ends: the index behind them, or 0 at a fault. */
+static size_t carry_out_writes(struct ltf *file, size_t index) {
+    struct lt_step step = {0, 0, 0};
+    uint64_t begin, end;
+    lt_step_at(file->held->image, index, &file->held->image, &step);
+    begin = end = step.place;
+    errno = ENOMEM;
+    while (step.kind == LT_WRITE && step.place == end) {
+        if (add_bytes(file, index, (size_t)(end - begin), (size_t)step.length) < 0) return 0;
+        end += step.length;
+        lt_step_at(file->held->image, ++index, &file->held->image, &step);
+    }
+    file->held->work.writes++;
+    return write_all(file->file, file->bytes, (size_t)(end - begin), (off_t)begin) < 0 ? 0 : index;
+}
+
+/* All steps of the last call, in their order: 0, or LT_DEVICE. */
+static int carry_out(struct ltf *file) {
+    size_t count = lt_steps(file->held->image, &file->held->image);
+    for (size_t index = 0; index < count && !lost(file);) {
+        struct lt_step step = {0, 0, 0};
+        lt_step_at(file->held->image, index, &file->held->image, &step);
+        if (step.kind == LT_SYNC) {
+            file->held->work.syncs++;
+            if (fdatasync(file->file) < 0) lose(file, 1);
+            index++;
+        } else {
+            index = carry_out_writes(file, index);
+            if (index == 0) lose(file, 0);
+        }
+    }
+    return lost(file) ? LT_DEVICE : 0;
+}
+
+/* ---- Commands */
+
+/* Whether a call was answered with LT_DEVICE, or its steps weren't carried out: the library may have had no memory for them. */
+static int is_lost(struct ltf *file, uint8_t refusal) {
+    if (refusal == LT_DEVICE && !lost(file)) {
+        errno = ENOMEM;
+        lose(file, 0);
+    }
+    return carry_out(file) != 0;
+}
+
+/* A sweep, or where there is nothing to sweep a turn of a checkpoint: 1 where something was done, 0, or LT_DEVICE. */
+static int make_room(struct ltf *file) {
+    struct lt_outcome outcome = {0, 0, 0};
+    lt_sweep(file->held->image, SWEPT_AT_ONCE, &file->held->image, &outcome);
+    if (is_lost(file, outcome.refusal)) return LT_DEVICE;
+    if (outcome.value > 0) {
+        file->held->work.sweeps++;
+        return 1;
+    }
+    lt_turn(file->held->image, &file->held->image, &outcome);
+    if (is_lost(file, outcome.refusal)) return LT_DEVICE;
+    if (outcome.tag == LT_IDLE) return 0;
+    file->held->work.turns++;
+    return 1;
+}
+
+int ltf_tidy(struct ltf *file) {
+    if (lost(file)) return LT_DEVICE;
+    return ltf_room(file) < file->slots / 2 ? make_room(file) : 0;
+}
+
+/* Room for a command more: 1, or 0 where there is none to be made, or LT_DEVICE. */
+static int find_room(struct ltf *file) {
+    int made = 1;
+    while (made == 1 && ltf_room(file) == 0) made = make_room(file);
+    return made;
+}
+
+static int serve_once(struct ltf *file, const struct lt_command *command, struct lt_outcome *outcome) {
+    memset(outcome, 0, sizeof *outcome);
+    lt_serve(file->held->image, command, &file->held->image, outcome);
+    file->held->work.groups++;
+    if (is_lost(file, outcome->refusal)) *outcome = (struct lt_outcome){LT_DEVICE, 0, 0};
+    return outcome->refusal;
+}
+
+int ltf_serve(struct ltf *file, const struct lt_command *command, struct lt_outcome *outcome) {
+    int refusal;
+    ltf_tidy(file);
+    refusal = serve_once(file, command, outcome);
+    if (refusal == LT_JOURNAL_FULL && find_room(file) != 0) refusal = serve_once(file, command, outcome);
+    return refusal;
+}
+
+/* How many of the commands are the next group: requests of as many elements. 0 where the first one is none. */
+static size_t next_group(const struct lt_command *commands, size_t count) {
+    size_t members = 0;
+    if (count > MEMBERS) count = MEMBERS;
+    count = lt_first_unknown(commands, count);
+    for (; members < count; members++)
+        for (size_t other = 0; other < members; other++)
+            if (commands[other].element == commands[members].element) return members;
+    return members;
+}
+
+static int serve_group(struct ltf *file, const struct lt_command *commands, size_t count, struct lt_outcome *outcomes) {
+    int refusal;
+    memset(outcomes, 0, count * sizeof *outcomes);
+    refusal = lt_serve_group(file->held->image, commands, count, &file->held->image, outcomes, count);
+    file->held->work.groups++;
+    return is_lost(file, refusal ? (uint8_t)refusal : outcomes[0].refusal) ? LT_DEVICE : refusal;
+}
+
+/* A group, and each member alone for which the journal had no room. */
+static int serve_members(struct ltf *file, const struct lt_command *commands, size_t count, struct lt_outcome *outcomes) {
+    int refusal = serve_group(file, commands, count, outcomes);
+    for (size_t at = 0; at < count && refusal == 0; at++)
+        if (outcomes[at].refusal == LT_JOURNAL_FULL && ltf_serve(file, &commands[at], &outcomes[at]) == LT_DEVICE)
+            refusal = LT_DEVICE;
+    return refusal;
+}
+
+int ltf_serve_all(struct ltf *file, const struct lt_command *commands, size_t count, struct lt_outcome *outcomes) {
+    int refusal = 0;
+    for (size_t at = 0, members; at < count && refusal != LT_DEVICE; at += members) {
+        members = next_group(commands + at, count - at);
+        if (ltf_tidy(file) == LT_DEVICE) refusal = LT_DEVICE;
+        if (members > 1) {
+            refusal = serve_members(file, commands + at, members, outcomes + at);
+        } else {
+            members = 1;
+            refusal = ltf_serve(file, commands + at, outcomes + at);
+        }
+    }
+    if (refusal != LT_DEVICE) return 0;
+    for (size_t at = 0; at < count; at++) outcomes[at] = (struct lt_outcome){LT_DEVICE, 0, 0};
+    return LT_DEVICE;
+}
+
+/* ---- What is kept */
+
+int ltf_collect(const struct ltf *file, uint16_t element, uint64_t number, struct lt_outcome *outcome) {
+    memset(outcome, 0, sizeof *outcome);
+    lt_collect(file->held->image, element, number, &file->held->image, outcome);
+    return outcome->refusal;
+}
+
+struct lt_command ltf_entry(const struct ltf *file, uint16_t element, uint64_t number) {
+    struct lt_command asked = {0, 0, 0, 0, 0};
+    lt_entry(file->held->image, element, number, &file->held->image, &asked);
+    return asked;
+}
+
+struct lt_bounds ltf_window(const struct ltf *file, uint16_t element) {
+    struct lt_bounds window = {0, 0, 0};
+    lt_window(file->held->image, element, &file->held->image, &window);
+    return window;
+}
+
+uint32_t ltf_room(const struct ltf *file) {
+    return lt_room(file->held->image, &file->held->image);
+}
+
+uint64_t ltf_count(const struct ltf *file) {
+    return lt_count(file->held->image, &file->held->image);
+}
+
+uint32_t ltf_cells(const struct ltf *file) {
+    return file->cells;
+}
+
+uint16_t ltf_elements(const struct ltf *file) {
+    return file->elements;
+}
+
+uint32_t ltf_slots(const struct ltf *file) {
+    return file->slots;
+}
+
+struct ltf_counts ltf_work(const struct ltf *file) {
+    return file->held->work;
+}
+
+struct ltf_fault ltf_failure(const struct ltf *file) {
+    return file->failure;
+}
+
+/* ---- The file */
+
+/* Above the three standard descriptors, where one of them was closed: what is printed would else be written into it. */
+static int above(int file) {
+    int kept = file;
+    if (file >= 0 && file < 3) {
+        kept = fcntl(file, F_DUPFD_CLOEXEC, 3);
+        close(file);
+    }
+    return kept;
+}
+
+/* Opens the file, which is this program's alone from then on, among those that ask for the lock: it, or -errno. */
+static int open_alone(const char *path, int flags) {
+    struct stat seen;
+    int file = above(open(path, O_RDWR | O_CLOEXEC | O_NONBLOCK | flags, 0600));
+    int error = 0;
+    if (file < 0) return -errno;
+    if (fstat(file, &seen) < 0)
+        error = errno;
+    else if (!S_ISREG(seen.st_mode))
+        error = EINVAL;
+    else if (flock(file, LOCK_EX | LOCK_NB) < 0)
+        error = errno;
+    if (error == 0) return file;
+    close(file);
+    return -error;
+}
+
+/* Whether the path is still a name of the open file. */
+static int is_named(int file, const char *path) {
+    struct stat open, named;
+    return fstat(file, &open) == 0 && stat(path, &named) == 0 && open.st_ino == named.st_ino && open.st_dev == named.st_dev;
+}
+
+/* Makes the file in which an image is formed. One that is there was left by a run that was stopped, where its lock is free. */
+static int make_alone(const char *path) {
+    int file = open_alone(path, 0);
+    if (file >= 0) {
+        int gone = is_named(file, path) && unlink(path) == 0;
+        close(file);
+        if (!gone) return -EWOULDBLOCK;
+    } else if (file != -ENOENT) {
+        return file;
+    }
+    file = open_alone(path, O_CREAT | O_EXCL);
+    if (file >= 0 && !is_named(file, path)) {
+        close(file);
+        return -EWOULDBLOCK;
+    }
+    return file;
+}
+
+/* Puts a file's name on the disk. */
+static int sync_folder(const char *path) {
+    char *copy = strdup(path);
+    int folder = copy ? open(dirname(copy), O_RDONLY | O_DIRECTORY | O_CLOEXEC) : -1;
+    int error = folder < 0 || fsync(folder) < 0 ? errno : 0;
+    if (folder >= 0) close(folder);
+    free(copy);
+    return -error;
+}
+
+/* A path and what is added to it; none where there is no memory. */
+static char *path_with(const char *path, const char *added) {
+    size_t room = strlen(path) + strlen(added) + 1;
+    char *joined = malloc(room);
+    if (joined) snprintf(joined, room, "%s%s", path, added);
+    return joined;
+}
+
+/* The path of the note: beside the target, where the path is a link that leads to one. */
+static char *note_of(const char *path) {
+    struct stat seen;
+    char *target = lstat(path, &seen) == 0 && S_ISLNK(seen.st_mode) ? realpath(path, NULL) : NULL;
+    char *note = path_with(target ? target : path, ".unsynced");
+    free(target);
+    return note;
+}
+
+static struct ltf *with_no_image(const char *path) {
+    struct ltf *file = calloc(1, sizeof *file);
+    if (!file) return NULL;
+    file->file = -1;
+    file->held = calloc(1, sizeof *file->held);
+    file->note = note_of(path);
+    if (file->held && file->note) return file;
+    ltf_close(file);
+    return NULL;
+}
+
+/* The image's steps, with which its file means it. */
+static int begin(struct ltf *file) {
+    if (carry_out(file) == 0) return 0;
+    return -file->failure.error;
+}
+
+/* Forms the image, and names it: a run that is stopped leaves no half an image under that name. */
+static int form(struct ltf *file, const char *path, const char *forming) {
+    int answer;
+    off_t length = (off_t)lt_image_length(file->cells, file->elements, file->slots);
+    file->file = make_alone(forming);
+    if (file->file < 0) return file->file;
+    answer = lt_format(file->cells, file->elements, file->slots, &file->held->image);
+    if (answer == 0 && (ftruncate(file->file, length) < 0 || fsync(file->file) < 0)) answer = -errno;
+    if (answer == 0) answer = begin(file);
+    if (answer == 0 && link(forming, path) < 0) answer = -errno;
+    unlink(forming);
+    if (answer == 0) answer = sync_folder(path);
+    if (answer == 0) unlink(file->note);
+    return answer;
+}
+
+int ltf_create(const char *path, uint32_t cells, uint16_t elements, uint32_t slots, struct ltf **made) {
+    struct stat seen;
+    struct ltf *file;
+    char *forming;
+    int answer;
+    if (lt_image_length(cells, elements, slots) == 0) return LT_BAD_LIMITS;
+    if (lstat(path, &seen) == 0) return -EEXIST;
+    file = with_no_image(path);
+    forming = path_with(path, ".new");
+    answer = -ENOMEM;
+    if (file && forming) {
+        file->cells = cells;
+        file->elements = elements;
+        file->slots = slots;
+        answer = form(file, path, forming);
+    }
+    free(forming);
+    if (answer == 0)
+        *made = file;
+    else
+        ltf_close(file);
+    return answer;
+}
+
+/* All bytes of the file. */
+static int read_all(int file, uint8_t **bytes, size_t *length) {
+    struct stat seen;
+    if (fstat(file, &seen) < 0) return -errno;
+    *length = (size_t)seen.st_size;
+    *bytes = calloc(*length + 1, 1);
+    if (!*bytes) return -ENOMEM;
+    for (size_t at = 0; at < *length;) {
+        ssize_t done = pread(file, *bytes + at, *length - at, (off_t)at);
+        if (done < 0 && errno == EINTR) continue;
+        if (done <= 0) return done ? -errno : -EIO;
+        at += (size_t)done;
+    }
+    return 0;
+}
+
+static uint32_t number_at(const uint8_t *bytes, int count) {
+    uint32_t number = 0;
+    while (count-- > 0) number = number << 8 | bytes[count];
+    return number;
+}
+
+/* The sizes in an image's header: both that are whole have the same ones. */
+static void read_sizes(struct ltf *file, const uint8_t *bytes) {
+    const uint8_t *header = bytes[0] == 0xA5 ? bytes : bytes + 4096;
+    file->cells = number_at(header + 24, 4);
+    file->elements = (uint16_t)number_at(header + 28, 2);
+    file->slots = number_at(header + 32, 4);
+}
+
+static int read_image(struct ltf *file) {
+    uint8_t *bytes = NULL;
+    size_t length = 0;
+    int answer = note_stands(file->note) ? LTF_UNSYNCED : read_all(file->file, &bytes, &length);
+    if (answer == 0) answer = lt_open(bytes, length, &file->held->image);
+    if (answer == 0) read_sizes(file, bytes);
+    free(bytes);
+    return answer ? answer : begin(file);
+}
+
+int ltf_open(const char *path, struct ltf **made) {
+    struct ltf *file = with_no_image(path);
+    int answer = -ENOMEM;
+    if (file) {
+        file->file = open_alone(path, 0);
+        answer = file->file < 0 ? file->file : read_image(file);
+    }
+    if (answer == 0)
+        *made = file;
+    else
+        ltf_close(file);
+    return answer;
+}
+
+int ltf_open_or_create(const char *path, uint32_t cells, uint16_t elements, uint32_t slots, struct ltf **made) {
+    int answer = ltf_open(path, made);
+    return answer == -ENOENT ? ltf_create(path, cells, elements, slots, made) : answer;
+}
+
+void ltf_close(struct ltf *file) {
+    if (!file) return;
+    if (file->held && file->held->image.block) lt_close(file->held->image);
+    if (file->file >= 0) close(file->file);
+    free(file->held);
+    free(file->note);
+    free(file->bytes);
+    free(file);
+}
+
+size_t ltf_say(int answer, char *buffer, size_t room) {
+    char name[16] = "";
+    int length;
+    if (answer == 0)
+        length = snprintf(buffer, room, "done");
+    else if (answer == LTF_UNSYNCED)
+        length = snprintf(buffer, room, "a sync failed: mount the file system anew and remove the note, or restart the machine");
+    else if (answer < 0)
+        length = snprintf(buffer, room, "%s", strerror(-answer));
+    else {
+        lt_refusal_name((uint8_t)answer, name, sizeof name - 1);
+        length = snprintf(buffer, room, "refused %d %s", answer, name);
+    }
+    return length < 0 ? 0 : (size_t)length;
+}

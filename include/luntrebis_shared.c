@@ -1,0 +1,614 @@
+#define _GNU_SOURCE
+#include "luntrebis_shared.h"
+
+#include <errno.h>
+#include <pthread.h>
+#include <stdlib.h>
+#include <string.h>
+#include <sys/eventfd.h>
+#include <unistd.h>
+
+enum { ELEMENTS = 64, KEPT = 64, MEMBERS = 16, BUCKETS = 1024, CONFIRM_AT = 48 };
+
+enum kind { ASKS, AWAITS, SHOWS_WINDOW, LEASES };
+enum state { QUEUED, TAKEN, WAITS, TOLD };
+
+/* An answer on its way to a queue. */
+struct parcel {
+    struct parcel *next;
+    struct lts_answer answer;
+    struct ticket *of;
+};
+
+/* What one thread, one call or one queue wants to know. That of a thread lies on its stack. */
+struct ticket {
+    struct ticket *next, **link; /* in the list that it is in */
+    enum kind kind;
+    enum state state;
+    int leased; /* its number was given here */
+    struct lt_command command;
+    struct lt_outcome outcome;
+    struct lt_bounds window;
+    pthread_cond_t *told; /* of a thread that waits */
+    lts_done *done;
+    struct lts_queue *queue;
+    void *mark;
+    struct parcel first, later; /* for a queue */
+};
+
+struct list {
+    struct ticket *first, **end;
+};
+
+/* What is known of a leased element: the numbers whose last answer wasn't told yet, by their place in the window. */
+struct lane {
+    int leased, ready;
+    uint64_t base, next;
+    uint8_t open[KEPT];
+};
+
+struct lts {
+    struct ltf *file; /* of the owner's thread */
+    pthread_t owner;
+    pthread_mutex_t lock; /* of all that follows */
+    pthread_cond_t come;
+    struct list asked;
+    struct ticket *waiting[BUCKETS]; /* by the address that they wait at */
+    struct lane lanes[ELEMENTS];
+    uint64_t lately[2]; /* the elements of the last two groups, a bit each */
+    int64_t pace; /* nanoseconds that the last group took */
+    struct ltf_counts work;
+    struct ltf_fault failure;
+    uint16_t elements;
+    int ending, dead, idle;
+    size_t queued;
+};
+
+struct lts_queue {
+    pthread_mutex_t lock;
+    int descriptor;
+    struct parcel *first, **end;
+};
+
+static const struct lt_outcome no_file = {LT_DEVICE, 0, 0};
+
+/* ---- Lists */
+
+static void append(struct list *list, struct ticket *ticket) {
+    ticket->next = NULL;
+    ticket->link = list->end;
+    *list->end = ticket;
+    list->end = &ticket->next;
+}
+
+static void take_out(struct list *list, struct ticket *ticket) {
+    *ticket->link = ticket->next;
+    if (ticket->next) ticket->next->link = ticket->link;
+    if (list && list->end == &ticket->next) list->end = ticket->link;
+}
+
+static void wait_at(struct lts *shared, struct ticket *ticket) {
+    struct ticket **first = &shared->waiting[ticket->command.address % BUCKETS];
+    ticket->next = *first;
+    ticket->link = first;
+    if (*first) (*first)->link = &ticket->next;
+    *first = ticket;
+    ticket->state = WAITS;
+    if (ticket->told) pthread_cond_signal(ticket->told); /* Its time may be over. */
+}
+
+/* ---- Telling. Under the lock, but for the calls of lts_done. */
+
+static int is_last(const struct lt_outcome *outcome) {
+    return outcome->refusal || outcome->tag != LT_WAITING;
+}
+
+static void send(struct lts_queue *queue, struct parcel *parcel) {
+    uint64_t one = 1;
+    int was_empty;
+    pthread_mutex_lock(&queue->lock);
+    was_empty = queue->first == NULL;
+    parcel->next = NULL;
+    *queue->end = parcel;
+    queue->end = &parcel->next;
+    if (was_empty && write(queue->descriptor, &one, sizeof one) < 0) was_empty = 0; /* It is readable already. */
+    pthread_mutex_unlock(&queue->lock);
+}
+
+/* Tells a ticket its answer, `later` where it waited. It may be gone behind this. */
+static void tell(struct lts *shared, struct ticket *ticket, int later) {
+    struct lts_answer answer = {ticket->command, ticket->outcome, ticket->mark, later};
+    struct lane *lane = &shared->lanes[ticket->command.element % ELEMENTS];
+    if (ticket->leased && is_last(&ticket->outcome)) lane->open[ticket->command.number % KEPT] = 0;
+    if (ticket->queue) {
+        struct parcel *parcel = later ? &ticket->later : &ticket->first;
+        parcel->answer = answer;
+        parcel->of = is_last(&ticket->outcome) ? ticket : NULL;
+        send(ticket->queue, parcel);
+    } else if (ticket->done) {
+        lts_done *done = ticket->done;
+        if (is_last(&ticket->outcome)) free(ticket);
+        pthread_mutex_unlock(&shared->lock);
+        done(&answer);
+        pthread_mutex_lock(&shared->lock);
+    } else {
+        ticket->state = TOLD;
+        pthread_cond_signal(ticket->told);
+    }
+}
+
+static void refuse(struct lts *shared, struct ticket *ticket, uint8_t refusal, int later) {
+    ticket->outcome = (struct lt_outcome){refusal, 0, 0};
+    ticket->window = (struct lt_bounds){refusal, 0, 0};
+    tell(shared, ticket, later);
+}
+
+/* Everybody who waits, or has asked. */
+static void refuse_all(struct lts *shared, uint8_t refusal) {
+    struct ticket *ticket;
+    for (size_t at = 0; at < BUCKETS; at++)
+        while ((ticket = shared->waiting[at])) {
+            take_out(NULL, ticket);
+            refuse(shared, ticket, refusal, 1);
+        }
+    while ((ticket = shared->asked.first)) {
+        take_out(&shared->asked, ticket);
+        refuse(shared, ticket, refusal, 0);
+    }
+}
+
+/* ---- The owner's thread. It gives the lock up while it uses the file. */
+
+/* Looks at those who wait at an address where something was stored. */
+static void wake(struct lts *shared, uint32_t address) {
+    struct ticket *ticket = shared->waiting[address % BUCKETS], *next;
+    for (; ticket; ticket = next) {
+        next = ticket->next;
+        if (ticket->command.address != address) continue;
+        ltf_collect(shared->file, ticket->command.element, ticket->command.number, &ticket->outcome);
+        if (!is_last(&ticket->outcome)) continue;
+        take_out(NULL, ticket);
+        ticket->state = TAKEN;
+        if (ticket->done) { /* The lock is given up for its call, so the list is begun anew. */
+            tell(shared, ticket, 1);
+            next = shared->waiting[address % BUCKETS];
+        } else {
+            tell(shared, ticket, 1);
+        }
+    }
+}
+
+/* A request that waits under a number: it is told, or told later. */
+static void look(struct lts *shared, struct ticket *ticket) {
+    ticket->command.address = ltf_entry(shared->file, ticket->command.element, ticket->command.number).address;
+    ltf_collect(shared->file, ticket->command.element, ticket->command.number, &ticket->outcome);
+    if (is_last(&ticket->outcome))
+        tell(shared, ticket, 1);
+    else
+        wait_at(shared, ticket);
+}
+
+/* Gives up what a leased element has been told, up to the first entry that hasn't been. */
+static void confirm(struct lts *shared, uint16_t element, struct lane *lane) {
+    struct lt_command command = {LT_CONFIRM, element, 0, lane->base, 0};
+    struct lt_outcome outcome = {0, 0, 0};
+    while (command.number < lane->next && !lane->open[command.number % KEPT]) {
+        ltf_collect(shared->file, element, command.number, &outcome);
+        if (!is_last(&outcome)) break;
+        command.number++;
+    }
+    if (command.number == lane->base) return;
+    pthread_mutex_unlock(&shared->lock);
+    ltf_serve(shared->file, &command, &outcome);
+    pthread_mutex_lock(&shared->lock);
+    if (outcome.refusal == 0) lane->base = command.number;
+}
+
+/* Numbers a request of a leased element, where it has the number 0. Whether it may be asked. */
+static int number(struct lts *shared, struct ticket *ticket) {
+    uint16_t element = ticket->command.element;
+    struct lane *lane = &shared->lanes[element % ELEMENTS];
+    if (ticket->command.number != 0 || ticket->command.tag == LT_CONFIRM) return 1;
+    if (element >= shared->elements || !lane->leased) return 1; /* It is refused by the memory. */
+    if (!lane->ready) {
+        struct lt_bounds window = ltf_window(shared->file, element);
+        lane->base = window.base;
+        lane->next = window.next;
+        lane->ready = 1;
+    }
+    if (lane->next - lane->base >= CONFIRM_AT) confirm(shared, element, lane);
+    if (lane->next - lane->base >= KEPT) return 0;
+    ticket->command.number = lane->next;
+    ticket->leased = 1;
+    lane->open[lane->next++ % KEPT] = 1;
+    return 1;
+}
+
+/* The lowest element that isn't leased. */
+static void lease(struct lts *shared, struct ticket *ticket) {
+    uint16_t element = 0;
+    while (element < shared->elements && shared->lanes[element].leased) element++;
+    ticket->outcome = (struct lt_outcome){LT_NO_ELEMENT, 0, 0};
+    if (element < shared->elements) {
+        shared->lanes[element] = (struct lane){.leased = 1};
+        ticket->outcome = (struct lt_outcome){0, 0, element};
+    }
+    tell(shared, ticket, 0);
+}
+
+/* Takes up to a group of those who asked, the first of each element. What needs no step is told at once. */
+static size_t gather(struct lts *shared, struct ticket **members) {
+    uint8_t seen[ELEMENTS] = {0};
+    struct ticket *ticket = shared->asked.first, *next;
+    size_t count = 0;
+    for (; ticket && count < MEMBERS; ticket = next) {
+        uint8_t *is_seen = &seen[ticket->command.element % ELEMENTS];
+        next = ticket->next;
+        if (ticket->kind == ASKS && *is_seen) continue;
+        take_out(&shared->asked, ticket);
+        shared->queued--;
+        ticket->state = TAKEN;
+        if (ticket->kind == SHOWS_WINDOW) {
+            ticket->window = ltf_window(shared->file, ticket->command.element);
+            tell(shared, ticket, 0);
+        } else if (ticket->kind == LEASES) {
+            lease(shared, ticket);
+        } else {
+            *is_seen = 1;
+            members[count++] = ticket;
+        }
+    }
+    return count;
+}
+
+/* Those of a batch who ask, numbered; the others are told, or wait. How many are left. */
+static size_t sort_out(struct lts *shared, struct ticket **members, size_t count) {
+    size_t asks = 0;
+    for (size_t at = 0; at < count; at++) {
+        struct ticket *ticket = members[at];
+        if (ticket->kind == AWAITS)
+            look(shared, ticket);
+        else if (number(shared, ticket))
+            members[asks++] = ticket;
+        else
+            refuse(shared, ticket, LT_WINDOW_FULL, 0);
+    }
+    return asks;
+}
+
+/* Tells a member its answer. One that is told later waits from then on, but for that of a thread, which asks again. */
+static void answer(struct lts *shared, struct ticket *ticket) {
+    int waits = !is_last(&ticket->outcome);
+    if (waits && !ticket->done && !ticket->queue) waits = ticket->leased;
+    if (!waits || !ticket->told) tell(shared, ticket, 0);
+    if (waits) look(shared, ticket);
+}
+
+static void serve(struct lts *shared, struct ticket **members, size_t count) {
+    struct lt_command commands[MEMBERS];
+    struct lt_outcome outcomes[MEMBERS];
+    int refusal;
+    count = sort_out(shared, members, count);
+    if (count == 0) return;
+    for (size_t at = 0; at < count; at++) commands[at] = members[at]->command;
+    pthread_mutex_unlock(&shared->lock);
+    refusal = ltf_serve_all(shared->file, commands, count, outcomes);
+    pthread_mutex_lock(&shared->lock);
+    for (size_t at = 0; at < count; at++) {
+        members[at]->outcome = outcomes[at];
+        answer(shared, members[at]);
+    }
+    for (size_t at = 0; at < count && refusal == 0; at++)
+        if (outcomes[at].refusal == 0 && outcomes[at].tag == LT_STORED) wake(shared, commands[at].address);
+}
+
+/* Keeps the journal half empty while nobody asks. Whether there was something to do. */
+static int tidy(struct lts *shared) {
+    int did;
+    pthread_mutex_unlock(&shared->lock);
+    did = ltf_tidy(shared->file);
+    pthread_mutex_lock(&shared->lock);
+    return did == 1;
+}
+
+static int64_t now(void) {
+    struct timespec time;
+    clock_gettime(CLOCK_MONOTONIC, &time);
+    return time.tv_sec * (int64_t)1000000000 + time.tv_nsec;
+}
+
+static size_t count_bits(uint64_t bits) {
+    size_t count = 0;
+    for (; bits; bits &= bits - 1) count++;
+    return count;
+}
+
+/* Waits for those who were in the last two groups: a quarter of the time that a group takes, at most. Without it those who
+ * are told together come back one by one, and are parted into two groups for ever. */
+static void linger(struct lts *shared) {
+    size_t wanted = count_bits(shared->lately[0] | shared->lately[1]);
+    int64_t end = now() + shared->pace / 4;
+    struct timespec until = {.tv_sec = end / 1000000000, .tv_nsec = end % 1000000000};
+    if (wanted > MEMBERS) wanted = MEMBERS;
+    shared->idle = 1;
+    while (shared->queued < wanted && !shared->ending)
+        if (pthread_cond_timedwait(&shared->come, &shared->lock, &until)) break;
+    shared->idle = 0;
+}
+
+/* A group of those who asked. */
+static void serve_next(struct lts *shared) {
+    struct ticket *members[MEMBERS];
+    size_t count;
+    int64_t start;
+    linger(shared);
+    count = gather(shared, members);
+    shared->lately[1] = shared->lately[0];
+    shared->lately[0] = 0;
+    for (size_t at = 0; at < count; at++) shared->lately[0] |= (uint64_t)1 << members[at]->command.element % ELEMENTS;
+    start = now();
+    serve(shared, members, count);
+    shared->pace = now() - start;
+}
+
+static void note_work(struct lts *shared) {
+    shared->work = ltf_work(shared->file);
+    shared->failure = ltf_failure(shared->file);
+    if (shared->failure.error) shared->dead = 1;
+    if (shared->dead) refuse_all(shared, LT_DEVICE);
+}
+
+static void *own(void *given) {
+    struct lts *shared = given;
+    pthread_mutex_lock(&shared->lock);
+    while (!shared->ending || shared->asked.first) {
+        if (shared->asked.first) {
+            serve_next(shared);
+        } else if (!tidy(shared) && !shared->asked.first && !shared->ending) {
+            shared->idle = 1;
+            pthread_cond_wait(&shared->come, &shared->lock);
+            shared->idle = 0;
+        }
+        note_work(shared);
+    }
+    refuse_all(shared, LT_NO_CALL);
+    pthread_mutex_unlock(&shared->lock);
+    return NULL;
+}
+
+/* ---- Those who ask */
+
+/* Puts tickets into the owner's list. Under the lock. Whether it takes any. */
+static int enter(struct lts *shared, struct ticket *ticket) {
+    if (shared->dead || shared->ending) return 0;
+    ticket->state = QUEUED;
+    append(&shared->asked, ticket);
+    shared->queued++;
+    if (shared->idle) pthread_cond_signal(&shared->come);
+    return 1;
+}
+
+/* Takes back a ticket whose time is over. Whether its answer came first. */
+static int take_back(struct lts *shared, struct ticket *ticket, pthread_cond_t *told) {
+    while (ticket->state == TAKEN) pthread_cond_wait(told, &shared->lock);
+    if (ticket->state == TOLD) return 1;
+    if (ticket->state == QUEUED) shared->queued--;
+    take_out(ticket->state == QUEUED ? &shared->asked : NULL, ticket);
+    return 0;
+}
+
+/* A thread's ticket: asks, and waits until it is told, or until the time is over. */
+static void ask_and_wait(struct lts *shared, struct ticket *ticket, const struct timespec *end) {
+    pthread_condattr_t how;
+    pthread_cond_t told;
+    int over = 0;
+    pthread_condattr_init(&how);
+    pthread_condattr_setclock(&how, CLOCK_MONOTONIC);
+    pthread_cond_init(&told, &how);
+    ticket->told = &told;
+    pthread_mutex_lock(&shared->lock);
+    if (enter(shared, ticket)) {
+        while (ticket->state != TOLD && !over)
+            over = end ? pthread_cond_timedwait(&told, &shared->lock, end) == ETIMEDOUT
+                       : pthread_cond_wait(&told, &shared->lock) != 0;
+        if (over && !take_back(shared, ticket, &told)) ticket->outcome = (struct lt_outcome){0, LT_WAITING, 0};
+    } else {
+        ticket->outcome = shared->dead ? no_file : (struct lt_outcome){LT_NO_CALL, 0, 0};
+        ticket->window = (struct lt_bounds){ticket->outcome.refusal, 0, 0};
+    }
+    pthread_mutex_unlock(&shared->lock);
+    pthread_cond_destroy(&told);
+    pthread_condattr_destroy(&how);
+}
+
+struct lt_outcome lts_ask(struct lts *shared, const struct lt_command *command) {
+    struct ticket ticket = {.kind = ASKS, .command = *command};
+    if (command->number == 0) return (struct lt_outcome){LT_NO_CALL, 0, 0};
+    ask_and_wait(shared, &ticket, NULL);
+    return ticket.outcome;
+}
+
+struct lt_outcome lts_await_until(struct lts *shared, uint16_t element, uint64_t number, const struct timespec *end) {
+    struct ticket ticket = {.kind = AWAITS, .command = {.element = element, .number = number}};
+    ask_and_wait(shared, &ticket, end);
+    return ticket.outcome;
+}
+
+struct lt_outcome lts_await(struct lts *shared, uint16_t element, uint64_t number) {
+    return lts_await_until(shared, element, number, NULL);
+}
+
+struct lt_outcome lts_call(struct lts *shared, uint16_t element, uint8_t tag, uint32_t address, uint64_t value) {
+    struct ticket ticket = {.kind = ASKS, .command = {tag, element, address, 0, value}};
+    ask_and_wait(shared, &ticket, NULL);
+    return ticket.outcome;
+}
+
+struct lt_bounds lts_window(struct lts *shared, uint16_t element) {
+    struct ticket ticket = {.kind = SHOWS_WINDOW, .command = {.element = element}};
+    ask_and_wait(shared, &ticket, NULL);
+    return ticket.window;
+}
+
+int lts_lease(struct lts *shared, uint16_t *element) {
+    struct ticket ticket = {.kind = LEASES};
+    ask_and_wait(shared, &ticket, NULL);
+    *element = (uint16_t)ticket.outcome.value;
+    return ticket.outcome.refusal;
+}
+
+void lts_give_back(struct lts *shared, uint16_t element) {
+    pthread_mutex_lock(&shared->lock);
+    if (element < shared->elements) shared->lanes[element].leased = 0;
+    pthread_mutex_unlock(&shared->lock);
+}
+
+/* All tickets of a batch, or none. */
+static int submit(struct lts *shared, const struct ticket *like, const struct lt_command *commands, size_t count) {
+    struct list made = {NULL, &made.first};
+    struct ticket *ticket;
+    int answer = 0;
+    for (size_t at = 0; at < count && answer == 0; at++) {
+        ticket = malloc(sizeof *ticket);
+        if (!ticket) answer = -ENOMEM;
+        if (!ticket) break;
+        *ticket = *like;
+        ticket->command = commands[at];
+        append(&made, ticket);
+    }
+    pthread_mutex_lock(&shared->lock);
+    if (answer == 0 && (shared->dead || shared->ending)) answer = LT_DEVICE;
+    while ((ticket = made.first)) {
+        take_out(&made, ticket);
+        if (answer || !enter(shared, ticket)) free(ticket);
+    }
+    pthread_mutex_unlock(&shared->lock);
+    return answer;
+}
+
+int lts_submit(struct lts *shared, const struct lt_command *commands, size_t count, lts_done *done, void *mark) {
+    struct ticket like = {.kind = ASKS, .done = done, .mark = mark};
+    return submit(shared, &like, commands, count);
+}
+
+/* ---- Queues */
+
+int lts_queue_make(struct lts_queue **made) {
+    struct lts_queue *queue = calloc(1, sizeof *queue);
+    if (!queue) return -ENOMEM;
+    queue->end = &queue->first;
+    queue->descriptor = eventfd(0, EFD_CLOEXEC | EFD_NONBLOCK);
+    if (queue->descriptor < 0) {
+        free(queue);
+        return -errno;
+    }
+    pthread_mutex_init(&queue->lock, NULL);
+    *made = queue;
+    return 0;
+}
+
+int lts_queue_descriptor(const struct lts_queue *queue) {
+    return queue->descriptor;
+}
+
+int lts_queue_submit(struct lts *shared, struct lts_queue *queue, const struct lt_command *commands, size_t count,
+                     void *mark) {
+    struct ticket like = {.kind = ASKS, .queue = queue, .mark = mark};
+    return submit(shared, &like, commands, count);
+}
+
+size_t lts_queue_take(struct lts_queue *queue, struct lts_answer *answers, size_t count) {
+    size_t taken = 0;
+    uint64_t times;
+    pthread_mutex_lock(&queue->lock);
+    for (; taken < count && queue->first; taken++) {
+        struct parcel *parcel = queue->first;
+        queue->first = parcel->next;
+        if (!queue->first) queue->end = &queue->first;
+        answers[taken] = parcel->answer;
+        free(parcel->of); /* With its last answer. */
+    }
+    if (!queue->first && read(queue->descriptor, &times, sizeof times) < 0) times = 0; /* It was empty before. */
+    pthread_mutex_unlock(&queue->lock);
+    return taken;
+}
+
+void lts_queue_free(struct lts_queue *queue) {
+    struct lts_answer answer;
+    while (lts_queue_take(queue, &answer, 1)) {}
+    close(queue->descriptor);
+    pthread_mutex_destroy(&queue->lock);
+    free(queue);
+}
+
+/* ---- Its life */
+
+static int share(struct ltf *file, struct lts **made) {
+    struct lts *shared = calloc(1, sizeof *shared);
+    pthread_condattr_t how;
+    int answer = ENOMEM;
+    if (shared) {
+        shared->file = file;
+        shared->elements = ltf_elements(file);
+        shared->asked.end = &shared->asked.first;
+        pthread_mutex_init(&shared->lock, NULL);
+        pthread_condattr_init(&how);
+        pthread_condattr_setclock(&how, CLOCK_MONOTONIC);
+        pthread_cond_init(&shared->come, &how);
+        pthread_condattr_destroy(&how);
+        answer = pthread_create(&shared->owner, NULL, own, shared);
+    }
+    if (answer == 0) {
+        *made = shared;
+        return 0;
+    }
+    free(shared);
+    ltf_close(file);
+    return -answer;
+}
+
+int lts_create(const char *path, uint32_t cells, uint16_t elements, uint32_t slots, struct lts **made) {
+    struct ltf *file = NULL;
+    int answer = ltf_create(path, cells, elements, slots, &file);
+    return answer ? answer : share(file, made);
+}
+
+int lts_open(const char *path, struct lts **made) {
+    struct ltf *file = NULL;
+    int answer = ltf_open(path, &file);
+    return answer ? answer : share(file, made);
+}
+
+int lts_open_or_create(const char *path, uint32_t cells, uint16_t elements, uint32_t slots, struct lts **made) {
+    struct ltf *file = NULL;
+    int answer = ltf_open_or_create(path, cells, elements, slots, &file);
+    return answer ? answer : share(file, made);
+}
+
+struct ltf_counts lts_work(struct lts *shared) {
+    struct ltf_counts work;
+    pthread_mutex_lock(&shared->lock);
+    work = shared->work;
+    pthread_mutex_unlock(&shared->lock);
+    return work;
+}
+
+struct ltf_fault lts_failure(struct lts *shared) {
+    struct ltf_fault failure;
+    pthread_mutex_lock(&shared->lock);
+    failure = shared->failure;
+    pthread_mutex_unlock(&shared->lock);
+    return failure;
+}
+
+void lts_close(struct lts *shared) {
+    pthread_mutex_lock(&shared->lock);
+    shared->ending = 1;
+    pthread_cond_signal(&shared->come);
+    pthread_mutex_unlock(&shared->lock);
+    pthread_join(shared->owner, NULL);
+    ltf_close(shared->file);
+    pthread_mutex_destroy(&shared->lock);
+    pthread_cond_destroy(&shared->come);
+    free(shared);
+}

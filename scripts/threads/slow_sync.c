@@ -1,0 +1,46 @@
+/* Stands before the system's calls: a sync takes SYNC_US microseconds and does nothing else, so that figures don't tell of
+ * the machine's disk; and the write or sync with the number FAIL_AT behind fail_now fails, and no later one. */
+#include <errno.h>
+#include <stdatomic.h>
+#include <stdlib.h>
+#include <sys/types.h>
+#include <sys/uio.h>
+#include <time.h>
+#include <unistd.h>
+
+void fail_now(void);
+
+static atomic_long left = -1;
+
+void fail_now(void) {
+    const char *word = getenv("FAIL_AT");
+    atomic_store(&left, word ? atol(word) : -1);
+}
+
+static int fails(void) {
+    if (atomic_load(&left) < 0 || atomic_fetch_sub(&left, 1) != 1) return 0;
+    errno = EIO;
+    return 1;
+}
+
+static int slow_sync(void) {
+    const char *word = getenv("SYNC_US");
+    struct timespec time = {0, (word ? atol(word) : 0) * 1000};
+    if (time.tv_nsec > 0) clock_nanosleep(CLOCK_MONOTONIC, 0, &time, NULL);
+    return fails() ? -1 : 0;
+}
+
+int fsync(int file) {
+    (void)file;
+    return slow_sync();
+}
+
+int fdatasync(int file) {
+    (void)file;
+    return slow_sync();
+}
+
+ssize_t pwrite(int file, const void *bytes, size_t length, off_t place) {
+    struct iovec all = {(void *)(size_t)bytes, length};
+    return fails() ? -1 : pwritev(file, &all, 1, place);
+}
