@@ -260,7 +260,7 @@ fn task<K: Name, R: Wait>(
     said: &mut String,
 ) -> Result<Task<K>> {
     let mut port = port(rt, controller, element)?;
-    if let Part::Waits | Part::RetiresAndWaits = part {
+    if matches!(part, Part::Waits | Part::RetiresAndWaits) {
         submit(rt, controller, &mut port, 1, Op::Fetch(0), said)?;
     }
     Ok(Task { port, part })
