@@ -1,0 +1,39 @@
+"""What a page of this repository has to be for its reader, for scripts/check: its width, its size, its sentences, no dates."""
+import re
+
+from sources import TOP
+
+WIDEST, LARGEST, LONGEST = 120, 40, 45  # columns of a line, KB of a page, words of a sentence
+USERS = ("README.md", *(f"docs/{it}.md" for it in "TUTORIAL SCRIPTS SERVE EMBEDDING CLUSTER MIGRATION DETERMINACY".split()))
+SHORT = ("README.md", *(f"docs/{it}.md" for it in "TUTORIAL SCRIPTS SERVE EMBEDDING".split()))
+LARGE = ("docs/DECISIONS.md",)
+
+
+def paragraphs(text):
+    """The paragraphs, items of lists and cells of tables of a page, each in one line; what is code is left out."""
+    text = re.sub(r"^```.*?^```", "", text, flags=re.M | re.S)
+    for block in re.split(r"\n\s*\n|\n(?=[ ]*(?:[-*]|\d+\.) )|\n(?=\|)", text):
+        if block.startswith("|"):
+            yield from (cell.strip() for cell in re.split(r"(?<!\\)\|", block))
+        elif not block.startswith(("    ", "#")):
+            yield " ".join(block.split())
+
+
+def sentences(text):
+    for paragraph in paragraphs(text):
+        yield from re.split(r"(?<=[.!?])[)\"*]*\s+(?=[A-Z`*\[(])", paragraph)
+
+
+def faults():
+    for path in sorted([*TOP.glob("*.md"), *TOP.glob("docs/*.md")]):
+        name, text = str(path.relative_to(TOP)), path.read_text()
+        if len(text.encode()) > 1000 * LARGEST and name not in LARGE:
+            yield f"{name}: {len(text.encode()) // 1000} KB, at most {LARGEST}"
+        for at, line in enumerate(text.splitlines(), 1):
+            if len(line) > WIDEST and not line.startswith("|"):
+                yield f"{name}:{at}: {len(line)} columns, at most {WIDEST}"
+            if name in USERS and (found := re.search(r"\b20\d\d-\d\d-\d\d\b", line)):
+                yield f"{name}:{at}: a date, {found[0]}"
+        for sentence in sentences(text) if name in SHORT else ():
+            if len(sentence.split()) > LONGEST:
+                yield f"{name}: a sentence of {len(sentence.split())} words, at most {LONGEST}: {sentence[:60]}.."
