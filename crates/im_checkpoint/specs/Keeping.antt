@@ -1,5 +1,5 @@
 -- What a checkpoint, a memory and a journal have to do with the file that they are kept in. (Own.)
-use Rattle.std.specs.Prelude.{◌≡◌, ℕ, ◌+◌, ◌<◌, ◌≤◌, Bool, ◌||◌, List, [], length, take, Some, true, false, Result}
+use Rattle.std.specs.Prelude.{◌≡◌, ℕ, ◌+◌, ◌-◌, ◌<◌, ◌≤◌, Bool, ◌||◌, List, [], length, take, Some, true, false, Result}
 use Rattle.std.specs.Prelude.{OnOk}
 use Rattle.std.specs.List.{Contains}
 use Rattle.im_types.specs.declared.TheConstants.{LAST}
@@ -11,6 +11,7 @@ use Rattle.im_types.specs.Header.{Header, header_place, is_open_header}
 use Rattle.im_types.specs.Journal.{IsBoundary}
 use Rattle.im_types.specs.Pages.{Records, ShowsRecords}
 use Rattle.im_types.specs.Meaning.{Means, accept_each}
+use Rattle.im_disk.specs.declared.disk.Disk.{Ghosts}
 use Rattle.im_disk.specs.Moment.{Moment, Left}
 use Rattle.im_disk.specs.Since.{SameBut, LeavesOnly}
 use Rattle.im_journal.specs.Holding.{JournalState, Holds}
@@ -25,7 +26,7 @@ use Rattle.im_checkpoint.specs.Copied.{copy_of}
 use Rattle.im_checkpoint.specs.Step.{Step, NoCheckpoint, PagesLeft, PagesDone, Synced, CheckpointState}
 use Rattle.im_checkpoint.specs.Step.{PagedCheckpoint, IsUnderWay, IsPagesLeft, IsSynced, turns_left, left_in}
 use Rattle.im_checkpoint.specs.Step.{changed_in}
-use Rattle.im_checkpoint.specs.Turns.{Turned, Moved}
+use Rattle.im_checkpoint.specs.Turns.{Turned, Moved, next_header, begun_at}
 
 -- the file means this memory after as many commands as the journal has, with its room at the least
 abbrev pub MeansWith : Contents → JournalState → List ℕ → Type 0
@@ -61,14 +62,16 @@ pub record HasPagesLeft (c : CheckpointState) (m : Contents) : Type 0 where
   pub step : IsPagesLeft c.step
   pub sizes : HasSizes c.header.sizes m
 
--- all pages are on the disk, the journal's run begins at the header's count, and what was taken is of a count between that and the journal's
+-- all pages are on the disk, the journal's run begins at the header's count, and what was taken is of a count between
+-- that and the journal's
 pub record IsReady (c : CheckpointState) (j : JournalState) : Type 0 where
   pub step : IsSynced c.step
   pub first : j.first ≡ c.header.count
   pub counted : StepFits c.header j c.step
 
 -- What a turn that is done comes to.
-pub record ComesTo (old : PagedCheckpoint) (j : JournalState) (m : Contents) (answer : TurnDone) (new : PagedCheckpoint) (k : JournalState) : Type 0 where
+pub record ComesTo (old : PagedCheckpoint) (j : JournalState) (m : Contents) (answer : TurnDone) (new : PagedCheckpoint)
+    (k : JournalState) : Type 0 where
   -- its answer and what it changes are as the table of turns says
   pub turned : Turned old.state j answer new.state k
   -- and so is what becomes of the pages that changed
@@ -113,21 +116,27 @@ other_page h file page = record_at page_bytes (other_area h file) page
 
 -- each page that hasn't changed stands there as the memory's records spell it
 abbrev pub Stand : Sizes → (ℕ → Bool) → Records → (ℕ → List ℕ) → Type 0
-Stand s is_changed records on = (page : ℕ) → page < area_pages layout_in_use s → is_changed page ≡ false → IsAreaPage s records page (on page)
+Stand s is_changed records on = (page : ℕ) → page < area_pages layout_in_use s → is_changed page ≡ false
+    → IsAreaPage s records page (on page)
 
 -- pages as they were taken, some of them left to be written
 pub record AreTaken (s : Sizes) (x : Paged) (taken : Records) (left : List ℕ) (on : ℕ → List ℕ) : Type 0 where
   -- a page that hasn't changed since is as it was taken
-  pub same : (page : ℕ) → page < area_pages layout_in_use s → changed_lately x page ≡ false → SameOn s taken x.records page
+  pub same : (page : ℕ) → page < area_pages layout_in_use s → changed_lately x page ≡ false
+      → SameOn s taken x.records page
   -- a page that is left and has changed since was copied before
-  pub copied : (page : ℕ) → page < area_pages layout_in_use s → Contains left page → changed_lately x page ≡ true → IsAreaPage s taken page (copy_of x.copies page)
+  pub copied : (page : ℕ) → page < area_pages layout_in_use s → Contains left page → changed_lately x page ≡ true
+      → IsAreaPage s taken page (copy_of x.copies page)
   -- a page that isn't left stands in the other area as it was taken
-  pub written : (page : ℕ) → page < area_pages layout_in_use s → (Contains left page → ⊥) → IsAreaPage s taken page (on page)
+  pub written : (page : ℕ) → page < area_pages layout_in_use s → (Contains left page → ⊥)
+      → IsAreaPage s taken page (on page)
   -- they are pages of the area
   pub inside : (page : ℕ) → Contains left page → page < area_pages layout_in_use s
 
--- what was taken: the records of the memory after some of the commands since the header's count; and there may be a later generation
-pub record IsTaken (h : Header) (shown : Contents) (commands : List Command) (count : ℕ) (taken : Records) : Type 0 where
+-- what was taken: the records of the memory after some of the commands since the header's count; and there may be a
+-- later generation
+pub record IsTaken (h : Header) (shown : Contents) (commands : List Command) (count : ℕ)
+    (taken : Records) : Type 0 where
   pub many : ℕ
   pub few : many ≤ length commands
   pub count_is : count ≡ h.count + many
@@ -139,7 +148,8 @@ pub record IsTaken (h : Header) (shown : Contents) (commands : List Command) (co
   pub later : h.generation < LAST
 
 -- what a checkpoint under way says of the pages of the file that is read
-pub record IsWriting (h : Header) (shown : Contents) (commands : List Command) (x : Paged) (count : ℕ) (left : List ℕ) (file : List ℕ) : Type 0 where
+pub record IsWriting (h : Header) (shown : Contents) (commands : List Command) (x : Paged) (count : ℕ) (left : List ℕ)
+    (file : List ℕ) : Type 0 where
   pub taken : Records
   pub is_taken : IsTaken h shown commands count taken
   -- no group goes on behind the commands that were taken
@@ -157,7 +167,8 @@ abbrev pub KeepsStep : Header → Contents → List Command → Paged → Step �
 KeepsStep h shown commands x NoCheckpoint file = IsResting h x file
 KeepsStep h shown commands x (PagesLeft count left) file = IsWriting h shown commands x count left file
 KeepsStep h shown commands x (PagesDone count) file = IsWriting h shown commands x count [] file
-KeepsStep h shown commands x (Synced count) file = IsWriting h shown commands x count [] file × (is_open_header (header_place (other h) file) ≡ false)
+KeepsStep h shown commands x (Synced count) file = IsWriting h shown commands x count [] file
+    × (is_open_header (header_place (other h) file) ≡ false)
 
 -- What is known of the file that is read.
 pub record Keeps (h : Header) (m : Contents) (j : JournalState) (file : List ℕ) : Type 0 where
@@ -182,20 +193,53 @@ IsCalm (PagesLeft count left) now = Unit {0}
 IsCalm (PagesDone count) now = Unit {0}
 IsCalm (Synced count) now = now.ranges ≡ []
 
--- The one invariant: what is read is as the checkpoint says, and what a crash may leave differs from it in the area that isn't in force alone.
+-- The one invariant: what is read is as the checkpoint says, and what a crash may leave differs from it in the area
+-- that isn't in force alone.
 pub record IsKept (c : CheckpointState) (x : Paged) (m : Contents) (j : JournalState) (now : Moment) : Type 0 where
   pub read : Keeps c.header m j now.bytes
   -- as far as the checkpoint has come, each page that isn't known to have changed stands in its area
   pub step : KeepsStep c.header read.shown read.commands x c.step now.bytes
-  pub elsewhere : (file : List ℕ) → Left now file → SameBut (area_at layout_in_use c.header.sizes (other c.header)) (area_bytes layout_in_use c.header.sizes) now.bytes file
+  pub elsewhere : (file : List ℕ) → Left now file
+      → SameBut (area_at layout_in_use c.header.sizes (other c.header)) (area_bytes layout_in_use c.header.sizes)
+      now.bytes file
   pub calm : IsCalm c.step now
 
 -- What a turn's calls do to the disk: nothing that a crash may leave loses the meaning.
-pub record KeepsMeaning {D T E : Type 0} (now : D → Moment) (past : D → List Moment) (old new : D) (m : Contents) (j : JournalState) (result : Result T E) (c : CheckpointState) (x : Paged) (k : JournalState) : Type 0 where
+pub record KeepsMeaning {D T E : Type 0} (now : D → Moment) (past : D → List Moment) (old new : D) (m : Contents)
+    (j : JournalState) (result : Result T E) (c : CheckpointState) (x : Paged) (k : JournalState) : Type 0 where
   -- each file that a crash may leave, within the turn and at its end, means the memory after all the journal's commands
   pub leaves : LeavesOnly now past old new (MeansWith m j)
   -- and once it is done, the disk is as the new checkpoint and the new journal say
   pub kept : OnOk result (IsKept c x m k (now new))
+
+module _ {D : Type 0} (disk : Ghosts D) (old new : D) where
+  -- where the memory and the journal were kept so, each file that is left means them
+  abbrev pub LeavesMeaning : Header → Step → Paged → Contents → JournalState → Type 0
+  LeavesMeaning h step x m j = IsKept (record { header = h; step = step }) x m j (disk.now old)
+      → LeavesOnly disk.now disk.past old new (MeansWith m j)
+
+  -- where all pages are written, they are on the disk then, and the other header's gate is closed
+  abbrev pub ClosesOther : Header → ℕ → Paged → Contents → JournalState → Type 0
+  ClosesOther h count x m j = IsKept (record { header = h; step = PagesDone count }) x m j (disk.now old)
+      → IsKept (record { header = h; step = Synced count }) x m j (disk.now new)
+
+  -- where all pages are on the disk, the next header is in force then, and the journal's run begins later
+  abbrev pub TakesOver : Header → ℕ → Paged → Contents → JournalState → Type 0
+  TakesOver h count x m j = IsKept (record { header = h; step = Synced count }) x m j (disk.now old)
+      → ((file : List ℕ) → Holds j file → IsBoundary j.ring j.first (count - j.first) file
+      → Holds (begun_at count j) file)
+      → IsKept (record { header = next_header h count; step = NoCheckpoint }) x m (begun_at count j) (disk.now new)
+
+  -- where the memory was kept by the one checkpoint, it keeps its meaning, and is kept by the other then
+  abbrev pub StaysMeant : {T E : Type 0} → Result T E → CheckpointState → Paged → CheckpointState → Paged → Contents
+      → JournalState → JournalState → Type 0
+  StaysMeant result c x d y m j k = IsKept c x m j (disk.now old)
+      → KeepsMeaning disk.now disk.past old new m j result d y k
+
+  -- the same by what is known of pages, beside the records of a memory
+  abbrev pub TurnKeeps : {T E : Type 0} → Result T E → PagedCheckpoint → PagedCheckpoint → MemoryState → Contents
+      → JournalState → JournalState → Type 0
+  TurnKeeps result c d n m j k = StaysMeant result c.state (paged c n) d.state (paged d n) m j k
 
 -- What is done before a command acts.
 pub record Prepares (old : PagedCheckpoint) (m : MemoryState) (command : Command) (new : PagedCheckpoint) : Type 0 where
@@ -208,7 +252,9 @@ pub record Prepares (old : PagedCheckpoint) (m : MemoryState) (command : Command
   -- whichever records the command leaves, those of any other page are as before
   pub others : KeepsOutside m command new.recent
   -- a page that is left and changes now for the first time is copied as it is
-  pub copied : (page : ℕ) → page < area_pages layout_in_use old.state.header.sizes → Contains (left_in old.state.step) page → has old.recent page ≡ false → has new.recent page ≡ true
+  pub copied : (page : ℕ) → page < area_pages layout_in_use old.state.header.sizes
+      → Contains (left_in old.state.step) page → has old.recent page ≡ false → has new.recent page ≡ true
       → IsAreaPage old.state.header.sizes m.records page (copy_of new.copies page)
   -- and earlier copies stay
-  pub stay : (page : ℕ) → page < area_pages layout_in_use old.state.header.sizes → has old.recent page ≡ true → copy_of new.copies page ≡ copy_of old.copies page
+  pub stay : (page : ℕ) → page < area_pages layout_in_use old.state.header.sizes → has old.recent page ≡ true
+      → copy_of new.copies page ≡ copy_of old.copies page

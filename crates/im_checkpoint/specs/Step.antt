@@ -8,7 +8,8 @@ use Rattle.im_checkpoint.specs.declared.checkpoint.Step.{Step as Mark}
 use Rattle.im_checkpoint.specs.declared.checkpoint.Step.TheVariants.{NoCheckpoint as None_yet, PagesLeft as Some_left}
 use Rattle.im_checkpoint.specs.declared.checkpoint.Step.TheVariants.{PagesDone as All_written, Synced as On_disk}
 
--- no checkpoint; of the memory after so many commands, pages are left to be written; all are written; all are on the disk, and the other header's gate is closed
+-- no checkpoint; of the memory after so many commands, pages are left to be written; all are written; all are on the
+-- disk, and the other header's gate is closed
 pub data Step : Type 0 where
   NoCheckpoint : Step
   PagesLeft : ℕ → List ℕ → Step
@@ -20,7 +21,8 @@ pub record CheckpointState : Type 0 where
   pub header : Header
   pub step : Step
 
--- a checkpoint with its pages: those that changed since the last checkpoint began, those that changed since the one before it began and before the last one did, and copies of pages as they were
+-- a checkpoint with its pages: those that changed since the last checkpoint began, those that changed since the one
+-- before it began and before the last one did, and copies of pages as they were
 pub record PagedCheckpoint : Type 0 where
   pub state : CheckpointState
   pub recent : List Bool
@@ -98,8 +100,10 @@ HasNext h Some_left = h.generation < LAST
 HasNext h All_written = h.generation < LAST
 HasNext h On_disk = h.generation < LAST
 
--- the fields of a checkpoint: its area is one of two, each set is of an area's pages, the next page is one of those left where there are any, and there is a place for a copy of each of them
-pub record IsCheckpoint (h : Header) (mark : Mark) (recent older left named : List Bool) (next : ℕ) (copies : List (List ℕ)) : Type 0 where
+-- the fields of a checkpoint: its area is one of two, each set is of an area's pages, the next page is one of those
+-- left where there are any, and there is a place for a copy of each of them
+pub record IsCheckpoint (h : Header) (mark : Mark) (recent older left named : List Bool) (next : ℕ)
+    (copies : List (List ℕ)) : Type 0 where
   pub number : h.area ≤ 1
   pub recent_size : length recent ≡ area_pages layout_in_use h.sizes
   pub older_size : length older ≡ area_pages layout_in_use h.sizes

@@ -3,8 +3,12 @@ use Rattle.std.specs.Prelude.{◌≡◌, ◌≢◌, ℕ, ◌+◌, ◌-◌, ◌<�
 use Rattle.std.specs.Prelude.{if◌then◌else◌, List, ◌∷◌, length, replicate, not, Result, Ok, Err}
 use Rattle.im_types.specs.declared.TheConstants.{LAST}
 use Rattle.im_types.specs.declared.refusals.Refusal.{Refusal}
+use Rattle.im_types.specs.declared.refusals.Refusal.TheVariants.{Device}
 use Rattle.im_types.specs.Layout.{layout_in_use, area_pages}
 use Rattle.im_types.specs.Header.{Header}
+use Rattle.im_disk.specs.declared.disk.Disk.{Ghosts}
+use Rattle.im_disk.specs.Since.{CallsAtMost, CallsBy}
+use Rattle.im_disk.specs.Runs.{ObeysOrRefuses}
 use Rattle.im_journal.specs.Holding.{JournalState, to_sweep, with_room}
 use Rattle.im_checkpoint.specs.declared.checkpoint.TurnDone.{TurnDone}
 use Rattle.im_checkpoint.specs.declared.checkpoint.TurnDone.TheVariants.{Idle, Began, Page, Synced as SyncedNow}
@@ -19,7 +23,13 @@ is_due h j = nat_lt h.count j.count && nat_lt h.generation LAST
 
 -- the header of the other area, once it has what was taken
 abbrev pub next_header : Header → ℕ → Header
-next_header h count = record { version = h.version; area = 1 - h.area; generation = h.generation + 1; count = count; sizes = h.sizes }
+next_header h count = record {
+  version = h.version;
+  area = 1 - h.area;
+  generation = h.generation + 1;
+  count = count;
+  sizes = h.sizes;
+}
 
 -- the run of a journal that begins at a later command
 abbrev pub begun_at : ℕ → JournalState → JournalState
@@ -31,7 +41,8 @@ pub record IsIdle (h : Header) (other_alone : Bool) (c : PagedCheckpoint) : Type
   pub recent : c.recent ≡ replicate (area_pages layout_in_use h.sizes) (not other_alone)
   pub older : c.older ≡ replicate (area_pages layout_in_use h.sizes) other_alone
 
--- a checkpoint as it begins: it is of the count as it is now, a set of the area's pages is left, to be written in rising order, each once; and it comes to its end in at most a turn for each page of an area and two more
+-- a checkpoint as it begins: it is of the count as it is now, a set of the area's pages is left, to be written in
+-- rising order, each once; and it comes to its end in at most a turn for each page of an area and two more
 pub record Begins (h : Header) (count : ℕ) (new : CheckpointState) : Type 0 where
   pub changed : List Bool
   pub size : length changed ≡ area_pages layout_in_use h.sizes
@@ -45,7 +56,8 @@ swept_at_once (PagesLeft count left) j most = 0
 swept_at_once (PagesDone count) j most = 0
 swept_at_once (Synced count) j most = 0
 
--- how many device calls a sweep of these slots makes, `most` at most: one for each that is swept and a sync, and none where there is none
+-- how many device calls a sweep of these slots makes, `most` at most: one for each that is swept and a sync, and none
+-- where there is none
 abbrev pub calls_for_slots : ℕ → ℕ → ℕ
 calls_for_slots slots most = if slots == 0 then 0 else min most slots + 1
 
@@ -57,20 +69,28 @@ calls_to_sweep (PagesDone count) j most = 0
 calls_to_sweep (Synced count) j most = 0
 
 -- What a turn does, by the state that it finds.
-pub record Turned (old : CheckpointState) (j : JournalState) (answer : TurnDone) (new : CheckpointState) (k : JournalState) : Type 0 where
-  pub swept : old.step ≡ NoCheckpoint → 0 < to_sweep j → (answer ≡ Swept) × (new ≡ old) × (k ≡ with_room j (min 3 (to_sweep j)))
-  pub began : old.step ≡ NoCheckpoint → to_sweep j ≡ 0 → is_due old.header j ≡ true → (answer ≡ Began) × Begins old.header j.count new × (k ≡ j)
-  pub idle : old.step ≡ NoCheckpoint → to_sweep j ≡ 0 → is_due old.header j ≡ false → (answer ≡ Idle) × (new ≡ old) × (k ≡ j)
+pub record Turned (old : CheckpointState) (j : JournalState) (answer : TurnDone) (new : CheckpointState)
+    (k : JournalState) : Type 0 where
+  pub swept : old.step ≡ NoCheckpoint → 0 < to_sweep j → (answer ≡ Swept) × (new ≡ old)
+      × (k ≡ with_room j (min 3 (to_sweep j)))
+  pub began : old.step ≡ NoCheckpoint → to_sweep j ≡ 0 → is_due old.header j ≡ true → (answer ≡ Began)
+      × Begins old.header j.count new × (k ≡ j)
+  pub idle : old.step ≡ NoCheckpoint → to_sweep j ≡ 0 → is_due old.header j ≡ false → (answer ≡ Idle) × (new ≡ old)
+      × (k ≡ j)
   pub page : (count : ℕ) (i : ℕ) (left : List ℕ) → old.step ≡ PagesLeft count (i ∷ left)
       → (answer ≡ Page i) × (new ≡ record { header = old.header; step = with_left count left }) × (k ≡ j)
-  pub synced : (count : ℕ) → old.step ≡ PagesDone count → (answer ≡ SyncedNow) × (new ≡ record { header = old.header; step = Synced count }) × (k ≡ j)
+  pub synced : (count : ℕ) → old.step ≡ PagesDone count → (answer ≡ SyncedNow)
+      × (new ≡ record { header = old.header; step = Synced count }) × (k ≡ j)
   pub in_force : (count : ℕ) → old.step ≡ Synced count
-      → (answer ≡ InForce) × (new ≡ record { header = next_header old.header count; step = NoCheckpoint }) × (k ≡ begun_at count j)
+      → (answer ≡ InForce) × (new ≡ record { header = next_header old.header count; step = NoCheckpoint })
+      × (k ≡ begun_at count j)
 
 -- What a turn does with the pages that changed, where this is how far the checkpoint has come then.
 pub record Moved (old : Changed) (answer : TurnDone) (step : Step) (new : Changed) : Type 0 where
-  -- a checkpoint that begins writes the pages that changed since the other area's last one began, in rising order and no others, and none has changed since then
-  pub begun : answer ≡ Began → (left_in step ≡ pages_from 0 (union old.older old.recent)) × (new.older ≡ old.recent) × (new.recent ≡ replicate (length old.older) false)
+  -- a checkpoint that begins writes the pages that changed since the other area's last one began, in rising order and
+  -- no others, and none has changed since then
+  pub begun : answer ≡ Began → (left_in step ≡ pages_from 0 (union old.older old.recent)) × (new.older ≡ old.recent)
+      × (new.recent ≡ replicate (length old.older) false)
   -- any other turn leaves the pages
   pub stays : answer ≢ Began → (new.older ≡ old.older) × (new.recent ≡ old.recent)
 
@@ -83,3 +103,13 @@ most_calls (Ok SyncedNow) = 3
 most_calls (Ok InForce) = 4
 most_calls (Ok Swept) = 4
 most_calls (Err refusal) = 4
+
+-- A turn makes as many calls of the disk as its answer says at most. It fails where a call does.
+abbrev pub MakesTurn : {D : Type 0} → Ghosts D → D → D → Result TurnDone Refusal → Type 0
+MakesTurn disk old new result =
+    ObeysOrRefuses disk old new result (λ e. e ≡ Device) (CallsAtMost disk.past old new (most_calls result))
+
+-- A sweep makes so many calls of the disk, or no more where it fails. It fails where a call does.
+abbrev pub MakesSweep : {D : Type 0} → Ghosts D → D → D → ℕ → Result ℕ Refusal → Type 0
+MakesSweep disk old new n result =
+    ObeysOrRefuses disk old new result (λ e. e ≡ Device) (CallsBy disk.past old new n result)

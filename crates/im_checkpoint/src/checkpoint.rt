@@ -23,9 +23,8 @@ ghost use Rattle.im_types.specs.declared.refusals.Refusal.TheVariants.{NoMemory,
 ghost use Rattle.im_types.specs.Contents.{Contents};
 ghost use Rattle.im_types.specs.Layout as layout;
 ghost use Rattle.im_types.specs.Layout.{layout_in_use, sizes_of};
-ghost use Rattle.im_disk.specs.Moment.{Moment, Faults};
+ghost use Rattle.im_disk.specs.Moment.{Moment};
 ghost use Rattle.im_disk.specs.Gate.{IsClosed};
-ghost use Rattle.im_disk.specs.Since.{CallsAtMost, CallsBy};
 ghost use Rattle.im_journal.specs.Holding.{JournalState, AllHold, to_sweep, with_room};
 ghost use Rattle.im_memory.specs.State.{MemoryState};
 ghost use Rattle.im_meaning.specs.Images.{other};
@@ -33,14 +32,15 @@ ghost use Rattle.im_pages.specs.PageSets.{has, union, pages_from, IsNext};
 ghost use Rattle.im_image.specs.Headers.{seen};
 ghost use Rattle.im_image.specs.Encoding.{IsAreaPage};
 ghost use Rattle.im_checkpoint.specs.Step.{NoCheckpoint, PagesLeft, CheckpointState, PagedCheckpoint};
-ghost use Rattle.im_checkpoint.specs.Copied.{copy_of};
+ghost use Rattle.im_checkpoint.specs.Copied.{copy_of, AreCopied};
 ghost use Rattle.im_checkpoint.specs.Step.{with_left, step_of, changed_in};
 ghost use Rattle.im_checkpoint.specs.Step.{IsPagesLeft, IsPagesDone, IsSynced};
-ghost use Rattle.im_checkpoint.specs.Turns.{Turned, Moved, Begins, IsIdle, is_due, most_calls};
-ghost use Rattle.im_checkpoint.specs.Turns.{swept_at_once, calls_for_slots, calls_to_sweep};
+ghost use Rattle.im_checkpoint.specs.Turns.{Turned, Moved, Begins, IsIdle, is_due};
+ghost use Rattle.im_checkpoint.specs.Turns.{swept_at_once, calls_for_slots, calls_to_sweep, MakesTurn, MakesSweep};
 ghost use Rattle.im_image.specs.Reading.{HasSizes};
 ghost use Rattle.im_checkpoint.specs.Keeping.{Paged, paged, Fits, IsKept, Prepares};
-ghost use Rattle.im_checkpoint.specs.Keeping.{IsAtRest, HasPagesLeft, IsReady, ComesTo, KeepsMeaning};
+ghost use Rattle.im_checkpoint.specs.Keeping.{IsAtRest, HasPagesLeft, IsReady, ComesTo, KeepsMeaning, StaysMeant};
+ghost use Rattle.im_checkpoint.specs.Keeping.{TurnKeeps};
 
 use crate::header::{close_other, next_header, open_next};
 use crate::page_copies::PageCopies;
@@ -218,9 +218,7 @@ fn copy_pages(
     requires size { length named.now ≡ layout.area_pages layout_in_use (sizes_of limits) }
     requires space { length copies.old ≡ layout.area_pages layout_in_use (sizes_of limits) }
     ensures space { length copies.new ≡ length copies.old }
-    ensures copied { (page : ℕ) → from ≤ page → page < layout.area_pages layout_in_use (sizes_of limits)
-        → has named.now page ≡ true → has left.now page ≡ true → has recent.now page ≡ false
-        → IsAreaPage (sizes_of limits) memory.now.records page (copy_of copies.new page) }
+    ensures copied { AreCopied (sizes_of limits) memory.now.records from named.now left.now recent.now copies.new }
     ensures stay { (page : ℕ) → page < layout.area_pages layout_in_use (sizes_of limits) → has recent.now page ≡ true
         → copy_of copies.new page ≡ copy_of copies.old page }
 {
@@ -239,11 +237,8 @@ fn sweep<D: Disk>(disk: &mut D, journal: &mut Journal) -> Result<TurnDone, Refus
         × (journal.new ≡ with_room journal.old (min 3 (to_sweep journal.old)))) }
     ensures same { OnErr result (journal.new ≡ journal.old) }
     ensures keeps { D.honest disk.new → (c : CheckpointState) (x : Paged) (m : Contents) → c.step ≡ NoCheckpoint
-        → IsKept c x m journal.old (D.now disk.old)
-        → KeepsMeaning D.now D.past disk.old disk.new m journal.old result c x journal.new }
-    ensures calls { D.honest disk.new → CallsAtMost D.past disk.old disk.new (most_calls result) }
-    ensures honest { D.honest disk.new → D.honest disk.old }
-    ensures faults { Faults (λ e. e ≡ Device) result (D.failures disk.old) (D.failures disk.new) }
+        → StaysMeant D.Disk disk.old disk.new result c x c x m journal.old journal.new }
+    ensures runs { MakesTurn D.Disk disk.old disk.new result }
 {
     // The pages in force hold the commands of these slots: nobody reads them, whatever a stop leaves of their gates.
     match journal.sweep_turn(disk) {
@@ -259,12 +254,8 @@ fn sweep_more<D: Disk>(disk: &mut D, journal: &mut Journal, most: u32) -> Result
         × (journal.new ≡ with_room journal.old n)) }
     ensures same { OnErr result (journal.new ≡ journal.old) }
     ensures keeps { D.honest disk.new → (c : CheckpointState) (x : Paged) (m : Contents) → c.step ≡ NoCheckpoint
-        → IsKept c x m journal.old (D.now disk.old)
-        → KeepsMeaning D.now D.past disk.old disk.new m journal.old result c x journal.new }
-    ensures calls { D.honest disk.new
-        → CallsBy D.past disk.old disk.new (calls_for_slots (to_sweep journal.old) most) result }
-    ensures honest { D.honest disk.new → D.honest disk.old }
-    ensures faults { Faults (λ e. e ≡ Device) result (D.failures disk.old) (D.failures disk.new) }
+        → StaysMeant D.Disk disk.old disk.new result c x c x m journal.old journal.new }
+    ensures runs { MakesSweep D.Disk disk.old disk.new (calls_for_slots (to_sweep journal.old) most) result }
 {
     if journal.to_sweep() == 0 {
         return Ok(0);
@@ -362,11 +353,8 @@ impl Checkpoint {
             × Moved (changed_in self.old) answer self.new.state.step (changed_in self.new)) }
         ensures same { OnErr result (self.new ≡ self.old) }
         ensures keeps { D.honest disk.new → (m : Contents) (j : JournalState)
-            → IsKept self.old.state (paged self.old memory.now) m j (D.now disk.old)
-            → KeepsMeaning D.now D.past disk.old disk.new m j result self.new.state (paged self.new memory.now) j }
-        ensures calls { D.honest disk.new → CallsAtMost D.past disk.old disk.new (most_calls result) }
-        ensures honest { D.honest disk.new → D.honest disk.old }
-        ensures faults { Faults (λ e. e ≡ Device) result (D.failures disk.old) (D.failures disk.new) }
+            → TurnKeeps D.Disk disk.old disk.new result self.old self.new memory.now m j j }
+        ensures runs { MakesTurn D.Disk disk.old disk.new result }
     {
         let page = self.next;
         let limits = self.header.limits;
@@ -391,11 +379,8 @@ impl Checkpoint {
             × Moved (changed_in self.old) answer self.new.state.step (changed_in self.new)) }
         ensures same { OnErr result (self.new ≡ self.old) }
         ensures keeps { D.honest disk.new → (n : MemoryState) (m : Contents) (j : JournalState)
-            → IsKept self.old.state (paged self.old n) m j (D.now disk.old)
-            → KeepsMeaning D.now D.past disk.old disk.new m j result self.new.state (paged self.new n) j }
-        ensures calls { D.honest disk.new → CallsAtMost D.past disk.old disk.new (most_calls result) }
-        ensures honest { D.honest disk.new → D.honest disk.old }
-        ensures faults { Faults (λ e. e ≡ Device) result (D.failures disk.old) (D.failures disk.new) }
+            → TurnKeeps D.Disk disk.old disk.new result self.old self.new n m j j }
+        ensures runs { MakesTurn D.Disk disk.old disk.new result }
     {
         // A stop leaves the header in force, and nothing that it needs is written.
         if let Err(_) = close_other(disk, &self.header) {
@@ -417,12 +402,8 @@ impl Checkpoint {
             × Moved (changed_in self.old) answer self.new.state.step (changed_in self.new)) }
         ensures same { OnErr result ((self.new ≡ self.old) × (journal.new ≡ journal.old)) }
         ensures keeps { D.honest disk.new → (n : MemoryState) (m : Contents)
-            → IsKept self.old.state (paged self.old n) m journal.old (D.now disk.old)
-            → KeepsMeaning D.now D.past disk.old disk.new m journal.old result self.new.state (paged self.new n)
-            journal.new }
-        ensures calls { D.honest disk.new → CallsAtMost D.past disk.old disk.new (most_calls result) }
-        ensures honest { D.honest disk.new → D.honest disk.old }
-        ensures faults { Faults (λ e. e ≡ Device) result (D.failures disk.old) (D.failures disk.new) }
+            → TurnKeeps D.Disk disk.old disk.new result self.old self.new n m journal.old journal.new }
+        ensures runs { MakesTurn D.Disk disk.old disk.new result }
     {
         let next = next_header(&self.header, self.count);
         // A stop leaves the old header in force, or the new one: with either the image means the same.
@@ -482,9 +463,7 @@ impl Checkpoint {
         ensures keeps { D.honest disk.new
             → KeepsMeaning D.now D.past disk.old disk.new memory.now.contents journal.old result self.new.state
             (paged self.new memory.now) journal.new }
-        ensures calls { D.honest disk.new → CallsAtMost D.past disk.old disk.new (most_calls result) }
-        ensures honest { D.honest disk.new → D.honest disk.old }
-        ensures faults { Faults (λ e. e ≡ Device) result (D.failures disk.old) (D.failures disk.new) }
+        ensures runs { MakesTurn D.Disk disk.old disk.new result }
     {
         if journal.to_sweep() > 0 {
             return sweep(disk, journal);
@@ -520,9 +499,7 @@ impl Checkpoint {
         ensures keeps { D.honest disk.new
             → KeepsMeaning D.now D.past disk.old disk.new memory.now.contents journal.old result self.new.state
             (paged self.new memory.now) journal.new }
-        ensures calls { D.honest disk.new → CallsAtMost D.past disk.old disk.new (most_calls result) }
-        ensures honest { D.honest disk.new → D.honest disk.old }
-        ensures faults { Faults (λ e. e ≡ Device) result (D.failures disk.old) (D.failures disk.new) }
+        ensures runs { MakesTurn D.Disk disk.old disk.new result }
     {
         match self.step {
             Step::NoCheckpoint => self.rest(disk, memory, journal),
@@ -549,13 +526,10 @@ impl Checkpoint {
         ensures same { OnErr result (journal.new ≡ journal.old) }
         // Each file that a crash may leave, from the start on, and now, means the memory after all its commands.
         ensures keeps { D.honest disk.new → (x : Paged) (m : Contents)
-            → IsKept self.now.state x m journal.old (D.now disk.old)
-            → KeepsMeaning D.now D.past disk.old disk.new m journal.old result self.now.state x journal.new }
+            → StaysMeant D.Disk disk.old disk.new result self.now.state x self.now.state x m journal.old journal.new }
         // As many calls of the disk as slots are swept, and one; none where there is none of them.
-        ensures calls { D.honest disk.new
-            → CallsBy D.past disk.old disk.new (calls_to_sweep self.now.state.step journal.old most) result }
-        ensures honest { D.honest disk.new → D.honest disk.old }
-        ensures faults { Faults (λ e. e ≡ Device) result (D.failures disk.old) (D.failures disk.new) }
+        ensures runs { MakesSweep D.Disk disk.old disk.new
+            (calls_to_sweep self.now.state.step journal.old most) result }
     {
         match self.step {
             Step::NoCheckpoint => sweep_more(disk, journal, most),

@@ -1,16 +1,15 @@
 //! What a checkpoint's turns write in the place of the header that isn't in force.
 ghost use Rattle.std.specs.Prelude.{◌≡◌, ◌+◌, ◌-◌, ◌*◌, ◌<◌, ◌≤◌, List, ℕ, length, OnOk};
 ghost use Rattle.im_types.specs.Contents.{Contents};
-ghost use Rattle.im_types.specs.Header as definition;
-ghost use Rattle.im_types.specs.Journal.{IsBoundary};
-ghost use Rattle.im_disk.specs.Moment.{Counts};
+ghost use Rattle.im_types.specs.Header.{Header as Seen};
+ghost use Rattle.im_disk.specs.Runs.{Obeys};
 ghost use Rattle.im_disk.specs.Gate.{IsClosed};
-ghost use Rattle.im_disk.specs.Since.{LeavesWithin, LeavesNow, LeavesOnly, CallsAtMost};
-ghost use Rattle.im_journal.specs.Holding.{JournalState, Holds};
+ghost use Rattle.im_disk.specs.Since.{CallsAtMost};
+ghost use Rattle.im_journal.specs.Holding.{JournalState};
 ghost use Rattle.im_image.specs.Headers.{seen};
-ghost use Rattle.im_checkpoint.specs.Step.{NoCheckpoint, PagesDone, Synced};
-ghost use Rattle.im_checkpoint.specs.Turns.{next_header, begun_at};
-ghost use Rattle.im_checkpoint.specs.Keeping.{Paged, MeansWith, IsKept};
+ghost use Rattle.im_checkpoint.specs.Step.{PagesDone, Synced};
+ghost use Rattle.im_checkpoint.specs.Turns.{next_header};
+ghost use Rattle.im_checkpoint.specs.Keeping.{Paged, LeavesMeaning, ClosesOther, TakesOver};
 
 use im_disk::{DeviceFault, Disk, write_behind_gate};
 use im_image::Header;
@@ -38,17 +37,10 @@ pub(crate) fn close_other<D: Disk>(disk: &mut D, header: &Header) -> Result<(), 
     requires area { header.now.area ≤ 1 }
     requires inside { D.honest disk.old → 8192 ≤ length (D.now disk.old).bytes }
     ensures leaves { D.honest disk.new → (count : ℕ) (x : Paged) (m : Contents) (j : JournalState)
-        → IsKept (record { header = seen header.now; step = PagesDone count }) x m j (D.now disk.old)
-        → LeavesWithin D.now D.past disk.old disk.new (MeansWith m j) }
-    ensures now { D.honest disk.new → (count : ℕ) (x : Paged) (m : Contents) (j : JournalState)
-        → IsKept (record { header = seen header.now; step = PagesDone count }) x m j (D.now disk.old)
-        → LeavesNow (D.now disk.new) (MeansWith m j) }
+        → LeavesMeaning D.Disk disk.old disk.new (seen header.now) (PagesDone count) x m j }
     ensures kept { OnOk result (D.honest disk.new → (count : ℕ) (x : Paged) (m : Contents) (j : JournalState)
-        → IsKept (record { header = seen header.now; step = PagesDone count }) x m j (D.now disk.old)
-        → IsKept (record { header = seen header.now; step = Synced count }) x m j (D.now disk.new)) }
-    ensures few { D.honest disk.new → CallsAtMost D.past disk.old disk.new 3 }
-    ensures honest { D.honest disk.new → D.honest disk.old }
-    ensures failures { Counts result (D.failures disk.old) (D.failures disk.new) }
+        → ClosesOther D.Disk disk.old disk.new (seen header.now) count x m j) }
+    ensures runs { Obeys D.Disk disk.old disk.new result (CallsAtMost D.past disk.old disk.new 3) }
 {
     let at = PAGE * (1 - header.area as usize);
     let mut gate = [0; 1];
@@ -66,21 +58,13 @@ pub(crate) fn open_next<D: Disk>(disk: &mut D, next: &Header) -> Result<(), Devi
     requires area { next.now.area ≤ 1 }
     requires closed { D.honest disk.old → IsClosed (4096 * next.now.area) 64 (D.now disk.old) }
     ensures leaves { D.honest disk.new
-        → (h : definition.Header) (count : ℕ) (x : Paged) (m : Contents) (j : JournalState)
+        → (h : Seen) (count : ℕ) (x : Paged) (m : Contents) (j : JournalState)
         → seen next.now ≡ next_header h count
-        → IsKept (record { header = h; step = Synced count }) x m j (D.now disk.old)
-        → LeavesOnly D.now D.past disk.old disk.new (MeansWith m j) }
+        → LeavesMeaning D.Disk disk.old disk.new h (Synced count) x m j }
     ensures kept { OnOk result (D.honest disk.new
-        → (h : definition.Header) (count : ℕ) (x : Paged) (m : Contents) (j : JournalState)
-        → seen next.now ≡ next_header h count
-        → IsKept (record { header = h; step = Synced count }) x m j (D.now disk.old)
-        → ((file : List ℕ) → Holds j file → IsBoundary j.ring j.first (count - j.first) file
-        → Holds (begun_at count j) file)
-        → IsKept (record { header = next_header h count; step = NoCheckpoint }) x m (begun_at count j)
-        (D.now disk.new)) }
-    ensures few { D.honest disk.new → CallsAtMost D.past disk.old disk.new 4 }
-    ensures honest { D.honest disk.new → D.honest disk.old }
-    ensures failures { Counts result (D.failures disk.old) (D.failures disk.new) }
+        → (h : Seen) (count : ℕ) (x : Paged) (m : Contents) (j : JournalState)
+        → seen next.now ≡ next_header h count → TakesOver D.Disk disk.old disk.new h count x m j) }
+    ensures runs { Obeys D.Disk disk.old disk.new result (CallsAtMost D.past disk.old disk.new 4) }
 {
     let bytes = next.spell();
     // The pages are on the disk, and the gate is closed there: a stop leaves the old header in force, or the new one,

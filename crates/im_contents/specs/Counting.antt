@@ -19,5 +19,6 @@ waiting (Some kept) = bit (is_waiting kept)
 
 -- who stands in a list waits for that cell; who waits stands once in all lists, and nobody else stands there
 pub record AgreeByCount (cells : List (Option Held)) (kept : Waiter → Option Kept) : Type 0 where
-  pub each : (who : Waiter) (a : ℕ) → 1 ≤ times who (waiters_at cells a) → waits_in a (held_at cells a) (kept who) ≡ true
+  pub each : (who : Waiter) (a : ℕ) → 1 ≤ times who (waiters_at cells a)
+      → waits_in a (held_at cells a) (kept who) ≡ true
   pub once : (who : Waiter) → all_times who cells ≡ waiting (kept who)

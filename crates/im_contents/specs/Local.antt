@@ -34,4 +34,5 @@ pub record EndsBefore (cells : List CellRecord) (place a : ℕ) (block : Block) 
 
 -- the cells below a place lie in blocks that end before or at it
 abbrev pub HaveBlocksBelow : List CellRecord → ℕ → Type 0
-HaveBlocksBelow cells place = (a : ℕ) (block : Block) → a < place → block_in cells a ≡ Some block → EndsBefore cells place a block
+HaveBlocksBelow cells place = (a : ℕ) (block : Block) → a < place → block_in cells a ≡ Some block
+    → EndsBefore cells place a block

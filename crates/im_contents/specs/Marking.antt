@@ -56,8 +56,10 @@ module _ (kept : Waiter → Option Kept) (place : Waiter → ℕ) where
 
 -- each waiting entry of a window is marked; the first entry's mark is at this place
 abbrev pub ListMarked : List Kept → ℕ → List Bool → Type 0
-ListMarked entries first marks = (i : ℕ) (k : Kept) → slice_get entries i ≡ Some k → is_waiting k ≡ true → slice_index_or marks (first + i) false ≡ true
+ListMarked entries first marks = (i : ℕ) (k : Kept) → slice_get entries i ≡ Some k → is_waiting k ≡ true
+    → slice_index_or marks (first + i) false ≡ true
 
 -- each waiting entry is marked
 abbrev pub AreMarked : List Window → List Bool → Type 0
-AreMarked windows marks = (element : ℕ) (w : Window) → slice_get windows element ≡ Some w → ListMarked w.kept (WINDOW * element) marks
+AreMarked windows marks = (element : ℕ) (w : Window) → slice_get windows element ≡ Some w
+    → ListMarked w.kept (WINDOW * element) marks

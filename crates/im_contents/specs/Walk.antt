@@ -1,4 +1,5 @@
--- Following links from node to node, with a mark on each node that was visited. A walk ends, whatever the links are. (Own.)
+-- Following links from node to node, with a mark on each node that was visited. A walk ends, whatever the links are.
+-- (Own.)
 use Rattle.std.specs.Prelude.{ℕ, zero, suc, List, [], ◌∷◌, ◌++◌, length, replicate, Bool, true, false, ◌&&◌, not}
 use Rattle.std.specs.Prelude.{Option, None, Some, ◌==◌, slice_index_or, slice_set, if◌then◌else◌, option_and_then}
 use Rattle.im_types.specs.declared.TheConstants.{NONE}
@@ -34,13 +35,15 @@ behind front (Some w) = Some (record { waiters = front ++ w.waiters; marks = w.m
 abbrev pub visit : ℕ → ℕ → List Bool → NodeRecord → Option Walked → Option Walked
 visit last at marks (FreeNode next) rest = None
 visit last at marks (ListNode next who) rest =
-    if next == NONE then (if at == last then Some (record { waiters = who ∷ []; marks = marks }) else None) else behind (who ∷ []) rest
+    if next == NONE then (if at == last then Some (record { waiters = who ∷ []; marks = marks }) else None)
+    else behind (who ∷ []) rest
 
 -- a walk from a node on to the last one, over so many nodes at the most
 abbrev pub walk : List NodeRecord → ℕ → ℕ → List Bool → ℕ → Option Walked
 walk nodes last zero marks at = None
 walk nodes last (suc most) marks at =
-    visit last at (slice_set marks at true) (fresh marks nodes at) (walk nodes last most (slice_set marks at true) (next_of (fresh marks nodes at)))
+    visit last at (slice_set marks at true) (fresh marks nodes at)
+    (walk nodes last most (slice_set marks at true) (next_of (fresh marks nodes at)))
 
 -- the walk over the list of a cell; where nobody waits there is none
 unfoldable pub walk_cell : List NodeRecord → CellRecord → List Bool → Option Walked
@@ -68,7 +71,8 @@ after_lists front (Some r) = Some (record { lists = front ++ r.lists; marks = r.
 -- the walks over the lists of all cells, one after another
 abbrev pub walk_all : List NodeRecord → List CellRecord → List Bool → Option AllWalked
 walk_all nodes [] marks = Some (record { lists = []; marks = marks })
-walk_all nodes (cell ∷ cells) marks = option_and_then (λ w. with_list w.waiters (walk_all nodes cells w.marks)) (walk_cell nodes cell marks)
+walk_all nodes (cell ∷ cells) marks =
+    option_and_then (λ w. with_list w.waiters (walk_all nodes cells w.marks)) (walk_cell nodes cell marks)
 
 -- whether a mark is as it should be
 abbrev pub same_mark : Bool → Bool → Bool

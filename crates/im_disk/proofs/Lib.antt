@@ -4,3 +4,4 @@ pub mod RecordLemmas
 pub mod RecordingLemmas
 pub mod GateLemmas
 pub mod AccountLemmas
+pub mod RunLemmas

@@ -42,27 +42,63 @@ are_same_outside rs i (c ∷ cs) (d ∷ ds) = (c == d || is_inside rs i) && are_
 
 -- after a write of so many bytes that failed: its range holds the outcome
 abbrev pub torn_by : ℕ → ℕ → List ℕ → Moment → Moment
-torn_by at n outcome m = record { bytes = if length outcome == n then overlaid m.bytes at outcome else m.bytes; ranges = (at, n) ∷ m.ranges }
+torn_by at n outcome m = record {
+  bytes = if length outcome == n then overlaid m.bytes at outcome else m.bytes;
+  ranges = (at, n) ∷ m.ranges;
+}
 
 -- after a sync that failed: the ranges hold what they hold in the outcome
 abbrev pub shaken_by : List ℕ → Moment → Moment
-shaken_by outcome m = record { bytes = if are_same_outside m.ranges 0 outcome m.bytes then outcome else m.bytes; ranges = m.ranges }
+shaken_by outcome m = record {
+  bytes = if are_same_outside m.ranges 0 outcome m.bytes then outcome else m.bytes;
+  ranges = m.ranges;
+}
 
 -- after a write that was answered so
 abbrev pub after_write : Bool → ℕ → List ℕ → Account → Account
-after_write true at bytes a = record { now = written at bytes a.now; past = a.now ∷ a.past; outcomes = a.outcomes; agrees = a.agrees }
-after_write false at bytes a = record { now = torn_by at (length bytes) (first_outcome a.outcomes) a.now; past = a.now ∷ a.past; outcomes = later_outcomes a.outcomes; agrees = a.agrees }
+after_write true at bytes a = record {
+  now = written at bytes a.now;
+  past = a.now ∷ a.past;
+  outcomes = a.outcomes;
+  agrees = a.agrees;
+}
+after_write false at bytes a = record {
+  now = torn_by at (length bytes) (first_outcome a.outcomes) a.now;
+  past = a.now ∷ a.past;
+  outcomes = later_outcomes a.outcomes;
+  agrees = a.agrees;
+}
 
 -- after a sync that was answered so
 abbrev pub after_sync : Bool → Account → Account
 after_sync true a = record { now = synced a.now; past = a.now ∷ a.past; outcomes = a.outcomes; agrees = a.agrees }
-after_sync false a = record { now = shaken_by (first_outcome a.outcomes) a.now; past = a.now ∷ a.past; outcomes = later_outcomes a.outcomes; agrees = a.agrees }
+after_sync false a = record {
+  now = shaken_by (first_outcome a.outcomes) a.now;
+  past = a.now ∷ a.past;
+  outcomes = later_outcomes a.outcomes;
+  agrees = a.agrees;
+}
 
 -- After a call, by its number: the file was made anew, measured, read, written, synced. A call may always fail.
 abbrev pub after_call : ℕ → ℕ → Bool → List ℕ → Account → Account
-after_call zero len ok bytes a = record { now = record { bytes = replicate len 0; ranges = [] }; past = []; outcomes = a.outcomes; agrees = a.agrees }
-after_call (suc zero) len ok bytes a = record { now = a.now; past = a.past; outcomes = a.outcomes; agrees = a.agrees && (not ok || len == length a.now.bytes) }
-after_call (suc (suc zero)) at ok bytes a = record { now = a.now; past = a.now ∷ a.past; outcomes = a.outcomes; agrees = a.agrees && (not ok || bytes_eq bytes (take (length bytes) (drop at a.now.bytes))) }
+after_call zero len ok bytes a = record {
+  now = record { bytes = replicate len 0; ranges = [] };
+  past = [];
+  outcomes = a.outcomes;
+  agrees = a.agrees;
+}
+after_call (suc zero) len ok bytes a = record {
+  now = a.now;
+  past = a.past;
+  outcomes = a.outcomes;
+  agrees = a.agrees && (not ok || len == length a.now.bytes);
+}
+after_call (suc (suc zero)) at ok bytes a = record {
+  now = a.now;
+  past = a.now ∷ a.past;
+  outcomes = a.outcomes;
+  agrees = a.agrees && (not ok || bytes_eq bytes (take (length bytes) (drop at a.now.bytes)));
+}
 after_call (suc (suc (suc zero))) at ok bytes a = after_write ok at bytes a
 after_call (suc (suc (suc (suc more)))) at ok bytes a = after_sync ok a
 
@@ -75,14 +111,20 @@ pub record Event : Type 0 where
 
 -- the call that is noted by these numbers: which call, an offset or a length, and 1 for success
 abbrev pub event_of : List ℕ → List ℕ → Event
-event_of numbers bytes = record { call = slice_index numbers 0; at = slice_index numbers 1; ok = slice_index numbers 2 == 1; bytes = bytes }
+event_of numbers bytes = record {
+  call = slice_index numbers 0;
+  at = slice_index numbers 1;
+  ok = slice_index numbers 2 == 1;
+  bytes = bytes;
+}
 
 -- a file with this first moment, whose failing calls come to these outcomes, after these calls, the newest first
 abbrev pub replay : Moment → List (List ℕ) → List Event → Account
 replay first outcomes [] = record { now = first; past = []; outcomes = outcomes; agrees = true }
 replay first outcomes (e ∷ earlier) = after_call e.call e.at e.ok e.bytes (replay first outcomes earlier)
 
--- No sync has failed. After one has, nothing more is asked of the file: what was written may be lost with no further error.
+-- No sync has failed. After one has, nothing more is asked of the file: what was written may be lost with no further
+-- error.
 abbrev pub is_usable : List Event → Bool
 is_usable [] = true
 is_usable (e ∷ earlier) = (e.ok || not (e.call == 4)) && is_usable earlier

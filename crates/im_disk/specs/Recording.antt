@@ -17,7 +17,12 @@ pub record Recording : Type 0 where
 
 -- zero bytes, all of them on the disk
 abbrev pub blank : ℕ → Recording
-blank len = record { moment = record { bytes = replicate len 0; ranges = [] }; past = []; settled = replicate len 0; failures = 0 }
+blank len = record {
+  moment = record { bytes = replicate len 0; ranges = [] };
+  past = [];
+  settled = replicate len 0;
+  failures = 0;
+}
 
 -- a tick later, at this moment
 abbrev pub ticked : Moment → Recording → Recording
@@ -25,11 +30,21 @@ ticked m d = record { moment = m; past = d.moment ∷ d.past; settled = d.settle
 
 -- a tick later, after a sync that succeeded
 abbrev pub settled_by_sync : Recording → Recording
-settled_by_sync d = record { moment = synced d.moment; past = d.moment ∷ d.past; settled = d.moment.bytes; failures = d.failures }
+settled_by_sync d = record {
+  moment = synced d.moment;
+  past = d.moment ∷ d.past;
+  settled = d.moment.bytes;
+  failures = d.failures;
+}
 
 -- one failure more
 abbrev pub failed : Recording → Recording
-failed d = record { moment = d.moment; past = d.past; settled = d.settled; failures = min (d.failures + 1) (2 ^ 64 - 1) }
+failed d = record {
+  moment = d.moment;
+  past = d.past;
+  settled = d.settled;
+  failures = min (d.failures + 1) (2 ^ 64 - 1);
+}
 
 -- At `Ok` the disk is as told here. At `Err` the record could not grow: nothing happened but one failure more.
 abbrev pub Answers : {T E : Type 0} → Result T E → Recording → Recording → Recording → Type 0
@@ -58,4 +73,9 @@ LeftBy (Byte byte) d c = HasByte byte d.moment c
 
 -- After a crash that left these bytes: the ranges are in doubt until a sync succeeds, and a new record begins.
 abbrev pub crashed : List ℕ → Recording → Recording
-crashed bytes d = record { moment = record { bytes = bytes; ranges = d.moment.ranges }; past = []; settled = d.settled; failures = d.failures }
+crashed bytes d = record {
+  moment = record { bytes = bytes; ranges = d.moment.ranges };
+  past = [];
+  settled = d.settled;
+  failures = d.failures;
+}

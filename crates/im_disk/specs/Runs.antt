@@ -22,6 +22,30 @@ module _ {D : Type 0} (disk : Ghosts D) (old new : D) where
     pub calls : disk.honest new → CallsBy disk.past old new n result
     pub faults : Faults may result (disk.failures old) (disk.failures new)
 
+  -- The run comes to P. It fails where a call of the disk does.
+  pub record Obeys {T E : Type 0} (result : Result T E) (P : Type 0) : Type 0 where
+    pub honest : disk.honest new → disk.honest old
+    pub kept : disk.honest new → P
+    pub failures : Counts result (disk.failures old) (disk.failures new)
+
+  -- The same, or it is refused for one of these reasons: `Device` where a call of the disk fails. P holds then too.
+  pub record ObeysOrRefuses {T : Type 0} (result : Result T Refusal) (may : Refusal → Type 0)
+      (P : Type 0) : Type 0 where
+    pub honest : disk.honest new → disk.honest old
+    pub kept : disk.honest new → P
+    pub faults : Faults may result (disk.failures old) (disk.failures new)
+
+  -- The run only reads, whatever comes of its calls.
+  pub record ReadsAlone : Type 0 where
+    pub honest : disk.honest new → disk.honest old
+    pub reads : disk.honest new → OnlyReads disk.now disk.past old new
+
+  -- The run only reads. It fails where a call of the disk does.
+  pub record ReadsOrFails {T E : Type 0} (result : Result T E) : Type 0 where
+    pub honest : disk.honest new → disk.honest old
+    pub reads : disk.honest new → OnlyReads disk.now disk.past old new
+    pub failures : Counts result (disk.failures old) (disk.failures new)
+
   -- The run only reads, or is refused for one of these reasons: `Device` where a call of the disk fails.
   pub record ReadsOrRefuses {T : Type 0} (result : Result T Refusal) (may : Refusal → Type 0) : Type 0 where
     pub honest : disk.honest new → disk.honest old

@@ -6,7 +6,8 @@ use Rattle.im_disk.specs.Moment.{Moment, Left, LeftSince}
 -- the run.
 pub record Leaves (old new : Moment) (past_old past_new : List Moment) (P : List ℕ → Type 0) : Type 0 where
   pub later : length past_old ≤ length past_new
-  pub each : (t : ℕ) (c : List ℕ) → t ≤ length past_old → LeftSince (new ∷ past_new) t c → LeftSince (old ∷ past_old) t c ⊎ P c
+  pub each : (t : ℕ) (c : List ℕ) → t ≤ length past_old → LeftSince (new ∷ past_new) t c
+      → LeftSince (old ∷ past_old) t c ⊎ P c
 
 -- each file that a crash at this moment may leave has P
 abbrev pub LeavesNow : Moment → (List ℕ → Type 0) → Type 0
@@ -17,7 +18,8 @@ abbrev pub LeavesWithin : {D : Type 0} → (D → Moment) → (D → List Moment
 LeavesWithin now past old new P = Leaves (now old) (now new) (past old) (past new) P
 
 -- Of a disk: the run leaves only P, within it and at its end.
-pub record LeavesOnly {D : Type 0} (now : D → Moment) (past : D → List Moment) (old new : D) (P : List ℕ → Type 0) : Type 0 where
+pub record LeavesOnly {D : Type 0} (now : D → Moment) (past : D → List Moment) (old new : D)
+    (P : List ℕ → Type 0) : Type 0 where
   pub within : LeavesWithin now past old new P
   pub after : LeavesNow (now new) P
 

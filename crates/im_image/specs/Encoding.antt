@@ -3,7 +3,7 @@ use Rattle.std.specs.Prelude.{◌≡◌, ℕ, ◌+◌, ◌*◌, ◌<◌, List, l
 use Rattle.im_types.specs.declared.TheConstants.{NONE}
 use Rattle.im_types.specs.Contents.{new_window}
 use Rattle.im_types.specs.Layout.{Sizes, layout_in_use, cell_record_bytes, node_record_bytes, session_record_bytes}
-use Rattle.im_types.specs.Layout.{on_a_page, cell_pages, node_pages, session_pages, node_count}
+use Rattle.im_types.specs.Layout.{on_a_page, cell_pages, node_pages, session_pages, area_pages, node_count}
 use Rattle.im_types.specs.declared.records.CellRecord.TheVariants.{Free as FreeCell}
 use Rattle.im_types.specs.declared.records.NodeRecord.TheVariants.{Free as FreeNode}
 use Rattle.im_types.specs.Records.{cell_bytes, node_bytes, session_bytes, FitsCell, FitsNode, FitsWindow}
@@ -11,27 +11,39 @@ use Rattle.im_types.specs.Pages.{Records}
 use Rattle.im_records.specs.Paging.{IsPageOf}
 
 -- page i of a row has its records, each within its bounds
-pub record Spells {X : Type 0} (size per : ℕ) (spelled : X → List ℕ) (Fits : X → Type 0) (none : X) (row : List X) (i : ℕ) (page : List ℕ) : Type 0 where
+pub record Spells {X : Type 0} (size per : ℕ) (spelled : X → List ℕ) (Fits : X → Type 0) (none : X) (row : List X)
+    (i : ℕ) (page : List ℕ) : Type 0 where
   pub is_page : IsPageOf size per spelled row i page
   pub fits : (k : ℕ) → k < per → per * i + k < length row → Fits (slice_index_or row (per * i + k) none)
 
 -- page i of the cells
 abbrev pub SpellsCells : Sizes → Records → ℕ → List ℕ → Type 0
-SpellsCells s r i page = Spells cell_record_bytes (on_a_page cell_record_bytes) cell_bytes (FitsCell s.cells (node_count layout_in_use s)) (FreeCell 0 NONE) r.cells i page
+SpellsCells s r i page =
+    Spells cell_record_bytes (on_a_page cell_record_bytes) cell_bytes (FitsCell s.cells (node_count layout_in_use s))
+    (FreeCell 0 NONE) r.cells i page
 
 -- page i of the waiter nodes
 abbrev pub SpellsNodes : Sizes → Records → ℕ → List ℕ → Type 0
-SpellsNodes s r i page = Spells node_record_bytes (on_a_page node_record_bytes) node_bytes (FitsNode (node_count layout_in_use s)) (FreeNode NONE) r.nodes i page
+SpellsNodes s r i page =
+    Spells node_record_bytes (on_a_page node_record_bytes) node_bytes (FitsNode (node_count layout_in_use s))
+    (FreeNode NONE) r.nodes i page
 
 -- page i of the sessions
 abbrev pub SpellsSessions : Records → ℕ → List ℕ → Type 0
-SpellsSessions r i page = Spells (session_record_bytes layout_in_use) (on_a_page (session_record_bytes layout_in_use)) (session_bytes layout_in_use) (FitsWindow layout_in_use) new_window r.windows i page
+SpellsSessions r i page =
+    Spells (session_record_bytes layout_in_use) (on_a_page (session_record_bytes layout_in_use))
+    (session_bytes layout_in_use) (FitsWindow layout_in_use) new_window r.windows i page
 
 -- page i of an area, which has first the pages of cells, then those of waiter nodes, then those of sessions
 pub record IsAreaPage (s : Sizes) (r : Records) (i : ℕ) (page : List ℕ) : Type 0 where
   pub cells : i < cell_pages s → SpellsCells s r i page
   pub nodes : (n : ℕ) → i ≡ cell_pages s + n → n < node_pages layout_in_use s → SpellsNodes s r n page
-  pub sessions : (n : ℕ) → i ≡ cell_pages s + node_pages layout_in_use s + n → n < session_pages layout_in_use s → SpellsSessions r n page
+  pub sessions : (n : ℕ) → i ≡ cell_pages s + node_pages layout_in_use s + n → n < session_pages layout_in_use s
+      → SpellsSessions r n page
+
+-- these are the pages of an area
+abbrev pub AreAreaPages : Sizes → Records → (ℕ → List ℕ) → Type 0
+AreAreaPages s r page = (i : ℕ) → i < area_pages layout_in_use s → IsAreaPage s r i (page i)
 
 -- there are as many records of each kind as these sizes say
 pub record AreCounted (s : Sizes) (r : Records) : Type 0 where

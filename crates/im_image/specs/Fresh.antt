@@ -34,13 +34,16 @@ abbrev pub new_area : Sizes → List ℕ
 new_area s =
     new_row (cell_pages s) cell_record_bytes (cell_bytes new_cell) s.cells
     ++ new_row (node_pages layout_in_use s) node_record_bytes (node_bytes new_node) (node_count layout_in_use s)
-    ++ new_row (session_pages layout_in_use s) (session_record_bytes layout_in_use) (session_bytes layout_in_use new_window) s.elements
+    ++ new_row (session_pages layout_in_use s) (session_record_bytes layout_in_use)
+    (session_bytes layout_in_use new_window) s.elements
 
 -- the header of a new image
 abbrev pub new_header : Sizes → Header
 new_header s = record { version = layout_in_use.version; area = 0; generation = 1; count = 0; sizes = s }
 
--- a new image, with this byte as the gate of its first header: that header, the second one closed, the area, and zeros for the other area and the journal
+-- a new image, with this byte as the gate of its first header: that header, the second one closed, the area, and zeros
+-- for the other area and the journal
 abbrev pub new_image : ℕ → Sizes → List ℕ
 new_image gate s =
-    (gate ∷ header_body (new_header s)) ++ zeros (2 * page_bytes - 64) ++ new_area s ++ zeros (area_bytes layout_in_use s + 64 * s.slots)
+    (gate ∷ header_body (new_header s)) ++ zeros (2 * page_bytes - 64) ++ new_area s
+    ++ zeros (area_bytes layout_in_use s + 64 * s.slots)

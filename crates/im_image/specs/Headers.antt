@@ -9,7 +9,13 @@ use Rattle.im_image.specs.declared.header.Header.{Header}
 
 -- a header, as the definitions see it
 abbrev pub seen : Header → Seen
-seen h = record { version = h.version; area = h.area; generation = h.generation; count = h.count; sizes = sizes_of h.limits }
+seen h = record {
+  version = h.version;
+  area = h.area;
+  generation = h.generation;
+  count = h.count;
+  sizes = sizes_of h.limits;
+}
 
 -- the faults of a length and of headers
 abbrev pub IsHeaderFault : Refusal → Type 0
@@ -18,6 +24,10 @@ IsHeaderFault e = (e ≡ WrongLength) ⊎ (e ≡ NoHeader) ⊎ (e ≡ BadHeader)
 -- the faults of an image
 abbrev pub IsImageFault : Refusal → Type 0
 IsImageFault e = IsHeaderFault e ⊎ (e ≡ BadPage) ⊎ (e ≡ BadRecord)
+
+-- why the area in force may not be read: it shows no memory, or want of memory, or a call of the disk that failed
+abbrev pub MayRefuseArea : Refusal → Type 0
+MayRefuseArea e = (e ≡ BadPage) ⊎ (e ≡ NoMemory) ⊎ (e ≡ Device)
 
 -- why an image may not be read: a fault of it, or want of memory, or a call of the disk that failed
 abbrev pub MayRefuseImage : Refusal → Type 0
@@ -34,10 +44,14 @@ layout_at zero one = layout_named (header_in (place_in_force zero one)).version
 -- the first fault of a file of this length, which has room for two header places
 abbrev pub beginning_fault : Layout → ℕ → List ℕ → List ℕ → Option Refusal
 beginning_fault l length zero one =
-    or_else (place_fault l zero one) (if length == image_length l (header_in (place_in_force zero one)).sizes then None else Some WrongLength)
+    or_else (place_fault l zero one)
+    (if length == image_length l (header_in (place_in_force zero one)).sizes then None else Some WrongLength)
 
--- why a file that begins so isn't opened: a sound header of the first version is in force; or that is none, and this is the beginning's fault
+-- why a file that begins so isn't opened: a sound header of the first version is in force; or that is none, and this is
+-- the beginning's fault
 abbrev pub MayNotOpen : ℕ → List ℕ → List ℕ → Refusal → Type 0
 MayNotOpen length zero one e =
-    (((header_in (place_in_force zero one)).version == 1) ≡ true) × (place_fault (layout_at zero one) zero one ≡ None) × (e ≡ OldVersion)
-    ⊎ ((((header_in (place_in_force zero one)).version == 1) && is_none (place_fault (layout_at zero one) zero one)) ≡ false) × (beginning_fault (layout_at zero one) length zero one ≡ Some e)
+    (((header_in (place_in_force zero one)).version == 1) ≡ true)
+    × (place_fault (layout_at zero one) zero one ≡ None) × (e ≡ OldVersion)
+    ⊎ ((((header_in (place_in_force zero one)).version == 1) && is_none (place_fault (layout_at zero one) zero one))
+    ≡ false) × (beginning_fault (layout_at zero one) length zero one ≡ Some e)

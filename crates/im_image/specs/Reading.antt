@@ -1,4 +1,5 @@
--- What is read of an image: its header in force, the memory that its area shows, its journal, and the memory after that. (Own.)
+-- What is read of an image: its header in force, the memory that its area shows, its journal, and the memory after
+-- that. (Own.)
 use Rattle.std.specs.Prelude.{◌≡◌, ℕ, ◌≤◌, List, length, None, Ok}
 use Rattle.im_types.specs.declared.TheConstants.{LAST}
 use Rattle.im_types.specs.Contents.{Contents}
@@ -12,7 +13,8 @@ use Rattle.im_journal.specs.Holding.{JournalState, Holds}
 use Rattle.im_image.specs.Headers.{seen}
 use Rattle.im_image.specs.declared.reading.Image.{Image}
 
--- the journal is the one behind this header: its ring lies where the header's version and sizes say, and its run begins at the header's count
+-- the journal is the one behind this header: its ring lies where the header's version and sizes say, and its run begins
+-- at the header's count
 pub record JournalOf (h : Header) (j : JournalState) : Type 0 where
   pub ring : j.ring ≡ ring_of (layout_named h.version) h.sizes
   pub first : j.first ≡ h.count
@@ -31,6 +33,10 @@ pub record IsAreaOf (l : Layout) (s : Sizes) (area : ℕ) (Honest : Type 0) (fil
 -- a row is the first cells of one of the two areas of a file
 abbrev pub HasFirstCells : Layout → Sizes → ℕ → List ℕ → List CellRecord → Type 0
 HasFirstCells l s area file row = AreFirstCells l s (area_of l s area file) row
+
+-- where the one row is the first cells of one of the two areas of a file, so is the other
+abbrev pub StayFirstCells : Layout → Sizes → ℕ → List ℕ → List CellRecord → List CellRecord → Type 0
+StayFirstCells l s area file old new = HasFirstCells l s area file old → HasFirstCells l s area file new
 
 -- one of the two areas of a file spells these records
 abbrev pub HasRecords : Layout → Sizes → ℕ → List ℕ → Records → Type 0

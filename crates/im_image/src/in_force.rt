@@ -9,8 +9,7 @@ ghost use Rattle.im_types.specs.Header.{header_in, header_of, header_fault, layo
 ghost use Rattle.im_types.specs.Header.{is_second};
 ghost use Rattle.im_types.specs.Header.{are_ambiguous, number_in_force, place_in_force, place_fault, spells_header};
 ghost use Rattle.im_types.specs.Meaning.{Opens};
-ghost use Rattle.im_disk.specs.Moment.{Counts, Faults};
-ghost use Rattle.im_disk.specs.Since.{OnlyReads};
+ghost use Rattle.im_disk.specs.Runs.{ReadsOrFails, ReadsOrRefuses};
 ghost use Rattle.im_image.specs.Headers.{seen, IsHeaderFault, MayNotOpen, beginning_fault, layout_at};
 ghost use Rattle.im_image.specs.Beginning.{IsBeginning};
 ghost use Rattle.im_types.specs.declared.TheConstants.{LAST};
@@ -124,9 +123,7 @@ fn header_of(beginning: &Beginning) -> Result<Header, Refusal>
 fn read_beginning<D: Disk>(disk: &mut D) -> Result<Option<Beginning>, DeviceFault>
     ensures short { IfOk result (λ o. D.honest disk.new → o ≡ None → length (D.now disk.old).bytes < 8192) }
     ensures found { IfOk result (λ o. IfSome o (λ b. D.honest disk.new → IsBeginning b (D.now disk.old).bytes)) }
-    ensures reads { D.honest disk.new → OnlyReads D.now D.past disk.old disk.new }
-    ensures honest { D.honest disk.new → D.honest disk.old }
-    ensures failures { Counts result (D.failures disk.old) (D.failures disk.new) }
+    ensures reads { ReadsOrFails D.Disk disk.old disk.new result }
 {
     let length = disk.len()?;
     if length < 2 * PAGE {
@@ -150,9 +147,7 @@ pub fn read_header<D: Disk>(disk: &mut D) -> Result<Header, Refusal>
         (D.honest disk.new → header_fault (layout_in (D.now disk.old).bytes) (D.now disk.old).bytes ≡ None) }
     ensures fault { IfErr result (λ e. (e ≡ Device)
         ⊎ (D.honest disk.new → header_fault (layout_in (D.now disk.old).bytes) (D.now disk.old).bytes ≡ Some e)) }
-    ensures reads { D.honest disk.new → OnlyReads D.now D.past disk.old disk.new }
-    ensures honest { D.honest disk.new → D.honest disk.old }
-    ensures faults { Faults (λ e. (e ≡ Device) ⊎ IsHeaderFault e) result (D.failures disk.old) (D.failures disk.new) }
+    ensures reads { ReadsOrRefuses D.Disk disk.old disk.new result (λ e. (e ≡ Device) ⊎ IsHeaderFault e) }
     ensures range { IfOk result (λ h. (h.area ≤ 1) × (h.count ≤ LAST)) }
 {
     match read_beginning(disk) {
@@ -195,10 +190,8 @@ pub(crate) fn read_header_to_open<D: Disk>(disk: &mut D) -> Result<Header, Refus
     ensures good { OnOk result
         (D.honest disk.new → header_fault (layout_in (D.now disk.old).bytes) (D.now disk.old).bytes ≡ None) }
     ensures fault { IfErr result (λ e. (e ≡ Device) ⊎ (D.honest disk.new → Opens (D.now disk.old).bytes (Err e))) }
-    ensures reads { D.honest disk.new → OnlyReads D.now D.past disk.old disk.new }
-    ensures honest { D.honest disk.new → D.honest disk.old }
-    ensures faults { Faults (λ e. (e ≡ Device) ⊎ (e ≡ OldVersion) ⊎ IsHeaderFault e) result
-        (D.failures disk.old) (D.failures disk.new) }
+    ensures reads { ReadsOrRefuses D.Disk disk.old disk.new result
+        (λ e. (e ≡ Device) ⊎ (e ≡ OldVersion) ⊎ IsHeaderFault e) }
     ensures range { IfOk result (λ h. (h.area ≤ 1) × (h.count ≤ LAST)) }
 {
     match read_beginning(disk) {
@@ -242,9 +235,7 @@ pub(crate) fn read_old_header<D: Disk>(disk: &mut D) -> Result<Header, Refusal>
     ensures good { OnOk result (D.honest disk.new → header_fault layout_1 (D.now disk.old).bytes ≡ None) }
     ensures fault { IfErr result (λ e. (e ≡ Device)
         ⊎ (D.honest disk.new → header_fault layout_1 (D.now disk.old).bytes ≡ Some e)) }
-    ensures reads { D.honest disk.new → OnlyReads D.now D.past disk.old disk.new }
-    ensures honest { D.honest disk.new → D.honest disk.old }
-    ensures faults { Faults (λ e. (e ≡ Device) ⊎ IsHeaderFault e) result (D.failures disk.old) (D.failures disk.new) }
+    ensures reads { ReadsOrRefuses D.Disk disk.old disk.new result (λ e. (e ≡ Device) ⊎ IsHeaderFault e) }
     ensures range { IfOk result (λ h. (h.area ≤ 1) × (h.count ≤ LAST)) }
 {
     match read_beginning(disk) {

@@ -6,10 +6,9 @@ ghost use Rattle.im_types.specs.Layout.{layout_of, area_of, sizes_of};
 ghost use Rattle.im_types.specs.Header.{layout_in};
 ghost use Rattle.im_types.specs.Meaning.{IsShown};
 ghost use Rattle.im_types.specs.Pages.{Records};
-ghost use Rattle.im_disk.specs.Moment.{Counts, Faults};
-ghost use Rattle.im_disk.specs.Since.{OnlyReads};
-ghost use Rattle.im_image.specs.Headers.{seen};
-ghost use Rattle.im_image.specs.Reading.{HasHeader, HasSizes, HasFirstCells, HasRecords, IsAreaOf};
+ghost use Rattle.im_disk.specs.Runs.{ReadsOrFails, ReadsOrRefuses};
+ghost use Rattle.im_image.specs.Headers.{seen, MayRefuseArea};
+ghost use Rattle.im_image.specs.Reading.{HasHeader, HasSizes, HasFirstCells, HasRecords, IsAreaOf, StayFirstCells};
 
 use crate::area::show;
 use crate::header::Header;
@@ -39,9 +38,7 @@ fn read_part<D: Disk>(
         ≤ layout.area_bytes (layout_of version) (sizes_of limits) }
     ensures read { OnOk result (D.honest disk.new → part.new ≡ take (length part.old)
         (drop (CELL_RECORD * cells) (area_of (layout_of version) (sizes_of limits) number (D.now disk.old).bytes))) }
-    ensures reads { D.honest disk.new → OnlyReads D.now D.past disk.old disk.new }
-    ensures honest { D.honest disk.new → D.honest disk.old }
-    ensures failures { Counts result (D.failures disk.old) (D.failures disk.new) }
+    ensures reads { ReadsOrFails D.Disk disk.old disk.new result }
 {
     let begin = version.area_at(limits, number as usize);
     // A read changes nothing, so a stop before or within it leaves what was there.
@@ -73,16 +70,12 @@ fn read_piece<D: Disk>(
 ) -> Result<(), Refusal>
     requires area { IsAreaOf (layout_of version) (sizes_of limits) number (D.honest disk.old) (D.now disk.old).bytes }
     requires few { CELL_RECORD * length cells.old + length piece.old ≤ CELL_RECORD * limits.cells }
-    ensures found { OnOk result (D.honest disk.new
-        → HasFirstCells (layout_of version) (sizes_of limits) number (D.now disk.old).bytes cells.old
-        → HasFirstCells (layout_of version) (sizes_of limits) number (D.now disk.old).bytes cells.new) }
+    ensures found { OnOk result (D.honest disk.new → StayFirstCells (layout_of version) (sizes_of limits) number
+        (D.now disk.old).bytes cells.old cells.new) }
     ensures count { OnOk result (length cells.new ≡ length cells.old + length piece.old / CELL_RECORD) }
     ensures bad { IsErrOf result Refusal.BadPage → D.honest disk.new → (r : Records)
         → HasRecords (layout_of version) (sizes_of limits) number (D.now disk.old).bytes r → ⊥ }
-    ensures faults { Faults (λ e. (e ≡ Refusal.BadPage) ⊎ (e ≡ Refusal.NoMemory) ⊎ (e ≡ Refusal.Device)) result
-        (D.failures disk.old) (D.failures disk.new) }
-    ensures reads { D.honest disk.new → OnlyReads D.now D.past disk.old disk.new }
-    ensures honest { D.honest disk.new → D.honest disk.old }
+    ensures reads { ReadsOrRefuses D.Disk disk.old disk.new result MayRefuseArea }
 {
     match read_part(disk, version, limits, number, cells.len(), piece) {
         Ok(()) => read_more_cells(cells, version, limits, piece),
@@ -107,10 +100,7 @@ fn read_pieces<D: Disk>(
     ensures few { OnOk result (length cells.new ≤ limits.cells) }
     ensures bad { IsErrOf result Refusal.BadPage → D.honest disk.new → (r : Records)
         → HasRecords (layout_of version) (sizes_of limits) number (D.now disk.old).bytes r → ⊥ }
-    ensures faults { Faults (λ e. (e ≡ Refusal.BadPage) ⊎ (e ≡ Refusal.NoMemory) ⊎ (e ≡ Refusal.Device)) result
-        (D.failures disk.old) (D.failures disk.new) }
-    ensures reads { D.honest disk.new → OnlyReads D.now D.past disk.old disk.new }
-    ensures honest { D.honest disk.new → D.honest disk.old }
+    ensures reads { ReadsOrRefuses D.Disk disk.old disk.new result MayRefuseArea }
 {
     let Ok(mut piece) = zeros(alloc, CELL_RECORD * PIECE_CELLS) else {
         return Err(Refusal::NoMemory);
@@ -138,10 +128,7 @@ fn first_cells<D: Disk>(
     ensures few { IfOk result (λ cells. length cells ≤ limits.cells) }
     ensures bad { IsErrOf result Refusal.BadPage → D.honest disk.new → (r : Records)
         → HasRecords (layout_of version) (sizes_of limits) number (D.now disk.old).bytes r → ⊥ }
-    ensures faults { Faults (λ e. (e ≡ Refusal.BadPage) ⊎ (e ≡ Refusal.NoMemory) ⊎ (e ≡ Refusal.Device)) result
-        (D.failures disk.old) (D.failures disk.new) }
-    ensures reads { D.honest disk.new → OnlyReads D.now D.past disk.old disk.new }
-    ensures honest { D.honest disk.new → D.honest disk.old }
+    ensures reads { ReadsOrRefuses D.Disk disk.old disk.new result MayRefuseArea }
 {
     let Ok(mut cells) = CellRow::with_capacity(alloc, limits.cells as usize) else {
         return Err(Refusal::NoMemory);
@@ -170,10 +157,8 @@ fn read_rest<D: Disk>(
         ≡ drop (CELL_RECORD * cells) (area_of (layout_of version) (sizes_of limits) number (D.now disk.old).bytes)) }
     ensures size { IfOk result (λ v. CELL_RECORD * cells + length v.items
         ≡ layout.area_bytes (layout_of version) (sizes_of limits)) }
-    ensures faults { Faults (λ e. (e ≡ Refusal.NoMemory) ⊎ (e ≡ Refusal.Device)) result
-        (D.failures disk.old) (D.failures disk.new) }
-    ensures reads { D.honest disk.new → OnlyReads D.now D.past disk.old disk.new }
-    ensures honest { D.honest disk.new → D.honest disk.old }
+    ensures reads { ReadsOrRefuses D.Disk disk.old disk.new result
+        (λ e. (e ≡ Refusal.NoMemory) ⊎ (e ≡ Refusal.Device)) }
 {
     let left = PAGE * version.area_pages(limits) - CELL_RECORD * cells;
     let Ok(mut rest) = zeros(alloc, left) else {
@@ -199,10 +184,7 @@ fn read_records<D: Disk>(
     ensures count { IfOk result (λ r. length r.nodes ≡ layout.node_count (layout_of version) (sizes_of limits)) }
     ensures bad { IsErrOf result Refusal.BadPage → D.honest disk.new → (r : Records)
         → HasRecords (layout_of version) (sizes_of limits) number (D.now disk.old).bytes r → ⊥ }
-    ensures faults { Faults (λ e. (e ≡ Refusal.BadPage) ⊎ (e ≡ Refusal.NoMemory) ⊎ (e ≡ Refusal.Device)) result
-        (D.failures disk.old) (D.failures disk.new) }
-    ensures reads { D.honest disk.new → OnlyReads D.now D.past disk.old disk.new }
-    ensures honest { D.honest disk.new → D.honest disk.old }
+    ensures reads { ReadsOrRefuses D.Disk disk.old disk.new result MayRefuseArea }
 {
     let cells = match first_cells(alloc, disk, version, limits, number) {
         Ok(cells) => cells,
@@ -227,10 +209,7 @@ pub fn read_memory<D: Disk>(alloc: Global, disk: &mut D, header: &Header) -> Res
     ensures sizes { IfOk result (λ m. HasSizes (sizes_of header.now.limits) m.contents) }
     ensures bad { IsErrOf result Refusal.BadPage → D.honest disk.new
         → (m : Contents) → IsShown (layout_in (D.now disk.old).bytes) (D.now disk.old).bytes m → ⊥ }
-    ensures faults { Faults (λ e. (e ≡ Refusal.BadPage) ⊎ (e ≡ Refusal.NoMemory) ⊎ (e ≡ Refusal.Device)) result
-        (D.failures disk.old) (D.failures disk.new) }
-    ensures reads { D.honest disk.new → OnlyReads D.now D.past disk.old disk.new }
-    ensures honest { D.honest disk.new → D.honest disk.old }
+    ensures reads { ReadsOrRefuses D.Disk disk.old disk.new result MayRefuseArea }
 {
     let version = header.layout();
     match read_records(alloc, disk, version, header.limits, header.area) {

@@ -10,7 +10,8 @@ ghost use Rattle.im_types.specs.declared.records.CellRecord.TheVariants.{Free as
 ghost use Rattle.im_types.specs.declared.records.NodeRecord.TheVariants.{Free as FreeNode};
 ghost use Rattle.im_records.specs.Paging.{joined, bytes_or_zeros};
 ghost use Rattle.im_records.specs.Placed.{placed};
-ghost use Rattle.im_image.specs.Encoding.{AreCounted, SpellsCells, SpellsNodes, SpellsSessions, IsAreaPage, SameOn};
+ghost use Rattle.im_image.specs.Encoding.{AreCounted, AreAreaPages, SpellsCells, SpellsNodes, SpellsSessions};
+ghost use Rattle.im_image.specs.Encoding.{IsAreaPage, SameOn};
 ghost use Rattle.im_pages.specs.Places.{AgreeOnPage};
 
 use im_memory::{Memory, MemoryRecords};
@@ -191,16 +192,14 @@ pub fn encode(memory: &Memory, limits: Limits, area: &mut [u8])
 /// The pages that [`encode_page`] makes of a memory's records show the memory, one behind the other.
 pub fn pages_show_the_memory()
     ensures { (s : Sizes) (r : Records) (m : Contents) (page : ℕ → List ℕ) → AreCounted s r → ShowsRecords s r m
-        → ((i : ℕ) → i < layout.area_pages layout_in_use s → IsAreaPage s r i (page i))
-        → Shows layout_in_use s (joined (layout.area_pages layout_in_use s) page) m }
+        → AreAreaPages s r page → Shows layout_in_use s (joined (layout.area_pages layout_in_use s) page) m }
 {}
 
 /// An area shows the memory whose records its pages have.
 pub fn areas_show_the_memory()
     ensures { (s : Sizes) (r : Records) (m : Contents) (area : List ℕ) → AreCounted s r → ShowsRecords s r m
         → length area ≡ layout.area_bytes layout_in_use s
-        → ((i : ℕ) → i < layout.area_pages layout_in_use s → IsAreaPage s r i (record_at page_bytes area i))
-        → Shows layout_in_use s area m }
+        → AreAreaPages s r (record_at page_bytes area) → Shows layout_in_use s area m }
 {}
 
 /// A page that shows no record that changed is spelled by the same bytes as before.

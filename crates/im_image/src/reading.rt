@@ -8,8 +8,7 @@ ghost use Rattle.im_types.specs.Layout.{layout_1, layout_in_use, layout_named, l
 ghost use Rattle.im_types.specs.Records.{has_room_for};
 ghost use Rattle.im_types.specs.Meaning.{Opens, Reads, accept_in, can_stand};
 ghost use Rattle.im_types.specs.Step.{is_accepted};
-ghost use Rattle.im_disk.specs.Moment.{Faults};
-ghost use Rattle.im_disk.specs.Since.{OnlyReads};
+ghost use Rattle.im_disk.specs.Runs.{ReadsOrRefuses};
 ghost use Rattle.im_journal.specs.Holding.{Holds};
 ghost use Rattle.im_image.specs.Headers.{seen, MayRefuseImage, MayRefuseOpening};
 ghost use Rattle.im_image.specs.Reading.{JournalOf, HasHeader, HasArea, AreUnder, AreParts, IsImageOf, reached};
@@ -116,9 +115,7 @@ fn read_run<D: Disk>(
     ensures means { IfOk result (λ i. D.honest disk.new → IsImageOf (D.now disk.old).bytes i) }
     ensures fault { IfErr result (λ e. (e ≡ NoMemory) ⊎ (e ≡ Device)
         ⊎ (D.honest disk.new → Reads (layout_in (D.now disk.old).bytes) (D.now disk.old).bytes (Err e))) }
-    ensures reads { D.honest disk.new → OnlyReads D.now D.past disk.old disk.new }
-    ensures honest { D.honest disk.new → D.honest disk.old }
-    ensures faults { Faults MayRefuseImage result (D.failures disk.old) (D.failures disk.new) }
+    ensures reads { ReadsOrRefuses D.Disk disk.old disk.new result MayRefuseImage }
 {
     let version = header.layout();
     let (journal, commands) = match Journal::read_tail(
@@ -151,9 +148,7 @@ fn read_behind<D: Disk>(alloc: Global, disk: &mut D, header: Header) -> Result<I
     ensures means { IfOk result (λ i. D.honest disk.new → IsImageOf (D.now disk.old).bytes i) }
     ensures fault { IfErr result (λ e. (e ≡ NoMemory) ⊎ (e ≡ Device)
         ⊎ (D.honest disk.new → Reads (layout_in (D.now disk.old).bytes) (D.now disk.old).bytes (Err e))) }
-    ensures reads { D.honest disk.new → OnlyReads D.now D.past disk.old disk.new }
-    ensures honest { D.honest disk.new → D.honest disk.old }
-    ensures faults { Faults MayRefuseImage result (D.failures disk.old) (D.failures disk.new) }
+    ensures reads { ReadsOrRefuses D.Disk disk.old disk.new result MayRefuseImage }
 {
     match read_memory(alloc, disk, &header) {
         Ok(memory) => read_run(alloc, disk, header, memory),
@@ -175,9 +170,7 @@ pub fn read_image<D: Disk>(alloc: Global, disk: &mut D) -> Result<Image, Refusal
         → Reads (layout_in (D.now disk.old).bytes) (D.now disk.old).bytes (Ok (reached i))) }
     ensures fault { IfErr result (λ e. (e ≡ NoMemory) ⊎ (e ≡ Device)
         ⊎ (D.honest disk.new → Reads (layout_in (D.now disk.old).bytes) (D.now disk.old).bytes (Err e))) }
-    ensures reads { D.honest disk.new → OnlyReads D.now D.past disk.old disk.new }
-    ensures honest { D.honest disk.new → D.honest disk.old }
-    ensures faults { Faults MayRefuseImage result (D.failures disk.old) (D.failures disk.new) }
+    ensures reads { ReadsOrRefuses D.Disk disk.old disk.new result MayRefuseImage }
 {
     match read_header(disk) {
         Ok(header) => read_behind(alloc, disk, header),
@@ -196,9 +189,7 @@ pub fn read_to_open<D: Disk>(alloc: Global, disk: &mut D) -> Result<Image, Refus
         → Reads layout_in_use (D.now disk.old).bytes (Ok (reached i))) }
     ensures fault { IfErr result (λ e. (e ≡ NoMemory) ⊎ (e ≡ Device)
         ⊎ (D.honest disk.new → Opens (D.now disk.old).bytes (Err e))) }
-    ensures reads { D.honest disk.new → OnlyReads D.now D.past disk.old disk.new }
-    ensures honest { D.honest disk.new → D.honest disk.old }
-    ensures faults { Faults MayRefuseOpening result (D.failures disk.old) (D.failures disk.new) }
+    ensures reads { ReadsOrRefuses D.Disk disk.old disk.new result MayRefuseOpening }
 {
     match read_header_to_open(disk) {
         Ok(header) => read_behind(alloc, disk, header),
@@ -215,9 +206,7 @@ pub fn read_old<D: Disk>(alloc: Global, disk: &mut D) -> Result<Image, Refusal>
     ensures means { IfOk result (λ i. D.honest disk.new → Reads layout_1 (D.now disk.old).bytes (Ok (reached i))) }
     ensures fault { IfErr result (λ e. (e ≡ NoMemory) ⊎ (e ≡ Device)
         ⊎ (D.honest disk.new → Reads layout_1 (D.now disk.old).bytes (Err e))) }
-    ensures reads { D.honest disk.new → OnlyReads D.now D.past disk.old disk.new }
-    ensures honest { D.honest disk.new → D.honest disk.old }
-    ensures faults { Faults MayRefuseImage result (D.failures disk.old) (D.failures disk.new) }
+    ensures reads { ReadsOrRefuses D.Disk disk.old disk.new result MayRefuseImage }
 {
     match read_old_header(disk) {
         Ok(header) => read_behind(alloc, disk, header),
@@ -234,9 +223,7 @@ pub fn inspect<D: Disk>(alloc: Global, disk: &mut D) -> Result<Report, Refusal>
         (Ok (record { contents = r.memory.contents; count = r.header.count + r.run; room = r.room }))) }
     ensures fault { IfErr result (λ e. (e ≡ NoMemory) ⊎ (e ≡ Device)
         ⊎ (D.honest disk.new → Reads (layout_in (D.now disk.old).bytes) (D.now disk.old).bytes (Err e))) }
-    ensures reads { D.honest disk.new → OnlyReads D.now D.past disk.old disk.new }
-    ensures honest { D.honest disk.new → D.honest disk.old }
-    ensures faults { Faults MayRefuseImage result (D.failures disk.old) (D.failures disk.new) }
+    ensures reads { ReadsOrRefuses D.Disk disk.old disk.new result MayRefuseImage }
 {
     match read_image(alloc, disk) {
         Ok(image) => Ok(report_of(image)),

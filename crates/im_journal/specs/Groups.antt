@@ -12,8 +12,8 @@ abbrev pub count_at : ℕ → ℕ → ℕ
 count_at group zero = group
 count_at group (suc k) = 0
 
--- So many commands from this sequence number on go as one group into the ring of so many slots at this offset: once round
--- it at most, and no further than the last count there is.
+-- So many commands from this sequence number on go as one group into the ring of so many slots at this offset: once
+-- round it at most, and no further than the last count there is.
 pub record FitsRing (base slots s n : ℕ) : Type 0 where
   pub ring : IsRing base slots
   pub few : n ≤ MAX_GROUP
@@ -23,7 +23,8 @@ pub record FitsRing (base slots s n : ℕ) : Type 0 where
 -- behind the gates of the slots from sequence number s on stand these commands, the first with this group count
 abbrev pub HasBodies : Ring → ℕ → ℕ → List Command → List ℕ → Type 0
 HasBodies ring group s [] file = Unit {0}
-HasBodies ring group s (command ∷ commands) file = (drop 1 (slot ring s file) ≡ slot_body group s command) × HasBodies ring 0 (s + 1) commands file
+HasBodies ring group s (command ∷ commands) file = (drop 1 (slot ring s file) ≡ slot_body group s command)
+    × HasBodies ring 0 (s + 1) commands file
 
 -- the numbers of each command fit their fields
 abbrev pub AllFit : List Command → Type 0

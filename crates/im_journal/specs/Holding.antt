@@ -1,5 +1,5 @@
 -- A journal over a disk: what its file holds, and what an append leaves.
-use Rattle.std.specs.Prelude.{◌≡◌, ◌≢◌, ◌⊎◌, ℕ, ◌+◌, ◌-◌, ◌*◌, ◌^◌, ◌<◌, ◌≤◌, ◌==◌, min, List, [], ◌++◌, length}
+use Rattle.std.specs.Prelude.{◌≡◌, ◌≢◌, ◌⊎◌, ℕ, ◌+◌, ◌-◌, ◌*◌, ◌^◌, ◌<◌, ◌≤◌, ◌==◌, min, List, [], ◌++◌, length, drop}
 use Rattle.std.specs.Prelude.{slice_index, true, Some, option_map, if◌then◌else◌, ◌↔◌, Result, IsErrOf}
 use Rattle.im_types.specs.declared.TheConstants.{LAST, MIN_SLOTS, MAX_SLOTS}
 use Rattle.im_types.specs.declared.commands.Command.{Command}
@@ -17,11 +17,13 @@ use Rattle.im_journal.specs.Groups.{HasBodies, SameButGroup}
 
 -- the ring of an image of a version with these limits
 abbrev pub ring_in : Version → Limits → Ring
-ring_in version limits = ring_of (layout_of version) (record { cells = limits.cells; elements = limits.elements; slots = limits.slots })
+ring_in version limits =
+    ring_of (layout_of version) (record { cells = limits.cells; elements = limits.elements; slots = limits.slots })
 
 -- the ring of an image of the layout in use with these limits
 abbrev pub ring_under : Limits → Ring
-ring_under limits = ring_of layout_in_use (record { cells = limits.cells; elements = limits.elements; slots = limits.slots })
+ring_under limits =
+    ring_of layout_in_use (record { cells = limits.cells; elements = limits.elements; slots = limits.slots })
 
 -- the ring of so many slots at this offset
 abbrev pub ring_at : ℕ → ℕ → Ring
@@ -40,7 +42,12 @@ pub record JournalState : Type 0 where
 
 -- a journal with these numbers
 abbrev pub state_of : ℕ → ℕ → ℕ → ℕ → ℕ → JournalState
-state_of base slots first count room = record { ring = record { base = base; slots = slots }; first = first; count = count; room = room }
+state_of base slots first count room = record {
+  ring = record { base = base; slots = slots };
+  first = first;
+  count = count;
+  room = room;
+}
 
 -- run and room go once round the ring at most, and no further than the last count there is
 pub record IsJournal (j : JournalState) : Type 0 where
@@ -82,14 +89,17 @@ to_sweep j = if j.count == LAST then 0 else j.ring.slots - (j.count - j.first) -
 
 -- a tail with these commands more, the first of them with this sequence number
 abbrev pub longer_tail : ℕ → List Command → Tail → Tail
-longer_tail count commands t = record { commands = t.commands ++ commands; room = room_after count (length commands) t.room }
+longer_tail count commands t = record {
+  commands = t.commands ++ commands;
+  room = room_after count (length commands) t.room;
+}
 
 -- where a run may begin anew in the first file, it may in the second one
 abbrev pub KeepsBoundaries : Ring → ℕ → List ℕ → List ℕ → Type 0
 KeepsBoundaries ring first c d = (k : ℕ) → IsBoundary ring first k c → IsBoundary ring first k d
 
--- The file is one that could be left, but for the slots of these commands as a group, and its tail has the commands at its
--- end. They stand behind one open gate.
+-- The file is one that could be left, but for the slots of these commands as a group, and its tail has the commands at
+-- its end. They stand behind one open gate.
 pub record Appended (j : JournalState) (commands : List Command) (m : Moment) (file : List ℕ) : Type 0 where
   pub from : List ℕ
   pub left : Left m from
@@ -99,8 +109,8 @@ pub record Appended (j : JournalState) (commands : List Command) (m : Moment) (f
   pub reads : tail j.ring j.first file ≡ option_map (longer_tail j.count commands) (tail j.ring j.first from)
   pub boundaries : KeepsBoundaries j.ring j.first from file
 
--- The commands are on the disk for good, and the journal that comes next is the tail of each file left; the bytes outside
--- their slots are as they were.
+-- The commands are on the disk for good, and the journal that comes next is the tail of each file left; the bytes
+-- outside their slots are as they were.
 pub record Adds (j next : JournalState) (commands : List Command) (old new : Moment) : Type 0 where
   pub added : LeavesNow new (Appended j commands old)
   pub holds : AllHold next new
@@ -117,15 +127,16 @@ pub record MayAppend (j : JournalState) (commands : List Command) (m : Moment) (
   pub from : List ℕ
   pub left : Left m from
   pub same : SameButGroup j.ring j.count (length commands) from file
-  pub reads : (tail j.ring j.first file ≡ tail j.ring j.first from) ⊎ (tail j.ring j.first file ≡ option_map (longer_tail j.count commands) (tail j.ring j.first from))
+  pub reads : (tail j.ring j.first file ≡ tail j.ring j.first from)
+      ⊎ (tail j.ring j.first file ≡ option_map (longer_tail j.count commands) (tail j.ring j.first from))
   pub boundaries : KeepsBoundaries j.ring j.first from file
 
 -- with so much room more
 abbrev pub with_room : JournalState → ℕ → JournalState
 with_room j more = record j { room = j.room + more }
 
--- The files agree outside the ring, and both have the same commands in the journal's run. The second one holds the journal
--- still, so it has the known room, or more.
+-- The files agree outside the ring, and both have the same commands in the journal's run. The second one holds the
+-- journal still, so it has the known room, or more.
 pub record SameRun (j : JournalState) (c d : List ℕ) : Type 0 where
   pub same : SameBut j.ring.base (64 * j.ring.slots) c d
   pub commands : List Command
@@ -157,6 +168,10 @@ pub record Sweeps (j next : JournalState) (old new : Moment) : Type 0 where
   pub holds : AllHold next new
   pub run : SameRun j old.bytes new.bytes
   pub calm : new.ranges ≡ []
+
+-- what is left of the tail of a file that holds a journal, behind so many of the run's commands
+abbrev pub rest_behind : {j : JournalState} {file : List ℕ} → ℕ → Holds j file → Tail
+rest_behind n held = record { commands = drop n held.commands; room = held.there }
 
 -- The file's tail from a sequence number on: these commands, and the room of the journal, which holds the file.
 pub record IsTail (ring : Ring) (first : ℕ) (j : JournalState) (commands : List Command) (file : List ℕ) : Type 0 where

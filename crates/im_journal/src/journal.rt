@@ -1,12 +1,12 @@
 //! The journal as its owner sees it: how far its run of commands has come, how a command is added, and how the slots of
 //! commands before the run become room again.
 ghost use Rattle.std.specs.Prelude.{◌≡◌, ◌⊎◌, ◌+◌, ◌*◌, ◌-◌, ◌≤◌, ◌<◌, List, [], ◌∷◌, ℕ, length, drop, min, Some, None};
-ghost use Rattle.std.specs.Prelude.{◌&&◌, nat_le, OnOk, IfOk, MatchResult};
+ghost use Rattle.std.specs.Prelude.{◌&&◌, nat_le, OnOk, IfOk, IfErr, MatchResult};
 ghost use Rattle.im_types.specs.Journal.{IsBoundary, tail};
 ghost use Rattle.im_disk.specs.Runs.{RunsOrRefuses, ReadsOrRefuses};
 ghost use Rattle.im_disk.specs.Since.{Calls};
 ghost use Rattle.im_journal.specs.Holding.{ring_in, ring_under, IsJournal, Holds, AllHold, AreClosed, IsTail};
-ghost use Rattle.im_journal.specs.Holding.{room_after, longer, MayAppend, Adds, IsFullBy};
+ghost use Rattle.im_journal.specs.Holding.{room_after, longer, rest_behind, MayAppend, Adds, IsFullBy};
 ghost use Rattle.im_journal.specs.Holding.{to_sweep, MaySweep, IsSwept, IsSweptBy, Sweeps};
 
 use crate::bytes::read_bytes;
@@ -105,9 +105,9 @@ impl Journal {
         requires last { from ≤ LAST }
         requires inside { D.honest disk.old
             → (ring_in version limits).base + 64 * limits.slots ≤ length (D.now disk.old).bytes }
-        ensures tail { MatchResult result (λ r. D.honest disk.new
-            → IsTail (ring_in version limits) from r.0 r.1.items (D.now disk.old).bytes)
-            (λ e. e ≡ Refusal.BadRecord → D.honest disk.new
+        ensures tail { IfOk result (λ r. D.honest disk.new
+            → IsTail (ring_in version limits) from r.0 r.1.items (D.now disk.old).bytes) }
+        ensures bad { IfErr result (λ e. e ≡ Refusal.BadRecord → D.honest disk.new
             → tail (ring_in version limits) from (D.now disk.old).bytes ≡ None) }
         ensures journal { IfOk result
             (λ r. (r.0.ring ≡ ring_in version limits) × (r.0.first ≡ from) × (r.0.count ≡ from + length r.1.items)) }
@@ -180,8 +180,8 @@ impl Journal {
             → IsBoundary self.old.ring self.old.first (first - self.old.first) file → Holds self.new file }
         // The commands that are left of the run.
         ensures tail { (file : List ℕ) → (held : Holds self.old file)
-            → IsBoundary self.old.ring self.old.first (first - self.old.first) file → tail self.old.ring first file
-            ≡ Some (record { commands = drop (first - self.old.first) held.commands; room = held.there }) }
+            → IsBoundary self.old.ring self.old.first (first - self.old.first) file
+            → tail self.old.ring first file ≡ Some (rest_behind (first - self.old.first) held) }
     {
         self.first = first;
     }
@@ -253,8 +253,8 @@ impl Journal {
         Ok(())
     }
 
-    /// Closes the gates of the oldest slots that are to be swept, so many at most: a write of one byte for each of them,
-    /// and a sync. Once it is done, the slots are room. It answers how many there were. It takes no memory.
+    /// Closes the gates of the oldest slots that are to be swept, so many at most: a write of one byte for each of
+    /// them, and a sync. Once it is done, the slots are room. It answers how many there were. It takes no memory.
     ///
     /// `Device` where a call of the disk failed; then the journal is as it was, and so is each command of the run and
     /// the known room behind it on the disk.

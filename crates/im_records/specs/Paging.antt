@@ -18,7 +18,8 @@ bytes_or_zeros size spelled None = zeros size
 bytes_or_zeros size spelled (Some x) = spelled x
 
 -- page i of a row of records: at place k stands record number per * i + k, or zeros where there is none
-pub record IsPageOf {X : Type 0} (size per : ℕ) (spelled : X → List ℕ) (row : List X) (i : ℕ) (page : List ℕ) : Type 0 where
+pub record IsPageOf {X : Type 0} (size per : ℕ) (spelled : X → List ℕ) (row : List X) (i : ℕ)
+    (page : List ℕ) : Type 0 where
   pub long : length page ≡ page_bytes
   pub each : (k : ℕ) → k < per → record_at size page k ≡ bytes_or_zeros size spelled (slice_get row (per * i + k))
 
@@ -32,20 +33,25 @@ IsNodePage r i page = IsPageOf node_record_bytes (on_a_page node_record_bytes) n
 
 -- page i of the sessions
 abbrev pub IsSessionPage : Records → ℕ → List ℕ → Type 0
-IsSessionPage r i page = IsPageOf (session_record_bytes layout_in_use) (on_a_page (session_record_bytes layout_in_use)) (session_bytes layout_in_use) r.windows i page
+IsSessionPage r i page =
+    IsPageOf (session_record_bytes layout_in_use) (on_a_page (session_record_bytes layout_in_use))
+    (session_bytes layout_in_use) r.windows i page
 
 -- these are the pages of an area, by their numbers: those of cells, of waiter nodes and of sessions
 pub record ArePages (s : Sizes) (r : Records) (page : ℕ → List ℕ) : Type 0 where
   pub cells : (i : ℕ) → i < cell_pages s → IsCellPage r i (page i)
   pub nodes : (i : ℕ) → i < node_pages layout_in_use s → IsNodePage r i (page (cell_pages s + i))
-  pub sessions : (i : ℕ) → i < session_pages layout_in_use s → IsSessionPage r i (page (cell_pages s + node_pages layout_in_use s + i))
+  pub sessions : (i : ℕ) → i < session_pages layout_in_use s
+      → IsSessionPage r i (page (cell_pages s + node_pages layout_in_use s + i))
 
 -- there are as many records of each kind as there should be, each within its bounds
 pub record FitRecords (s : Sizes) (r : Records) : Type 0 where
   pub many_cells : length r.cells ≡ s.cells
-  pub cells : (i : ℕ) → i < s.cells → FitsCell s.cells (node_count layout_in_use s) (slice_index_or r.cells i (FreeCell 0 NONE))
+  pub cells : (i : ℕ) → i < s.cells → FitsCell s.cells (node_count layout_in_use s)
+      (slice_index_or r.cells i (FreeCell 0 NONE))
   pub many_nodes : length r.nodes ≡ node_count layout_in_use s
-  pub nodes : (i : ℕ) → i < node_count layout_in_use s → FitsNode (node_count layout_in_use s) (slice_index_or r.nodes i (FreeNode NONE))
+  pub nodes : (i : ℕ) → i < node_count layout_in_use s
+      → FitsNode (node_count layout_in_use s) (slice_index_or r.nodes i (FreeNode NONE))
   pub many_windows : length r.windows ≡ s.elements
   pub windows : (i : ℕ) → i < s.elements → FitsWindow layout_in_use (slice_index_or r.windows i new_window)
 

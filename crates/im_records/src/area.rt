@@ -6,7 +6,7 @@ ghost use Rattle.im_types.specs.Layout.{layout_of, sizes_of};
 ghost use Rattle.im_types.specs.declared.records.CellRecord.{CellRecord as CellRecordSpec};
 ghost use Rattle.im_types.specs.declared.records.NodeRecord.{NodeRecord as NodeRecordSpec};
 ghost use Rattle.im_types.specs.Pages.{Records, SpellsArea};
-ghost use Rattle.im_records.specs.Rows.{StandsAt, AreFirstCells, AreCells, AreNodes, AreSessions};
+ghost use Rattle.im_records.specs.Rows.{StandsAt, AreFirstCells, AreCells, AreNodes, AreSessions, CarriesOn};
 
 use crate::rows::{push_cells, read_nodes, rest_of_cells};
 use crate::session::read_sessions;
@@ -79,9 +79,8 @@ pub fn read_more_cells(
     piece: &[u8],
 ) -> Result<(), Refusal>
     requires { length cells.old + length piece.now / CELL_RECORD ≤ limits.cells }
-    ensures found { OnOk result ((area : List ℕ) → StandsAt (CELL_RECORD * length cells.old) piece.now area
-        → AreFirstCells (layout_of version) (sizes_of limits) area cells.old
-        → AreFirstCells (layout_of version) (sizes_of limits) area cells.new) }
+    ensures found { OnOk result (CarriesOn (layout_of version) (sizes_of limits) (CELL_RECORD * length cells.old)
+        piece.now cells.old cells.new) }
     ensures count { OnOk result (length cells.new ≡ length cells.old + length piece.now / CELL_RECORD) }
     ensures bad { IsErrOf result Refusal.BadPage → (area : List ℕ) (r : Records)
         → StandsAt (CELL_RECORD * length cells.old) piece.now area
@@ -197,9 +196,9 @@ pub fn read_rest_of_area(
     }
 }
 
-/// The records that the bytes of an area of a version spell. `BadPage` exactly where they spell none: a record isn't spelled as it
-/// should be, a number isn't within its bounds, or a byte behind the last record of a kind isn't zero. `NoMemory` where
-/// there is no room for the records.
+/// The records that the bytes of an area of a version spell. `BadPage` exactly where they spell none: a record isn't
+/// spelled as it should be, a number isn't within its bounds, or a byte behind the last record of a kind isn't zero.
+/// `NoMemory` where there is no room for the records.
 ///
 /// The time is proportional to the bytes. Of which memory the records are isn't asked here: links may lead anywhere
 /// within their range.

@@ -4,7 +4,8 @@ ghost use Rattle.std.specs.Prelude.{IsErrOf};
 ghost use Rattle.im_types.specs.Records.{cell_bytes, node_bytes, FitsCell, FitsNode};
 ghost use Rattle.im_types.specs.declared.records.CellRecord.{CellRecord as CellRecordSpec};
 ghost use Rattle.im_types.specs.declared.records.NodeRecord.{NodeRecord as NodeRecordSpec};
-ghost use Rattle.im_records.specs.Rows.{Spells, StandsAt, BeginWithCells, BeginWithNodes, AreCells, AreNodes};
+ghost use Rattle.im_records.specs.Rows.{Spells, StandsAt, BeginWithCells, BeginWithNodes, AreCells, AreNodes, LeadsOn};
+ghost use Rattle.im_records.specs.Rows.{FillsUp, NoneFillsUp};
 
 use crate::bounds::{are_zero, fits_cell, fits_node};
 use crate::read::{read_cell, read_node};
@@ -39,9 +40,8 @@ pub(crate) fn push_cells(
 ) -> Result<(), Refusal>
     requires few { length row.old + count ≤ cells }
     requires inside { CELL_RECORD * count ≤ length piece.now }
-    ensures found { OnOk result ((area : List ℕ) → StandsAt (CELL_RECORD * length row.old) piece.now area
-        → BeginWithCells (length row.old) cells nodes area row.old
-        → BeginWithCells (length row.old + count) cells nodes area row.new) }
+    ensures found { OnOk result
+        (LeadsOn cells nodes count (CELL_RECORD * length row.old) piece.now row.old row.new) }
     ensures count { OnOk result (length row.new ≡ length row.old + count) }
     ensures bad { IsErrOf result Refusal.BadPage → (area : List ℕ) (all : List CellRecordSpec)
         → StandsAt (CELL_RECORD * length row.old) piece.now area → BeginWithCells cells cells nodes area all → ⊥ }
@@ -73,12 +73,10 @@ pub(crate) fn rest_of_cells(
 ) -> Result<CellRow, Refusal>
     requires few { length row ≤ cells }
     requires inside { CELL_RECORD * cells ≤ CELL_RECORD * length row + length part.now }
-    ensures found { IfOk result (λ all. (n : ℕ) (area : List ℕ) → CELL_RECORD * length row + length part.now ≡ n
-        → StandsAt (CELL_RECORD * length row) part.now area → BeginWithCells (length row) cells nodes area row
-        → AreCells cells nodes (take n area) all) }
-    ensures bad { IsErrOf result Refusal.BadPage → (n : ℕ) (area : List ℕ) (all : List CellRecordSpec)
-        → CELL_RECORD * length row + length part.now ≡ n → StandsAt (CELL_RECORD * length row) part.now area
-        → AreCells cells nodes (take n area) all → ⊥ }
+    ensures found { IfOk result
+        (λ all. FillsUp cells nodes (CELL_RECORD * length row) (length part.now) part.now row all) }
+    ensures bad { IsErrOf result Refusal.BadPage
+        → NoneFillsUp cells nodes (CELL_RECORD * length row) (length part.now) part.now }
     ensures only { IfErr result (λ e. (e ≡ Refusal.BadPage) ⊎ (e ≡ Refusal.NoMemory)) }
 {
     let left = cells as usize - row.len();

@@ -24,7 +24,7 @@ pub returns-in-Ok-clause-bad : goal.returns-in-Ok-clause-bad
 returns-in-Ok-clause-bad g c = λ e h m shown.
     let file = (g.D.Disk.now c.args.disk.now).bytes in
     let header = c.args.header.now in
-    let is = (c.requires.sound (c.read_records.ensures.honest h)).is in
+    let is = (c.requires.sound (c.read_records.ensures.reads.honest h)).is in
     let l = layout_of c.layout-version.result in
     let s = sizes_of header.limits in
     let named : layout_in file ≡ l = sym (c.layout-version.ensures ∙ ap (λ (x : Header). layout_named x.version) is) in
@@ -37,7 +37,7 @@ pub returns-in-Err-clause-bad : goal.returns-in-Err-clause-bad
 returns-in-Err-clause-bad g c = λ e h m shown.
     let file = (g.D.Disk.now c.args.disk.now).bytes in
     let header = c.args.header.now in
-    let is = (c.requires.sound (c.read_records.ensures.honest h)).is in
+    let is = (c.requires.sound (c.read_records.ensures.reads.honest h)).is in
     let l = layout_of c.layout-version.result in
     let s = sizes_of header.limits in
     let named : layout_in file ≡ l = sym (c.layout-version.ensures ∙ ap (λ (x : Header). layout_named x.version) is) in

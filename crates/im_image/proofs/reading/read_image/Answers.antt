@@ -2,7 +2,7 @@ use Rattle.std.proofs.Common.{◌≡◌, inl, inr, ⊎_elim, Ok, sym, subst}
 use Rattle.im_types.specs.Header.{header_of, layout_in}
 use Rattle.im_types.specs.Meaning.{Reads}
 use Rattle.im_disk.specs.Moment.{Moment}
-use Rattle.im_disk.proofs.SinceLemmas.{reads_then}
+use Rattle.im_disk.proofs.RunLemmas.{reads-on}
 use Rattle.im_journal.specs.Holding.{Holds}
 use Rattle.im_image.specs.Headers.{seen}
 use Rattle.im_image.specs.Reading.{HasHeader, IsImageOf, reached}
@@ -11,21 +11,21 @@ use Rattle.im_image.proofs.reading.read_image.Goals as goal
 
 pub read_behind-requires-clause-sound : goal.read_behind-requires-clause-sound
 read_behind-requires-clause-sound g c = λ h.
-    subst (λ (m : Moment). HasHeader (seen c.in-Ok.header) m.bytes) (sym (c.read_header.ensures.reads h).now)
+    subst (λ (m : Moment). HasHeader (seen c.in-Ok.header) m.bytes) (sym (c.read_header.ensures.reads.reads h).now)
     (record { good = c.in-Ok.ensures.good h; is = c.in-Ok.ensures.found h })
 
 pub returns-in-Ok-clause-header : goal.returns-in-Ok-clause-header
 returns-in-Ok-clause-header g c =
     read-ok c.read_behind.result IsImageOf (λ i. seen i.header ≡ header_of (g.D.Disk.now c.args.disk.now).bytes)
     (g.D.Disk.now c.args.disk.now) (g.D.Disk.now c.read_header.new.disk) (g.D.Disk.honest c.read_behind.new.disk)
-    (λ h. (c.read_header.ensures.reads (c.read_behind.ensures.honest h)).now)
+    (λ h. (c.read_header.ensures.reads.reads (c.read_behind.ensures.reads.honest h)).now)
     (λ i it. it.header) c.read_behind.ensures.means
 
 pub returns-in-Ok-clause-holds : goal.returns-in-Ok-clause-holds
 returns-in-Ok-clause-holds g c =
     read-ok c.read_behind.result IsImageOf (λ i. Holds i.journal (g.D.Disk.now c.args.disk.now).bytes)
     (g.D.Disk.now c.args.disk.now) (g.D.Disk.now c.read_header.new.disk) (g.D.Disk.honest c.read_behind.new.disk)
-    (λ h. (c.read_header.ensures.reads (c.read_behind.ensures.honest h)).now)
+    (λ h. (c.read_header.ensures.reads.reads (c.read_behind.ensures.reads.honest h)).now)
     (λ i it. it.holds) c.read_behind.ensures.means
 
 pub returns-in-Ok-clause-means : goal.returns-in-Ok-clause-means
@@ -34,21 +34,18 @@ returns-in-Ok-clause-means g c =
     (λ i. Reads (layout_in (g.D.Disk.now c.args.disk.now).bytes) (g.D.Disk.now c.args.disk.now).bytes
     (Ok (reached i))) (g.D.Disk.now c.args.disk.now) (g.D.Disk.now c.read_header.new.disk)
     (g.D.Disk.honest c.read_behind.new.disk)
-    (λ h. (c.read_header.ensures.reads (c.read_behind.ensures.honest h)).now)
+    (λ h. (c.read_header.ensures.reads.reads (c.read_behind.ensures.reads.honest h)).now)
     (λ i it. it.means) c.read_behind.ensures.means
 
 pub returns-in-Ok-clause-fault : goal.returns-in-Ok-clause-fault
 returns-in-Ok-clause-fault g c =
     read-err c.read_behind.result (g.D.Disk.now c.args.disk.now) (g.D.Disk.now c.read_header.new.disk)
     (g.D.Disk.honest c.read_behind.new.disk)
-    (λ h. (c.read_header.ensures.reads (c.read_behind.ensures.honest h)).now) c.read_behind.ensures.fault
+    (λ h. (c.read_header.ensures.reads.reads (c.read_behind.ensures.reads.honest h)).now) c.read_behind.ensures.fault
 
 pub returns-in-Ok-clause-reads : goal.returns-in-Ok-clause-reads
-returns-in-Ok-clause-reads g c = λ h.
-    reads_then (g.D.Disk.now c.args.disk.now) (g.D.Disk.now c.read_header.new.disk)
-    (g.D.Disk.now c.read_behind.new.disk) (g.D.Disk.past c.args.disk.now) (g.D.Disk.past c.read_header.new.disk)
-    (g.D.Disk.past c.read_behind.new.disk)
-    (c.read_header.ensures.reads (c.read_behind.ensures.honest h)) (c.read_behind.ensures.reads h)
+returns-in-Ok-clause-reads g c = reads-on g.D.Disk _ _ _ _ _ _ _ _ (λ e why. why)
+    c.in-Ok.ensures.reads c.read_behind.ensures.reads
 
 pub returns-in-Err-clause-fault : goal.returns-in-Err-clause-fault
 returns-in-Err-clause-fault g c =

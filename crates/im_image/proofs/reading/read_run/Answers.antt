@@ -28,7 +28,7 @@ returns-in-Err-clause-fault g c =
           ∙ ap (λ (x : Header). layout_named x.version) it.header.is in
           let none = subst
           (λ (l : Layout). tail (ring_of l (sizes_of c.args.header.limits)) c.args.header.count file
-          ≡ None) named (c.in-Err.ensures.tail is h) in
+          ≡ None) named (c.in-Err.ensures.bad is h) in
           subst (λ (e : Refusal). Reads (layout_in file) file (Err e)) (sym is)
           (reads-no-tail (layout_in file) file
           (seen c.args.header) c.args.memory.contents it.header.good it.header.is it.shown none)))

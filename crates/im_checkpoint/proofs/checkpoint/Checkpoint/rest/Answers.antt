@@ -13,7 +13,7 @@ pub returns-then-to_sweep-gt0-clause-keeps : goal.returns-then-to_sweep-gt0-clau
 returns-then-to_sweep-gt0-clause-keeps g c = λ h.
     c.sweep.ensures.keeps h c.args.self.now.state
     (paged c.args.self.now c.args.memory.now) c.args.memory.now.contents c.requires.rests.step
-    (c.requires.kept (c.sweep.ensures.honest h))
+    (c.requires.kept (c.sweep.ensures.runs.honest h))
 
 pub returns-then-is_due-clause-keeps : goal.returns-then-is_due-clause-keeps
 returns-then-is_due-clause-keeps g c = λ h. record {

@@ -1,9 +1,8 @@
 use Rattle.std.proofs.Common.{◌≡◌, ◌∙◌, sym, ap, refl, subst, arith}
-use Rattle.im_disk.specs.Since.{CallsBy}
 use Rattle.im_checkpoint.specs.declared.checkpoint.Step.{Step as Mark}
 use Rattle.im_pages.specs.PageSets.{pages_from}
 use Rattle.im_checkpoint.specs.Step.{Step, PagedCheckpoint, NoCheckpoint, step_of}
-use Rattle.im_checkpoint.specs.Turns.{swept_at_once, calls_to_sweep}
+use Rattle.im_checkpoint.specs.Turns.{swept_at_once, calls_to_sweep, MakesSweep}
 use Rattle.im_checkpoint.proofs.Sweeping.{none_more, none_under_way, kept_still}
 use Rattle.im_checkpoint.proofs.checkpoint.Checkpoint.sweep.Goals as goal
 
@@ -15,14 +14,14 @@ returns-in-NoCheckpoint-clause-keeps g c = λ h x m kept.
     ∙ ap (λ (p : Mark). step_of p e.count (pages_from e.next e.left)) c.in-NoCheckpoint.is in
     c.sweep_more.ensures.keeps h c.args.self.now.state x m is kept
 
-pub returns-in-NoCheckpoint-clause-calls : goal.returns-in-NoCheckpoint-clause-calls
-returns-in-NoCheckpoint-clause-calls g c = λ h.
+pub returns-in-NoCheckpoint-clause-runs : goal.returns-in-NoCheckpoint-clause-runs
+returns-in-NoCheckpoint-clause-runs g c =
     let e = c.self.inside in
     let is : c.args.self.now.state.step
     ≡ NoCheckpoint = ap (λ (s : PagedCheckpoint). s.state.step) (sym c.self.view_is)
     ∙ ap (λ (p : Mark). step_of p e.count (pages_from e.next e.left)) c.in-NoCheckpoint.is in
-    subst (λ (s : Step). CallsBy g.D.Disk.past c.args.disk.now c.sweep_more.new.disk
-    (calls_to_sweep s c.args.journal.now c.args.most) c.sweep_more.result) (sym is) (c.sweep_more.ensures.calls h)
+    subst (λ (s : Step). MakesSweep g.D.Disk c.args.disk.now c.sweep_more.new.disk
+    (calls_to_sweep s c.args.journal.now c.args.most) c.sweep_more.result) (sym is) c.sweep_more.ensures.runs
 
 pub returns-in_default : goal.returns-in_default
 returns-in_default g c =
@@ -39,7 +38,5 @@ returns-in_default g c =
       );
       same = tt;
       keeps = λ h x m kept. kept_still g.D.Disk.now g.D.Disk.past c.args.disk.now c.args.self.now.state x m c.args.journal.now kept;
-      calls = λ h. omega (arith, none);
-      honest = λ h. h;
-      faults = refl;
+      runs = record { honest = λ h. h; kept = λ h. omega (arith, none); faults = refl };
     }

@@ -10,10 +10,7 @@ returns-in-Err-clause-keeps g c = λ h n m j kept.
     (pages_from e.next e.left) e.recent e.older e.copies c.self.view_is n m j
     (g.D.Disk.now c.args.disk.now) kept c.requires.step in
     record {
-      leaves = record {
-        within = c.close_other.ensures.leaves h e.count _ m j before;
-        after = c.close_other.ensures.now h e.count _ m j before;
-      };
+      leaves = c.close_other.ensures.leaves h e.count _ m j before;
       kept = tt;
     }
 
@@ -24,9 +21,6 @@ returns-clause-keeps g c = λ h n m j kept.
     (pages_from e.next e.left) e.recent e.older e.copies c.self.view_is n m j
     (g.D.Disk.now c.args.disk.now) kept c.requires.step in
     record {
-      leaves = record {
-        within = c.close_other.ensures.leaves h e.count _ m j before;
-        after = c.close_other.ensures.now h e.count _ m j before;
-      };
+      leaves = c.close_other.ensures.leaves h e.count _ m j before;
       kept = c.in_default.ensures.kept h e.count _ m j before;
     }

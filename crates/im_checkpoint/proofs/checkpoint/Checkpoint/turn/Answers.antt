@@ -34,7 +34,7 @@ returns-in-PagesLeft-clause-turned g c =
     comes_page c.args.self.now c.args.journal.now c.args.memory.now.contents answer c.write_page.new.self c.args.journal.now (it.0 c.args.journal.now) it.1 c.requires.fits e.count e.next (pages_from (e.next + 1) e.left) step)
 
 pub returns-in-PagesLeft-clause-keeps : goal.returns-in-PagesLeft-clause-keeps
-returns-in-PagesLeft-clause-keeps g c = λ h. c.write_page.ensures.keeps h c.args.memory.now.contents c.args.journal.now (c.requires.kept (c.write_page.ensures.honest h))
+returns-in-PagesLeft-clause-keeps g c = λ h. c.write_page.ensures.keeps h c.args.memory.now.contents c.args.journal.now (c.requires.kept (c.write_page.ensures.runs.honest h))
 
 pub returns-in-PagesDone-clause-turned : goal.returns-in-PagesDone-clause-turned
 returns-in-PagesDone-clause-turned g c =
@@ -44,7 +44,7 @@ returns-in-PagesDone-clause-turned g c =
     comes_synced c.args.self.now c.args.journal.now c.args.memory.now.contents answer c.sync_pages.new.self c.args.journal.now (it.0 c.args.journal.now) it.1 c.requires.fits e.count (step_done c.args.self.now (seen e.header) e.step e.count (pages_from e.next e.left) e.recent e.older e.copies c.self.view_is is))
 
 pub returns-in-PagesDone-clause-keeps : goal.returns-in-PagesDone-clause-keeps
-returns-in-PagesDone-clause-keeps g c = λ h. c.sync_pages.ensures.keeps h c.args.memory.now c.args.memory.now.contents c.args.journal.now (c.requires.kept (c.sync_pages.ensures.honest h))
+returns-in-PagesDone-clause-keeps g c = λ h. c.sync_pages.ensures.keeps h c.args.memory.now c.args.memory.now.contents c.args.journal.now (c.requires.kept (c.sync_pages.ensures.runs.honest h))
 
 pub put_in_force-requires-clause-closed : goal.put_in_force-requires-clause-closed
 put_in_force-requires-clause-closed g c = λ h.
@@ -66,4 +66,4 @@ returns-in-Synced-clause-turned g c =
 
 pub returns-in-Synced-clause-keeps : goal.returns-in-Synced-clause-keeps
 returns-in-Synced-clause-keeps g c = λ h. c.put_in_force.ensures.keeps h c.args.memory.now c.args.memory.now.contents
-    (c.requires.kept (c.put_in_force.ensures.honest h))
+    (c.requires.kept (c.put_in_force.ensures.runs.honest h))

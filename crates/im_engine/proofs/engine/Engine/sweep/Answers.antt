@@ -22,7 +22,7 @@ invariant_of-self g c = let e = c.self.inside in (
       (IsKept e.checkpoint.state (paged e.checkpoint e.memory) e.memory.contents c.sweep.new.journal
       (g.D.Disk.now c.sweep.new.disk))) c.in-Ok.is
       (c.sweep.ensures.keeps h (paged e.checkpoint e.memory) e.memory.contents
-      (c.self.invariant.1 (c.sweep.ensures.honest h) c.if-self.false)).kept,
+      (c.self.invariant.1 (c.sweep.ensures.runs.honest h) c.if-self.false)).kept,
 )
 
 pub returns-in-Ok-clause-leaves : goal.returns-in-Ok-clause-leaves
@@ -30,13 +30,13 @@ returns-in-Ok-clause-leaves g c = λ h f. let e = c.self.inside in
     subst (λ (s : EngineState g.row.D.Denot). Leaves (g.D.Disk.now s.disk) (g.D.Disk.now c.sweep.new.disk)
     (g.D.Disk.past s.disk) (g.D.Disk.past c.sweep.new.disk) (MeansState s)) c.self.view_is
     (c.sweep.ensures.keeps h (paged e.checkpoint e.memory) e.memory.contents
-    (c.self.invariant.1 (c.sweep.ensures.honest h) c.if-self.false)).leaves.within
+    (c.self.invariant.1 (c.sweep.ensures.runs.honest h) c.if-self.false)).leaves.within
 
 pub returns-in-Ok-clause-now : goal.returns-in-Ok-clause-now
 returns-in-Ok-clause-now g c = λ h f. let e = c.self.inside in
     subst (λ (s : EngineState g.row.D.Denot). LeavesNow (g.D.Disk.now c.sweep.new.disk) (MeansState s)) c.self.view_is
     (c.sweep.ensures.keeps h (paged e.checkpoint e.memory) e.memory.contents
-    (c.self.invariant.1 (c.sweep.ensures.honest h) c.if-self.false)).leaves.after
+    (c.self.invariant.1 (c.sweep.ensures.runs.honest h) c.if-self.false)).leaves.after
 
 pub returns-in-Ok-clause-means : goal.returns-in-Ok-clause-means
 returns-in-Ok-clause-means g c = λ h f. let e = c.self.inside in all_mean e.checkpoint.state
@@ -45,17 +45,17 @@ returns-in-Ok-clause-means g c = λ h f. let e = c.self.inside in all_mean e.che
     (IsKept e.checkpoint.state (paged e.checkpoint e.memory) e.memory.contents c.sweep.new.journal
     (g.D.Disk.now c.sweep.new.disk))) c.in-Ok.is
     (c.sweep.ensures.keeps h (paged e.checkpoint e.memory) e.memory.contents
-    (c.self.invariant.1 (c.sweep.ensures.honest h) c.if-self.false)).kept)
+    (c.self.invariant.1 (c.sweep.ensures.runs.honest h) c.if-self.false)).kept)
 
 pub returns-in-Err-clause-leaves : goal.returns-in-Err-clause-leaves
 returns-in-Err-clause-leaves g c = λ h f. let e = c.self.inside in
     subst (λ (s : EngineState g.row.D.Denot). Leaves (g.D.Disk.now s.disk) (g.D.Disk.now c.sweep.new.disk)
     (g.D.Disk.past s.disk) (g.D.Disk.past c.sweep.new.disk) (MeansState s)) c.self.view_is
     (c.sweep.ensures.keeps h (paged e.checkpoint e.memory) e.memory.contents
-    (c.self.invariant.1 (c.sweep.ensures.honest h) c.if-self.false)).leaves.within
+    (c.self.invariant.1 (c.sweep.ensures.runs.honest h) c.if-self.false)).leaves.within
 
 pub returns-in-Err-clause-now : goal.returns-in-Err-clause-now
 returns-in-Err-clause-now g c = λ h f. let e = c.self.inside in
     subst (λ (s : EngineState g.row.D.Denot). LeavesNow (g.D.Disk.now c.sweep.new.disk) (MeansState s)) c.self.view_is
     (c.sweep.ensures.keeps h (paged e.checkpoint e.memory) e.memory.contents
-    (c.self.invariant.1 (c.sweep.ensures.honest h) c.if-self.false)).leaves.after
+    (c.self.invariant.1 (c.sweep.ensures.runs.honest h) c.if-self.false)).leaves.after

@@ -5,8 +5,8 @@ use Rattle.im_journal.proofs.Tails.{tail_alone}
 use Rattle.im_journal.proofs.Sweeps.{behind_read}
 use Rattle.im_journal.proofs.journal.Journal.read_tail.Goals as goal
 
-pub returns-in-Err-tail_in-clause-tail : goal.returns-in-Err-tail_in-clause-tail
-returns-in-Err-tail_in-clause-tail g c = λ is h.
+pub returns-in-Err-tail_in-clause-bad : goal.returns-in-Err-tail_in-clause-bad
+returns-in-Err-tail_in-clause-bad g c = λ is h.
     let some : 0 < c.args.limits.slots = omega (arith, c.args.limits.in_range.enough_slots) in
     let bytes : c.deref.result.now
     ≡ take (64 * c.args.limits.slots)
