@@ -67,14 +67,14 @@ copied_all s r named left recent from at old new it none size page low lt there 
 -- ---- unions of sets of as many pages
 
 module _ (set more : List Bool) (same : length set ≡ length more) where
-  has_union : (page : ℕ) → page < length set → has (union set more) page ≡ (has set page || has more page)
+  pub has_union : (page : ℕ) → page < length set → has (union set more) page ≡ (has set page || has more page)
   has_union page lt =
       get_or_default (union set more) page true false (omega (arith, lt, length-union set more))
       ∙ read-union set more page lt same
       ∙ (λ i. get_or_default set page false true lt i || get_or_default more page false true
       (omega (arith, lt, same)) i)
 
-  past : (page : ℕ) → length set ≤ page → has (union set more) page ≡ true
+  pub past : (page : ℕ) → length set ≤ page → has (union set more) page ≡ true
   past page le = get_or_past (union set more) page true (omega (arith, le, length-union set more))
 
   pub within_union : IsWithin set (union set more)
@@ -125,8 +125,8 @@ pub prepared_for : (old new : PagedCheckpoint) (m after : MemoryState) (command 
     ≡ old.state.header.sizes.elements
     → IsPrepared old.state.header.sizes (left_in old.state.step) (paged old m) (paged new after)
 prepared_for old new m after command it changes cells elements = record {
-  older = it.older;
-  kept = λ page lt out. set_out (has old.recent page) (λ there. sym out ∙ it.kept page there);
+  older = it.adds.most.older;
+  kept = λ page lt out. set_out (has old.recent page) (λ there. sym out ∙ it.adds.most.kept page there);
   same = λ page lt out. outside-stays s m.records after.records page
       (subst (λ (n : ℕ). AgreeOnPage n s.elements m.records after.records page) cells
       (subst (λ (n : ℕ). AgreeOnPage (length m.contents.cells) n m.records after.records page) elements

@@ -4,6 +4,7 @@ pub mod Files
 pub mod Copies
 pub mod Copied
 pub mod Copying
+pub mod Adding
 pub mod Pages
 pub mod Takeover
 pub mod Moments

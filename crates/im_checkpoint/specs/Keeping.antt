@@ -16,9 +16,9 @@ use Rattle.im_disk.specs.Moment.{Moment, Left}
 use Rattle.im_disk.specs.Since.{SameBut, LeavesOnly}
 use Rattle.im_journal.specs.Holding.{JournalState, Holds}
 use Rattle.im_memory.specs.State.{MemoryState}
-use Rattle.im_memory.specs.Covering.{KeepsOutside, most_pages}
+use Rattle.im_memory.specs.Covering.{KeepsOutside}
 use Rattle.im_meaning.specs.Images.{other, IsImage}
-use Rattle.im_pages.specs.PageSets.{has, size_of, IsWithin}
+use Rattle.im_pages.specs.PageSets.{has}
 use Rattle.im_image.specs.Encoding.{IsAreaPage, AreCounted, SameOn}
 use Rattle.im_image.specs.Reading.{HasSizes}
 use Rattle.im_checkpoint.specs.declared.checkpoint.TurnDone.{TurnDone}
@@ -26,7 +26,7 @@ use Rattle.im_checkpoint.specs.Copied.{copy_of}
 use Rattle.im_checkpoint.specs.Step.{Step, NoCheckpoint, PagesLeft, PagesDone, Synced, CheckpointState}
 use Rattle.im_checkpoint.specs.Step.{PagedCheckpoint, IsUnderWay, IsPagesLeft, IsSynced, turns_left, left_in}
 use Rattle.im_checkpoint.specs.Step.{changed_in}
-use Rattle.im_checkpoint.specs.Turns.{Turned, Moved, next_header, begun_at}
+use Rattle.im_checkpoint.specs.Turns.{Turned, Moved, AddsPages, next_header, begun_at}
 
 -- the file means this memory after as many commands as the journal has, with its room at the least
 abbrev pub MeansWith : Contents → JournalState → List ℕ → Type 0
@@ -244,11 +244,8 @@ module _ {D : Type 0} (disk : Ghosts D) (old new : D) where
 -- What is done before a command acts.
 pub record Prepares (old : PagedCheckpoint) (m : MemoryState) (command : Command) (new : PagedCheckpoint) : Type 0 where
   pub state : new.state ≡ old.state
-  pub older : new.older ≡ old.older
-  pub size : length new.recent ≡ length old.recent
-  -- pages are added to those that changed, as many as the command may change at most, and none is taken out
-  pub kept : IsWithin old.recent new.recent
-  pub few : size_of new.recent ≤ size_of old.recent + most_pages m.contents command
+  -- pages are added to those that changed, those that the command may change
+  pub adds : AddsPages m.contents command (changed_in old) (changed_in new)
   -- whichever records the command leaves, those of any other page are as before
   pub others : KeepsOutside m command new.recent
   -- a page that is left and changes now for the first time is copied as it is

@@ -2,8 +2,11 @@
 use Rattle.std.specs.Prelude.{◌≡◌, ◌≢◌, ℕ, ◌+◌, ◌-◌, ◌<◌, ◌≤◌, Bool, true, false, ◌&&◌, ◌==◌, nat_lt, min}
 use Rattle.std.specs.Prelude.{if◌then◌else◌, List, ◌∷◌, length, replicate, not, Result, Ok, Err}
 use Rattle.im_types.specs.declared.TheConstants.{LAST}
+use Rattle.im_types.specs.declared.commands.Command.{Command}
+use Rattle.im_types.specs.declared.commands.Command.TheVariants.{Request as Asks, Confirm}
 use Rattle.im_types.specs.declared.refusals.Refusal.{Refusal}
 use Rattle.im_types.specs.declared.refusals.Refusal.TheVariants.{Device}
+use Rattle.im_types.specs.Contents.{Contents}
 use Rattle.im_types.specs.Layout.{layout_in_use, area_pages}
 use Rattle.im_types.specs.Header.{Header}
 use Rattle.im_disk.specs.declared.disk.Disk.{Ghosts}
@@ -13,7 +16,9 @@ use Rattle.im_journal.specs.Holding.{JournalState, to_sweep, with_room}
 use Rattle.im_checkpoint.specs.declared.checkpoint.TurnDone.{TurnDone}
 use Rattle.im_checkpoint.specs.declared.checkpoint.TurnDone.TheVariants.{Idle, Began, Page, Synced as SyncedNow}
 use Rattle.im_checkpoint.specs.declared.checkpoint.TurnDone.TheVariants.{InForce, Swept}
-use Rattle.im_pages.specs.PageSets.{union, pages_from}
+use Rattle.im_pages.specs.Places.{page_of_session}
+use Rattle.im_pages.specs.PageSets.{has, size_of, union, pages_from, IsWithin}
+use Rattle.im_memory.specs.Covering.{most_pages, IsOfBlock, IsAlone}
 use Rattle.im_checkpoint.specs.Step.{Step, NoCheckpoint, PagesLeft, PagesDone, Synced, CheckpointState}
 use Rattle.im_checkpoint.specs.Step.{PagedCheckpoint, Changed, with_left, turns_left, left_in}
 
@@ -93,6 +98,28 @@ pub record Moved (old : Changed) (answer : TurnDone) (step : Step) (new : Change
       × (new.recent ≡ replicate (length old.older) false)
   -- any other turn leaves the pages
   pub stays : answer ≢ Began → (new.older ≡ old.older) × (new.recent ≡ old.recent)
+
+-- What is added to the pages that changed: so many more at most, and none is taken out.
+pub record AddsAtMost (most : ℕ) (old new : Changed) : Type 0 where
+  pub older : new.older ≡ old.older
+  pub size : length new.recent ≡ length old.recent
+  pub kept : IsWithin old.recent new.recent
+  pub few : size_of new.recent ≤ size_of old.recent + most
+
+-- the set has the page of the session of the command's element
+abbrev pub HasOwn : Contents → Command → List Bool → Type 0
+HasOwn m (Asks r) set = has set (page_of_session (length m.cells) (length m.windows) r.element) ≡ true
+HasOwn m (Confirm element upto) set = has set (page_of_session (length m.cells) (length m.windows) element) ≡ true
+
+-- What a command adds to them that this memory accepts.
+pub record AddsPages (m : Contents) (command : Command) (old new : Changed) : Type 0 where
+  -- as many pages as it may change at most
+  pub most : AddsAtMost (most_pages m command) old new
+  -- the page of its own session
+  pub own : HasOwn m command new.recent
+  -- and by one on a block, by one whose cell isn't there, and by a confirmation just these
+  pub block : IsOfBlock m command old.recent new.recent
+  pub alone : IsAlone m command old.recent new.recent
 
 -- at most so many device calls come before this answer: by what was done, and four before a refusal
 abbrev pub most_calls : Result TurnDone Refusal → ℕ

@@ -336,7 +336,7 @@ module _ {D : Type 0} (now : D → Moment) (past : D → List Moment) (failures 
             (λ file left. either c file (last file left)) far means counts.rose counts.stayed)
 
         put : is_accepted e.memory c ≡ true
-            → ((a ≡ (step e.memory c).answer) × (f ≡ record (with_command e c) { disk = f.disk }))
+            → ((a ≡ (step e.memory c).answer) × (f ≡ record (with_command e c) { disk = f.disk; pages = f.pages }))
             ⊎ ((a ≡ Err Device) × (f ≡ record e { disk = f.disk; failed = true })) → Next
         put is (inl done) =
             let living : f.failed ≡ false = ap (λ (x : EngineState D). x.failed) done.1 ∙ alive in

@@ -1,20 +1,18 @@
 -- The laws of files say no more than they do: a new image whose gate is closed means nothing. And those of images say something:
 -- their premises are met.
-use Rattle.std.proofs.Common.{◌≡◌, ◌⊎◌, inl, inr, ℕ, ◌+◌, ◌*◌, ◌-◌, ◌<◌, ◌≤◌, ◌==◌, nat_lt, Bool, true, false, List}
-use Rattle.std.proofs.Common.{[], ◌∷◌, length, drop, get_or, slice_range, Option, None, Some, Err, refl, sym, ap, ◌∙◌}
-use Rattle.std.proofs.Common.{subst, arith, if◌then◌else◌}
-use Rattle.std.proofs.lemmas.Bool.Decides.{nat_tests}
+use Rattle.std.proofs.Common.{◌≡◌, ◌⊎◌, inl, inr, ℕ, ◌+◌, ◌*◌, ◌-◌, ◌<◌, ◌≤◌, ◌==◌, true, false, List}
+use Rattle.std.proofs.Common.{[], ◌∷◌, length, drop, get_or, slice_range, refl, sym, ap, ◌∙◌}
+use Rattle.std.proofs.Common.{subst, arith}
 use Rattle.std.proofs.lemmas.List.{ext_get_or}
 use Rattle.im_types.proofs.Tests.{true_false}
 use Rattle.im_types.specs.declared.commands.Command.{Command}
 use Rattle.im_types.specs.Bytes.{open_gate}
-use Rattle.im_types.specs.declared.refusals.Refusal.{Refusal}
-use Rattle.im_types.specs.declared.refusals.Refusal.TheVariants.{WrongLength, NoHeader}
+use Rattle.im_types.specs.declared.refusals.Refusal.TheVariants.{NoHeader}
 use Rattle.im_types.specs.Contents.{Contents, empty_contents}
 use Rattle.im_types.specs.Sizes.{AreLimits}
-use Rattle.im_types.specs.Layout.{Layout, Sizes, layout_in_use, image_length, area_at, area_bytes, area_of}
-use Rattle.im_types.specs.Header.{Header, header_body, header_of, header_place, is_open_header, header_fault}
-use Rattle.im_types.specs.Header.{place_fault, or_else, generation_in}
+use Rattle.im_types.specs.Layout.{Layout, Sizes, layout_in_use, area_at, area_bytes, area_of}
+use Rattle.im_types.specs.Header.{Header, header_body, header_place, is_open_header}
+use Rattle.im_types.specs.Header.{generation_in}
 use Rattle.im_types.specs.Pages.{Shows}
 use Rattle.im_laws.proofs.MemoryLemmas.{empty-memory}
 use Rattle.im_disk.specs.Moment.{overlaid}

@@ -1,5 +1,5 @@
 -- How far a run of commands, groups, turns and sweeps has come.
-use Rattle.std.proofs.Common.{◌≡◌, ◌⊎◌, inl, inr, ⊎_elim, ℕ, ◌+◌, ◌<◌, ◌≤◌, Bool, true, false, ◌&&◌, List, [], ◌∷◌}
+use Rattle.std.proofs.Common.{◌≡◌, ◌⊎◌, inl, inr, ⊎_elim, ℕ, ◌+◌, ◌<◌, Bool, true, false, ◌&&◌, List, [], ◌∷◌}
 use Rattle.std.proofs.Common.{◌++◌, length, take, get_or, Result, Ok, Err, append_assoc, refl, sym, ◌∙◌, ap, subst}
 use Rattle.std.proofs.Common.{arith, length-append, if◌then◌else◌}
 use Rattle.std.proofs.lemmas.List.{append-nil, take_all, take-append-le, take_more, length-take-le}
@@ -216,7 +216,8 @@ module _ {D : Type 0} (mid new : EngineState D) (f : mid.failed ≡ false) where
     no_doubt is = none_if (c ∷ []) (is_accepted mid.memory c) (is_doubt (Told a)) is
 
     put_command : is_accepted mid.memory c ≡ true
-        → ((a ≡ (step mid.memory c).answer) × (new ≡ record (with_command mid c) { disk = new.disk }))
+        → ((a ≡ (step mid.memory c).answer)
+        × (new ≡ record (with_command mid c) { disk = new.disk; pages = new.pages }))
         ⊎ ((a ≡ Err Device) × (new ≡ record mid { disk = new.disk; failed = true }))
         → Steps mid new (Serve c) sure_c doubt_c
     put_command accepted (inl done) =
@@ -291,7 +292,8 @@ module _ {D : Type 0} (mid new : EngineState D) (f : mid.failed ≡ false) where
         (means_as mid (after_group mid members) l (memory_by l is) (count_by l is) file image)
 
     put_group : 0 < length (group_put mid members)
-        → ((served.items ≡ answers_in mid members) × (new ≡ record (after_group mid members) { disk = new.disk }))
+        → ((served.items ≡ answers_in mid members)
+        × (new ≡ record (after_group mid members) { disk = new.disk; pages = new.pages }))
         ⊎ ((served.items ≡ all_refused Device members) × (new ≡ record mid { disk = new.disk; failed = true }))
         → Steps mid new (Together members) sure_g doubt_g
     put_group some (inl done) = inr (inl (record {

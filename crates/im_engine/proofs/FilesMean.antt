@@ -1,5 +1,5 @@
 -- A file means one thing, and a new image the empty memory.
-use Rattle.std.proofs.Common.{◌≡◌, ◌⊎◌, inl, inr, ℕ, ◌<◌, ◌==◌, ◌&&◌, nat_le, Bool, true, false, List, [], Option}
+use Rattle.std.proofs.Common.{◌≡◌, ◌⊎◌, inl, inr, ℕ, ◌<◌, ◌==◌, nat_le, Bool, true, false, List, [], Option}
 use Rattle.std.proofs.Common.{None, Some, Result, Ok, Err, MatchOption, refl, sym, ap, ◌∙◌, subst, arith}
 use Rattle.std.proofs.Common.{if◌then◌else◌}
 use Rattle.std.proofs.lemmas.Bool.Decides.{nat_tests}
@@ -9,7 +9,7 @@ use Rattle.im_types.specs.declared.refusals.Refusal.{Refusal}
 use Rattle.im_types.specs.declared.refusals.Refusal.TheVariants.{BadPage}
 use Rattle.im_types.specs.Contents.{Contents, empty_contents}
 use Rattle.im_types.specs.Sizes.{AreLimits}
-use Rattle.im_types.specs.Header.{Header, header_place, header_of, header_fault, is_header, is_old}
+use Rattle.im_types.specs.Header.{Header, header_of, header_fault, is_header, is_old}
 use Rattle.im_types.specs.declared.layout.Version.{Version}
 use Rattle.im_types.specs.declared.layout.Version.TheVariants.{One, Two}
 use Rattle.im_types.specs.Layout.{Layout, Sizes, layout_1, layout_2, layout_in_use, layout_named, layout_of}

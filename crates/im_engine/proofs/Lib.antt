@@ -9,4 +9,5 @@ pub mod Opening
 pub mod FilesMean
 mod Counterexamples
 pub mod Members
+pub mod Adding
 pub mod Together

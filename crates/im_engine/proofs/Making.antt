@@ -24,11 +24,11 @@ use Rattle.im_image.proofs.FreshImage.{new_image_good, new_image_shows, new_head
 use Rattle.im_journal.specs.Holding.{JournalState, ring_under, Holds, AreClosed}
 use Rattle.im_journal.proofs.Laws.{closed_zeros}
 use Rattle.im_laws.proofs.MemoryLemmas.{empty-memory}
-use Rattle.im_engine.specs.State.{journal_of}
+use Rattle.im_engine.specs.State.{journal_of, pages_at_first}
 use Rattle.im_memory.specs.State.{MemoryState, empty_records}
 use Rattle.im_laws.proofs.Tests.{true_false, or_left, or_right}
 use Rattle.im_pages.specs.PageSets.{has}
-use Rattle.im_checkpoint.specs.Step.{NoCheckpoint, CheckpointState, PagedCheckpoint}
+use Rattle.im_checkpoint.specs.Step.{NoCheckpoint, CheckpointState, PagedCheckpoint, changed_in}
 use Rattle.im_checkpoint.specs.Turns.{IsIdle}
 use Rattle.im_checkpoint.specs.Keeping.{Paged, paged, own_page, Fits, Keeps, IsResting, IsKept}
 use Rattle.im_image.specs.Encoding.{IsAreaPage}
@@ -43,6 +43,12 @@ gate_opened image m0 m1 m2 m3 size e1 e2 e3 =
     ap (λ (l : List ℕ). image ++ l) (drop_all (0 + length image) m0.bytes (omega arith)) ∙ append-nil image in
     let bytes : m2.bytes ≡ image = ap (λ (m : Moment). m.bytes) e2 ∙ ap (λ (m : Moment). m.bytes) e1 ∙ whole in
     ap (λ (m : Moment). m.bytes) e3 ∙ ap (λ (l : List ℕ). 0xA5 ∷ drop 1 l) bytes
+
+-- the pages of a checkpoint as it is made
+pub first_pages : (c : PagedCheckpoint) (h : Header) (formatted : Bool) → IsIdle h formatted c
+    → changed_in c ≡ pages_at_first c.state.header formatted
+first_pages c h formatted it = (λ i. record { recent = it.recent i; older = it.older i })
+    ∙ ap (λ (x : CheckpointState). pages_at_first x.header formatted) (sym it.state)
 
 front : Sizes → List ℕ
 front s = (0xA5 ∷ header_body (new_header s)) ++ zeros 8128 ++ new_area s

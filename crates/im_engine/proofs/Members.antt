@@ -23,10 +23,11 @@ use Rattle.im_laws.proofs.Tests.{and_both}
 use Rattle.im_laws.proofs.MemoryLemmas.{step-cell_count, step-window_count}
 use Rattle.im_journal.specs.Holding.{JournalState, IsJournal, room_after, longer}
 use Rattle.im_image.specs.Reading.{HasSizes}
+use Rattle.im_memory.specs.Covering.{most_pages}
 use Rattle.im_checkpoint.specs.Step.{CheckpointState}
 use Rattle.im_laws.proofs.GroupLemmas.{same_test, above_zero, below_last, one_leaves, counted-one}
 use Rattle.im_engine.specs.Groups.{places, takes, answer_with, contents_with, left_with, answers_with, contents_after}
-use Rattle.im_engine.specs.Groups.{command_at, commands_at}
+use Rattle.im_engine.specs.Groups.{command_at, commands_at, most_pages_in, most_pages_at, most_pages_with}
 
 below_one : (a b : ℕ) → (0 < a → 0 < b) → (0 < b → 0 < a) → nat_lt 0 a ≡ nat_lt 0 b
 below_one a b f g = same_test (nat_lt 0 a) (nat_lt 0 b) (λ e. is_above b (f (above_zero a e)))
@@ -96,6 +97,18 @@ contents_by s [] it = refl
 contents_by s (r ∷ rs) it = contents_by (reached_by_one s r) rs (counted-one s r it)
     ∙ ap (λ (m : Contents). contents_after m (places (reached_by_one s r)) rs) (one_contents s r it)
     ∙ ap (λ (n : ℕ). contents_after (contents_with s.contents (places s) r) n rs) (one_places s r it)
+
+-- the most pages on which they may change a record
+pub most_pages_by : (s : Reached) (rs : List Request) → IsCounted s → most_pages_in s rs
+    ≡ most_pages_with s.contents (places s) rs
+most_pages_by s [] it = refl
+most_pages_by s (r ∷ rs) it =
+    ap (λ (b : Bool). (if b then most_pages s.contents (Asks r) else 0) + most_pages_in (reached_by_one s r) rs)
+    (put_takes s r it)
+    ∙ ap (λ (n : ℕ). most_pages_at s.contents (places s) r + n)
+    (most_pages_by (reached_by_one s r) rs (counted-one s r it)
+    ∙ ap (λ (m : Contents). most_pages_with m (places (reached_by_one s r)) rs) (one_contents s r it)
+    ∙ ap (λ (n : ℕ). most_pages_with (contents_with s.contents (places s) r) n rs) (one_places s r it))
 
 -- each is judged alike at both memories
 abbrev Alike : Reached → Contents → List Request → Type 0

@@ -93,7 +93,8 @@ module _ {D : Type 0} (old mid new : EngineState D) (put : List Command) (c : Co
   same_one f = ap (λ (m : Contents). put_by_command m c a) (far.memory f)
 
   put_more : mid.failed ≡ false → is_accepted mid.memory c ≡ true
-      → ((a ≡ (step mid.memory c).answer) × (new ≡ record (with_command mid c) { disk = new.disk }))
+      → ((a ≡ (step mid.memory c).answer)
+      × (new ≡ record (with_command mid c) { disk = new.disk; pages = new.pages }))
       ⊎ ((a ≡ Err Device) × (new ≡ record mid { disk = new.disk; failed = true }))
       → Went mid new c more
   put_more f accepted (inl done) =

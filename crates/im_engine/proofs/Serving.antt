@@ -79,6 +79,7 @@ answered_unaccepted old new command answer alive un is same = record {
   unaccepted = λ f n. (is, same);
   full = λ f n z. absurd (cc);
   put = λ f n z. absurd (cc);
+  pages = λ f n z g. absurd (cc);
 }
 
 -- a refused command isn't accepted

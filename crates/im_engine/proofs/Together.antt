@@ -19,11 +19,15 @@ use Rattle.im_memory.specs.State.{MemoryState}
 use Rattle.im_journal.specs.Holding.{JournalState, IsJournal, room_after, longer}
 use Rattle.im_image.specs.Reading.{HasSizes}
 use Rattle.im_checkpoint.specs.Step.{Step, NoCheckpoint, PagesLeft, PagesDone, Synced, CheckpointState, PagedCheckpoint}
+use Rattle.im_checkpoint.specs.Step.{changed_in}
+use Rattle.im_checkpoint.specs.Turns.{AddsAtMost}
 use Rattle.im_checkpoint.specs.Keeping.{IsBetween, StepFits, Fits, MeansWith}
-use Rattle.im_engine.specs.State.{EngineState}
+use Rattle.im_engine.specs.State.{engine_of}
 use Rattle.im_engine.specs.Groups.{after_group, group_put, MeansGroup, all_refused, answers_in, GroupAnswered}
 use Rattle.im_engine.specs.Groups.{calls_for_group, GroupCalls, answers_with, contents_after, commands_at}
-use Rattle.im_engine.proofs.Members.{answers_by, contents_by, puts_judged, few_at, none_reached}
+use Rattle.im_engine.specs.Groups.{most_pages_in, most_pages_with}
+use Rattle.im_engine.proofs.Adding.{unchanged, none_named}
+use Rattle.im_engine.proofs.Members.{answers_by, contents_by, most_pages_by, puts_judged, few_at, none_reached}
 
 -- the memory and the journal with more commands are of the sizes of the header still
 pub fits_group : (c c2 : CheckpointState) (m m2 : Contents) (j j2 : JournalState) (n : ℕ) → Fits c m j → c2 ≡ c
@@ -52,10 +56,6 @@ fits_group c c2 m m2 j j2 n it same sizes more = record {
     step_longer h j (PagesLeft count left) it = later h j count it
     step_longer h j (PagesDone count) it = later h j count it
     step_longer h j (Synced count) it = later h j count it
-
--- an engine by its parts
-abbrev pub engine_of : {D : Type 0} → D → PagedCheckpoint → MemoryState → JournalState → Bool → EngineState D
-engine_of d c m j f = record { disk = d; header = c.state.header; step = c.state.step; memory = m.contents; count = j.count; room = j.room; failed = f }
 
 module _ {D : Type 0} (d : D) (c : PagedCheckpoint) (m : MemoryState) (j : JournalState) (f : Bool)
     (rs rs0 : List Request) (same : rs0 ≡ rs) (apart : AreApart rs) (p : ℕ) (p_is : p ≡ min j.room (LAST - j.count))
@@ -117,7 +117,8 @@ module _ {D : Type 0} (d : D) (c : PagedCheckpoint) (m : MemoryState) (j : Journ
         ∙ ap (λ (n : ℕ). map as_served (answers_with m.contents n rs)) p_is
         ∙ ap (map as_served) (sym (answers_by s rs counted))
 
-    new_is : engine_of d2 c2 m2 j2 f ≡ record (after_group (engine_of d c m j f) rs) { disk = d2 }
+    new_is : engine_of d2 c2 m2 j2 f
+        ≡ record (after_group (engine_of d c m j f) rs) { disk = d2; pages = changed_in c2 }
     new_is =
         let count : j2.count ≡ (reached_by_all s rs).count = ap (λ (x : JournalState). x.count) more ∙ count_is in
         let room : j2.room ≡ (reached_by_all s rs).room = ap (λ (x : JournalState). x.room) more ∙ room_is in
@@ -126,20 +127,34 @@ module _ {D : Type 0} (d : D) (c : PagedCheckpoint) (m : MemoryState) (j : Journ
           header = (still i).header;
           step =
               (still i).step;
+          pages = changed_in c2;
           memory = reached_is i;
           count = count i;
           room = room i;
           failed = f;
         })
 
-    back : puts_of s rs ≡ [] → record (after_group (engine_of d c m j f) rs) { disk = d2 } ≡ engine_of d c m j f
-    back none =
+    -- the pages that the members named
+    adds_group : AddsAtMost (most_pages_with m.contents p rs0) (changed_in c) (changed_in c2)
+        → AddsAtMost (most_pages_in s rs) (changed_in c) (changed_in c2)
+    adds_group adds =
+        let most : most_pages_in s rs ≡ most_pages_with m.contents p rs0 = most_pages_by s rs counted
+        ∙ ap (λ (n : ℕ). most_pages_with m.contents n rs) (sym p_is)
+        ∙ ap (λ (l : List Request). most_pages_with m.contents p l) (sym same) in
+        subst (λ (n : ℕ). AddsAtMost n (changed_in c) (changed_in c2)) (sym most) adds
+
+    back : AddsAtMost (most_pages_in s rs) (changed_in c) (changed_in c2) → puts_of s rs ≡ []
+        → record (after_group (engine_of d c m j f) rs) { disk = d2; pages = changed_in c2 } ≡ engine_of d c m j f
+    back adds none =
         let disk : d2 ≡ d = untouched (none_put none) in
         let there : reached_by_all s rs ≡ s = none_reached s rs none in
+        let stay : changed_in c2 ≡ changed_in c = unchanged (changed_in c) (changed_in c2)
+        (subst (λ (n : ℕ). AddsAtMost n (changed_in c) (changed_in c2)) (none_named s rs none) adds) in
         (λ i. record {
           disk = disk i;
           header = c.state.header;
           step = c.state.step;
+          pages = stay i;
           memory =
               (there i).contents;
           count = (there i).count;
@@ -147,11 +162,13 @@ module _ {D : Type 0} (d : D) (c : PagedCheckpoint) (m : MemoryState) (j : Journ
           failed = f;
         })
 
-    pub group_done : GroupAnswered (engine_of d c m j f) rs answers (engine_of d2 c2 m2 j2 f)
-    group_done = record {
+    pub group_done : AddsAtMost (most_pages_with m.contents p rs0) (changed_in c) (changed_in c2)
+        → GroupAnswered (engine_of d c m j f) rs answers (engine_of d2 c2 m2 j2 f)
+    group_done adds = record {
       dead = λ e. absurd (cc);
-      none = λ a none. (told, new_is ∙ back none);
+      none = λ a none. (told, new_is ∙ back (adds_group adds) none);
       put = λ a some. inl (told, new_is);
+      pages = λ a works. adds_group adds;
     }
 
   -- a call of the disk failed
@@ -166,6 +183,7 @@ module _ {D : Type 0} (d : D) (c : PagedCheckpoint) (m : MemoryState) (j : Journ
         disk = d2;
         header = c.state.header;
         step = c.state.step;
+        pages = changed_in c;
         memory = m.contents;
         count =
             (stays i).count;
@@ -173,6 +191,7 @@ module _ {D : Type 0} (d : D) (c : PagedCheckpoint) (m : MemoryState) (j : Journ
         failed = true;
       }),
     );
+    pages = λ a works. absurd (cc);
   }
 
   calls_are : calls_for_group (length cmds) ≡ calls_for_group (length (group_put (engine_of d c m j f) rs))

@@ -13,10 +13,13 @@ use Rattle.im_types.specs.declared.refusals.Refusal.TheVariants.{JournalFull, De
 use Rattle.im_types.specs.Contents.{Contents}
 use Rattle.im_types.specs.Step.{step, is_accepted}
 use Rattle.im_types.specs.Meaning.{Reached}
-use Rattle.im_types.specs.Groups.{as_served, answers_of, reached_by_all, puts_of}
+use Rattle.im_types.specs.Groups.{as_served, is_put, answers_of, reached_by_one, reached_by_all, puts_of}
 use Rattle.im_disk.specs.Moment.{Moment, Rises}
 use Rattle.im_disk.specs.Since.{Calls, CallsAtMost, CallsBy}
 use Rattle.im_journal.specs.Holding.{JournalState, IsJournal}
+use Rattle.im_memory.specs.Covering.{most_pages}
+use Rattle.im_checkpoint.specs.Step.{PagedCheckpoint, changed_in}
+use Rattle.im_checkpoint.specs.Turns.{AddsAtMost}
 use Rattle.im_engine.specs.State.{EngineState, MeansState}
 
 -- what an engine has reached: its memory, its count and its room
@@ -26,6 +29,12 @@ reached_in s = record { contents = s.memory; count = s.count; room = s.room }
 -- the engine after the members of a group, one after another
 abbrev pub after_group : {D : Type 0} → EngineState D → List Request → EngineState D
 after_group s members = let r = reached_by_all (reached_in s) members in record s { memory = r.contents; count = r.count; room = r.room }
+
+-- the most pages on which the members may change a record, one after another
+abbrev pub most_pages_in : Reached → List Request → ℕ
+most_pages_in s [] = 0
+most_pages_in s (r ∷ rs) =
+    (if is_put s r then most_pages s.contents (Asks r) else 0) + most_pages_in (reached_by_one s r) rs
 
 -- the commands that the members put on the disk
 abbrev pub group_put : {D : Type 0} → EngineState D → List Request → List Command
@@ -48,8 +57,12 @@ pub record GroupAnswered {D : Type 0} (old : EngineState D) (members : List Requ
   pub dead : old.failed ≡ true → (answers ≡ all_refused Failed members) × (new ≡ old)
   pub none : old.failed ≡ false → group_put old members ≡ [] → (answers ≡ answers_in old members) × (new ≡ old)
   pub put : old.failed ≡ false → 0 < length (group_put old members) →
-      ((answers ≡ answers_in old members) × (new ≡ record (after_group old members) { disk = new.disk }))
+      ((answers ≡ answers_in old members)
+      × (new ≡ record (after_group old members) { disk = new.disk; pages = new.pages }))
       ⊎ ((answers ≡ all_refused Device members) × (new ≡ record old { disk = new.disk; failed = true }))
+  -- the pages that those may change which are put on the disk are added to those that changed
+  pub pages : old.failed ≡ false → new.failed ≡ false
+      → AddsAtMost (most_pages_in (reached_in old) members) old.pages new.pages
 
 -- how many calls of the disk it takes to put so many commands there as one group: a write for each, one for the gate, and two syncs
 abbrev pub calls_for_group : ℕ → ℕ
@@ -72,6 +85,11 @@ pub record GroupPut {D : Type 0} (past : D → List Moment) (honest : Type 0) (o
 pub record GroupCalls {D : Type 0} (past : D → List Moment) (old new : D) (failed : Bool) (many : ℕ) : Type 0 where
   pub exactly : failed ≡ false → Calls past old new many
   pub most : CallsAtMost past old new many
+
+-- a checkpoint goes no further, and so many pages more count as changed at most
+pub record StaysBut (most : ℕ) (old new : PagedCheckpoint) : Type 0 where
+  pub state : new.state ≡ old.state
+  pub pages : AddsAtMost most (changed_in old) (changed_in new)
 
 -- the count of failures rises exactly where the engine fails now
 pub record GroupFaults (before after : Bool) (old new : ℕ) : Type 0 where
@@ -99,6 +117,16 @@ contents_with m left r = if takes m left r then (step m (Asks r)).contents else 
 -- the places that are left after it
 abbrev pub left_with : Contents → ℕ → Request → ℕ
 left_with m left r = if takes m left r then left - 1 else left
+
+-- the most pages on which a member may change a record
+abbrev pub most_pages_at : Contents → ℕ → Request → ℕ
+most_pages_at m left r = if takes m left r then most_pages m (Asks r) else 0
+
+-- the most on which the members may, one after another
+abbrev pub most_pages_with : Contents → ℕ → List Request → ℕ
+most_pages_with m left [] = 0
+most_pages_with m left (r ∷ rs) =
+    most_pages_at m left r + most_pages_with (contents_with m left r) (left_with m left r) rs
 
 -- the members' answers, one after another
 abbrev pub answers_with : Contents → ℕ → List Request → List (Result Outcome Refusal)

@@ -16,7 +16,7 @@ use Rattle.im_types.specs.Meaning.{Means, Reached}
 use Rattle.im_types.specs.Groups.{puts_of}
 use Rattle.im_disk.specs.Moment.{Rises, Faults}
 use Rattle.im_checkpoint.specs.declared.checkpoint.TurnDone.{TurnDone}
-use Rattle.im_checkpoint.specs.Turns.{Turned, swept_at_once}
+use Rattle.im_checkpoint.specs.Turns.{Turned, Moved, AddsPages, swept_at_once}
 use Rattle.im_engine.specs.State.{EngineState, MeansState, MeansEither, with_command, journal_in, checkpoint_in}
 use Rattle.im_engine.specs.Groups.{GroupAnswered, MeansGroup}
 use Rattle.im_engine.specs.declared.run.Event.{Event}
@@ -31,8 +31,12 @@ pub record Answered {D : Type 0} (old : EngineState D) (command : Command) (answ
   pub unaccepted : old.failed ≡ false → is_accepted old.memory command ≡ false → (answer ≡ (step old.memory command).answer) × (new ≡ old)
   pub full : old.failed ≡ false → is_accepted old.memory command ≡ true → old.room ≡ 0 → (answer ≡ Err JournalFull) × (new ≡ old)
   pub put : old.failed ≡ false → is_accepted old.memory command ≡ true → 0 < old.room →
-      ((answer ≡ (step old.memory command).answer) × (new ≡ record (with_command old command) { disk = new.disk }))
+      ((answer ≡ (step old.memory command).answer)
+      × (new ≡ record (with_command old command) { disk = new.disk; pages = new.pages }))
       ⊎ ((answer ≡ Err Device) × (new ≡ record old { disk = new.disk; failed = true }))
+  -- the pages that it may change are added to those that changed
+  pub pages : old.failed ≡ false → is_accepted old.memory command ≡ true → 0 < old.room → new.failed ≡ false
+      → AddsPages old.memory command old.pages new.pages
 
 -- how many calls of the disk a command takes: four where it is accepted, and none for a repeat or a command that is refused
 abbrev pub calls_for : Contents → Command → ℕ
@@ -44,6 +48,8 @@ pub record TurnTaken {D : Type 0} (old : EngineState D) (done : TurnDone) (new :
   pub count : new.count ≡ old.count
   pub alive : new.failed ≡ false
   pub turned : Turned (checkpoint_in old) (journal_in old) done (checkpoint_in new) (journal_in new)
+  -- a checkpoint that begins is to write the pages that changed, of the area that isn't in force, and no others
+  pub pages : Moved old.pages done new.step new.pages
 
 -- an engine's answer to one turn, and what it comes to, on any disk
 pub record TurnAnswered {D : Type 0} (old : EngineState D) (answer : Result TurnDone Refusal) (new : EngineState D) : Type 0 where

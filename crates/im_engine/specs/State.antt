@@ -1,26 +1,42 @@
 -- An engine as clauses see it, and what the files mean that a crash may leave. (Own.)
-use Rattle.std.specs.Prelude.{◌⊎◌, ℕ, ◌+◌, Bool, List, Ok, Err, ◌≡◌}
+use Rattle.std.specs.Prelude.{◌⊎◌, ℕ, ◌+◌, Bool, true, not, List, replicate, Ok, Err, ◌≡◌}
 use Rattle.im_types.specs.declared.commands.Command.{Command}
 use Rattle.im_types.specs.declared.refusals.Refusal.{Refusal}
 use Rattle.im_types.specs.declared.sizes.Limits.{Limits}
 use Rattle.im_types.specs.Contents.{Contents, empty_contents}
 use Rattle.im_types.specs.Step.{step}
-use Rattle.im_types.specs.Layout.{layout_in_use, ring_of}
+use Rattle.im_types.specs.Layout.{layout_in_use, ring_of, area_pages, sizes_of}
 use Rattle.im_types.specs.Header.{Header, header_of}
 use Rattle.im_types.specs.Meaning.{Means, Opens, Reads}
 use Rattle.im_journal.specs.Holding.{JournalState, room_after}
 use Rattle.im_memory.specs.State.{MemoryState, empty_records}
-use Rattle.im_checkpoint.specs.Step.{Step, CheckpointState}
+use Rattle.im_image.specs.Fresh.{new_header}
+use Rattle.im_checkpoint.specs.Step.{Step, NoCheckpoint, CheckpointState, PagedCheckpoint, Changed, changed_in}
 
--- an engine: its disk, the header in force and how far the next one has come, the memory, the count of all commands, the room for more, and whether the disk has failed it
+-- an engine: its disk, the header in force and how far the next one has come, the pages that changed, the memory, the
+-- count of all commands, the room for more, and whether the disk has failed it
 pub record EngineState (D : Type 0) : Type 0 where
   pub disk : D
   pub header : Header
   pub step : Step
+  pub pages : Changed
   pub memory : Contents
   pub count : ℕ
   pub room : ℕ
   pub failed : Bool
+
+-- an engine by its parts
+abbrev pub engine_of : {D : Type 0} → D → PagedCheckpoint → MemoryState → JournalState → Bool → EngineState D
+engine_of d c m j failed = record {
+  disk = d;
+  header = c.state.header;
+  step = c.state.step;
+  pages = changed_in c;
+  memory = m.contents;
+  count = j.count;
+  room = j.room;
+  failed = failed;
+}
 
 -- a memory is empty, and its records are those of an empty one
 abbrev pub IsEmptyMemory : Limits → MemoryState → Type 0
@@ -49,6 +65,17 @@ journal_in s = journal_of s.header s.count s.room
 -- the checkpoint of an engine
 abbrev pub checkpoint_in : {D : Type 0} → EngineState D → CheckpointState
 checkpoint_in s = record { header = s.header; step = s.step }
+
+-- the pages that count as changed at first: where the image was just formatted those of the other area, else all of both
+abbrev pub pages_at_first : Header → Bool → Changed
+pages_at_first h formatted = let all = area_pages layout_in_use h.sizes in
+    record { recent = replicate all (not formatted); older = replicate all formatted }
+
+-- an engine over a new image: the empty memory, no command, room in every slot, the first header in force, no checkpoint
+-- under way, and of the other area all pages count as changed
+abbrev pub IsNewImage : {D : Type 0} → Limits → EngineState D → Type 0
+IsNewImage limits s = (s.memory ≡ empty_contents limits.cells limits.elements) × (s.count ≡ 0) × (s.room ≡ limits.slots)
+    × (s.header ≡ new_header (sizes_of limits)) × (s.step ≡ NoCheckpoint) × (s.pages ≡ pages_at_first s.header true)
 
 -- opening the file comes to this fault first
 abbrev pub IsFirstFault : Refusal → List ℕ → Type 0

@@ -12,7 +12,7 @@ ghost use Rattle.im_types.specs.Groups.{AreApart};
 ghost use Rattle.im_engine.specs.Groups.{GroupAnswered, GroupCalls, GroupFaults, MeansGroup};
 ghost use Rattle.im_engine.specs.Groups.{group_put, calls_for_group};
 ghost use Rattle.im_engine.specs.Run.{Answered, TurnAnswered, SweepAnswered, calls_for};
-ghost use Rattle.im_engine.specs.State.{MeansState, MeansEither, with_command, journal_in};
+ghost use Rattle.im_engine.specs.State.{engine_of, MeansState, MeansEither, with_command, journal_in};
 
 use crate::emptying::Empties;
 use crate::groups::{act_all, commands_of, places_in, put_on, refuse_all};
@@ -26,9 +26,9 @@ use std::marker::Model;
 
 /// A memory that a disk keeps.
 ///
-/// Contracts see its disk, the header in force, how far the next checkpoint has come, the memory, the count of all
-/// accepted commands, the room for more, and whether the disk has failed it. While it hasn't failed, each file that a
-/// crash may leave means this memory and this count.
+/// Contracts see its disk, the header in force, how far the next checkpoint has come, the pages that changed, the
+/// memory, the count of all accepted commands, the room for more, and whether the disk has failed it. While it hasn't
+/// failed, each file that a crash may leave means this memory and this count.
 #[derive(Drop)]
 pub struct Engine<D: Disk> {
     disk: D,
@@ -40,6 +40,7 @@ pub struct Engine<D: Disk> {
 
 impl<D: Disk> Model for Engine<D> {
     ghost use Rattle.std.specs.Prelude.{◌≡◌, false};
+    ghost use Rattle.im_checkpoint.specs.Step.{changed_in};
     ghost use Rattle.im_checkpoint.specs.Keeping.{Fits, IsKept, paged};
     ghost use Rattle.im_engine.specs.State.{EngineState};
 
@@ -49,6 +50,7 @@ impl<D: Disk> Model for Engine<D> {
       disk = e.disk;
       header = e.checkpoint.state.header;
       step = e.checkpoint.state.step;
+      pages = changed_in e.checkpoint;
       memory = e.memory.contents;
       count = e.journal.count;
       room = e.journal.room;
@@ -185,15 +187,7 @@ impl<D: Disk> Engine<D> {
         requires fits { Fits checkpoint.state memory.contents journal }
         requires kept { D.honest disk
             → IsKept checkpoint.state (paged checkpoint memory) memory.contents journal (D.now disk) }
-        ensures state { result ≡ record {
-          disk = disk;
-          header = checkpoint.state.header;
-          step = checkpoint.state.step;
-          memory = memory.contents;
-          count = journal.count;
-          room = journal.room;
-          failed = false;
-        } }
+        ensures state { result ≡ engine_of disk checkpoint memory journal false }
         ensures means { D.honest result.disk → LeavesNow (D.now result.disk) (MeansState result) }
     {
         Engine {
@@ -206,7 +200,9 @@ impl<D: Disk> Engine<D> {
     }
 
     /// Makes one turn of a checkpoint: at most four calls of the disk, and what its answer says. The memory and the
-    /// count stay. It takes no memory.
+    /// count stay. Where it answers `Began`, the pages to be written are those that changed since the last checkpoint
+    /// of the area that isn't in force began, in rising order; each turn that answers `Page` writes the first of them,
+    /// and the others are left. It takes no memory.
     ///
     /// `Failed` exactly where an earlier call failed on the disk. `Device` where a call of the disk failed: then the
     /// engine has failed, no command is in doubt, and the image has to be opened again.

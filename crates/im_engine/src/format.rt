@@ -2,7 +2,6 @@
 ghost use Rattle.std.specs.Prelude.{◌≡◌, ◌≢◌, false, true, ◌⊎◌, [], ◌∷◌, ◌<◌, length, drop};
 ghost use Rattle.std.specs.Prelude.{IfOk, IfErr, OnOk, IsErrOf, MatchResult};
 ghost use Rattle.im_types.specs.declared.refusals.Refusal.TheVariants.{WrongLength, NoMemory, Device};
-ghost use Rattle.im_types.specs.Contents.{empty_contents};
 ghost use Rattle.im_types.specs.Layout.{layout_in_use, image_length};
 ghost use Rattle.im_types.specs.Header.{Header as Seen};
 ghost use Rattle.im_disk.specs.Moment.{Counts, Fault, Faults};
@@ -10,9 +9,8 @@ ghost use Rattle.im_disk.specs.Since.{LeavesNow};
 ghost use Rattle.im_types.specs.Layout.{sizes_of};
 ghost use Rattle.im_image.specs.Headers.{seen};
 ghost use Rattle.im_image.specs.Fresh.{new_header, new_image};
-ghost use Rattle.im_checkpoint.specs.Step.{NoCheckpoint};
 ghost use Rattle.im_checkpoint.specs.Turns.{IsIdle};
-ghost use Rattle.im_engine.specs.State.{IsEmptyMemory, MeansState};
+ghost use Rattle.im_engine.specs.State.{IsEmptyMemory, IsNewImage, MeansState};
 
 use crate::engine::Engine;
 use im_checkpoint::Checkpoint;
@@ -103,9 +101,7 @@ impl<D: Disk> Engine<D> {
     /// `NoMemory` where `alloc` refused the room for the image, the memory and the pages of a checkpoint: then nothing
     /// was written. `Device` where a call of the disk failed: then the file may hold no image.
     pub fn format(alloc: Global, mut disk: D, limits: Limits) -> Result<Engine<D>, (Refusal, D)>
-        ensures empty { IfOk result (λ e. (e.memory ≡ empty_contents limits.cells limits.elements)
-            × (e.count ≡ 0) × (e.room ≡ limits.slots)
-            × (e.header ≡ new_header (sizes_of limits)) × (e.step ≡ NoCheckpoint)) }
+        ensures empty { IfOk result (λ e. IsNewImage limits e) }
         ensures image { IfOk result (λ e. D.honest e.disk
             → LeavesNow (D.now e.disk) (λ file. file ≡ new_image 0xA5 (sizes_of limits))) }
         // Each file that a crash may leave means that.

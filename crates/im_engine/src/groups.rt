@@ -12,11 +12,12 @@ ghost use Rattle.im_disk.specs.Moment.{Moment, Faults};
 ghost use Rattle.im_disk.specs.Since.{LeavesOnly};
 ghost use Rattle.im_journal.specs.Holding.{JournalState, IsJournal, AllHold, longer};
 ghost use Rattle.im_image.specs.Reading.{HasSizes};
+ghost use Rattle.im_memory.specs.Covering.{most_pages};
 ghost use Rattle.im_checkpoint.specs.Step.{CheckpointState};
 ghost use Rattle.im_checkpoint.specs.Keeping.{Paged, paged, MeansWith, IsKept};
-ghost use Rattle.im_engine.specs.Groups.{all_refused, FitsGroup, GroupPut};
-ghost use Rattle.im_engine.specs.Groups.{answer_with, contents_with, left_with};
-ghost use Rattle.im_engine.specs.Groups.{answers_with, contents_after, command_at, commands_at};
+ghost use Rattle.im_engine.specs.Groups.{all_refused, FitsGroup, GroupPut, StaysBut};
+ghost use Rattle.im_engine.specs.Groups.{answer_with, contents_with, left_with, most_pages_at};
+ghost use Rattle.im_engine.specs.Groups.{answers_with, contents_after, command_at, commands_at, most_pages_with};
 
 use arrayvec::ArrayVec;
 use im_checkpoint::Checkpoint;
@@ -157,7 +158,7 @@ fn act(
     ensures answer { result ≡ (step memory.old.contents command.now).answer }
     ensures contents { memory.new.contents ≡ (step memory.old.contents command.now).contents }
     ensures sizes { HasSizes checkpoint.new.state.header.sizes memory.new.contents }
-    ensures state { checkpoint.new.state ≡ checkpoint.old.state }
+    ensures stays { StaysBut (most_pages memory.old.contents command.now) checkpoint.old checkpoint.new }
     ensures kept { (m : Contents) (j : JournalState) (now : Moment)
         → IsKept checkpoint.old.state (paged checkpoint.old memory.old) m j now
         → IsKept checkpoint.new.state (paged checkpoint.new memory.new) m j now }
@@ -179,7 +180,7 @@ fn act_one(
     ensures contents { memory.new.contents ≡ contents_with memory.old.contents left.old member.now }
     ensures left { left.new ≡ left_with memory.old.contents left.old member.now }
     ensures sizes { HasSizes checkpoint.new.state.header.sizes memory.new.contents }
-    ensures state { checkpoint.new.state ≡ checkpoint.old.state }
+    ensures stays { StaysBut (most_pages_at memory.old.contents left.old member.now) checkpoint.old checkpoint.new }
     ensures kept { (m : Contents) (j : JournalState) (now : Moment)
         → IsKept checkpoint.old.state (paged checkpoint.old memory.old) m j now
         → IsKept checkpoint.new.state (paged checkpoint.new memory.new) m j now }
@@ -221,7 +222,7 @@ pub(crate) fn act_all(
     ensures answers { served.new.items ≡ map as_served (answers_with memory.old.contents places members.now) }
     ensures contents { memory.new.contents ≡ contents_after memory.old.contents places members.now }
     ensures sizes { HasSizes checkpoint.new.state.header.sizes memory.new.contents }
-    ensures state { checkpoint.new.state ≡ checkpoint.old.state }
+    ensures stays { StaysBut (most_pages_with memory.old.contents places members.now) checkpoint.old checkpoint.new }
     ensures kept { (m : Contents) (j : JournalState) (now : Moment)
         → IsKept checkpoint.old.state (paged checkpoint.old memory.old) m j now
         → IsKept checkpoint.new.state (paged checkpoint.new memory.new) m j now }

@@ -9,7 +9,7 @@ ghost use Rattle.im_types.specs.Meaning.{Reads};
 ghost use Rattle.im_image.specs.Headers.{seen, MayRefuseOpening};
 ghost use Rattle.im_checkpoint.specs.Step.{NoCheckpoint};
 ghost use Rattle.im_checkpoint.specs.Keeping.{Paged, Fits, IsKept};
-ghost use Rattle.im_engine.specs.State.{MeansState, IsFirstFault, IsFound};
+ghost use Rattle.im_engine.specs.State.{MeansState, IsFirstFault, IsFound, pages_at_first};
 
 use crate::engine::Engine;
 use im_checkpoint::Checkpoint;
@@ -60,8 +60,9 @@ impl<D: Disk> Engine<D> {
         // Each file that a crash may leave means what the engine is, and could have been left before.
         ensures means { IfOk result (λ e. D.honest e.disk → LeavesNow (D.now e.disk) (MeansState e)) }
         ensures works { IfOk result (λ e. e.failed ≡ false) }
-        // No checkpoint is under way, and header and room are those that reading the file finds.
-        ensures idle { IfOk result (λ e. e.step ≡ NoCheckpoint) }
+        // No checkpoint is under way, all pages of both areas count as changed, and header and room are those that
+        // reading the file finds.
+        ensures idle { IfOk result (λ e. (e.step ≡ NoCheckpoint) × (e.pages ≡ pages_at_first e.header false)) }
         ensures found { IfOk result (λ e. D.honest e.disk → LeavesNow (D.now e.disk) (IsFound e)) }
         ensures leaves { MatchResult result
             (λ e. D.honest e.disk → LeavesWithin D.now D.past disk e.disk (Left (D.now disk)))

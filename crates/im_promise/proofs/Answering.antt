@@ -47,7 +47,7 @@ ok_of : (a : Result Outcome Refusal) → IsOk a → (o : Outcome) × (a ≡ Ok o
 ok_of (Ok o) ok = (o, refl)
 ok_of (Err e) ok = absurd (cc)
 
-is_true : (b : Bool) → b ≡ true → IsTrue b
+pub is_true : (b : Bool) → b ≡ true → IsTrue b
 is_true true e = refl
 is_true false e = absurd (cc)
 
@@ -211,7 +211,7 @@ module _ (known : Known) {D : Type 0} (old mid : EngineState D) (f : old.failed 
     step_sure (Err e) is = let none = known.step old.memory c e (sym is) in (none, none)
 
     put_command : is_accepted old.memory c ≡ true
-        → ((a ≡ (step old.memory c).answer) × (mid ≡ record (with_command old c) { disk = mid.disk })) ⊎ ((a ≡ Err Device) × (mid ≡ record old { disk = mid.disk; failed = true }))
+        → ((a ≡ (step old.memory c).answer) × (mid ≡ record (with_command old c) { disk = mid.disk; pages = mid.pages })) ⊎ ((a ≡ Err Device) × (mid ≡ record old { disk = mid.disk; failed = true }))
         → GoesOn old mid (Serve c) (Told a) ⊎ Fails old mid (Serve c) (Told a)
     put_command accepted (inl done) =
         let told = ok_of (step old.memory c).answer (known.ok old.memory c (is_true (is_accepted old.memory c) accepted)) in
@@ -277,7 +277,7 @@ module _ (known : Known) {D : Type 0} (old mid : EngineState D) (f : old.failed 
     few_if false = omega arith
 
     put_group : 0 < length (group_put old members)
-        → ((served.items ≡ answers_in old members) × (mid ≡ record (after_group old members) { disk = mid.disk })) ⊎ ((served.items ≡ all_refused Device members) × (mid ≡ record old { disk = mid.disk; failed = true }))
+        → ((served.items ≡ answers_in old members) × (mid ≡ record (after_group old members) { disk = mid.disk; pages = mid.pages })) ⊎ ((served.items ≡ all_refused Device members) × (mid ≡ record old { disk = mid.disk; failed = true }))
         → GoesOn old mid (Together members) (Grouped room served) ⊎ Fails old mid (Together members) (Grouped room served)
     put_group some (inl done) = inl (told_goes done.0 (ap (λ (s : EngineState D). s.failed) done.1 ∙ f)
         (ap (λ (s : EngineState D). s.memory) done.1 ∙ known.memory (reached_in old) members) (ap (λ (s : EngineState D). s.count) done.1 ∙ known.count (reached_in old) members))

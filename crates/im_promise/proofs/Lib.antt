@@ -4,3 +4,4 @@ pub mod Recovering
 pub mod Reopening
 pub mod Grouping
 pub mod Asking
+pub mod Alike

@@ -219,7 +219,7 @@ module _ {D : Type 0} (now : D → Moment) (past : D → List Moment) (failures 
       by_room accepted zero none = let full = (it.full works accepted none).0 in absurd (cc)
       by_room accepted (suc room) some = by_put (it.put works accepted (omega arith))
         where
-          by_put : ((a ≡ (step mid.memory c).answer) × (new ≡ record (with_command mid c) { disk = new.disk })) ⊎ ((a ≡ Err Device) × (new ≡ record mid { disk = new.disk; failed = true }))
+          by_put : ((a ≡ (step mid.memory c).answer) × (new ≡ record (with_command mid c) { disk = new.disk; pages = new.pages })) ⊎ ((a ≡ Err Device) × (new ≡ record mid { disk = new.disk; failed = true }))
               → (new.failed ≡ false) × ((step mid.memory c).answer ≡ Ok o)
           by_put (inl put) = (ap (λ (s : EngineState D). s.failed) put.1 ∙ works, sym put.0 ∙ is)
           by_put (inr fault) = let device = fault.0 in absurd (cc)

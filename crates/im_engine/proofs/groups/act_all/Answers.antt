@@ -1,7 +1,9 @@
 use Rattle.std.proofs.Common.{◌++◌, ◌∷◌, [], List, map, rules, ◌+◌, drop, ◌∙◌, ap}
 use Rattle.im_types.specs.declared.groups.Served.{Served}
 use Rattle.im_types.specs.Groups.{as_served}
-use Rattle.im_engine.specs.Groups.{answers_with}
+use Rattle.im_checkpoint.specs.Step.{changed_in}
+use Rattle.im_engine.specs.Groups.{answers_with, most_pages_with}
+use Rattle.im_engine.proofs.Adding.{adds_next}
 use Rattle.im_engine.proofs.Members.{answers_next, contents_next}
 use Rattle.im_engine.proofs.groups.act_all.Goals as goal
 
@@ -22,6 +24,10 @@ loop-member-preserved c =
           ∙ answers_next m left c.loop-member.served.items rs i _ c.act_one-answer.result c.act_one-answer.new.memory.contents c.act_one-answer.new.left c.loop-member-test.true e.answer e.contents e.left ∙ inv.answers;
       contents = contents_next m left rs i _ c.act_one-answer.new.memory.contents c.act_one-answer.new.left c.loop-member-test.true e.contents e.left ∙ inv.contents;
       sizes = e.sizes;
-      state = e.state ∙ inv.state;
+      state = e.stays.state ∙ inv.state;
+      pages = adds_next m left rs i _ c.act_one-answer.new.memory.contents c.act_one-answer.new.left
+          (most_pages_with c.args.memory.now.contents c.args.places rs) (changed_in c.args.checkpoint.now)
+          (changed_in c.loop-member.checkpoint) (changed_in c.act_one-answer.new.checkpoint) c.loop-member-test.true
+          e.contents e.left inv.pages e.stays.pages;
       kept = λ n j now kept. e.kept n j now (inv.kept n j now kept);
     }

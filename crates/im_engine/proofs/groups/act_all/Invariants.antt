@@ -5,7 +5,9 @@ use Rattle.im_disk.specs.Moment.{Moment}
 use Rattle.im_journal.specs.Holding.{JournalState}
 use Rattle.im_image.specs.Reading.{HasSizes}
 use Rattle.im_checkpoint.specs.Keeping.{paged, IsKept}
-use Rattle.im_engine.specs.Groups.{answers_with, contents_after}
+use Rattle.im_checkpoint.specs.Step.{changed_in}
+use Rattle.im_engine.specs.Groups.{answers_with, contents_after, most_pages_with}
+use Rattle.im_engine.proofs.Adding.{AddsSoFar}
 use Rattle.im_engine.proofs.groups.act_all.Given as goal
 
 abbrev pub invariant-loop-member : goal.invariant-loop-member
@@ -17,6 +19,8 @@ invariant-loop-member l = record {
       ≡ contents_after l.fn.memory.contents l.places l.members;
   sizes : HasSizes l.checkpoint.state.header.sizes l.memory.contents;
   state : l.checkpoint.state ≡ l.fn.checkpoint.state;
+  pages : AddsSoFar (most_pages_with l.memory.contents l.left (drop l.member-index l.members))
+      (most_pages_with l.fn.memory.contents l.places l.members) (changed_in l.fn.checkpoint) (changed_in l.checkpoint);
   kept : (m : Contents) (j : JournalState) (now : Moment)
       → IsKept l.fn.checkpoint.state (paged l.fn.checkpoint l.fn.memory) m j now
       → IsKept l.checkpoint.state (paged l.checkpoint l.memory) m j now;

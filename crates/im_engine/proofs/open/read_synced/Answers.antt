@@ -4,7 +4,7 @@ use Rattle.im_types.specs.Header.{header_of}
 use Rattle.im_types.specs.Meaning.{Reads}
 use Rattle.im_image.specs.Headers.{seen}
 use Rattle.im_engine.specs.State.{IsFirstFault}
-use Rattle.im_engine.proofs.Opening.{settled, opens_leaves, kept_read, ring_young}
+use Rattle.im_engine.proofs.Opening.{settled, opens_leaves, kept_read}
 use Rattle.im_engine.proofs.open.read_synced.Goals as goal
 
 pub returns-in-Ok-clause-kept : goal.returns-in-Ok-clause-kept

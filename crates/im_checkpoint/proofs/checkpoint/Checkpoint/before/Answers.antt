@@ -1,9 +1,10 @@
 use Rattle.std.proofs.Common.{◌≡◌, ◌≤◌, ◌+◌, ℕ, List, [], Bool, length, sym, ◌∙◌, ap, subst, arith}
 use Rattle.std.specs.List.{Contains}
-use Rattle.im_memory.specs.Covering.{most_pages}
+use Rattle.im_memory.specs.Covering.{most_pages, IsOfBlock, IsAlone}
 use Rattle.im_pages.specs.PageSets.{size_of, IsWithin, pages_from}
 use Rattle.im_checkpoint.specs.Copied.{copy_of}
 use Rattle.im_checkpoint.specs.Step.{PagedCheckpoint, left_in}
+use Rattle.im_checkpoint.proofs.Adding.{own_of}
 use Rattle.im_checkpoint.proofs.Copying.{left_none}
 use Rattle.im_checkpoint.proofs.checkpoint.Checkpoint.before.Goals as goal
 
@@ -17,11 +18,20 @@ returns-in_default c =
     ∙ left_none e.step e.count (pages_from e.next e.left) c.in_default.not-PagesLeft in
     record {
       state = ap (λ (s : PagedCheckpoint). s.state) c.self.view_is;
-      older = ap (λ (s : PagedCheckpoint). s.older) c.self.view_is;
-      size = c.touches.ensures.length ∙ ap length recent;
-      kept = subst (λ (s : List Bool). IsWithin s c.touches.new.pages) recent c.touches.ensures.kept;
-      few = subst (λ (s : List Bool). size_of c.touches.new.pages ≤ size_of s + most_pages
-          m.contents c.args.command.now) recent c.touches.ensures.few;
+      adds = record {
+        most = record {
+          older = ap (λ (s : PagedCheckpoint). s.older) c.self.view_is;
+          size = c.touches.ensures.length ∙ ap length recent;
+          kept = subst (λ (s : List Bool). IsWithin s c.touches.new.pages) recent c.touches.ensures.kept;
+          few = subst (λ (s : List Bool). size_of c.touches.new.pages ≤ size_of s + most_pages
+              m.contents c.args.command.now) recent c.touches.ensures.few;
+        };
+        own = own_of m c.args.command.now c.touches.new.pages c.touches.ensures.covers;
+        block = subst (λ (s : List Bool). IsOfBlock m.contents c.args.command.now s c.touches.new.pages) recent
+            c.touches.ensures.block;
+        alone = subst (λ (s : List Bool). IsAlone m.contents c.args.command.now s c.touches.new.pages) recent
+            c.touches.ensures.alone;
+      };
       others = c.touches.ensures.others;
       copied = λ page lt among fresh there. let it = subst (λ (l : List ℕ). Contains l page) none among in absurd
           (omega (arith, it.1));

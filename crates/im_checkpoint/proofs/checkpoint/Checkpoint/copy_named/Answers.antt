@@ -4,14 +4,16 @@ use Rattle.std.specs.List.{Contains}
 use Rattle.std.proofs.lemmas.List.{length-replicate}
 use Rattle.im_types.specs.Layout.{layout_in_use, area_pages}
 use Rattle.im_types.specs.Header.{Header}
-use Rattle.im_memory.specs.Covering.{most_pages}
-use Rattle.im_pages.specs.PageSets.{has, size_of, pages_from}
+use Rattle.im_memory.specs.Covering.{most_pages, IsOfBlock, IsAlone}
+use Rattle.im_pages.specs.PageSets.{has, size_of, union, pages_from}
 use Rattle.im_pages.proofs.SetLemmas.{length-union, listed}
 use Rattle.im_image.specs.Headers.{seen}
 use Rattle.im_image.specs.Encoding.{IsAreaPage}
 use Rattle.im_checkpoint.specs.Copied.{copy_of}
-use Rattle.im_checkpoint.specs.Step.{PagedCheckpoint, left_in}
-use Rattle.im_checkpoint.proofs.Copying.{within_union, out_of_union, new_in_union, size_union, size_none}
+use Rattle.im_checkpoint.specs.Step.{PagedCheckpoint, Changed, changed_in, left_in}
+use Rattle.im_checkpoint.specs.Turns.{AddsPages}
+use Rattle.im_checkpoint.proofs.Adding.{adds_named}
+use Rattle.im_checkpoint.proofs.Copying.{out_of_union, new_in_union}
 use Rattle.im_checkpoint.proofs.PageLists.{header_is, step_left}
 use Rattle.im_checkpoint.proofs.checkpoint.Checkpoint.copy_named.Goals as goal
 
@@ -49,22 +51,29 @@ returns c =
     ≡ c.args.self.now.state.header = header_is c.args.self.now (seen e.header) e.step e.count
     (pages_from e.next e.left) e.recent e.older e.copies c.self.view_is in
     let recent : e.recent ≡ c.args.self.now.recent = ap (λ (s : PagedCheckpoint). s.recent) c.self.view_is in
-    let few : size_of c.touches.new.pages ≤ 0 + most_pages m.contents c.args.command.now =
-    subst (λ (n : ℕ). size_of c.touches.new.pages ≤ n + most_pages m.contents c.args.command.now)
-    (size_none (length e.named))
-    (subst (λ (s : List Bool). size_of c.touches.new.pages ≤ size_of s + most_pages m.contents c.args.command.now)
-    c.clear.ensures c.touches.ensures.few) in
+    let none : c.clear.new.self ≡ replicate (length e.recent) false = c.clear.ensures
+    ∙ ap (λ (n : ℕ). replicate n false) (c.self.invariant.named_size ∙ sym c.self.invariant.recent_size) in
+    let adds : AddsPages m.contents c.args.command.now (record { recent = e.recent; older = e.older })
+    (record { recent = union e.recent c.touches.new.pages; older = e.older }) =
+    adds_named m c.args.command.now e.recent named e.older (c.touches.ensures.length ∙ ap length none) same
+    c.touches.ensures.covers
+    (subst (λ (s : List Bool). size_of named ≤ size_of s + most_pages m.contents c.args.command.now) none
+    c.touches.ensures.few)
+    (subst (λ (s : List Bool). IsOfBlock m.contents c.args.command.now s named) none
+    c.touches.ensures.block)
+    (subst (λ (s : List Bool). IsAlone m.contents c.args.command.now s named) none
+    c.touches.ensures.alone) in
     let left : left_in c.args.self.now.state.step
     ≡ pages_from e.next e.left = ap left_in
     (step_left c.args.self.now (seen e.header) e.step e.count
     (pages_from e.next e.left) e.recent e.older e.copies c.self.view_is c.requires.step) in
     record {
       state = ap (λ (s : PagedCheckpoint). s.state) c.self.view_is;
-      older = ap (λ (s : PagedCheckpoint). s.older) c.self.view_is;
-      size = ap length c.union_with.ensures ∙ length-union e.recent named ∙ ap length recent;
-      kept = λ page there. ap (λ (s : List Bool). has s page) c.union_with.ensures
-          ∙ within_union e.recent named same page (ap (λ (s : List Bool). has s page) recent ∙ there);
-      few = omega (arith, ap size_of c.union_with.ensures, size_union e.recent named, few, ap size_of recent);
+      adds = subst (λ (s : List Bool). AddsPages m.contents c.args.command.now (changed_in c.args.self.now)
+          (record { recent = s; older = e.older })) (sym c.union_with.ensures)
+          (subst (λ (s : Changed). AddsPages m.contents c.args.command.now s
+          (record { recent = union e.recent c.touches.new.pages; older = e.older }))
+          (ap (λ (s : PagedCheckpoint). changed_in s) c.self.view_is) adds);
       others = λ after changes page out. c.touches.ensures.others after changes page
           (out_of_union e.recent named same page (sym (ap (λ (s : List Bool). has s page) c.union_with.ensures) ∙ out));
       copied = λ page lt among fresh there.

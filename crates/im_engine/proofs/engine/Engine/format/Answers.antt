@@ -1,10 +1,12 @@
-use Rattle.std.proofs.Common.{◌≡◌, ◌∙◌, sym, subst}
+use Rattle.std.proofs.Common.{◌≡◌, true, ◌∙◌, sym, ap, subst}
 use Rattle.im_types.specs.Layout.{sizes_of}
 use Rattle.im_disk.specs.Since.{LeavesNow}
 use Rattle.im_disk.proofs.SinceLemmas.{left_settled}
-use Rattle.im_image.specs.Fresh.{new_image}
-use Rattle.im_engine.specs.State.{EngineState}
-use Rattle.im_engine.proofs.Making.{fresh_fits, fresh_kept}
+use Rattle.im_journal.specs.Holding.{JournalState}
+use Rattle.im_checkpoint.specs.Step.{CheckpointState}
+use Rattle.im_image.specs.Fresh.{new_header, new_image}
+use Rattle.im_engine.specs.State.{EngineState, IsNewImage}
+use Rattle.im_engine.proofs.Making.{first_pages, fresh_fits, fresh_kept}
 use Rattle.im_engine.proofs.engine.Engine.format.Goals as goal
 
 pub started-requires-clause-fits : goal.started-requires-clause-fits
@@ -23,3 +25,16 @@ returns-in-Ok-clause-image g c =
     (sym c.started.ensures.state)
     (λ h file left. left_settled (g.D.Disk.now c.lay_down.new.disk) file (c.in-Ok.ensures.calm h) left
     ∙ c.in-Ok.ensures.written h)
+
+pub returns-in-Ok-clause-empty : goal.returns-in-Ok-clause-empty
+returns-in-Ok-clause-empty g c =
+    let idle = c.in-Ok.ensures.idle in
+    let fresh = c.fresh.ensures.state in
+    subst (λ (s : EngineState g.row.D.Denot). IsNewImage c.args.limits s) (sym c.started.ensures.state) (
+      c.in-Ok.ensures.empty.0,
+      ap (λ (j : JournalState). j.count) fresh,
+      ap (λ (j : JournalState). j.room) fresh,
+      ap (λ (s : CheckpointState). s.header) idle.state,
+      ap (λ (s : CheckpointState). s.step) idle.state,
+      first_pages c.in-Ok.checkpoint (new_header (sizes_of c.args.limits)) true idle,
+    )

@@ -1,11 +1,13 @@
-use Rattle.std.proofs.Common.{◌≡◌, Ok, sym, subst}
+use Rattle.std.proofs.Common.{◌≡◌, false, Ok, sym, ap, subst}
 use Rattle.im_types.specs.Layout.{layout_in_use}
 use Rattle.im_types.specs.Header.{header_of}
 use Rattle.im_types.specs.Meaning.{Reads}
 use Rattle.im_disk.specs.Since.{LeavesNow}
-use Rattle.im_checkpoint.specs.Step.{CheckpointState}
+use Rattle.im_checkpoint.specs.Step.{NoCheckpoint, CheckpointState}
 use Rattle.im_checkpoint.specs.Keeping.{paged, IsKept}
-use Rattle.im_engine.specs.State.{EngineState, IsFound}
+use Rattle.im_image.specs.Headers.{seen}
+use Rattle.im_engine.specs.State.{EngineState, IsFound, pages_at_first}
+use Rattle.im_engine.proofs.Making.{first_pages}
 use Rattle.im_engine.proofs.engine.Engine.open.Goals as goal
 
 pub returns-in-Ok-idle-clause-found : goal.returns-in-Ok-idle-clause-found
@@ -25,3 +27,12 @@ started-requires-clause-kept g c = λ h.
     subst (λ (s : CheckpointState). IsKept s (paged c.in-Ok-idle.checkpoint i.memory) i.memory.contents i.journal
     (g.D.Disk.now c.read_synced.new.disk)) (sym idle.state)
     (c.in-Ok.ensures.kept h (paged c.in-Ok-idle.checkpoint i.memory) idle.recent)
+
+pub returns-in-Ok-idle-clause-idle : goal.returns-in-Ok-idle-clause-idle
+returns-in-Ok-idle-clause-idle g c =
+    let idle = c.in-Ok-idle.ensures.idle in
+    subst (λ (s : EngineState g.row.D.Denot). (s.step ≡ NoCheckpoint) × (s.pages ≡ pages_at_first s.header false))
+    (sym c.started.ensures.state) (
+      ap (λ (s : CheckpointState). s.step) idle.state,
+      first_pages c.in-Ok-idle.checkpoint (seen c.in-Ok.image.header) false idle,
+    )

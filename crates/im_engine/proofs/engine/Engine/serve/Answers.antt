@@ -2,6 +2,7 @@ use Rattle.std.proofs.Common.{◌≡◌, true, false, Ok, inl, sym, ◌∙◌, a
 use Rattle.im_disk.specs.Since.{LeavesNow, CallsBy}
 use Rattle.im_memory.specs.State.{MemoryState}
 use Rattle.im_types.specs.Step.{step, is_accepted}
+use Rattle.im_checkpoint.specs.Step.{changed_in}
 use Rattle.im_checkpoint.specs.Keeping.{paged, Fits, IsKept}
 use Rattle.im_engine.specs.State.{EngineState, MeansState, MeansEither}
 use Rattle.im_engine.specs.Run.{calls_for}
@@ -99,4 +100,4 @@ returns-in-Ok-false-clause-answered g c =
     (c.step.ensures.answer
     ∙ ap (λ (s : EngineState g.row.D.Denot). (step s.memory c.args.command.now).answer) c.self.view_is)
     (ap (λ (m : MemoryState).
-    (let s : EngineState g.row.D.Denot = record { disk = e.disk; header = e.checkpoint.state.header; step = e.checkpoint.state.step; memory = m.contents; count = e.journal.count; room = e.journal.room; failed = e.failed } in s)) same ∙ c.self.view_is)
+    (let s : EngineState g.row.D.Denot = record { disk = e.disk; header = e.checkpoint.state.header; step = e.checkpoint.state.step; pages = changed_in e.checkpoint; memory = m.contents; count = e.journal.count; room = e.journal.room; failed = e.failed } in s)) same ∙ c.self.view_is)

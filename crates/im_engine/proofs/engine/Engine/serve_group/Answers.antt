@@ -4,10 +4,10 @@ use Rattle.im_types.specs.Groups.{reached_by_all}
 use Rattle.im_disk.specs.Since.{Leaves, LeavesNow}
 use Rattle.im_disk.proofs.SinceLemmas.{only_weaker}
 use Rattle.im_checkpoint.specs.Keeping.{paged, IsKept}
-use Rattle.im_engine.specs.State.{EngineState}
+use Rattle.im_engine.specs.State.{EngineState, engine_of}
 use Rattle.im_engine.specs.Groups.{reached_in, group_put, calls_for_group, MeansGroup, GroupAnswered, GroupCalls}
 use Rattle.im_engine.proofs.Keeping.{all_mean, all_hold}
-use Rattle.im_engine.proofs.Together.{engine_of, room_for, last_for, accepts, means_group, reached_is, group_done}
+use Rattle.im_engine.proofs.Together.{room_for, last_for, accepts, means_group, reached_is, group_done}
 use Rattle.im_engine.proofs.Together.{group_failed, calls_done, calls_failed, fits_group}
 use Rattle.im_engine.proofs.engine.Engine.serve_group.Goals as goal
 
@@ -90,14 +90,14 @@ returns-in-Err-clause-doubt g c = λ h f.
 pub invariant_of-self-2 : goal.invariant_of-self-2
 invariant_of-self-2 g c =
     let e = c.self.inside in (
-      fits_group e.checkpoint.state c.act_all.new.checkpoint.state e.memory.contents c.act_all.new.memory.contents e.journal c.put_on.new.journal (length c.as_slice.result.now) c.self.invariant.0 c.act_all.ensures.state c.act_all.ensures.sizes c.in_default.ensures.state,
+      fits_group e.checkpoint.state c.act_all.new.checkpoint.state e.memory.contents c.act_all.new.memory.contents e.journal c.put_on.new.journal (length c.as_slice.result.now) c.self.invariant.0 c.act_all.ensures.stays.state c.act_all.ensures.sizes c.in_default.ensures.state,
       λ h f. subst (λ (n : Contents). IsKept c.act_all.new.checkpoint.state
           (paged c.act_all.new.checkpoint c.act_all.new.memory) n c.put_on.new.journal
           (g.D.Disk.now c.put_on.new.disk))
           (sym (reached_is e.disk e.checkpoint e.memory e.journal e.failed c.args.members.now.items c.as_slice-members.result.now c.as_slice-members.ensures.value c.requires.apart c.places_in-places.result c.places_in-places.ensures.places c.places_in-places.ensures.known
           c.as_slice.result.now
           (c.as_slice.ensures.value
-          ∙ c.commands_of.ensures) c.if-self.false c.put_on.new.disk c.act_all.new.checkpoint c.act_all.new.memory c.put_on.new.journal c.in_default.ensures.state (λ none. (c.put_on.ensures.calls.none none).1) c.act_all.ensures.state c.act_all.ensures.contents
+          ∙ c.commands_of.ensures) c.if-self.false c.put_on.new.disk c.act_all.new.checkpoint c.act_all.new.memory c.put_on.new.journal c.in_default.ensures.state (λ none. (c.put_on.ensures.calls.none none).1) c.act_all.ensures.stays.state c.act_all.ensures.contents
           c.act_all.new.served.items c.act_all.ensures.answers))
           (c.act_all.ensures.kept
           (reached_by_all
@@ -120,8 +120,8 @@ returns-clause-answered g c =
     (group_done e.disk e.checkpoint e.memory e.journal e.failed c.args.members.now.items c.as_slice-members.result.now c.as_slice-members.ensures.value c.requires.apart c.places_in-places.result c.places_in-places.ensures.places c.places_in-places.ensures.known
     c.as_slice.result.now
     (c.as_slice.ensures.value
-    ∙ c.commands_of.ensures) c.if-self.false c.put_on.new.disk c.act_all.new.checkpoint c.act_all.new.memory c.put_on.new.journal c.in_default.ensures.state (λ none. (c.put_on.ensures.calls.none none).1) c.act_all.ensures.state c.act_all.ensures.contents
-    c.act_all.new.served.items c.act_all.ensures.answers)
+    ∙ c.commands_of.ensures) c.if-self.false c.put_on.new.disk c.act_all.new.checkpoint c.act_all.new.memory c.put_on.new.journal c.in_default.ensures.state (λ none. (c.put_on.ensures.calls.none none).1) c.act_all.ensures.stays.state c.act_all.ensures.contents
+    c.act_all.new.served.items c.act_all.ensures.answers c.act_all.ensures.stays.pages)
 
 pub returns-clause-calls : goal.returns-clause-calls
 returns-clause-calls g c = λ h.
@@ -178,7 +178,7 @@ returns-clause-means g c = λ h f.
     (sym (reached_is e.disk e.checkpoint e.memory e.journal e.failed c.args.members.now.items c.as_slice-members.result.now c.as_slice-members.ensures.value c.requires.apart c.places_in-places.result c.places_in-places.ensures.places c.places_in-places.ensures.known
     c.as_slice.result.now
     (c.as_slice.ensures.value
-    ∙ c.commands_of.ensures) c.if-self.false c.put_on.new.disk c.act_all.new.checkpoint c.act_all.new.memory c.put_on.new.journal c.in_default.ensures.state (λ none. (c.put_on.ensures.calls.none none).1) c.act_all.ensures.state c.act_all.ensures.contents
+    ∙ c.commands_of.ensures) c.if-self.false c.put_on.new.disk c.act_all.new.checkpoint c.act_all.new.memory c.put_on.new.journal c.in_default.ensures.state (λ none. (c.put_on.ensures.calls.none none).1) c.act_all.ensures.stays.state c.act_all.ensures.contents
     c.act_all.new.served.items c.act_all.ensures.answers))
     (c.act_all.ensures.kept
     (reached_by_all (reached_in

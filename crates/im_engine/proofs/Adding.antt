@@ -1,0 +1,88 @@
+-- The pages that the members of a group add to those that changed.
+use Rattle.std.proofs.Common.{◌≡◌, ℕ, ◌+◌, ◌<◌, ◌≤◌, Bool, true, false, List, [], ◌∷◌, ◌++◌, length, drop, get_or}
+use Rattle.std.proofs.Common.{suc, true≢false, refl, sym, ◌∙◌, ap, arith, if◌then◌else◌}
+use Rattle.std.proofs.Math.Seq.{drop-cons}
+use Rattle.im_types.specs.declared.commands.Request.{Request}
+use Rattle.im_types.specs.declared.commands.Command.TheVariants.{Request as Asks}
+use Rattle.im_types.specs.Contents.{Contents}
+use Rattle.im_types.specs.Meaning.{Reached}
+use Rattle.im_types.specs.Groups.{is_put, reached_by_one, puts_of}
+use Rattle.im_pages.specs.PageSets.{size_of, IsWithin}
+use Rattle.im_memory.specs.Covering.{most_pages}
+use Rattle.im_checkpoint.specs.Step.{Changed}
+use Rattle.im_checkpoint.specs.Turns.{AddsAtMost}
+use Rattle.im_engine.specs.Groups.{contents_with, left_with, most_pages_in, most_pages_at, most_pages_with}
+
+-- ---- nothing is added
+
+size_within : (old new : List Bool) → length new ≡ length old → IsWithin old new → size_of old ≤ size_of new
+size_within [] new same within = omega arith
+size_within (b ∷ old) [] same within = absurd (omega (arith, same))
+size_within (true ∷ old) (true ∷ new) same within =
+    let rest = size_within old new (omega (arith, same)) (λ page there. within (suc page) there) in omega (arith, rest)
+size_within (true ∷ old) (false ∷ new) same within = absurd (true≢false (sym (within 0 refl)))
+size_within (false ∷ old) (true ∷ new) same within =
+    let rest = size_within old new (omega (arith, same)) (λ page there. within (suc page) there) in omega (arith, rest)
+size_within (false ∷ old) (false ∷ new) same within =
+    size_within old new (omega (arith, same)) (λ page there. within (suc page) there)
+
+same_set : (old new : List Bool) → length new ≡ length old → IsWithin old new → size_of new ≤ size_of old → new ≡ old
+same_set [] [] same within few = refl
+same_set [] (c ∷ new) same within few = absurd (omega (arith, same))
+same_set (b ∷ old) [] same within few = absurd (omega (arith, same))
+same_set (true ∷ old) (true ∷ new) same within few = ap (λ (l : List Bool). true ∷ l)
+    (same_set old new (omega (arith, same)) (λ page there. within (suc page) there) (omega (arith, few)))
+same_set (true ∷ old) (false ∷ new) same within few = absurd (true≢false (sym (within 0 refl)))
+same_set (false ∷ old) (true ∷ new) same within few =
+    let rest = size_within old new (omega (arith, same)) (λ page there. within (suc page) there) in
+    absurd (omega (arith, rest, few))
+same_set (false ∷ old) (false ∷ new) same within few = ap (λ (l : List Bool). false ∷ l)
+    (same_set old new (omega (arith, same)) (λ page there. within (suc page) there) few)
+
+pub unchanged : (old new : Changed) → AddsAtMost 0 old new → new ≡ old
+unchanged old new it =
+    let recent : new.recent ≡ old.recent = same_set old.recent new.recent it.size it.kept (omega (arith, it.few)) in
+    (λ i. record { recent = recent i; older = it.older i })
+
+-- where no command is put, no page is named
+pub none_named : (s : Reached) (rs : List Request) → puts_of s rs ≡ [] → most_pages_in s rs ≡ 0
+none_named s [] none = refl
+none_named s (r ∷ rs) none = by_test (is_put s r) none (none_named (reached_by_one s r) rs)
+  where
+    by_test : (b : Bool) → (if b then Asks r ∷ [] else []) ++ puts_of (reached_by_one s r) rs ≡ []
+        → (puts_of (reached_by_one s r) rs ≡ [] → most_pages_in (reached_by_one s r) rs ≡ 0)
+        → (if b then most_pages s.contents (Asks r) else 0) + most_pages_in (reached_by_one s r) rs ≡ 0
+    by_test true some rest = absurd (cc)
+    by_test false none rest = omega (arith, rest none)
+
+-- ---- the members so far, of whom so many pages are still to come at most
+
+pub record AddsSoFar (left all : ℕ) (old new : Changed) : Type 0 where
+  pub older : new.older ≡ old.older
+  pub size : length new.recent ≡ length old.recent
+  pub kept : IsWithin old.recent new.recent
+  pub few : size_of new.recent + left ≤ size_of old.recent + all
+
+-- one member more
+pub adds_next : (m : Contents) (left : ℕ) (rs : List Request) (i : ℕ) (d : Request) (m2 : Contents) (left2 all : ℕ)
+    (old mid new : Changed) → i < length rs
+    → m2 ≡ contents_with m left (get_or rs i d) → left2 ≡ left_with m left (get_or rs i d)
+    → AddsSoFar (most_pages_with m left (drop i rs)) all old mid
+    → AddsAtMost (most_pages_at m left (get_or rs i d)) mid new
+    → AddsSoFar (most_pages_with m2 left2 (drop (i + 1) rs)) all old new
+adds_next m left rs i d m2 left2 all old mid new within contents less it more = record {
+  older = more.older ∙ it.older;
+  size = more.size ∙ it.size;
+  kept = λ page there. more.kept page (it.kept page there);
+  few = omega (arith, it.few, more.few, parts);
+}
+  where
+    parts : most_pages_with m left (drop i rs)
+        ≡ most_pages_at m left (get_or rs i d) + most_pages_with m2 left2 (drop (i + 1) rs)
+    parts =
+        let next : suc i ≡ i + 1 = omega arith in
+        ap (λ (l : List Request). most_pages_with m left l) (drop-cons rs i d within)
+        ∙ ap (λ (n : ℕ). most_pages_with m left (get_or rs i d ∷ drop n rs)) next
+        ∙ ap (λ (n : Contents). most_pages_at m left (get_or rs i d)
+        + most_pages_with n (left_with m left (get_or rs i d)) (drop (i + 1) rs)) (sym contents)
+        ∙ ap (λ (n : ℕ). most_pages_at m left (get_or rs i d) + most_pages_with m2 n (drop (i + 1) rs)) (sym less)

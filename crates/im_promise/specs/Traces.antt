@@ -1,0 +1,47 @@
+-- A request in a trace. (Own.)
+use Rattle.std.specs.Prelude.{◌≡◌, List, ◌∷◌, ◌++◌, true, Result, Ok}
+use Rattle.im_types.specs.declared.operations.Entry.{Entry}
+use Rattle.im_types.specs.declared.commands.Request.{Request}
+use Rattle.im_types.specs.declared.commands.Command.TheVariants.{Request as Asks}
+use Rattle.im_types.specs.declared.commands.Outcome.{Outcome}
+use Rattle.im_types.specs.declared.commands.Outcome.TheVariants.{Entry as Tells}
+use Rattle.im_types.specs.declared.commands.Call.TheVariants.{Command as Commands}
+use Rattle.im_types.specs.declared.commands.Line.{Line}
+use Rattle.im_types.specs.declared.refusals.Refusal.{Refusal}
+use Rattle.im_types.specs.Contents.{Contents}
+use Rattle.im_types.specs.Agreement.{WaitingAgrees}
+use Rattle.im_types.specs.Step.{asker, is_accepted}
+use Rattle.im_types.specs.Trace.{IsLegal, end_of}
+
+-- the line in which a request is answered so
+abbrev pub line_answering : Request → Result Outcome Refusal → Line
+line_answering r answer = record { call = Commands (Asks r); answer = answer }
+
+-- the line in which it is told this entry
+abbrev pub line_telling : Request → Entry → Line
+line_telling r entry = line_answering r (Ok (Tells entry))
+
+-- the one line stands in a trace, and the other one somewhere behind it
+pub record StandBehind (trace : List Line) (one other : Line) : Type 0 where
+  pub earlier : List Line
+  pub between : List Line
+  pub later : List Line
+  pub is : trace ≡ earlier ++ (one ∷ (between ++ (other ∷ later)))
+
+-- the memory at the later line
+abbrev pub at_other : Contents → {trace : List Line} → {one other : Line} → StandBehind trace one other → Contents
+at_other m {trace} {one} {other} it = end_of m (it.earlier ++ (one ∷ it.between))
+
+-- a legal trace tells a request one entry, and behind it another
+pub record ToldTwice (m : Contents) (trace : List Line) (r : Request) (first second : Entry) : Type 0 where
+  pub agrees : WaitingAgrees m
+  pub legal : IsLegal m trace
+  pub stand : StandBehind trace (line_telling r first) (line_telling r second)
+
+-- two requests under one number stand in a trace, and the first one was accepted there
+pub record AskTwice (m : Contents) (trace : List Line) (r again : Request) : Type 0 where
+  pub answer : Result Outcome Refusal
+  pub other : Result Outcome Refusal
+  pub stand : StandBehind trace (line_answering r answer) (line_answering again other)
+  pub same : asker again ≡ asker r
+  pub accepted : is_accepted (end_of m stand.earlier) (Asks r) ≡ true

@@ -1,0 +1,35 @@
+//! A law of traces: the contract of a function that does nothing.
+ghost use Rattle.std.specs.Prelude.{◌≡◌, false, List};
+ghost use Rattle.im_types.specs.declared.operations.Entry.{Entry};
+ghost use Rattle.im_types.specs.declared.commands.Request.{Request};
+ghost use Rattle.im_types.specs.declared.commands.Command.TheVariants.{Request as Asks};
+ghost use Rattle.im_types.specs.declared.commands.Line.{Line};
+ghost use Rattle.im_types.specs.Contents.{Contents};
+ghost use Rattle.im_types.specs.Step.{is_accepted};
+ghost use Rattle.im_laws.specs.Entries.{IsSameOrAnswer};
+ghost use Rattle.im_promise.specs.Traces.{ToldTwice, AskTwice, at_other};
+
+use im_laws::{
+    accepted_where_changed, forgotten_for_ever, number_acts_once, repeat_is_told_again,
+    trace_is_a_run, traces_join, waiting_agrees,
+};
+
+/// A request that two lines of a legal trace tell an entry is told alike: the later line has the entry of the earlier
+/// one, or the answer that has come since, and the request isn't accepted there. Of two requests under one number the
+/// later one isn't accepted where the earlier one was: a number acts once.
+pub fn traces_tell_a_request_alike()
+    ensures alike { (m : Contents) (trace : List Line) (r : Request) (first second : Entry)
+        → ToldTwice m trace r first second → IsSameOrAnswer first second }
+    ensures still { (m : Contents) (trace : List Line) (r : Request) (first second : Entry)
+        → (it : ToldTwice m trace r first second) → is_accepted (at_other m it.stand) (Asks r) ≡ false }
+    ensures once { (m : Contents) (trace : List Line) (r again : Request)
+        → (it : AskTwice m trace r again) → is_accepted (at_other m it.stand) (Asks again) ≡ false }
+{
+    accepted_where_changed();
+    forgotten_for_ever();
+    number_acts_once();
+    repeat_is_told_again();
+    trace_is_a_run();
+    traces_join();
+    waiting_agrees();
+}
