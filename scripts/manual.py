@@ -186,7 +186,7 @@ def of_markdown(text):
             continue
         for block in re.split(r"\n\n+", part.strip("\n")):
             lines = block.splitlines()
-            if not lines:
+            if not lines or block.startswith("!["):  # A picture, whose words stand in the text.
                 continue
             if found := re.match(r"^(#+) (.*)", block):
                 yield f".SH {spoken(found[2].upper())}" if len(found[1]) == 2 else f".SS {spoken(found[2])}"

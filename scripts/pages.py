@@ -25,7 +25,7 @@ def sentences(text):
 
 
 def faults():
-    for path in sorted([*TOP.glob("*.md"), *TOP.glob("docs/*.md")]):
+    for path in sorted([*TOP.glob("*.md"), *TOP.glob("docs/*.md"), *TOP.glob("models/*.md")]):
         name, text = str(path.relative_to(TOP)), path.read_text()
         if len(text.encode()) > 1000 * LARGEST and name not in LARGE:
             yield f"{name}: {len(text.encode()) // 1000} KB, at most {LARGEST}"
