@@ -1,7 +1,7 @@
 -- A new image, as far as it is laid down behind the closed gate of its header. (Own.)
 use Rattle.std.specs.Prelude.{◌≡◌, ◌≢◌, ◌⊎◌, ℕ, ◌+◌, ◌*◌, ◌<◌, ◌≤◌, List, length, slice_index}
 use Rattle.im_types.specs.Bytes.{open_gate}
-use Rattle.im_types.specs.Layout.{Sizes, layout_in_use, image_length, journal_at, record_at, page_bytes}
+use Rattle.im_types.specs.Layout.{Sizes, layout_in_use, image_length, area_pages, journal_at, record_at, page_bytes}
 use Rattle.im_types.specs.Pages.{Records}
 use Rattle.im_disk.specs.Moment.{Moment}
 use Rattle.im_disk.specs.Since.{LeavesNow, LeavesOnly}
@@ -26,12 +26,17 @@ AreCleared pages size file = (i : ℕ) → 1 ≤ i → i < 4096 * pages → i < 
 abbrev pub StaysBlank : {D : Type 0} → (D → Moment) → (D → List Moment) → D → D → Type 0
 StaysBlank now past old new = LeavesNow (now old) IsBlank → LeavesOnly now past old new IsBlank
 
--- In a file of the length of an image so many pages of records stand in the first area, which begins behind two pages, and
--- so many gates of the journal's slots are closed.
+-- In a file of the length of an image so many pages of records stand in the first area, which begins behind two pages,
+-- and so many gates of the journal's slots are closed.
 pub record IsLaid (s : Sizes) (r : Records) (pages slots : ℕ) (file : List ℕ) : Type 0 where
   pub size : length file ≡ image_length layout_in_use s
   pub paged : (i : ℕ) → i < pages → IsAreaPage s r i (record_at page_bytes file (2 + i))
   pub closed : (i : ℕ) → i < slots → slice_index file (journal_at layout_in_use s + 64 * i) ≢ open_gate
+
+-- where all pages of an area stand in the one file, they stand in the other, and so many gates of slots are closed
+abbrev pub ClosesSlots : Sizes → ℕ → List ℕ → List ℕ → Type 0
+ClosesSlots s slots old new = (r : Records) → IsLaid s r (area_pages layout_in_use s) 0 old
+    → IsLaid s r (area_pages layout_in_use s) slots new
 
 -- the file means what was read of an image
 abbrev pub IsMoved : Image → List ℕ → Type 0

@@ -4,13 +4,13 @@ ghost use Rattle.im_types.specs.declared.TheConstants.{LAST};
 ghost use Rattle.im_types.specs.Header.{header_body};
 ghost use Rattle.im_types.specs.Layout as layout;
 ghost use Rattle.im_types.specs.Layout.{layout_in_use, sizes_of};
-ghost use Rattle.im_types.specs.Pages.{Records};
-ghost use Rattle.im_disk.specs.Moment.{Counts, overlaid};
+ghost use Rattle.im_disk.specs.Moment.{overlaid};
 ghost use Rattle.im_disk.specs.Since.{LeavesNow, LeavesOnly};
+ghost use Rattle.im_disk.specs.Runs.{Obeys};
 ghost use Rattle.im_image.specs.Headers.{seen};
 ghost use Rattle.im_image.specs.Reading.{HasSizes};
 ghost use Rattle.im_migration.specs.Migration.{IsBlank, IsLaidDown, moved_header};
-ghost use Rattle.im_migration.specs.Laying.{AreCleared, IsBeside, IsCleared, IsLaid, StaysBlank};
+ghost use Rattle.im_migration.specs.Laying.{AreCleared, ClosesSlots, IsBeside, IsCleared, IsLaid, StaysBlank};
 
 use crate::follower::Follower;
 use im_disk::{DeviceFault, Disk, open_gate};
@@ -23,11 +23,9 @@ use im_types::layout::{CLOSED, PAGE, SLOT, area_at, area_pages, image_length, jo
 fn write_beside<N: Disk>(new: &mut N, at: usize, bytes: &[u8]) -> Result<(), DeviceFault>
     requires beside { IsBeside at (length bytes.now) }
     requires inside { N.honest new.old → at + length bytes.now ≤ length (N.now new.old).bytes }
-    ensures blank { N.honest new.new → StaysBlank N.now N.past new.old new.new }
     ensures written { OnOk result (N.honest new.new
         → (N.now new.new).bytes ≡ overlaid (N.now new.old).bytes at bytes.now) }
-    ensures honest { N.honest new.new → N.honest new.old }
-    ensures failures { Counts result (N.failures new.old) (N.failures new.new) }
+    ensures runs { Obeys N.Disk new.old new.new result (StaysBlank N.now N.past new.old new.new) }
 {
     new.write_at(at, bytes) // Where both gates were closed a stop leaves them so: they aren't in the range.
 }
@@ -61,9 +59,7 @@ fn clear_page<N: Disk>(new: &mut N, page: usize, whole: usize) -> Result<(), Dev
     ensures cleared { OnOk result (N.honest new.new → AreCleared page whole (N.now new.old).bytes
         → AreCleared (page + 1) whole (N.now new.new).bytes) }
     ensures size { OnOk result (N.honest new.new → length (N.now new.new).bytes ≡ whole) }
-    ensures blank { N.honest new.new → StaysBlank N.now N.past new.old new.new }
-    ensures honest { N.honest new.new → N.honest new.old }
-    ensures failures { Counts result (N.failures new.old) (N.failures new.new) }
+    ensures runs { Obeys N.Disk new.old new.new result (StaysBlank N.now N.past new.old new.new) }
 {
     let (from, end) = piece(page, whole);
     let zeros = [0; PAGE];
@@ -79,9 +75,7 @@ fn clear<N: Disk>(new: &mut N, limits: Limits) -> Result<(), DeviceFault>
         → IsCleared (layout.image_length layout_in_use (sizes_of limits)) (N.now new.new).bytes) }
     ensures size { OnOk result (N.honest new.new
         → length (N.now new.new).bytes ≡ layout.image_length layout_in_use (sizes_of limits)) }
-    ensures blank { N.honest new.new → StaysBlank N.now N.past new.old new.new }
-    ensures honest { N.honest new.new → N.honest new.old }
-    ensures failures { Counts result (N.failures new.old) (N.failures new.new) }
+    ensures runs { Obeys N.Disk new.old new.new result (StaysBlank N.now N.past new.old new.new) }
 {
     let whole = image_length(limits);
     let mut page = 0;
@@ -107,15 +101,14 @@ fn write_pages<N: Disk, F: Follower>(
     ensures laid { OnOk result (N.honest new.new
         → IsLaid (sizes_of limits) memory.now.records (layout.area_pages layout_in_use (sizes_of limits)) 0
         (N.now new.new).bytes) }
-    ensures blank { N.honest new.new → StaysBlank N.now N.past new.old new.new }
-    ensures honest { N.honest new.new → N.honest new.old }
-    ensures failures { Counts result (N.failures new.old) (N.failures new.new) }
+    ensures runs { Obeys N.Disk new.old new.new result (StaysBlank N.now N.past new.old new.new) }
 {
     let mut page = [0; PAGE];
     for i in 0..area_pages(limits) {
         tell(follower, limits, i, 0);
         encode_page(memory, limits, i, &mut page);
-        write_beside(new, area_at(limits, 0) + PAGE * i, &page)?; // No header is open, whatever a stop leaves of the page.
+        // No header is open, whatever a stop leaves of the page.
+        write_beside(new, area_at(limits, 0) + PAGE * i, &page)?;
     }
     Ok(())
 }
@@ -128,15 +121,11 @@ fn close_slots<N: Disk, F: Follower>(
 ) -> Result<(), DeviceFault>
     requires size { N.honest new.old
         → length (N.now new.old).bytes ≡ layout.image_length layout_in_use (sizes_of limits) }
-    ensures laid { OnOk result (N.honest new.new → (r : Records)
-        → IsLaid (sizes_of limits) r (layout.area_pages layout_in_use (sizes_of limits)) 0 (N.now new.old).bytes
-        → IsLaid (sizes_of limits) r (layout.area_pages layout_in_use (sizes_of limits)) limits.slots
-        (N.now new.new).bytes) }
+    ensures laid { OnOk result (N.honest new.new
+        → ClosesSlots (sizes_of limits) limits.slots (N.now new.old).bytes (N.now new.new).bytes) }
     ensures size { OnOk result (N.honest new.new
         → length (N.now new.new).bytes ≡ layout.image_length layout_in_use (sizes_of limits)) }
-    ensures blank { N.honest new.new → StaysBlank N.now N.past new.old new.new }
-    ensures honest { N.honest new.new → N.honest new.old }
-    ensures failures { Counts result (N.failures new.old) (N.failures new.new) }
+    ensures runs { Obeys N.Disk new.old new.new result (StaysBlank N.now N.past new.old new.new) }
 {
     let at = journal_at(limits);
     let pages = area_pages(limits);
@@ -150,11 +139,9 @@ fn close_slots<N: Disk, F: Follower>(
 // Writes a header behind its gate.
 fn write_header<N: Disk>(new: &mut N, header: &Header) -> Result<(), DeviceFault>
     requires { N.honest new.old → 64 ≤ length (N.now new.old).bytes }
-    ensures blank { N.honest new.new → StaysBlank N.now N.past new.old new.new }
     ensures written { OnOk result (N.honest new.new
         → (N.now new.new).bytes ≡ overlaid (N.now new.old).bytes 1 (header_body (seen header.now))) }
-    ensures honest { N.honest new.new → N.honest new.old }
-    ensures failures { Counts result (N.failures new.old) (N.failures new.new) }
+    ensures runs { Obeys N.Disk new.old new.new result (StaysBlank N.now N.past new.old new.new) }
 {
     let bytes = header.spell();
     write_beside(new, 1, &bytes[1..]) // The gate is closed, whatever a stop leaves behind it.
@@ -176,12 +163,10 @@ pub(crate) fn lay_down<N: Disk, F: Follower>(
     requires size { N.honest new.old
         → length (N.now new.old).bytes ≡ layout.image_length layout_in_use (sizes_of header.now.limits) }
     requires blank { N.honest new.old → LeavesNow (N.now new.old) IsBlank }
-    ensures leaves { N.honest new.new → LeavesOnly N.now N.past new.old new.new
-        (λ file. IsBlank file ⊎ IsLaidDown (seen header.now) memory.now.contents file) }
     ensures laid { OnOk result (N.honest new.new
         → LeavesNow (N.now new.new) (IsLaidDown (seen header.now) memory.now.contents)) }
-    ensures honest { N.honest new.new → N.honest new.old }
-    ensures failures { Counts result (N.failures new.old) (N.failures new.new) }
+    ensures runs { Obeys N.Disk new.old new.new result (LeavesOnly N.now N.past new.old new.new
+        (λ file. IsBlank file ⊎ IsLaidDown (seen header.now) memory.now.contents file)) }
 {
     let _records = memory.records();
     clear(new, header.limits)?; // A stop in it leaves no header open, and so in the next three.

@@ -5,12 +5,12 @@ ghost use Rattle.im_types.specs.Header.{header_of};
 ghost use Rattle.im_types.specs.Layout as layout;
 ghost use Rattle.im_types.specs.Layout.{layout_1, layout_in_use, sizes_of};
 ghost use Rattle.im_types.specs.Meaning.{Reads};
-ghost use Rattle.im_disk.specs.Moment.{Faults};
 ghost use Rattle.im_disk.specs.Since.{LeavesNow, LeavesWithin, OnlyReads};
+ghost use Rattle.im_disk.specs.Runs.{ObeysOrRefuses, ReadsOrRefuses};
 ghost use Rattle.im_image.specs.Headers.{seen, MayRefuseImage};
 ghost use Rattle.im_image.specs.Reading.{AreParts};
-ghost use Rattle.im_migration.specs.Migration.{BlankOrSame, FaultOfTwo, HasCount, IsBlank, IsNoPlace, IsPlace};
-ghost use Rattle.im_migration.specs.Migration.{IsRefused};
+ghost use Rattle.im_migration.specs.Migration.{FaultsOfTwo, HasCount, IsBlank, IsNoPlace, IsPlace, IsRefused};
+ghost use Rattle.im_migration.specs.Migration.{LeavesBlankOrSame};
 ghost use Rattle.im_migration.specs.Migration.{IsUnwritten, MayRefuseMigration, MeansSame, moved_header};
 ghost use Rattle.im_migration.specs.Laying.{IsMoved};
 
@@ -39,8 +39,6 @@ fn header_for(limits: Limits, count: u64) -> Header
 // Puts what was read of an image into a new file, and tells its count.
 fn put<N: Disk, F: Follower>(new: &mut N, image: &Image, follower: &F) -> Result<u64, Refusal>
     requires { AreParts image.now }
-    ensures leaves { N.honest new.new → LeavesWithin N.now N.past new.old new.new
-        (λ file. IsBlank file ⊎ IsMoved image.now file) }
     ensures moved { OnOk result (N.honest new.new → LeavesNow (N.now new.new) (IsMoved image.now)) }
     ensures count { IfOk result (λ n. n ≡ image.now.journal.count) }
     ensures place { OnOk result (N.honest new.new
@@ -49,9 +47,9 @@ fn put<N: Disk, F: Follower>(new: &mut N, image: &Image, follower: &F) -> Result
         ⊎ (N.honest new.new → IsNoPlace e (sizes_of image.now.header.limits) (N.now new.old).bytes)) }
     ensures unwritten { IfErr result (λ e. (e ≡ Device)
         ⊎ (N.honest new.new → IsUnwritten N.now N.past new.old new.new)) }
-    ensures honest { N.honest new.new → N.honest new.old }
-    ensures faults { Faults (λ e. (e ≡ WrongLength) ⊎ (e ≡ NotBlank) ⊎ (e ≡ Device)) result
-        (N.failures new.old) (N.failures new.new) }
+    ensures runs { ObeysOrRefuses N.Disk new.old new.new result
+        (λ e. (e ≡ WrongLength) ⊎ (e ≡ NotBlank) ⊎ (e ≡ Device))
+        (LeavesWithin N.now N.past new.old new.new (λ file. IsBlank file ⊎ IsMoved image.now file)) }
 {
     let limits = image.header.limits;
     find_place(new, limits)?;
@@ -70,10 +68,10 @@ fn put<N: Disk, F: Follower>(new: &mut N, image: &Image, follower: &F) -> Result
 /// or means what the old file means. So a migration that was stopped is begun again. Each refusal gives the new file
 /// back.
 ///
-/// - `WrongLength`, `NoHeader`, `BadHeader`, `BadPage`, `BadRecord`: the first fault of the old file by the rules of the
-///   first version. An image of the layout in use is `BadHeader`. Nothing was written.
-/// - `WrongLength` also where the new file hasn't the length of an image with the old one's limits, and `NotBlank` where,
-///   after a sync, a header in it is open. Nothing was written.
+/// - `WrongLength`, `NoHeader`, `BadHeader`, `BadPage`, `BadRecord`: the first fault of the old file by the rules of
+///   the first version. An image of the layout in use is `BadHeader`. Nothing was written.
+/// - `WrongLength` also where the new file hasn't the length of an image with the old one's limits, and `NotBlank`
+///   where, after a sync, a header in it is open. Nothing was written.
 /// - `NoMemory` where `alloc` refused the room for the memory, or for what is read. Nothing was written.
 /// - `Device` where a call of either disk failed. The new file may be written in part, and its headers are as above.
 pub fn migrate<O: Disk, N: Disk, F: Follower>(
@@ -84,10 +82,8 @@ pub fn migrate<O: Disk, N: Disk, F: Follower>(
 ) -> Result<(N, u64), (Refusal, N)>
     // Of the new file: what a stop leaves, and what is there once it is done.
     ensures leaves { MatchResult result
-        (λ r. N.honest r.0
-        → LeavesWithin N.now N.past new r.0 (BlankOrSame (O.honest old.new) (O.now old.old).bytes))
-        (λ e. N.honest e.1
-        → LeavesWithin N.now N.past new e.1 (BlankOrSame (O.honest old.new) (O.now old.old).bytes)) }
+        (λ r. LeavesBlankOrSame N.Disk new r.0 (O.honest old.new) (O.now old.old).bytes)
+        (λ e. LeavesBlankOrSame N.Disk new e.1 (O.honest old.new) (O.now old.old).bytes) }
     ensures moved { IfOk result (λ r. O.honest old.new → N.honest r.0
         → LeavesNow (N.now r.0) (MeansSame (O.now old.old).bytes)) }
     ensures count { IfOk result (λ r. O.honest old.new → HasCount (O.now old.old).bytes r.1) }
@@ -98,10 +94,7 @@ pub fn migrate<O: Disk, N: Disk, F: Follower>(
         ⊎ (O.honest old.new → N.honest e.1 → IsRefused e.0 (O.now old.old).bytes (N.now new).bytes)) }
     ensures unwritten { IfErr result (λ e. (e.0 ≡ Device)
         ⊎ (N.honest e.1 → IsUnwritten N.now N.past new e.1)) }
-    ensures faults { MatchResult result
-        (λ r. (O.failures old.new ≡ O.failures old.old) × (N.failures r.0 ≡ N.failures new))
-        (λ e. FaultOfTwo MayRefuseMigration (O.failures old.old) (O.failures old.new)
-        (N.failures new) (N.failures e.1) e.0) }
+    ensures faults { FaultsOfTwo N.failures MayRefuseMigration result (O.failures old.old) (O.failures old.new) new }
     // The old file is only read.
     ensures reads { O.honest old.new → OnlyReads O.now O.past old.old old.new }
     ensures honest { (O.honest old.new → O.honest old.old)
@@ -123,9 +116,7 @@ pub fn length_for<O: Disk>(alloc: Global, old: &mut O) -> Result<usize, Refusal>
         → n ≡ layout.image_length layout_in_use (header_of (O.now old.old).bytes).sizes) }
     ensures fault { IfErr result (λ e. (e ≡ NoMemory) ⊎ (e ≡ Device)
         ⊎ (O.honest old.new → Reads layout_1 (O.now old.old).bytes (Err e))) }
-    ensures reads { O.honest old.new → OnlyReads O.now O.past old.old old.new }
-    ensures honest { O.honest old.new → O.honest old.old }
-    ensures faults { Faults MayRefuseImage result (O.failures old.old) (O.failures old.new) }
+    ensures reads { ReadsOrRefuses O.Disk old.old old.new result MayRefuseImage }
 {
     match read_old(alloc, old) {
         Ok(image) => Ok(image_length(image.header.limits)),

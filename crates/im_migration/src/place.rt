@@ -2,8 +2,9 @@
 ghost use Rattle.std.specs.Prelude.{◌≡◌, ◌⊎◌, ◌≤◌, false, true, length, IfOk, IfErr, OnOk};
 ghost use Rattle.im_types.specs.declared.refusals.Refusal.TheVariants.{Device, NotBlank, WrongLength};
 ghost use Rattle.im_types.specs.Layout.{sizes_of};
-ghost use Rattle.im_disk.specs.Moment.{Counts, Faults, Left, synced};
+ghost use Rattle.im_disk.specs.Moment.{Left, synced};
 ghost use Rattle.im_disk.specs.Since.{LeavesWithin};
+ghost use Rattle.im_disk.specs.Runs.{Obeys, ObeysOrRefuses};
 ghost use Rattle.im_migration.specs.Migration.{IsBlank, IsNoPlace, IsPlace};
 
 use im_disk::{DeviceFault, Disk};
@@ -16,9 +17,8 @@ fn is_blank<N: Disk>(new: &mut N) -> Result<bool, DeviceFault>
     ensures yes { IfOk result (λ b. N.honest new.new → b ≡ true → IsBlank (N.now new.old).bytes) }
     ensures no { IfOk result (λ b. N.honest new.new → b ≡ false → IsBlank (N.now new.old).bytes → ⊥) }
     ensures calm { OnOk result (N.honest new.new → N.now new.new ≡ synced (N.now new.old)) }
-    ensures leaves { N.honest new.new → LeavesWithin N.now N.past new.old new.new (Left (N.now new.old)) }
-    ensures honest { N.honest new.new → N.honest new.old }
-    ensures failures { Counts result (N.failures new.old) (N.failures new.new) }
+    ensures runs { Obeys N.Disk new.old new.new result
+        (LeavesWithin N.now N.past new.old new.new (Left (N.now new.old))) }
 {
     // A crash after a write that wasn't synced may leave a gate that reads closed: a sync makes it sure. A stop in
     // it, or in the reads behind it, leaves what a stop before it leaves.
@@ -39,10 +39,9 @@ pub(crate) fn find_place<N: Disk>(new: &mut N, limits: Limits) -> Result<(), Ref
         ⊎ (N.honest new.new → IsNoPlace e (sizes_of limits) (N.now new.old).bytes)) }
     ensures same { IfErr result (λ e. (e ≡ Device) ⊎ (N.honest new.new
         → (N.now new.new).bytes ≡ (N.now new.old).bytes)) }
-    ensures leaves { N.honest new.new → LeavesWithin N.now N.past new.old new.new (Left (N.now new.old)) }
-    ensures honest { N.honest new.new → N.honest new.old }
-    ensures faults { Faults (λ e. (e ≡ WrongLength) ⊎ (e ≡ NotBlank) ⊎ (e ≡ Device)) result
-        (N.failures new.old) (N.failures new.new) }
+    ensures runs { ObeysOrRefuses N.Disk new.old new.new result
+        (λ e. (e ≡ WrongLength) ⊎ (e ≡ NotBlank) ⊎ (e ≡ Device))
+        (LeavesWithin N.now N.past new.old new.new (Left (N.now new.old))) }
 {
     let Ok(length) = new.len() else {
         return Err(Refusal::Device);

@@ -15,7 +15,7 @@ returns-clause-cleared g c = on_ok c.write_beside.result c.write_beside.ensures.
     let end = c.piece-from.result.1 in
     let order = c.piece-from.ensures.order in
     let file = (g.N.Disk.now c.args.new.now).bytes in
-    let whole : length file ≡ c.args.whole = c.requires.size (c.write_beside.ensures.honest h) in
+    let whole : length file ≡ c.args.whole = c.requires.size (c.write_beside.ensures.runs.honest h) in
     let zeros : List ℕ = replicate 4096 0 in
     let long : length zeros ≡ 4096 = length-replicate {A = ℕ} 4096 0 in
     let ends : from + length (take (end - from) zeros)

@@ -1,7 +1,12 @@
+use Rattle.std.proofs.Common.{rules}
 use Rattle.im_migration.proofs.Blank.{blank_write}
 use Rattle.im_migration.proofs.laying.write_beside.Goals as goal
 
-pub returns-clause-blank : goal.returns-clause-blank
-returns-clause-blank g c = λ h.
-    blank_write g.N.Disk.now g.N.Disk.past c.args.at _ c.args.new.now c.write_at.new.self c.requires.beside
-    (c.requires.inside (c.write_at.ensures.honest h)) (c.write_at.ensures.moment h)
+pub returns-clause-runs : goal.returns-clause-runs
+returns-clause-runs g c = record {
+  honest = search rules;
+  kept = λ h.
+      blank_write g.N.Disk.now g.N.Disk.past c.args.at _ c.args.new.now c.write_at.new.self c.requires.beside
+      (c.requires.inside (c.write_at.ensures.honest h)) (c.write_at.ensures.moment h);
+  failures = search rules;
+}

@@ -7,11 +7,11 @@ use Rattle.im_migration.proofs.laying.write_pages.Goals as goal
 
 pub loop-i-preserved : goal.loop-i-preserved
 loop-i-preserved g c = record {
-  honest = λ h. c.loop-i.invariant.honest (c.write_beside.ensures.honest h);
+  honest = λ h. c.loop-i.invariant.honest (c.write_beside.ensures.runs.honest h);
   laid = λ h.
       let s = sizes_of c.args.limits in
       let r = c.args.memory.now.records in
-      let before = c.write_beside.ensures.honest h in
+      let before = c.write_beside.ensures.runs.honest h in
       let long : length c.encode_page.new.page ≡ 4096 = search rules in
       subst (λ (l : List ℕ). IsLaid s r (c.loop-i.i + 1) 0 l) (sym (c.in_ok-write_beside.ensures.written h))
       (laid_page s r c.loop-i.i _ c.encode_page.new.page (g.N.Disk.now c.loop-i.new).bytes
@@ -20,6 +20,6 @@ loop-i-preserved g c = record {
       (c.loop-i.invariant.laid before));
   blank = λ h.
       blank_then g.N.Disk.now g.N.Disk.past c.args.new.now c.loop-i.new c.write_beside.new.new
-      (c.loop-i.invariant.blank (c.write_beside.ensures.honest h)) (c.write_beside.ensures.blank h);
-  failures = c.in_ok-write_beside.ensures.failures ∙ c.loop-i.invariant.failures;
+      (c.loop-i.invariant.blank (c.write_beside.ensures.runs.honest h)) (c.write_beside.ensures.runs.kept h);
+  failures = c.in_ok-write_beside.ensures.runs.failures ∙ c.loop-i.invariant.failures;
 }

@@ -7,7 +7,7 @@ returns-in-Ok-put-clause-leaves g c = λ h.
     leaves_same c.in-Ok.image (g.O.Disk.now c.args.old.now).bytes
     (g.O.Disk.honest c.read_old.new.disk) c.in-Ok.ensures.means c.in-Ok.ensures.header
     (g.N.Disk.now c.args.new) (g.N.Disk.now c.put.new.new) (g.N.Disk.past c.args.new) (g.N.Disk.past c.put.new.new)
-    (c.put.ensures.leaves h)
+    (c.put.ensures.runs.kept h)
 
 pub returns-in-Ok-put-clause-moved : goal.returns-in-Ok-put-clause-moved
 returns-in-Ok-put-clause-moved g c = λ honest here file left.
@@ -26,7 +26,7 @@ returns-in-Ok-clause-leaves g c = λ h.
     leaves_same c.in-Ok.image (g.O.Disk.now c.args.old.now).bytes
     (g.O.Disk.honest c.read_old.new.disk) c.in-Ok.ensures.means c.in-Ok.ensures.header
     (g.N.Disk.now c.args.new) (g.N.Disk.now c.put.new.new) (g.N.Disk.past c.args.new) (g.N.Disk.past c.put.new.new)
-    (c.put.ensures.leaves h)
+    (c.put.ensures.runs.kept h)
 
 pub returns-in-Ok-clause-refused : goal.returns-in-Ok-clause-refused
 returns-in-Ok-clause-refused g c =
