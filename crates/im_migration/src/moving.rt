@@ -5,8 +5,9 @@ ghost use Rattle.im_types.specs.Header.{header_of};
 ghost use Rattle.im_types.specs.Layout as layout;
 ghost use Rattle.im_types.specs.Layout.{layout_1, layout_in_use, sizes_of};
 ghost use Rattle.im_types.specs.Meaning.{Reads};
+ghost use Rattle.im_disk.specs.Moment.{Faults};
 ghost use Rattle.im_disk.specs.Since.{LeavesNow, LeavesWithin, OnlyReads};
-ghost use Rattle.im_disk.specs.Runs.{ObeysOrRefuses, ReadsOrRefuses};
+ghost use Rattle.im_disk.specs.Runs.{ObeysOrRefuses};
 ghost use Rattle.im_image.specs.Headers.{seen, MayRefuseImage};
 ghost use Rattle.im_image.specs.Reading.{AreParts};
 ghost use Rattle.im_migration.specs.Migration.{FaultsOfTwo, HasCount, IsBlank, IsNoPlace, IsPlace, IsRefused};
@@ -116,7 +117,9 @@ pub fn length_for<O: Disk>(alloc: Global, old: &mut O) -> Result<usize, Refusal>
         → n ≡ layout.image_length layout_in_use (header_of (O.now old.old).bytes).sizes) }
     ensures fault { IfErr result (λ e. (e ≡ NoMemory) ⊎ (e ≡ Device)
         ⊎ (O.honest old.new → Reads layout_1 (O.now old.old).bytes (Err e))) }
-    ensures reads { ReadsOrRefuses O.Disk old.old old.new result MayRefuseImage }
+    ensures reads { O.honest old.new → OnlyReads O.now O.past old.old old.new }
+    ensures honest { O.honest old.new → O.honest old.old }
+    ensures faults { Faults MayRefuseImage result (O.failures old.old) (O.failures old.new) }
 {
     match read_old(alloc, old) {
         Ok(image) => Ok(image_length(image.header.limits)),
