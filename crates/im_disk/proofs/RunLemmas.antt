@@ -1,10 +1,10 @@
--- Runs of calls that only read, one behind the other, as the records of them say it.
+-- Runs of calls that only read, one behind the other, as a record says it.
 use Rattle.std.proofs.Common.{Result, Ok, Err, subst, ℕ}
 use Rattle.im_types.specs.declared.refusals.Refusal.{Refusal}
 use Rattle.im_disk.specs.declared.disk.Disk.{Ghosts}
 use Rattle.im_disk.specs.Moment.{Faults, Fault}
 use Rattle.im_disk.specs.Since.{OnlyReads}
-use Rattle.im_disk.specs.Runs.{ReadsAlone, ReadsOrFails, ReadsOrRefuses}
+use Rattle.im_disk.specs.Runs.{ReadsOrRefuses}
 use Rattle.im_disk.proofs.SinceLemmas.{reads_then}
 
 module _ {D : Type 0} (disk : Ghosts D) (old mid new : D) where
@@ -13,13 +13,6 @@ module _ {D : Type 0} (disk : Ghosts D) (old mid new : D) where
       → disk.honest new → OnlyReads disk.now disk.past old new
   both first was second h = reads_then (disk.now old) (disk.now mid) (disk.now new)
       (disk.past old) (disk.past mid) (disk.past new) (first (was h)) (second h)
-
-  -- two runs of which nothing more is known
-  pub reads-both : ReadsAlone disk old mid → ReadsAlone disk mid new → ReadsAlone disk old new
-  reads-both first second = record {
-    honest = λ h. first.honest (second.honest h);
-    reads = both first.reads second.honest second.reads;
-  }
 
   -- behind one that succeeded, a run that may be refused: for more reasons in the whole than in its second part
   pub reads-on : {S T : Type 0} (x : S) (result : Result T Refusal) (first second may : Refusal → Type 0)
@@ -36,8 +29,3 @@ module _ {D : Type 0} (disk : Ghosts D) (old mid new : D) where
     faults = subst (λ (n : ℕ). Fault may n (disk.failures new) e) one.faults
         (wider e two.faults.0, two.faults.1, two.faults.2);
   }
-
--- what a run that may be refused does to the disk, and nothing more
-pub reads-so : {D T : Type 0} (disk : Ghosts D) (old new : D) (result : Result T Refusal) (may : Refusal → Type 0)
-    → ReadsOrRefuses disk old new result may → ReadsAlone disk old new
-reads-so disk old new result may run = record { honest = run.honest; reads = run.reads }
