@@ -8,10 +8,14 @@
  * buffers too, and a handle of zero bytes holds nothing. None of them is null, not even where the length is 0. No call
  * aborts, and none keeps a pointer.
  *
- * A call takes its handle by value and hands it out at `next`, which may be the place that it came from. What was
- * handed over may not be handed over again: so
+ * A call that changes what a handle holds takes the handle by value and hands it out at `next`, which may be the place
+ * that it came from. What was handed over may not be handed over again: so
  *     lt_memory_step(m, &command, &m, &outcome);
- * A handle that is written over is lost, and so is its memory.
+ * A handle that is written over is lost, and so is its memory. A call that only tells takes a pointer to the handle, and
+ * changes nothing: several of them may stand in one expression.
+ *
+ * A call that may be refused returns the refusal's number, and 0 where it isn't; all else that it tells is written where it
+ * is told to. A call that is never refused returns what it tells.
  */
 #ifndef LUNTREBIS_H
 #define LUNTREBIS_H
@@ -114,13 +118,12 @@ struct lt_memory {
  * it was. */
 uint8_t lt_memory_new(uint32_t cells, uint16_t elements, struct lt_memory *next);
 
-/* Each of these takes a memory that is held. One command: what it comes to, at `outcome`. */
-void lt_memory_step(struct lt_memory memory, const struct lt_command *command, struct lt_memory *next,
-                    struct lt_outcome *outcome);
+/* Each of these takes a memory that is held. One command: its refusal, and what it comes to, at `outcome`. */
+uint8_t lt_memory_step(struct lt_memory memory, const struct lt_command *command, struct lt_memory *next,
+                       struct lt_outcome *outcome);
 
 /* What is kept under an element's number, at `outcome`: LT_NO_ELEMENT, LT_FORGOTTEN, LT_GAP, or the entry. */
-void lt_memory_collect(struct lt_memory memory, uint16_t element, uint64_t number, struct lt_memory *next,
-                       struct lt_outcome *outcome);
+uint8_t lt_memory_collect(const struct lt_memory *memory, uint16_t element, uint64_t number, struct lt_outcome *outcome);
 
 /* Frees it. */
 void lt_memory_free(struct lt_memory memory);
@@ -151,6 +154,19 @@ struct lt_bounds {
     uint64_t next;
 };
 
+/* The sizes of an image. */
+struct lt_sizes {
+    uint32_t cells;
+    uint16_t elements;
+    uint32_t slots;
+};
+
+/* A request that waits. */
+struct lt_waiter {
+    uint16_t element;
+    uint64_t number;
+};
+
 /* What is to be done on the file, by `kind`. */
 enum lt_kind {
     LT_NO_STEP = 0, /* there is no such step */
@@ -178,6 +194,10 @@ enum lt_turn_tag {
  * number is out of its range. */
 uint64_t lt_image_length(uint32_t cells, uint16_t elements, uint32_t slots);
 
+/* The sizes of the image of these bytes, which are all of a file, as its header in force has them: 0, and they are at
+ * `limits`; else the refusal, and nothing is changed. The bytes are copied until it returns. */
+uint8_t lt_limits(const uint8_t *bytes, size_t length, struct lt_sizes *limits);
+
 /* Makes the image of an empty memory: 0, and `next` holds it; else the refusal, and `next` is as it was. The caller's
  * file has the length of lt_image_length, and may hold any bytes, which are lost: it is one that the caller has just
  * made, exclusively (O_EXCL). */
@@ -187,10 +207,10 @@ uint8_t lt_format(uint32_t cells, uint16_t elements, uint32_t slots, struct lt_i
  * as it was. The bytes are copied. */
 uint8_t lt_open(const uint8_t *bytes, size_t length, struct lt_image *next);
 
-/* Each of these takes an image that is held. One command: what it comes to, at `outcome`. It returns how many steps it
- * left. */
-size_t lt_serve(struct lt_image image, const struct lt_command *command, struct lt_image *next,
-                struct lt_outcome *outcome);
+/* Each of these takes an image that is held. One command: its refusal, and what it comes to, at `outcome`. lt_steps tells
+ * how many steps it left. */
+uint8_t lt_serve(struct lt_image image, const struct lt_command *command, struct lt_image *next,
+                 struct lt_outcome *outcome);
 
 /* 1 to 16 requests, each of another element, which are put on the disk together: 0, and what each came to, at its
  * place of `outcomes`: LT_DEVICE of each where the steps couldn't be listed. Else the outcomes are as they were:
@@ -203,45 +223,46 @@ uint8_t lt_serve_group(struct lt_image image, const struct lt_command *commands,
  * lt_serve_group from taking them: `count` where there is none. */
 size_t lt_first_unknown(const struct lt_command *commands, size_t count);
 
-/* One turn of a checkpoint: what it did, at `outcome`. It returns how many steps it left. */
-size_t lt_turn(struct lt_image image, struct lt_image *next, struct lt_outcome *outcome);
+/* One turn of a checkpoint: its refusal, and what it did, at `outcome`. */
+uint8_t lt_turn(struct lt_image image, struct lt_image *next, struct lt_outcome *outcome);
 
 /* Frees up to `most` slots of the journal that are to be swept, since the area in force holds their commands, with one sync
  * for all, where a turn frees three: LT_SWEPT at `outcome`, and how many they were, none while a checkpoint is under way.
- * It returns how many steps it left: one for each slot, and the sync. */
-size_t lt_sweep(struct lt_image image, uint32_t most, struct lt_image *next, struct lt_outcome *outcome);
-
-/* How many steps the last call left. */
-size_t lt_steps(struct lt_image image, struct lt_image *next);
-
-/* The step with this index, from 0, at `step`; of the kind LT_NO_STEP, and else zeros, where there is none. */
-void lt_step_at(struct lt_image image, size_t index, struct lt_image *next, struct lt_step *step);
-
-/* The bytes of the write with this index, which has just `length` of them: 0. Else LT_NO_CALL, and the buffer is as it
- * was. */
-uint8_t lt_step_bytes(struct lt_image image, size_t index, struct lt_image *next, uint8_t *buffer, size_t length);
+ * It leaves a step for each slot, and the sync. */
+uint8_t lt_sweep(struct lt_image image, uint32_t most, struct lt_image *next, struct lt_outcome *outcome);
 
 /* Says that a step couldn't be carried out: from then on each answer is LT_DEVICE, but for LT_NO_CALL, and no call
  * leaves a step. lt_room and lt_count tell what they told before. */
 void lt_failed(struct lt_image image, struct lt_image *next);
 
-/* What is kept under an element's number, at `outcome`: LT_NO_ELEMENT, LT_FORGOTTEN, LT_GAP, or the entry. No steps
- * are added. */
-void lt_collect(struct lt_image image, uint16_t element, uint64_t number, struct lt_image *next,
-                struct lt_outcome *outcome);
+/* Each of these only tells, of an image that is held, and adds no steps. How many steps the last call left. */
+size_t lt_steps(const struct lt_image *image);
 
-/* The request that is kept under an element's number, at `asked`, with the tag 0 where none is, and after a lost step. No
- * steps are added. */
-void lt_entry(struct lt_image image, uint16_t element, uint64_t number, struct lt_image *next, struct lt_command *asked);
+/* The step with this index, from 0; of the kind LT_NO_STEP, and else zeros, where there is none. */
+struct lt_step lt_step_at(const struct lt_image *image, size_t index);
+
+/* The bytes of the write with this index, which has just `length` of them: 0. Else LT_NO_CALL, and the buffer is as it
+ * was. */
+uint8_t lt_step_bytes(const struct lt_image *image, size_t index, uint8_t *buffer, size_t length);
+
+/* What is kept under an element's number, at `outcome`: LT_NO_ELEMENT, LT_FORGOTTEN, LT_GAP, or the entry. */
+uint8_t lt_collect(const struct lt_image *image, uint16_t element, uint64_t number, struct lt_outcome *outcome);
+
+/* The request that is kept under an element's number, with the tag 0 where none is, and after a lost step. */
+struct lt_command lt_entry(const struct lt_image *image, uint16_t element, uint64_t number);
+
+/* The requests that wait at a cell, in their order of arrival, at `waiters`, as many as there is room for: how many; 0
+ * after a lost step. A store answers all of them, a put the first. */
+size_t lt_waiters(const struct lt_image *image, uint32_t address, struct lt_waiter *waiters, size_t room);
 
 /* The window of an element, at `window`: LT_NO_ELEMENT, or its bounds. */
-void lt_window(struct lt_image image, uint16_t element, struct lt_image *next, struct lt_bounds *window);
+uint8_t lt_window(const struct lt_image *image, uint16_t element, struct lt_bounds *window);
 
 /* How many more commands there is room for. */
-uint32_t lt_room(struct lt_image image, struct lt_image *next);
+uint32_t lt_room(const struct lt_image *image);
 
 /* How many commands have been accepted since lt_format. */
-uint64_t lt_count(struct lt_image image, struct lt_image *next);
+uint64_t lt_count(const struct lt_image *image);
 
 /* Frees it. There is nothing more to carry out. */
 void lt_close(struct lt_image image);

@@ -11,24 +11,19 @@
 #include <sys/stat.h>
 #include <unistd.h>
 
-enum { MEMBERS = 16, SWEPT_AT_ONCE = 64, BOOT_NAME = 37 };
-
-/* What the library has, and what is known of the file. A `const struct ltf` points to it, so a call that only tells may
- * have the handle handed on. */
-struct held {
-    struct lt_image image;
-    struct ltf_counts work;
-};
+enum { MEMBERS = 16, KEPT = 64, SWEPT_AT_ONCE = 64, BOOT_NAME = 37 };
 
 struct ltf {
-    struct held *held;
+    struct lt_image image;
+    struct lt_sizes limits;
+    struct ltf_counts work;
+    struct ltf_fault failure;
     int file;
     char *note; /* the path of the note of a failed sync */
     uint8_t *bytes; /* of writes that touch */
     size_t room;
-    uint32_t cells, slots;
-    uint16_t elements;
-    struct ltf_fault failure;
+    struct lt_waiter *woken, *waited; /* whom the last call resumed; who waited at the cells of a group before it */
+    size_t woken_count, woken_room;
 };
 
 /* ---- Steps */
@@ -91,7 +86,7 @@ static void lose(struct ltf *file, int sync) {
     file->failure.error = errno ? errno : EIO;
     file->failure.sync = sync;
     if (sync) file->failure.noted = leave_note(file->note);
-    lt_failed(file->held->image, &file->held->image);
+    lt_failed(file->image, &file->image);
 }
 
 /* Adds the bytes of a write to those of the writes before it. */
@@ -104,33 +99,29 @@ static int add_bytes(struct ltf *file, size_t index, size_t used, size_t length)
         file->bytes = more;
         file->room = room;
     }
-    return lt_step_bytes(file->held->image, index, &file->held->image, file->bytes + used, length) ? -1 : 0;
+    return lt_step_bytes(&file->image, index, file->bytes + used, length) ? -1 : 0;
 }
 
 /* The write with this index, and those right behind it that go on where it ends: the index behind them, or 0 at a fault. */
 static size_t carry_out_writes(struct ltf *file, size_t index) {
-    struct lt_step step = {0, 0, 0};
-    uint64_t begin, end;
-    lt_step_at(file->held->image, index, &file->held->image, &step);
-    begin = end = step.place;
+    struct lt_step step = lt_step_at(&file->image, index);
+    uint64_t begin = step.place, end = step.place;
     errno = ENOMEM;
     while (step.kind == LT_WRITE && step.place == end) {
         if (add_bytes(file, index, (size_t)(end - begin), (size_t)step.length) < 0) return 0;
         end += step.length;
-        lt_step_at(file->held->image, ++index, &file->held->image, &step);
+        step = lt_step_at(&file->image, ++index);
     }
-    file->held->work.writes++;
+    file->work.writes++;
     return write_all(file->file, file->bytes, (size_t)(end - begin), (off_t)begin) < 0 ? 0 : index;
 }
 
 /* All steps of the last call, in their order: 0, or LT_DEVICE. */
 static int carry_out(struct ltf *file) {
-    size_t count = lt_steps(file->held->image, &file->held->image);
+    size_t count = lt_steps(&file->image);
     for (size_t index = 0; index < count && !lost(file);) {
-        struct lt_step step = {0, 0, 0};
-        lt_step_at(file->held->image, index, &file->held->image, &step);
-        if (step.kind == LT_SYNC) {
-            file->held->work.syncs++;
+        if (lt_step_at(&file->image, index).kind == LT_SYNC) {
+            file->work.syncs++;
             if (fdatasync(file->file) < 0) lose(file, 1);
             index++;
         } else {
@@ -144,7 +135,7 @@ static int carry_out(struct ltf *file) {
 /* ---- Commands */
 
 /* Whether a call was answered with LT_DEVICE, or its steps weren't carried out: the library may have had no memory for them. */
-static int is_lost(struct ltf *file, uint8_t refusal) {
+static int is_lost(struct ltf *file, int refusal) {
     if (refusal == LT_DEVICE && !lost(file)) {
         errno = ENOMEM;
         lose(file, 0);
@@ -155,22 +146,20 @@ static int is_lost(struct ltf *file, uint8_t refusal) {
 /* A sweep, or where there is nothing to sweep a turn of a checkpoint: 1 where something was done, 0, or LT_DEVICE. */
 static int make_room(struct ltf *file) {
     struct lt_outcome outcome = {0, 0, 0};
-    lt_sweep(file->held->image, SWEPT_AT_ONCE, &file->held->image, &outcome);
-    if (is_lost(file, outcome.refusal)) return LT_DEVICE;
+    if (is_lost(file, lt_sweep(file->image, SWEPT_AT_ONCE, &file->image, &outcome))) return LT_DEVICE;
     if (outcome.value > 0) {
-        file->held->work.sweeps++;
+        file->work.sweeps++;
         return 1;
     }
-    lt_turn(file->held->image, &file->held->image, &outcome);
-    if (is_lost(file, outcome.refusal)) return LT_DEVICE;
+    if (is_lost(file, lt_turn(file->image, &file->image, &outcome))) return LT_DEVICE;
     if (outcome.tag == LT_IDLE) return 0;
-    file->held->work.turns++;
+    file->work.turns++;
     return 1;
 }
 
 int ltf_tidy(struct ltf *file) {
     if (lost(file)) return LT_DEVICE;
-    return ltf_room(file) < file->slots / 2 ? make_room(file) : 0;
+    return ltf_room(file) < file->limits.slots / 2 ? make_room(file) : 0;
 }
 
 /* Room for a command more: 1, or 0 where there is none to be made, or LT_DEVICE. */
@@ -180,20 +169,107 @@ static int find_room(struct ltf *file) {
     return made;
 }
 
+static int is_answered(const struct ltf *file, uint16_t element, uint64_t number) {
+    struct lt_outcome outcome = {0, 0, 0};
+    return lt_collect(&file->image, element, number, &outcome) == 0 && outcome.tag != LT_WAITING;
+}
+
+static int wakes(const struct lt_command *command) {
+    return command->tag == LT_STORE || command->tag == LT_PUT;
+}
+
+/* How many of those who wait at a command's cell these commands may resume: all that there are where one stores, one for
+ * each that puts; none where an earlier command has the cell. */
+static size_t most_woken(const struct ltf *file, const struct lt_command *commands, size_t count, size_t at) {
+    size_t most = 0;
+    if (!wakes(&commands[at])) return 0;
+    for (size_t other = 0; other < count; other++) {
+        if (!wakes(&commands[other]) || commands[other].address != commands[at].address) continue;
+        if (other < at) return 0;
+        most += commands[other].tag == LT_STORE ? (size_t)KEPT * file->limits.elements : 1;
+    }
+    return most;
+}
+
+/* Who waits at the cells where these commands store or put: how many at that of each. */
+static void note_waiters(struct ltf *file, const struct lt_command *commands, size_t count, size_t *waited) {
+    size_t room = (size_t)KEPT * file->limits.elements, used = 0;
+    for (size_t at = 0; at < count; at++) {
+        size_t most = most_woken(file, commands, count, at);
+        if (most > room - used) most = room - used;
+        waited[at] = most ? lt_waiters(&file->image, commands[at].address, file->waited + used, most) : 0;
+        used += waited[at];
+    }
+}
+
+static int is_woken(const struct ltf *file, uint16_t element, uint64_t number) {
+    for (size_t at = 0; at < file->woken_count; at++)
+        if (file->woken[at].element == element && file->woken[at].number == number) return 1;
+    return 0;
+}
+
+/* Notes those who are answered of the ones who waited, up to the first who isn't: they are resumed in their order. */
+static void note_woken(struct ltf *file, const struct lt_waiter *waited, size_t count) {
+    for (size_t at = 0; at < count && is_answered(file, waited[at].element, waited[at].number); at++)
+        file->woken[file->woken_count++] = waited[at];
+}
+
+/* Notes whom these commands resumed: who waited before them, and behind those who came to wait with them. */
+static void note_all_woken(struct ltf *file, const struct lt_command *commands, size_t count,
+                           const struct lt_outcome *outcomes, const size_t *waited) {
+    for (size_t at = 0, used = 0; at < count; used += waited[at++]) note_woken(file, file->waited + used, waited[at]);
+    for (size_t at = 0; at < count; at++) {
+        struct lt_waiter came = {commands[at].element, commands[at].number};
+        if (outcomes[at].refusal || outcomes[at].tag != LT_WAITING || is_woken(file, came.element, came.number)) continue;
+        note_woken(file, &came, 1);
+    }
+}
+
+/* Empties the list of those who are resumed, with room for all who may wait and for each command: 0, or LT_NO_MEMORY. What
+ * an opening asks for is enough for a group. */
+static int forget_woken(struct ltf *file, size_t commands) {
+    size_t room = (size_t)KEPT * file->limits.elements + (commands < MEMBERS ? MEMBERS : commands);
+    file->woken_count = 0;
+    if (!file->waited) file->waited = calloc(room, sizeof *file->waited);
+    if (!file->waited) return LT_NO_MEMORY;
+    if (room > file->woken_room) {
+        struct lt_waiter *more = realloc(file->woken, room * sizeof *more);
+        if (!more) return LT_NO_MEMORY;
+        memset(more, 0, room * sizeof *more);
+        file->woken = more;
+        file->woken_room = room;
+    }
+    return 0;
+}
+
+const struct lt_waiter *ltf_woken(const struct ltf *file, size_t *count) {
+    *count = file->woken_count;
+    return file->woken;
+}
+
 static int serve_once(struct ltf *file, const struct lt_command *command, struct lt_outcome *outcome) {
-    memset(outcome, 0, sizeof *outcome);
-    lt_serve(file->held->image, command, &file->held->image, outcome);
-    file->held->work.groups++;
-    if (is_lost(file, outcome->refusal)) *outcome = (struct lt_outcome){LT_DEVICE, 0, 0};
+    size_t waited = 0;
+    *outcome = (struct lt_outcome){0, 0, 0};
+    note_waiters(file, command, 1, &waited);
+    file->work.groups++;
+    if (is_lost(file, lt_serve(file->image, command, &file->image, outcome)))
+        *outcome = (struct lt_outcome){LT_DEVICE, 0, 0};
+    else
+        note_all_woken(file, command, 1, outcome, &waited);
     return outcome->refusal;
 }
 
-int ltf_serve(struct ltf *file, const struct lt_command *command, struct lt_outcome *outcome) {
+static int serve_alone(struct ltf *file, const struct lt_command *command, struct lt_outcome *outcome) {
     int refusal;
     ltf_tidy(file);
     refusal = serve_once(file, command, outcome);
     if (refusal == LT_JOURNAL_FULL && find_room(file) != 0) refusal = serve_once(file, command, outcome);
     return refusal;
+}
+
+int ltf_serve(struct ltf *file, const struct lt_command *command, struct lt_outcome *outcome) {
+    file->woken_count = 0;
+    return serve_alone(file, command, outcome);
 }
 
 /* How many of the commands are the next group: requests of as many elements. 0 where the first one is none. */
@@ -208,24 +284,34 @@ static size_t next_group(const struct lt_command *commands, size_t count) {
 }
 
 static int serve_group(struct ltf *file, const struct lt_command *commands, size_t count, struct lt_outcome *outcomes) {
+    size_t waited[MEMBERS] = {0};
     int refusal;
     memset(outcomes, 0, count * sizeof *outcomes);
-    refusal = lt_serve_group(file->held->image, commands, count, &file->held->image, outcomes, count);
-    file->held->work.groups++;
-    return is_lost(file, refusal ? (uint8_t)refusal : outcomes[0].refusal) ? LT_DEVICE : refusal;
+    note_waiters(file, commands, count, waited);
+    refusal = lt_serve_group(file->image, commands, count, &file->image, outcomes, count);
+    file->work.groups++;
+    if (is_lost(file, refusal ? refusal : outcomes[0].refusal)) return LT_DEVICE;
+    if (refusal == 0) note_all_woken(file, commands, count, outcomes, waited);
+    return refusal;
 }
 
 /* A group, and each member alone for which the journal had no room. */
 static int serve_members(struct ltf *file, const struct lt_command *commands, size_t count, struct lt_outcome *outcomes) {
     int refusal = serve_group(file, commands, count, outcomes);
     for (size_t at = 0; at < count && refusal == 0; at++)
-        if (outcomes[at].refusal == LT_JOURNAL_FULL && ltf_serve(file, &commands[at], &outcomes[at]) == LT_DEVICE)
+        if (outcomes[at].refusal == LT_JOURNAL_FULL && serve_alone(file, &commands[at], &outcomes[at]) == LT_DEVICE)
             refusal = LT_DEVICE;
     return refusal;
 }
 
+static void refuse_all(struct lt_outcome *outcomes, size_t count, uint8_t refusal) {
+    for (size_t at = 0; at < count; at++) outcomes[at] = (struct lt_outcome){refusal, 0, 0};
+}
+
 int ltf_serve_all(struct ltf *file, const struct lt_command *commands, size_t count, struct lt_outcome *outcomes) {
-    int refusal = 0;
+    int refusal = forget_woken(file, count);
+    if (refusal) refuse_all(outcomes, count, LT_NO_MEMORY);
+    if (refusal) return refusal;
     for (size_t at = 0, members; at < count && refusal != LT_DEVICE; at += members) {
         members = next_group(commands + at, count - at);
         if (ltf_tidy(file) == LT_DEVICE) refusal = LT_DEVICE;
@@ -233,56 +319,49 @@ int ltf_serve_all(struct ltf *file, const struct lt_command *commands, size_t co
             refusal = serve_members(file, commands + at, members, outcomes + at);
         } else {
             members = 1;
-            refusal = ltf_serve(file, commands + at, outcomes + at);
+            refusal = serve_alone(file, commands + at, outcomes + at);
         }
     }
     if (refusal != LT_DEVICE) return 0;
-    for (size_t at = 0; at < count; at++) outcomes[at] = (struct lt_outcome){LT_DEVICE, 0, 0};
+    refuse_all(outcomes, count, LT_DEVICE);
     return LT_DEVICE;
 }
 
 /* ---- What is kept */
 
 int ltf_collect(const struct ltf *file, uint16_t element, uint64_t number, struct lt_outcome *outcome) {
-    memset(outcome, 0, sizeof *outcome);
-    lt_collect(file->held->image, element, number, &file->held->image, outcome);
-    return outcome->refusal;
+    *outcome = (struct lt_outcome){0, 0, 0};
+    return lt_collect(&file->image, element, number, outcome);
 }
 
 struct lt_command ltf_entry(const struct ltf *file, uint16_t element, uint64_t number) {
-    struct lt_command asked = {0, 0, 0, 0, 0};
-    lt_entry(file->held->image, element, number, &file->held->image, &asked);
-    return asked;
+    return lt_entry(&file->image, element, number);
+}
+
+size_t ltf_waiters(const struct ltf *file, uint32_t address, struct lt_waiter *waiters, size_t room) {
+    return lt_waiters(&file->image, address, waiters, room);
 }
 
 struct lt_bounds ltf_window(const struct ltf *file, uint16_t element) {
     struct lt_bounds window = {0, 0, 0};
-    lt_window(file->held->image, element, &file->held->image, &window);
+    lt_window(&file->image, element, &window);
     return window;
 }
 
 uint32_t ltf_room(const struct ltf *file) {
-    return lt_room(file->held->image, &file->held->image);
+    return lt_room(&file->image);
 }
 
 uint64_t ltf_count(const struct ltf *file) {
-    return lt_count(file->held->image, &file->held->image);
+    return lt_count(&file->image);
 }
 
-uint32_t ltf_cells(const struct ltf *file) {
-    return file->cells;
-}
-
-uint16_t ltf_elements(const struct ltf *file) {
-    return file->elements;
-}
-
-uint32_t ltf_slots(const struct ltf *file) {
-    return file->slots;
+struct lt_sizes ltf_limits(const struct ltf *file) {
+    return file->limits;
 }
 
 struct ltf_counts ltf_work(const struct ltf *file) {
-    return file->held->work;
+    return file->work;
 }
 
 struct ltf_fault ltf_failure(const struct ltf *file) {
@@ -373,9 +452,8 @@ static struct ltf *with_no_image(const char *path) {
     struct ltf *file = calloc(1, sizeof *file);
     if (!file) return NULL;
     file->file = -1;
-    file->held = calloc(1, sizeof *file->held);
     file->note = note_of(path);
-    if (file->held && file->note) return file;
+    if (file->note) return file;
     ltf_close(file);
     return NULL;
 }
@@ -389,10 +467,12 @@ static int begin(struct ltf *file) {
 /* Forms the image, and names it: a run that is stopped leaves no half an image under that name. */
 static int form(struct ltf *file, const char *path, const char *forming) {
     int answer;
-    off_t length = (off_t)lt_image_length(file->cells, file->elements, file->slots);
+    struct lt_sizes sizes = file->limits;
+    off_t length = (off_t)lt_image_length(sizes.cells, sizes.elements, sizes.slots);
     file->file = make_alone(forming);
     if (file->file < 0) return file->file;
-    answer = lt_format(file->cells, file->elements, file->slots, &file->held->image);
+    answer = lt_format(sizes.cells, sizes.elements, sizes.slots, &file->image);
+    if (answer == 0) answer = forget_woken(file, MEMBERS);
     if (answer == 0 && (ftruncate(file->file, length) < 0 || fsync(file->file) < 0)) answer = -errno;
     if (answer == 0) answer = begin(file);
     if (answer == 0 && link(forming, path) < 0) answer = -errno;
@@ -413,9 +493,7 @@ int ltf_create(const char *path, uint32_t cells, uint16_t elements, uint32_t slo
     forming = path_with(path, ".new");
     answer = -ENOMEM;
     if (file && forming) {
-        file->cells = cells;
-        file->elements = elements;
-        file->slots = slots;
+        file->limits = (struct lt_sizes){cells, elements, slots};
         answer = form(file, path, forming);
     }
     free(forming);
@@ -442,26 +520,13 @@ static int read_all(int file, uint8_t **bytes, size_t *length) {
     return 0;
 }
 
-static uint32_t number_at(const uint8_t *bytes, int count) {
-    uint32_t number = 0;
-    while (count-- > 0) number = number << 8 | bytes[count];
-    return number;
-}
-
-/* The sizes in an image's header: both that are whole have the same ones. */
-static void read_sizes(struct ltf *file, const uint8_t *bytes) {
-    const uint8_t *header = bytes[0] == 0xA5 ? bytes : bytes + 4096;
-    file->cells = number_at(header + 24, 4);
-    file->elements = (uint16_t)number_at(header + 28, 2);
-    file->slots = number_at(header + 32, 4);
-}
-
 static int read_image(struct ltf *file) {
     uint8_t *bytes = NULL;
     size_t length = 0;
     int answer = note_stands(file->note) ? LTF_UNSYNCED : read_all(file->file, &bytes, &length);
-    if (answer == 0) answer = lt_open(bytes, length, &file->held->image);
-    if (answer == 0) read_sizes(file, bytes);
+    if (answer == 0) answer = lt_open(bytes, length, &file->image);
+    if (answer == 0) answer = lt_limits(bytes, length, &file->limits);
+    if (answer == 0) answer = forget_woken(file, MEMBERS);
     free(bytes);
     return answer ? answer : begin(file);
 }
@@ -487,11 +552,12 @@ int ltf_open_or_create(const char *path, uint32_t cells, uint16_t elements, uint
 
 void ltf_close(struct ltf *file) {
     if (!file) return;
-    if (file->held && file->held->image.block) lt_close(file->held->image);
+    if (file->image.block) lt_close(file->image);
     if (file->file >= 0) close(file->file);
-    free(file->held);
     free(file->note);
     free(file->bytes);
+    free(file->woken);
+    free(file->waited);
     free(file);
 }
 

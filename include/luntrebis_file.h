@@ -14,6 +14,7 @@
 extern "C" {
 #endif
 
+/* An image in its file. */
 struct ltf;
 
 /* The file has a note beside it (PATH.unsynced), since a sync of it failed in this run of the machine: mount its file
@@ -37,9 +38,13 @@ int ltf_open_or_create(const char *path, uint32_t cells, uint16_t elements, uint
 int ltf_serve(struct ltf *file, const struct lt_command *command, struct lt_outcome *outcome);
 
 /* Any commands, in their order, as ltf_serve of one after another would answer them: 0, and what each came to, or
- * LT_DEVICE, and each outcome may be untrue. Neighbours of up to 16 elements, one request of each, share two syncs; a
+ * LT_DEVICE, and each outcome may be untrue, or LT_NO_MEMORY of more than 16, and none was served. Neighbours of up to 16 elements, one request of each, share two syncs; a
  * confirmation has two of its own. */
 int ltf_serve_all(struct ltf *file, const struct lt_command *commands, size_t count, struct lt_outcome *outcomes);
+
+/* Whom the last ltf_serve or ltf_serve_all resumed: the requests that waited and are answered now, those of one cell in the
+ * order in which they came; how many, at `count`. They stay there until the next of these calls. */
+const struct lt_waiter *ltf_woken(const struct ltf *file, size_t *count);
 
 /* Sweeps or makes a turn of a checkpoint, where less than half of the journal is free: 1, or 0 where there is nothing to
  * do. For a program that is idle; ltf_serve and ltf_serve_all do it, too. */
@@ -51,14 +56,15 @@ int ltf_collect(const struct ltf *file, uint16_t element, uint64_t number, struc
 /* The request that is kept under an element's number, with the tag 0 where none is. */
 struct lt_command ltf_entry(const struct ltf *file, uint16_t element, uint64_t number);
 
+/* The requests that wait at a cell, as lt_waiters. */
+size_t ltf_waiters(const struct ltf *file, uint32_t address, struct lt_waiter *waiters, size_t room);
+
 struct lt_bounds ltf_window(const struct ltf *file, uint16_t element);
 
 /* How many more commands there is room for, how many were accepted since the image was made, and the image's sizes. */
 uint32_t ltf_room(const struct ltf *file);
 uint64_t ltf_count(const struct ltf *file);
-uint32_t ltf_cells(const struct ltf *file);
-uint16_t ltf_elements(const struct ltf *file);
-uint32_t ltf_slots(const struct ltf *file);
+struct lt_sizes ltf_limits(const struct ltf *file);
 
 /* What was done since it was opened. */
 struct ltf_counts {

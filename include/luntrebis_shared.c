@@ -8,7 +8,7 @@
 #include <sys/eventfd.h>
 #include <unistd.h>
 
-enum { ELEMENTS = 64, KEPT = 64, MEMBERS = 16, BUCKETS = 1024, CONFIRM_AT = 48 };
+enum { ELEMENTS = 64, KEPT = 64, MEMBERS = 16, CONFIRM_AT = 48 };
 
 enum kind { ASKS, AWAITS, SHOWS_WINDOW, LEASES };
 enum state { QUEUED, TAKEN, WAITS, TOLD };
@@ -53,7 +53,7 @@ struct lts {
     pthread_mutex_t lock; /* of all that follows */
     pthread_cond_t come;
     struct list asked;
-    struct ticket *waiting[BUCKETS]; /* by the address that they wait at */
+    struct ticket *waiting[ELEMENTS][KEPT]; /* by the element and the place in its window */
     struct lane lanes[ELEMENTS];
     uint64_t lately[2]; /* the elements of the last two groups, a bit each */
     int64_t pace; /* nanoseconds that the last group took */
@@ -87,8 +87,12 @@ static void take_out(struct list *list, struct ticket *ticket) {
     if (list && list->end == &ticket->next) list->end = ticket->link;
 }
 
-static void wait_at(struct lts *shared, struct ticket *ticket) {
-    struct ticket **first = &shared->waiting[ticket->command.address % BUCKETS];
+static struct ticket **waiting_for(struct lts *shared, uint16_t element, uint64_t number) {
+    return &shared->waiting[element % ELEMENTS][number % KEPT];
+}
+
+static void wait_for_it(struct lts *shared, struct ticket *ticket) {
+    struct ticket **first = waiting_for(shared, ticket->command.element, ticket->command.number);
     ticket->next = *first;
     ticket->link = first;
     if (*first) (*first)->link = &ticket->next;
@@ -146,8 +150,8 @@ static void refuse(struct lts *shared, struct ticket *ticket, uint8_t refusal, i
 /* Everybody who waits, or has asked. */
 static void refuse_all(struct lts *shared, uint8_t refusal) {
     struct ticket *ticket;
-    for (size_t at = 0; at < BUCKETS; at++)
-        while ((ticket = shared->waiting[at])) {
+    for (size_t at = 0; at < (size_t)ELEMENTS * KEPT; at++)
+        while ((ticket = *waiting_for(shared, (uint16_t)(at / KEPT), at))) {
             take_out(NULL, ticket);
             refuse(shared, ticket, refusal, 1);
         }
@@ -159,33 +163,30 @@ static void refuse_all(struct lts *shared, uint8_t refusal) {
 
 /* ---- The owner's thread. It gives the lock up while it uses the file. */
 
-/* Looks at those who wait at an address where something was stored. */
-static void wake(struct lts *shared, uint32_t address) {
-    struct ticket *ticket = shared->waiting[address % BUCKETS], *next;
-    for (; ticket; ticket = next) {
-        next = ticket->next;
-        if (ticket->command.address != address) continue;
-        ltf_collect(shared->file, ticket->command.element, ticket->command.number, &ticket->outcome);
-        if (!is_last(&ticket->outcome)) continue;
+/* Tells those who wait for an entry that is answered now. */
+static void wake(struct lts *shared, const struct lt_waiter *woken) {
+    struct ticket *ticket;
+    while ((ticket = *waiting_for(shared, woken->element, woken->number))) {
         take_out(NULL, ticket);
         ticket->state = TAKEN;
-        if (ticket->done) { /* The lock is given up for its call, so the list is begun anew. */
-            tell(shared, ticket, 1);
-            next = shared->waiting[address % BUCKETS];
-        } else {
-            tell(shared, ticket, 1);
-        }
+        ltf_collect(shared->file, woken->element, woken->number, &ticket->outcome);
+        tell(shared, ticket, 1);
     }
+}
+
+static void wake_all(struct lts *shared) {
+    size_t count;
+    const struct lt_waiter *woken = ltf_woken(shared->file, &count);
+    for (size_t at = 0; at < count; at++) wake(shared, &woken[at]);
 }
 
 /* A request that waits under a number: it is told, or told later. */
 static void look(struct lts *shared, struct ticket *ticket) {
-    ticket->command.address = ltf_entry(shared->file, ticket->command.element, ticket->command.number).address;
     ltf_collect(shared->file, ticket->command.element, ticket->command.number, &ticket->outcome);
     if (is_last(&ticket->outcome))
         tell(shared, ticket, 1);
     else
-        wait_at(shared, ticket);
+        wait_for_it(shared, ticket);
 }
 
 /* Gives up what a leased element has been told, up to the first entry that hasn't been. */
@@ -298,8 +299,7 @@ static void serve(struct lts *shared, struct ticket **members, size_t count) {
         members[at]->outcome = outcomes[at];
         answer(shared, members[at]);
     }
-    for (size_t at = 0; at < count && refusal == 0; at++)
-        if (outcomes[at].refusal == 0 && outcomes[at].tag == LT_STORED) wake(shared, commands[at].address);
+    if (refusal == 0) wake_all(shared);
 }
 
 /* Keeps the journal half empty while nobody asks. Whether there was something to do. */
@@ -549,7 +549,7 @@ static int share(struct ltf *file, struct lts **made) {
     int answer = ENOMEM;
     if (shared) {
         shared->file = file;
-        shared->elements = ltf_elements(file);
+        shared->elements = ltf_limits(file).elements;
         shared->asked.end = &shared->asked.first;
         pthread_mutex_init(&shared->lock, NULL);
         pthread_condattr_init(&how);

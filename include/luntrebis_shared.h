@@ -15,6 +15,7 @@
 extern "C" {
 #endif
 
+/* An image that threads share. */
 struct lts;
 struct timespec;
 

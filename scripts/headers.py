@@ -17,7 +17,7 @@ class Item:
     """A declaration. `fields` has an enumeration's (name, value, comment), a record's (type, name, comment), and for a
     call what it is given, as a record's."""
 
-    kind: str  # enum, struct, call, macro, text
+    kind: str  # enum, struct, opaque (a struct whose fields nobody sees), call, macro, text
     name: str
     comment: str
     text: str
@@ -89,8 +89,12 @@ def values(body):
 
 
 def records(body):
+    """The fields of a record; one type may stand before several names."""
     for word, said in members(body, ";"):
-        yield *typed(word), said
+        first, *others = (it.strip() for it in word.split(","))
+        kind, name = typed(first)
+        for one in (name, *others):
+            yield kind, one, said
 
 
 def given(text):
@@ -107,6 +111,8 @@ def item(comment, text):
     if found := re.match(r"(enum|struct) (\w+) \{(.*)\}$", text, re.S):
         fields = list(values(found[3]) if found[1] == "enum" else records(found[3]))
         return Item(found[1], found[2], about, text, fields=fields)
+    if found := re.match(r"struct (\w+)$", text):
+        return Item("opaque", found[1], about, text)
     if (found := CALL.match(text)) and not text.startswith("typedef"):
         gives = " ".join(found["gives"].split())
         return Item("call", found["name"], about, " ".join(text.split()), gives, given(found["given"]))

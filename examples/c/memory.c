@@ -34,7 +34,7 @@ int main(void) {
     show("block", step(LT_ALLOC_M, 0, 8, 1, 0));
     show("take", step(LT_TAKE, 1, 3, 1, 0));
     show("put", step(LT_PUT, 0, 3, 2, 42));
-    lt_memory_collect(memory, 1, 1, &memory, &outcome);
+    lt_memory_collect(&memory, 1, 1, &outcome);
     show("collected", outcome);
     show("taken again", step(LT_TAKE, 1, 3, 1, 0));
     show("a gap", step(LT_TAKE, 1, 3, 7, 0));

@@ -4,7 +4,6 @@ that is away is waited for. Each answer is printed as the file has it.
 usage: words.py IMAGE      It makes the image where there is none. A run that was stopped is simply run again: each
 element asks the same under the same numbers, 64 at most, and what was asked before is answered as before.
 """
-import os
 import sys
 
 import luntrebis
@@ -44,8 +43,7 @@ class Element:
 
 
 def main(path):
-    made = luntrebis.open(path) if os.path.exists(path) else luntrebis.create(path, cells=16, elements=4, slots=16)
-    with made as image:
+    with luntrebis.open_or_create(path, cells=16, elements=4, slots=16) as image:
         base = tell(0, 1, image.ask(Request(Tag.ALLOC_M, 0, 1, 4)))
         for at in range(len(NAMES)):
             tell(0, 2 + at, image.ask(Request(Tag.PUT, 0, 2 + at, base + at, 0)))

@@ -5,7 +5,6 @@
 
 use luntrebis::{Image, Limits, Op, Reply, Request, Result};
 use std::io::Write;
-use std::path::Path;
 
 struct Counter {
     image: Image,
@@ -31,8 +30,7 @@ impl Counter {
 fn main() -> Result<()> {
     let path = std::env::args().nth(1).expect("usage: counter IMAGE");
     let limits = Limits { cells: 16, elements: 1, slots: 16 };
-    let image = if Path::new(&path).exists() { Image::open(&path)? } else { Image::create(&path, limits)? };
-    let mut counter = Counter { image, number: 0 };
+    let mut counter = Counter { image: Image::open_or_create(&path, limits)?, number: 0 };
     let cell = counter.ask(Op::AllocM(1))? as u32;
     counter.ask(Op::Put(cell, 0))?;
     for _ in 0..6 {

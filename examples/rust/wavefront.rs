@@ -1,19 +1,20 @@
 //! A wavefront by six threads over one image, from Rust: each cell is the sum of the cell above and the cell to the left,
 //! and 1 at the upper and left edges. Each row is an element with a thread of its own, which waits for the row above.
 //!
-//! usage: wavefront IMAGE      It makes the image, where there is none.
+//! usage: wavefront IMAGE      It makes the image where there is none. It may be killed at any moment, and is simply run
+//! again: a request has the same number in each run, so what was asked before is answered as before.
 
-use luntrebis::{Limits, Result, Shared};
+use luntrebis::{Limits, Op, Request, Result, Shared};
 use std::thread;
 
 const SIDE: u32 = 6;
 
 fn main() -> Result<()> {
     let path = std::env::args().nth(1).expect("usage: wavefront IMAGE");
-    let shared = Shared::create(path, Limits { cells: SIDE * SIDE, elements: SIDE as u16, slots: 64 })?;
-    let base = shared.element(0).alloc_i(SIDE * SIDE).wait()? as u32;
+    let shared = Shared::open_or_create(path, Limits { cells: SIDE * SIDE, elements: SIDE as u16, slots: 64 })?;
+    shared.ask(Request { element: 0, number: 1, op: Op::AllocI(SIDE * SIDE) })?.value()?; // Its base is 0.
     let rows: Vec<_> = (0..SIDE).map(|row| (row, shared.clone())).collect();
-    let threads = rows.into_iter().map(|(row, shared)| thread::spawn(move || fill(&shared, base, row)));
+    let threads = rows.into_iter().map(|(row, shared)| thread::spawn(move || fill(&shared, row)));
     let threads: Vec<_> = threads.collect();
     for thread in threads {
         let cells = thread.join().expect("a thread that fills a row")?;
@@ -22,17 +23,21 @@ fn main() -> Result<()> {
     Ok(())
 }
 
-/// Fills a row, as the row above comes to be there.
-fn fill(shared: &Shared, base: u32, row: u32) -> Result<Vec<u64>> {
-    let element = shared.element(row as u16);
-    let above: Vec<_> = (0..SIDE).map(|at| (row > 0).then(|| element.fetch(base + (row - 1) * SIDE + at))).collect();
+/// Fills a row, as the row above comes to be there: a fetch of the cell above, where there is one, and a store for each.
+fn fill(shared: &Shared, row: u32) -> Result<Vec<u64>> {
     let mut cells = Vec::new();
-    for (at, above) in (0..).zip(above) {
-        let cell = match (above, cells.last()) {
-            (Some(above), Some(left)) => above.wait()? + left,
+    let mut number = if row == 0 { 1 } else { 0 };
+    let mut ask = |op| {
+        number += 1;
+        shared.submit(Request { element: row as u16, number, op }).wait()?.value()
+    };
+    for at in 0..SIDE {
+        let above = if row > 0 { ask(Op::Fetch((row - 1) * SIDE + at))? } else { 0 };
+        let cell = match cells.last() {
+            Some(left) if row > 0 => above + left,
             _ => 1,
         };
-        element.store(base + row * SIDE + at, cell).wait()?;
+        ask(Op::Store(row * SIDE + at, cell))?;
         cells.push(cell);
     }
     Ok(cells)

@@ -6,13 +6,9 @@ static struct lt_image image;
 static unsigned long commands, writes, syncs;
 static void serve(uint8_t tag, uint32_t a, uint64_t n) {
     struct lt_command c = {tag, 0, a, n, n}; struct lt_outcome o = {0,0,0};
-    size_t steps = lt_serve(image, &c, &image, &o);
-    if (o.refusal) { printf("refused %d\n", o.refusal); exit(1); }
-    for (size_t at = 0; at < steps; at++) {
-        struct lt_step step = {0,0,0};
-        lt_step_at(image, at, &image, &step);
-        if (step.kind == LT_WRITE) writes++; else syncs++;
-    }
+    if (lt_serve(image, &c, &image, &o)) { printf("refused %d\n", o.refusal); exit(1); }
+    for (size_t at = 0; at < lt_steps(&image); at++)
+        if (lt_step_at(&image, at).kind == LT_WRITE) writes++; else syncs++;
     commands++;
 }
 int main(int argc, char **argv) {

@@ -5,3 +5,5 @@ pub mod Memory
 pub mod Image
 pub mod Group
 pub mod Telling
+pub mod Waiting
+pub mod Sizes

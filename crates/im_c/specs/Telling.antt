@@ -4,7 +4,7 @@ use Rattle.std.specs.Prelude.{if◌then◌else◌}
 use Rattle.im_types.specs.declared.refusals.Refusal.{Refusal}
 use Rattle.im_types.specs.declared.refusals.Refusal.TheVariants.{NoMemory, Device}
 use Rattle.im_types.specs.Refusals.{number_of}
-use Rattle.im_types.specs.Header.{layout_in}
+use Rattle.im_types.specs.Header.{header_fault, layout_in}
 use Rattle.im_types.specs.Meaning.{Reads}
 use Rattle.im_listed.specs.Image.{IsFaultOf}
 use Rattle.im_report.specs.Inspecting.{Tells}
@@ -20,6 +20,14 @@ IsFlawOf file refusal = (refusal ≡ NoMemory) ⊎ (refusal ≡ Device) ⊎ Read
 -- the number of why these bytes aren't read
 abbrev pub TellsFlaw : List ℕ → ℕ → Type 0
 TellsFlaw file number = (refusal : Refusal) × (number ≡ number_of refusal) × IsFlawOf file refusal
+
+-- why the sizes of these bytes aren't told: the first fault of length and headers, or there was no room for them
+abbrev pub IsHeaderFlawOf : List ℕ → Refusal → Type 0
+IsHeaderFlawOf file refusal = (refusal ≡ NoMemory) ⊎ (refusal ≡ Device) ⊎ (header_fault (layout_in file) file ≡ Some refusal)
+
+-- the number of why the sizes of these bytes aren't told
+abbrev pub TellsHeaderFlaw : List ℕ → ℕ → Type 0
+TellsHeaderFlaw file number = (refusal : Refusal) × (number ≡ number_of refusal) × IsHeaderFlawOf file refusal
 
 -- a buffer begins with a text where that fits, and else it stays
 pub record PutsText (text old new : List ℕ) : Type 0 where

@@ -300,16 +300,6 @@ fn count_of(steps: &[Step]) -> usize
     steps.len()
 }
 
-// Hands an image out again: how many steps it has.
-fn hand_out(held: Box<Image>, next: &mut LtImage) -> usize
-    ensures handed { next.new.value ≡ Some held.value }
-    ensures steps { result ≡ length (steps_of held.value) }
-{
-    let count = count_of(held.steps());
-    *next = LtImage::of_box(held);
-    count
-}
-
 // The step with this index, as C spells it.
 fn step_at(steps: &[Step], index: usize) -> LtStep
     ensures { result ≡ step_of (slice_get (map task_of steps.now) index) }
@@ -433,62 +423,66 @@ pub extern "C" fn lt_close(image: LtImage)
     drop(image.into_box());
 }
 
-/// One command: what it comes to, at `outcome`, and how many steps the caller has to carry out before it tells that to
-/// anybody. The refusals are those of a request and of a confirmation, `JournalFull`, `Device`, and 255 for an unknown
-/// tag, which changes nothing.
+/// One command: its refusal, and what it comes to, at `outcome`. The caller carries out the steps that it leaves
+/// ([`lt_held_steps`]) before it tells that to anybody. The refusals are those of a request and of a confirmation,
+/// `JournalFull`, `Device`, and 255 for an unknown tag, which changes nothing.
 #[unsafe(no_mangle)]
 pub extern "C" fn lt_serve(
     image: LtImage,
     command: &LtCommand,
     next: &mut LtImage,
     outcome: &mut LtOutcome,
-) -> usize
+) -> u8
     requires some { IsSome image.value }
     ensures served { Becomes image.value next.new.value (λ i n. Serves i command.now outcome.new n) }
-    ensures steps { IfSome next.new.value (λ n. result ≡ length (steps_of n)) }
+    ensures refusal { result ≡ outcome.new.refusal }
 {
     let mut held = image.into_box();
-    *outcome = serve(&mut held, command);
-    hand_out(held, next)
+    let told = serve(&mut held, command);
+    *next = LtImage::of_box(held);
+    *outcome = told;
+    told.refusal
 }
 
-/// One turn of a checkpoint, and how many steps the caller has to carry out. At `outcome` the tag says what it did: 0
-/// nothing, 1 it began, 2 it wrote the page with the number in `value`, 3 it put the pages on the disk, 4 the area that
-/// was written is in force, 5 it made slots free. Or the refusal, `Device`.
+/// One turn of a checkpoint: its refusal, `Device`, or 0, and at `outcome` what it did, by the tag: 0 nothing, 1 it
+/// began, 2 it wrote the page with the number in `value`, 3 it put the pages on the disk, 4 the area that was written
+/// is in force, 5 it made slots free. The caller carries out the steps that it leaves.
 #[unsafe(no_mangle)]
-pub extern "C" fn lt_turn(image: LtImage, next: &mut LtImage, outcome: &mut LtOutcome) -> usize
+pub extern "C" fn lt_turn(image: LtImage, next: &mut LtImage, outcome: &mut LtOutcome) -> u8
     requires some { IsSome image.value }
     ensures turned { Becomes image.value next.new.value (λ i n. Turns i outcome.new n) }
-    ensures steps { IfSome next.new.value (λ n. result ≡ length (steps_of n)) }
+    ensures refusal { result ≡ outcome.new.refusal }
 {
     let mut held = image.into_box();
     *outcome = turn(&mut held);
-    hand_out(held, next)
+    *next = LtImage::of_box(held);
+    outcome.refusal
 }
 
-/// Closes the gates of so many slots at most that are to be swept, with one sync, and how many steps the caller has to
-/// carry out. At `outcome` the tag is 5 and `value` how many there were, none while a checkpoint is under way. Or the
-/// refusal, `Device`.
+/// Closes the gates of so many slots at most that are to be swept, with one sync: its refusal, `Device`, or 0, and at
+/// `outcome` the tag 5 and as `value` how many there were, none while a checkpoint is under way. The caller carries out
+/// the steps that it leaves.
 #[unsafe(no_mangle)]
 pub extern "C" fn lt_sweep(
     image: LtImage,
     most: u32,
     next: &mut LtImage,
     outcome: &mut LtOutcome,
-) -> usize
+) -> u8
     requires some { IsSome image.value }
     ensures swept { Becomes image.value next.new.value (λ i n. SweepsBy i most outcome.new n) }
-    ensures steps { IfSome next.new.value (λ n. result ≡ length (steps_of n)) }
+    ensures refusal { result ≡ outcome.new.refusal }
 {
     let mut held = image.into_box();
     *outcome = sweep(&mut held, most);
-    hand_out(held, next)
+    *next = LtImage::of_box(held);
+    outcome.refusal
 }
 
 /// What is kept under an element's number, at `outcome`. Refused with `NoElement`, with `Forgotten` below the window,
 /// with `Gap` where the number isn't used yet, and with `Device`. Nothing changes.
 #[unsafe(no_mangle)]
-pub extern "C" fn lt_collect(
+pub extern "C" fn lt_held_collect(
     image: LtImage,
     element: u16,
     number: u64,
@@ -506,7 +500,7 @@ pub extern "C" fn lt_collect(
 /// The request that is kept under an element's number, at `asked`. Its tag is 0 where none is, and after a lost step.
 /// Nothing changes.
 #[unsafe(no_mangle)]
-pub extern "C" fn lt_entry(
+pub extern "C" fn lt_held_entry(
     image: LtImage,
     element: u16,
     number: u64,
@@ -517,13 +511,19 @@ pub extern "C" fn lt_entry(
     ensures found { Shows image.value next.new.value (λ i. TellsAsked i element number asked.new) }
 {
     let held = image.into_box();
-    *asked = asked_in(&held, element, number);
-    hand_out(held, next);
+    let kept = asked_in(&held, element, number);
+    *next = LtImage::of_box(held);
+    *asked = kept;
 }
 
 /// The window of an element, at `window`. Refused with `NoElement` and with `Device`. Nothing changes.
 #[unsafe(no_mangle)]
-pub extern "C" fn lt_window(image: LtImage, element: u16, next: &mut LtImage, window: &mut LtBounds)
+pub extern "C" fn lt_held_window(
+    image: LtImage,
+    element: u16,
+    next: &mut LtImage,
+    window: &mut LtBounds,
+)
     requires some { IsSome image.value }
     ensures answer { Shows image.value next.new.value (λ i. ShowsWindow i element window.new) }
 {
@@ -534,7 +534,7 @@ pub extern "C" fn lt_window(image: LtImage, element: u16, next: &mut LtImage, wi
 
 /// How many more commands can be accepted.
 #[unsafe(no_mangle)]
-pub extern "C" fn lt_room(image: LtImage, next: &mut LtImage) -> u32
+pub extern "C" fn lt_held_room(image: LtImage, next: &mut LtImage) -> u32
     requires some { IsSome image.value }
     ensures room { Shows image.value next.new.value (λ i. result ≡ i.engine.room) }
 {
@@ -543,7 +543,7 @@ pub extern "C" fn lt_room(image: LtImage, next: &mut LtImage) -> u32
 
 /// How many commands have been accepted since the image was formatted.
 #[unsafe(no_mangle)]
-pub extern "C" fn lt_count(image: LtImage, next: &mut LtImage) -> u64
+pub extern "C" fn lt_held_count(image: LtImage, next: &mut LtImage) -> u64
     requires some { IsSome image.value }
     ensures count { Shows image.value next.new.value (λ i. result ≡ i.engine.count) }
 {
@@ -564,16 +564,24 @@ pub extern "C" fn lt_failed(image: LtImage, next: &mut LtImage)
 /// How many steps the last call left to carry out: of `lt_format`, `lt_open`, `lt_serve`, `lt_serve_group`,
 /// `lt_turn` and `lt_sweep`.
 #[unsafe(no_mangle)]
-pub extern "C" fn lt_steps(image: LtImage, next: &mut LtImage) -> usize
+pub extern "C" fn lt_held_steps(image: LtImage, next: &mut LtImage) -> usize
     requires some { IsSome image.value }
     ensures count { Shows image.value next.new.value (λ i. result ≡ length (steps_of i)) }
 {
-    hand_out(image.into_box(), next)
+    let held = image.into_box();
+    let count = count_of(held.steps());
+    *next = LtImage::of_box(held);
+    count
 }
 
 /// The step with this index, from 0, at `step`.
 #[unsafe(no_mangle)]
-pub extern "C" fn lt_step_at(image: LtImage, index: usize, next: &mut LtImage, step: &mut LtStep)
+pub extern "C" fn lt_held_step_at(
+    image: LtImage,
+    index: usize,
+    next: &mut LtImage,
+    step: &mut LtStep,
+)
     requires some { IsSome image.value }
     ensures step { Shows image.value next.new.value (λ i. step.new ≡ step_of (slice_get (steps_of i) index)) }
 {
@@ -584,7 +592,7 @@ pub extern "C" fn lt_step_at(image: LtImage, index: usize, next: &mut LtImage, s
 
 /// The bytes of the write with this index, from 0, which has just as many: 0. Else 255, and the buffer is as it was.
 #[unsafe(no_mangle)]
-pub extern "C" fn lt_step_bytes(
+pub extern "C" fn lt_held_step_bytes(
     image: LtImage,
     index: usize,
     next: &mut LtImage,

@@ -9,15 +9,20 @@ mod memory;
 mod naming;
 mod parts;
 mod plain;
+mod sizes;
 mod version;
+mod waiting;
 
 pub use group::{lt_first_unknown, lt_serve_group};
 pub use image::{
-    LtImage, lt_close, lt_collect, lt_count, lt_entry, lt_failed, lt_format, lt_image_length,
-    lt_open, lt_room, lt_serve, lt_step_at, lt_step_bytes, lt_steps, lt_sweep, lt_turn, lt_window,
+    LtImage, lt_close, lt_failed, lt_format, lt_held_collect, lt_held_count, lt_held_entry,
+    lt_held_room, lt_held_step_at, lt_held_step_bytes, lt_held_steps, lt_held_window,
+    lt_image_length, lt_open, lt_serve, lt_sweep, lt_turn,
 };
 pub use inspecting::lt_inspect;
-pub use memory::{LtMemory, lt_memory_collect, lt_memory_free, lt_memory_new, lt_memory_step};
+pub use memory::{LtMemory, lt_held_memory_collect, lt_memory_free, lt_memory_new, lt_memory_step};
 pub use naming::{lt_answer_name, lt_refusal_name};
-pub use plain::{LtBounds, LtCommand, LtOutcome, LtStep};
+pub use plain::{LtBounds, LtCommand, LtLimits, LtOutcome, LtStep, LtWaiter};
+pub use sizes::lt_limits;
 pub use version::{lt_layout_version, lt_version};
+pub use waiting::lt_held_waiters;

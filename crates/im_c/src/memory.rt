@@ -116,27 +116,29 @@ pub extern "C" fn lt_memory_new(alloc: Global, cells: u32, elements: u16, next: 
     }
 }
 
-/// One command: what it comes to, at `outcome`. The refusals are those of a request and of a confirmation, and 255 for
-/// an unknown tag; then nothing changes. It takes no memory.
+/// One command: its refusal, and what it comes to, at `outcome`. The refusals are those of a request and of a
+/// confirmation, and 255 for an unknown tag; then nothing changes. It takes no memory.
 #[unsafe(no_mangle)]
 pub extern "C" fn lt_memory_step(
     memory: LtMemory,
     command: &LtCommand,
     next: &mut LtMemory,
     outcome: &mut LtOutcome,
-)
+) -> u8
     requires some { IsSome memory.value }
     ensures stepped { Becomes memory.value next.new.value (λ m n. Steps m command.now outcome.new n) }
+    ensures refusal { result ≡ outcome.new.refusal }
 {
     let mut held = memory.into_box();
     *outcome = step(&mut held, command);
     *next = LtMemory::of_box(held);
+    outcome.refusal
 }
 
 /// What is kept under an element's number, at `outcome`. Refused with `NoElement`, with `Forgotten` below the window,
 /// and with `Gap` where the number isn't used yet. Nothing changes.
 #[unsafe(no_mangle)]
-pub extern "C" fn lt_memory_collect(
+pub extern "C" fn lt_held_memory_collect(
     memory: LtMemory,
     element: u16,
     number: u64,

@@ -58,6 +58,28 @@ pub struct LtBounds {
     pub next: u64,
 }
 
+/// A request that waits: an element, and the number under which it asked.
+#[repr(C)]
+#[derive(Clone, Copy)]
+pub struct LtWaiter {
+    /// The element that asked.
+    pub element: u16,
+    /// The request's number.
+    pub number: u64,
+}
+
+/// The sizes of an image.
+#[repr(C)]
+#[derive(Clone, Copy)]
+pub struct LtLimits {
+    /// How many cells, 1 to 1,048,576.
+    pub cells: u32,
+    /// How many elements, 1 to 64.
+    pub elements: u16,
+    /// How many slots its journal has, 16 to 4,096.
+    pub slots: u32,
+}
+
 /// A step on the caller's file. The kind is 1 for a write of `length` bytes at `place`, 2 for a sync, and 0 where there
 /// is no such step; then the rest is 0.
 #[repr(C)]

@@ -1,7 +1,6 @@
 //! An image in the hands of a caller that carries out the writes and syncs itself.
-ghost use Rattle.std.specs.Prelude.{◌≡◌, ◌+◌, ◌⊎◌, Bool, true, false, List, [], map, replicate, length, Ok, Err};
-ghost use Rattle.std.specs.Prelude.{IfOk, IfErr, OnOk};
-ghost use Rattle.im_types.specs.Contents.{empty_contents, kept_for};
+ghost use Rattle.std.specs.Prelude.{◌≡◌, true, false, [], map, replicate, Err, IfOk, IfErr};
+ghost use Rattle.im_types.specs.Contents.{empty_contents, kept_for, waiters_at};
 ghost use Rattle.im_types.specs.Groups.{AreApart};
 ghost use Rattle.im_types.specs.Layout.{image_length, layout_in_use, sizes_of};
 ghost use Rattle.im_types.specs.Window.{ask, bounds};
@@ -21,6 +20,7 @@ use arrayvec::ArrayVec;
 use im_checkpoint::TurnDone;
 use im_disk::{DeviceFault, Disk};
 use im_engine::Engine;
+use im_memory::Waiters;
 use im_types::layout::image_length;
 use im_types::{Command, Entry, Kept, Limits, Outcome, Refusal, Request, Served};
 use std::alloc::Global;
@@ -28,9 +28,8 @@ use std::marker::Model;
 
 /// An image in the hands of a caller that carries out the writes and syncs itself: an engine over [`Listed`].
 ///
-/// After each call the caller carries out [`Image::steps`] on its file, in their order, before it gives the answer to
-/// anybody. The list begins where that of the call before ended. Where the caller can't carry out a step it says so
-/// ([`Image::lose`]), and opens the file anew.
+/// After each call the caller carries out [`Image::steps`] on its file, in their order, before it tells the answer. The
+/// list begins where that of the call before ended. Who can't carry out a step says so ([`Image::lose`]).
 #[derive(Drop)]
 pub struct Image {
     engine: Engine<Listed>,
@@ -78,8 +77,7 @@ fn settled(bytes: Vec<u8>) -> Result<Listed, DeviceFault>
 impl Image {
     /// Makes the image of an empty memory. The caller's file has its length, and each of its bytes is in doubt.
     ///
-    /// `NoMemory` where there isn't room for the image, the memory and the pages of a checkpoint, `Device` where the
-    /// list couldn't grow.
+    /// `NoMemory` where there isn't room for all that it needs, `Device` where the list couldn't grow.
     pub fn format(alloc: Global, limits: Limits) -> Result<Image, Refusal>
         ensures empty { IfOk result (λ i. (i.engine.memory ≡ empty_contents limits.cells limits.elements)
             × (i.engine.count ≡ 0) × (i.engine.room ≡ limits.slots)) }
@@ -106,8 +104,7 @@ impl Image {
 
     /// Opens the image of these bytes, which are those of the caller's file, each of them in doubt.
     ///
-    /// Refused with the first fault of the bytes, as [`Engine::open`] has it, with `NoMemory`, or with `Device` where
-    /// the list couldn't grow.
+    /// Refused: the bytes' first fault, as by [`Engine::open`], `NoMemory`, or `Device` where the list couldn't grow.
     pub fn open(alloc: Global, bytes: Vec<u8>) -> Result<Image, Refusal>
         ensures carried { IfOk result (λ i. i.engine.disk.now ≡ carried (given bytes.items) (steps_of i)) }
         ensures found { IfOk result (λ i. LeavesNow i.engine.disk.now (IsFound i.engine)) }
@@ -161,7 +158,6 @@ impl Image {
     /// Serves one command, as [`Engine::serve`] does. `Device` where the list couldn't grow, or a step was lost.
     pub fn serve(&mut self, command: &Command) -> Result<Outcome, Refusal>
         ensures lost { self.old.lost ≡ true → (result ≡ Err Refusal.Device) × (self.new ≡ self.old) }
-        // So the answer isn't `Failed`.
         ensures works { self.old.lost ≡ false → self.old.engine.failed ≡ false }
         ensures answered { self.old.lost ≡ false → Answered (begun_in self.old) command.now result self.new.engine }
         // On the way the file means the memory before the command or after it, and at the end what was answered.
@@ -206,8 +202,7 @@ impl Image {
         self.lost = known(&self.engine);
     }
 
-    /// Makes one turn of a checkpoint, as [`Engine::turn`] does. `Device` where the list couldn't grow, or a step was
-    /// lost.
+    /// Makes one turn of a checkpoint, as [`Engine::turn`] does. `Device` where a step couldn't be listed, or was lost.
     pub fn turn(&mut self) -> Result<TurnDone, Refusal>
         ensures lost { self.old.lost ≡ true → (result ≡ Err Refusal.Device) × (self.new ≡ self.old) }
         // So the answer isn't `Failed`.
@@ -264,8 +259,14 @@ impl Image {
         self.engine.memory().kept(element, number)
     }
 
-    /// The base of an element's window and the number of its next new request, as [`Engine::window`] has them. `Device`
-    /// where a step was lost.
+    /// The requests that wait at a cell, in their order of arrival; none where the address lies in no block.
+    pub fn waiters(&self, a: u32) -> Waiters<'_>
+        ensures { result ≡ waiters_at self.now.engine.memory.cells a }
+    {
+        self.engine.memory().waiters(a)
+    }
+
+    /// The bounds of an element's window, as [`Engine::window`] has them. `Device` where a step was lost.
     pub fn window(&self, element: u16) -> Result<(u64, u64), Refusal>
         ensures lost { self.now.lost ≡ true → result ≡ Err Refusal.Device }
         ensures answer { self.now.lost ≡ false → result ≡ bounds self.now.engine.memory.windows element }

@@ -11,7 +11,7 @@
 has no disk. What is refused is raised, each refusal as a subclass of `Refused`; an answer that is an error of the
 program that asks as a subclass of `Answered`; a file's errors are `OSError`.
 """
-from ._memories import Deferred, Element, Image, Memory, answered, create, inspect, open
+from ._memories import Deferred, Element, Image, Memory, answered, create, inspect, open, open_or_create
 from ._shared import Shared, SharedElement
 from ._words import (
     Answer,
@@ -55,5 +55,5 @@ __all__ = [
     "Device", "Element", "Failed", "Forgotten", "Gap", "Image", "JournalFull", "Memory", "Mismatch", "NoBlock",
     "NoCall", "NoCell", "NoElement", "NoHeader", "NoMemory", "NoSpace", "NotAnswered", "OldVersion", "Refused",
     "Reply", "Request", "Shared", "SharedElement", "StillWaiting", "SyncFailed", "Tag", "Waiting", "Window",
-    "WindowFull", "WrongKind", "WrongLength", "answered", "create", "inspect", "open",
+    "WindowFull", "WrongKind", "WrongLength", "answered", "create", "inspect", "open", "open_or_create",
 ]

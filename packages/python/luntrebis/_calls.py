@@ -1,4 +1,4 @@
-"""The calls of luntrebis.h, as ctypes has them: scripts/bindings writes this file of the header."""
+"""The calls of luntrebis.h and luntrebis_file.h, as ctypes has them: scripts/bindings writes this file."""
 import ctypes as c
 import enum
 from typing import Any
@@ -126,6 +126,30 @@ class lt_bounds(c.Structure):
     next: Any
 
 
+class lt_sizes(c.Structure):
+    """The sizes of an image."""
+
+    _fields_ = [
+        ("cells", c.c_uint32),
+        ("elements", c.c_uint16),
+        ("slots", c.c_uint32),
+    ]
+    cells: Any
+    elements: Any
+    slots: Any
+
+
+class lt_waiter(c.Structure):
+    """A request that waits."""
+
+    _fields_ = [
+        ("element", c.c_uint16),
+        ("number", c.c_uint64),
+    ]
+    element: Any
+    number: Any
+
+
 class lt_kind(enum.IntEnum):
     """What is to be done on the file, by `kind`."""
 
@@ -156,18 +180,54 @@ class lt_turn_tag(enum.IntEnum):
     SWEPT = 5
 
 
+class ltf(c.Structure):
+    pass
+
+
+LTF_UNSYNCED = 300
+
+
+class ltf_counts(c.Structure):
+    """What was done since it was opened."""
+
+    _fields_ = [
+        ("groups", c.c_uint64),
+        ("syncs", c.c_uint64),
+        ("writes", c.c_uint64),
+        ("sweeps", c.c_uint64),
+        ("turns", c.c_uint64),
+    ]
+    groups: Any
+    syncs: Any
+    writes: Any
+    sweeps: Any
+    turns: Any
+
+
+class ltf_fault(c.Structure):
+    _fields_ = [
+        ("error", c.c_int),
+        ("sync", c.c_int),
+        ("noted", c.c_int),
+    ]
+    error: Any
+    sync: Any
+    noted: Any
+
+
 # What each gives, and what it is given.
 CALLS: dict[str, tuple[Any, ...]] = {
     "lt_version": (c.c_uint32,),
     "lt_layout_version": (c.c_uint16,),
     "lt_memory_new": (c.c_uint8, c.c_uint32, c.c_uint16, c.POINTER(lt_memory)),
-    "lt_memory_step": (None, lt_memory, c.POINTER(lt_command), c.POINTER(lt_memory), c.POINTER(lt_outcome)),
-    "lt_memory_collect": (None, lt_memory, c.c_uint16, c.c_uint64, c.POINTER(lt_memory), c.POINTER(lt_outcome)),
+    "lt_memory_step": (c.c_uint8, lt_memory, c.POINTER(lt_command), c.POINTER(lt_memory), c.POINTER(lt_outcome)),
+    "lt_memory_collect": (c.c_uint8, c.POINTER(lt_memory), c.c_uint16, c.c_uint64, c.POINTER(lt_outcome)),
     "lt_memory_free": (None, lt_memory),
     "lt_image_length": (c.c_uint64, c.c_uint32, c.c_uint16, c.c_uint32),
+    "lt_limits": (c.c_uint8, c.c_char_p, c.c_size_t, c.POINTER(lt_sizes)),
     "lt_format": (c.c_uint8, c.c_uint32, c.c_uint16, c.c_uint32, c.POINTER(lt_image)),
     "lt_open": (c.c_uint8, c.c_char_p, c.c_size_t, c.POINTER(lt_image)),
-    "lt_serve": (c.c_size_t, lt_image, c.POINTER(lt_command), c.POINTER(lt_image), c.POINTER(lt_outcome)),
+    "lt_serve": (c.c_uint8, lt_image, c.POINTER(lt_command), c.POINTER(lt_image), c.POINTER(lt_outcome)),
     "lt_serve_group": (
         c.c_uint8,
         lt_image,
@@ -178,19 +238,38 @@ CALLS: dict[str, tuple[Any, ...]] = {
         c.c_size_t,
     ),
     "lt_first_unknown": (c.c_size_t, c.POINTER(lt_command), c.c_size_t),
-    "lt_turn": (c.c_size_t, lt_image, c.POINTER(lt_image), c.POINTER(lt_outcome)),
-    "lt_sweep": (c.c_size_t, lt_image, c.c_uint32, c.POINTER(lt_image), c.POINTER(lt_outcome)),
-    "lt_steps": (c.c_size_t, lt_image, c.POINTER(lt_image)),
-    "lt_step_at": (None, lt_image, c.c_size_t, c.POINTER(lt_image), c.POINTER(lt_step)),
-    "lt_step_bytes": (c.c_uint8, lt_image, c.c_size_t, c.POINTER(lt_image), c.c_char_p, c.c_size_t),
+    "lt_turn": (c.c_uint8, lt_image, c.POINTER(lt_image), c.POINTER(lt_outcome)),
+    "lt_sweep": (c.c_uint8, lt_image, c.c_uint32, c.POINTER(lt_image), c.POINTER(lt_outcome)),
     "lt_failed": (None, lt_image, c.POINTER(lt_image)),
-    "lt_collect": (None, lt_image, c.c_uint16, c.c_uint64, c.POINTER(lt_image), c.POINTER(lt_outcome)),
-    "lt_entry": (None, lt_image, c.c_uint16, c.c_uint64, c.POINTER(lt_image), c.POINTER(lt_command)),
-    "lt_window": (None, lt_image, c.c_uint16, c.POINTER(lt_image), c.POINTER(lt_bounds)),
-    "lt_room": (c.c_uint32, lt_image, c.POINTER(lt_image)),
-    "lt_count": (c.c_uint64, lt_image, c.POINTER(lt_image)),
+    "lt_steps": (c.c_size_t, c.POINTER(lt_image)),
+    "lt_step_at": (lt_step, c.POINTER(lt_image), c.c_size_t),
+    "lt_step_bytes": (c.c_uint8, c.POINTER(lt_image), c.c_size_t, c.c_char_p, c.c_size_t),
+    "lt_collect": (c.c_uint8, c.POINTER(lt_image), c.c_uint16, c.c_uint64, c.POINTER(lt_outcome)),
+    "lt_entry": (lt_command, c.POINTER(lt_image), c.c_uint16, c.c_uint64),
+    "lt_waiters": (c.c_size_t, c.POINTER(lt_image), c.c_uint32, c.POINTER(lt_waiter), c.c_size_t),
+    "lt_window": (c.c_uint8, c.POINTER(lt_image), c.c_uint16, c.POINTER(lt_bounds)),
+    "lt_room": (c.c_uint32, c.POINTER(lt_image)),
+    "lt_count": (c.c_uint64, c.POINTER(lt_image)),
     "lt_close": (None, lt_image),
     "lt_inspect": (c.c_uint8, c.c_char_p, c.c_size_t, c.c_char_p, c.c_size_t, c.POINTER(c.c_size_t)),
     "lt_refusal_name": (c.c_size_t, c.c_uint8, c.c_char_p, c.c_size_t),
     "lt_answer_name": (c.c_size_t, c.c_uint8, c.c_char_p, c.c_size_t),
+    "ltf_create": (c.c_int, c.c_char_p, c.c_uint32, c.c_uint16, c.c_uint32, c.POINTER(c.POINTER(ltf))),
+    "ltf_open": (c.c_int, c.c_char_p, c.POINTER(c.POINTER(ltf))),
+    "ltf_open_or_create": (c.c_int, c.c_char_p, c.c_uint32, c.c_uint16, c.c_uint32, c.POINTER(c.POINTER(ltf))),
+    "ltf_serve": (c.c_int, c.POINTER(ltf), c.POINTER(lt_command), c.POINTER(lt_outcome)),
+    "ltf_serve_all": (c.c_int, c.POINTER(ltf), c.POINTER(lt_command), c.c_size_t, c.POINTER(lt_outcome)),
+    "ltf_woken": (c.POINTER(lt_waiter), c.POINTER(ltf), c.POINTER(c.c_size_t)),
+    "ltf_tidy": (c.c_int, c.POINTER(ltf)),
+    "ltf_collect": (c.c_int, c.POINTER(ltf), c.c_uint16, c.c_uint64, c.POINTER(lt_outcome)),
+    "ltf_entry": (lt_command, c.POINTER(ltf), c.c_uint16, c.c_uint64),
+    "ltf_waiters": (c.c_size_t, c.POINTER(ltf), c.c_uint32, c.POINTER(lt_waiter), c.c_size_t),
+    "ltf_window": (lt_bounds, c.POINTER(ltf), c.c_uint16),
+    "ltf_room": (c.c_uint32, c.POINTER(ltf)),
+    "ltf_count": (c.c_uint64, c.POINTER(ltf)),
+    "ltf_limits": (lt_sizes, c.POINTER(ltf)),
+    "ltf_work": (ltf_counts, c.POINTER(ltf)),
+    "ltf_failure": (ltf_fault, c.POINTER(ltf)),
+    "ltf_say": (c.c_size_t, c.c_int, c.c_char_p, c.c_size_t),
+    "ltf_close": (None, c.POINTER(ltf)),
 }

@@ -1,220 +1,187 @@
-"""A memory without a disk, and an image in a file, for one thread."""
+"""A memory without a disk, and an image in its file."""
 from __future__ import annotations
 
-import contextlib
 import ctypes as c
+import fcntl
+import io
 import os
 import threading
-from typing import Any, BinaryIO, Iterable, Iterator, Optional, Union
+from typing import Any, Iterable, Iterator, Union
 
-from . import _files
-from ._calls import lt_bounds, lt_command, lt_image, lt_kind, lt_memory, lt_outcome, lt_step, lt_turn_tag
+from ._calls import LTF_UNSYNCED, lt_command, lt_memory, lt_outcome, ltf
 from ._library import LIB
-from ._words import Answer, JournalFull, Refused, Reply, Request, Tag, Waiting, Window, passed, refusal, spelled, told
+from ._words import Answer, Device, Refused, Reply, Request, SyncFailed, Tag, Waiting, Window
+from ._words import passed, refusal, spelled, told
 
 Path = Union[str, "os.PathLike[str]"]
 KEPT = 64
-SWEEPS = hasattr(LIB, "lt_sweep")
-SWEPT_AT_ONCE = 64
+RULE = "a sync failed: mount the file system anew, or restart, before the image is opened again"
 
 
 class Held:
-    """Something that the library holds, until `close`. It stays on the thread that made it."""
-
-    _handle_type: Any = None
-    _frees = _collects = ""
+    """Something that the library holds, until `close`. Calls of several threads come one after another."""
 
     def __init__(self) -> None:
-        self._handle = self._handle_type(None)
-        self._thread = threading.get_ident()
+        self._lock, self._is_closed = threading.RLock(), False
 
     def __exit__(self, *fault: object) -> None:
         self.close()
 
     def close(self) -> None:
         """Frees it. Nothing is lost of what was answered."""
-        if self._handle.block:
-            self._check_thread()
-            getattr(LIB, self._frees)(self._handle)
-            self._handle = self._handle_type(None)
+        with self._lock:
+            if not self._is_closed:
+                self._is_closed = True
+                self._free()
 
-    def _check_thread(self) -> None:
-        if threading.get_ident() != self._thread:
-            raise RuntimeError("it stays on the thread that made it; luntrebis.Shared is for several")
+    def _free(self) -> None:
+        raise NotImplementedError
 
-    def _pass(self, name: str, *words: Any, to: Iterable[Any] = ()) -> Any:
-        """A call that takes the handle and hands it out again, behind `words` and before `to`."""
-        if not self._handle.block:
+    def _check(self) -> None:
+        if self._is_closed:
             raise ValueError("closed")
-        self._check_thread()
-        handle = self._handle_type(None)
-        answer = getattr(LIB, name)(self._handle, *words, handle, *to)
-        self._handle = handle
-        return answer
-
-    def collect(self, element: int, number: int) -> Reply:
-        """What is kept under an element's number."""
-        outcome = lt_outcome()
-        self._pass(self._collects, element, number, to=[outcome])
-        return told(outcome)
-
-
-class Memory(Held):
-    """A memory with no disk: what it holds ends with it."""
-
-    _handle_type, _frees, _collects = lt_memory, "lt_memory_free", "lt_memory_collect"
-
-    def __init__(self, cells: int, elements: int) -> None:
-        super().__init__()
-        passed(LIB.lt_memory_new(cells, elements, self._handle))
-
-    def __enter__(self) -> Memory:
-        return self
 
     def _serve(self, command: lt_command) -> lt_outcome:
-        outcome = lt_outcome()
-        self._pass("lt_memory_step", command, to=[outcome])
-        return outcome
+        raise NotImplementedError
 
     def ask(self, request: Request) -> Reply:
-        """One request. The same one again is answered as before."""
+        """One request. The same one again is answered as before, and acts no second time."""
         return told(self._serve(spelled(request)))
-
-    def confirm(self, element: int, upto: int) -> None:
-        """Drops the entries of the element below the number."""
-        passed(self._serve(lt_command(Tag.CONFIRM, element, 0, upto, 0)).refusal)
-
-
-class Image(Held):
-    """A memory in an image file, which is this program's alone. What is answered is on the disk.
-
-    It is for one thread; `Shared` is for several.
-    """
-
-    _handle_type, _frees, _collects = lt_image, "lt_close", "lt_collect"
-
-    def __init__(self, path: Path, limits: Optional[tuple[int, int, int]] = None) -> None:
-        """`create` and `open` of this module make it."""
-        super().__init__()
-        self._file: Optional[BinaryIO] = None
-        with contextlib.ExitStack() as undo:
-            undo.callback(self.close)
-            if limits:
-                self._form(os.fspath(path), limits)
-            else:
-                self._open(os.fspath(path))
-            undo.pop_all()
-
-    def __enter__(self) -> Image:
-        return self
-
-    def _form(self, path: str, limits: tuple[int, int, int]) -> None:
-        """Forms the image as `PATH.new`, and names it once it is whole: a run that is stopped leaves no half of one."""
-        passed(LIB.lt_format(*limits, self._handle))
-        forming = f"{path}.new"
-        self._file = _files.make_alone(forming)
-        self._file.truncate(LIB.lt_image_length(*limits))
-        self._carry_out(self._pass("lt_steps"))
-        try:
-            os.link(forming, path)  # Where nothing has that name.
-        finally:
-            os.unlink(forming)
-        _files.sync_folder(path)
-
-    def _open(self, path: str) -> None:
-        """Opens the image of a file, and never forms one in it: one that is refused `NoHeader` may be damaged."""
-        self._file = _files.open_alone(path)
-        data = self._file.read()
-        passed(LIB.lt_open(data, len(data), self._handle))
-        self._carry_out(self._pass("lt_steps"))
-
-    def close(self) -> None:
-        super().close()
-        if self._file:
-            self._file.close()
-
-    def _carry_out(self, count: int) -> None:
-        """Carries out the steps of the last call, all of them, before its answer is told."""
-        try:
-            for index in range(count):
-                self._carry_out_step(index)
-        except BaseException:
-            self._pass("lt_failed")
-            raise
-
-    def _carry_out_step(self, index: int) -> None:
-        step = lt_step()
-        self._pass("lt_step_at", index, to=[step])
-        assert self._file
-        if step.kind == lt_kind.SYNC:
-            _files.sync(self._file)
-            return
-        data = c.create_string_buffer(step.length)
-        self._pass("lt_step_bytes", index, to=[data, step.length])
-        _files.write(self._file, data.raw, step.place)
-
-    def _call(self, name: str, *words: Any) -> lt_outcome:
-        outcome = lt_outcome()
-        self._carry_out(self._pass(name, *words, to=[outcome]))
-        return outcome
-
-    def _serve(self, command: lt_command) -> lt_outcome:
-        """One command, with turns of a checkpoint where the journal is full."""
-        outcome = self._call("lt_serve", command)
-        while outcome.refusal == JournalFull.number and self.make_room():
-            outcome = self._call("lt_serve", command)
-        return outcome
-
-    def ask(self, request: Request) -> Reply:
-        """One request, as the file has it. The same one again is answered as before, and acts no second time."""
-        return told(self._serve(spelled(request)))
-
-    def ask_all(self, requests: Iterable[Request]) -> list[Union[Reply, Refused]]:
-        """1 to 16 requests, each of another element, put on the disk together: of each its reply, or its refusal."""
-        asked = [spelled(it) for it in requests]
-        while self.room < len(asked) and self.make_room():
-            pass
-        commands, outcomes = (lt_command * len(asked))(*asked), (lt_outcome * len(asked))()
-        refused = self._pass("lt_serve_group", commands, len(asked), to=[outcomes, len(asked)]) if asked else 255
-        self._carry_out(self._pass("lt_steps"))
-        passed(refused)
-        return [refusal(it.refusal) if it.refusal else told(it) for it in outcomes]
 
     def confirm(self, element: int, upto: int) -> None:
         """Drops the entries of the element below the number: their answers aren't asked for again."""
         passed(self._serve(lt_command(Tag.CONFIRM, element, 0, upto, 0)).refusal)
 
-    def turn(self) -> bool:
-        """One turn of a checkpoint, which makes room in the journal. Whether there was anything to do."""
-        outcome = self._call("lt_turn")
-        passed(outcome.refusal)
-        return bool(outcome.tag != lt_turn_tag.IDLE)
+
+class Memory(Held):
+    """A memory with no disk: what it holds ends with it."""
+
+    def __init__(self, cells: int, elements: int) -> None:
+        super().__init__()
+        self._handle = lt_memory(None)
+        passed(LIB.lt_memory_new(cells, elements, self._handle))
+
+    def __enter__(self) -> Memory:
+        return self
+
+    def _free(self) -> None:
+        LIB.lt_memory_free(self._handle)
+
+    def _serve(self, command: lt_command) -> lt_outcome:
+        outcome, handle = lt_outcome(), lt_memory(None)
+        with self._lock:
+            self._check()
+            LIB.lt_memory_step(self._handle, command, handle, outcome)
+            self._handle = handle
+        return outcome
+
+    def collect(self, element: int, number: int) -> Reply:
+        """What is kept under an element's number."""
+        outcome = lt_outcome()
+        with self._lock:
+            self._check()
+            LIB.lt_memory_collect(self._handle, element, number, outcome)
+        return told(outcome)
+
+
+class Image(Held):
+    """A memory in an image file, which is this program's alone. What is answered is on the disk.
+
+    `Shared` is for several threads, which then share the syncs. After a step that couldn't be carried out each call
+    tells why: close it, open it again, and ask again under the same numbers.
+    """
+
+    def __init__(self, call: str, path: Path, *limits: int) -> None:
+        """`create`, `open` and `open_or_create` of this module make it."""
+        super().__init__()
+        self._file, name = c.POINTER(ltf)(), os.fsdecode(path)
+        if "\0" in name:
+            raise ValueError("embedded null byte")
+        answer = getattr(LIB, call)(os.fsencode(name), *limits, c.byref(self._file))
+        self._is_closed = answer != 0
+        if answer < 0:
+            raise OSError(-answer, os.strerror(-answer), name)
+        if answer == LTF_UNSYNCED:
+            raise SyncFailed(0, f"{RULE} (the note is {name}.unsynced)")
+        passed(answer)
+
+    def __enter__(self) -> Image:
+        return self
+
+    def _free(self) -> None:
+        LIB.ltf_close(self._file)
+
+    def _call(self, name: str, *words: Any) -> Any:
+        with self._lock:
+            self._check()
+            return getattr(LIB, name)(self._file, *words)
+
+    def _carried_out(self, answer: int) -> int:
+        """The answer, where no step was lost; else why it was."""
+        if answer == Device.number:
+            fault = self._call("ltf_failure")
+            if fault.sync:
+                raise SyncFailed(fault.error, RULE)
+            if fault.error:
+                raise OSError(fault.error, os.strerror(fault.error))
+        return answer
+
+    def _serve(self, command: lt_command) -> lt_outcome:
+        outcome = lt_outcome()
+        self._carried_out(self._call("ltf_serve", command, outcome))
+        return outcome
+
+    def ask_all(self, requests: Iterable[Request]) -> list[Union[Reply, Refused]]:
+        """Any requests, in their order: of each its reply, or its refusal. Neighbours of up to sixteen elements are put
+        on the disk together."""
+        asked = [spelled(it) for it in requests]
+        commands, outcomes = (lt_command * len(asked))(*asked), (lt_outcome * len(asked))()
+        passed(self._carried_out(self._call("ltf_serve_all", commands, len(asked), outcomes)))
+        return [refusal(it.refusal) if it.refusal else told(it) for it in outcomes]
+
+    def woken(self) -> list[tuple[int, int]]:
+        """Whom the last `ask` or `ask_all` resumed: the element and the number of each request that waited and is
+        answered now, those of one cell in the order in which they came."""
+        count = c.c_size_t()
+        with self._lock:
+            waiters = self._call("ltf_woken", count)
+            return [(waiters[at].element, waiters[at].number) for at in range(count.value)]
+
+    def collect(self, element: int, number: int) -> Reply:
+        """What is kept under an element's number."""
+        outcome = lt_outcome()
+        self._call("ltf_collect", element, number, outcome)
+        return told(outcome)
 
     def make_room(self) -> bool:
-        """Frees slots of the journal that a checkpoint holds, else goes on with one. Whether there was any to do."""
-        if SWEEPS:
-            outcome = self._call("lt_sweep", SWEPT_AT_ONCE)
-            passed(outcome.refusal)
-            if outcome.value:
-                return True
-        return self.turn()
+        """Makes room in the journal, by a sweep or a turn of a checkpoint, where less than half of it is free. Whether
+        there was anything to do. Each request does it, too; this is for a program that is idle."""
+        answer = self._carried_out(self._call("ltf_tidy"))
+        if answer > 1:
+            passed(answer)
+        return answer == 1
 
     def window(self, element: int) -> Window:
         """Which numbers of an element are kept."""
-        bounds = lt_bounds()
-        self._pass("lt_window", element, to=[bounds])
+        bounds = self._call("ltf_window", element)
         passed(bounds.refusal)
         return Window(bounds.base, bounds.next)
 
     @property
     def room(self) -> int:
         """How many more commands there is room for in the journal."""
-        return int(self._pass("lt_room"))
+        return int(self._call("ltf_room"))
 
     @property
     def count(self) -> int:
         """How many commands have been accepted since the image was made."""
-        return int(self._pass("lt_count"))
+        return int(self._call("ltf_count"))
+
+    @property
+    def limits(self) -> tuple[int, int, int]:
+        """How many cells, elements, and slots of the journal it has."""
+        sizes = self._call("ltf_limits")
+        return sizes.cells, sizes.elements, sizes.slots
 
     def element(self, number: int) -> Element:
         """An element whose requests are numbered here, from its window's next number on."""
@@ -307,17 +274,25 @@ class Element:
 
 def create(path: Path, cells: int = 4096, elements: int = 16, slots: int = 256) -> Image:
     """Makes the image of an empty memory, where nothing is at the path: else `FileExistsError`."""
-    return Image(path, (cells, elements, slots))
+    return Image("ltf_create", path, cells, elements, slots)
 
 
 def open(path: Path) -> Image:  # noqa: A001
     """Opens the image of a file that is there. `BlockingIOError` where another program has it."""
-    return Image(path)
+    return Image("ltf_open", path)
+
+
+def open_or_create(path: Path, cells: int = 4096, elements: int = 16, slots: int = 256) -> Image:
+    """Opens the image that is there, or makes it where nothing is at the path."""
+    return Image("ltf_open_or_create", path, cells, elements, slots)
 
 
 def inspect(path: Path) -> str:
-    """What `imem inspect` prints of a file."""
-    data, room, length = _files.read_whole(os.fspath(path)), c.create_string_buffer(1), c.c_size_t()
+    """What `imem inspect` prints of a file, which nobody works on meanwhile."""
+    with io.open(path, "rb") as file:
+        fcntl.flock(file, fcntl.LOCK_SH | fcntl.LOCK_NB)
+        data = file.read()
+    room, length = c.create_string_buffer(1), c.c_size_t()
     for _ in range(2):  # The first call tells how long it is.
         passed(LIB.lt_inspect(data, len(data), room, len(room), length))
         room = room if length.value <= len(room) else c.create_string_buffer(length.value)

@@ -10,7 +10,7 @@ from typing import Any, Callable, Generic, NamedTuple, Optional, TypeVar, Union
 
 from . import _memories
 from ._memories import Image, Path
-from ._words import Answer, Device, JournalFull, Refused, Reply, Request, Tag, WindowFull, spelled
+from ._words import Answer, Device, Refused, Reply, Request, Tag, WindowFull, spelled
 
 T = TypeVar("T")
 MOST = 16  # The members of a group.
@@ -130,6 +130,11 @@ class Shared:
         """Opens the image of a file that is there."""
         return cls(lambda: _memories.open(path))
 
+    @classmethod
+    def open_or_create(cls, path: Path, cells: int = 4096, elements: int = 16, slots: int = 256) -> Shared:
+        """Opens the image that is there, or makes it where nothing is at the path."""
+        return cls(lambda: _memories.open_or_create(path, cells, elements, slots))
+
     def __enter__(self) -> Shared:
         return self
 
@@ -191,8 +196,7 @@ class Owner:
     def __init__(self, asked: queue.SimpleQueue[Union[Asked, Called, None]]) -> None:
         self.asked = asked
         self.ready: dict[int, collections.deque[Asked]] = {}  # What is to be served, by elements; none is empty.
-        self.waiting: dict[tuple[int, int], tuple[int, list[Future[Reply]]]] = {}  # The address, and who is told.
-        self.most_room = 0
+        self.waiting: dict[tuple[int, int], list[Future[Reply]]] = {}  # Who is told, by element and number.
         self.ends = False
 
     def run(self, make: Callable[[], Image], began: Future[None]) -> None:
@@ -205,7 +209,7 @@ class Owner:
             began.set_result(None)
             while self.take_in():
                 self.serve()
-        for _, futures in self.waiting.values():
+        for futures in self.waiting.values():
             for future in futures:
                 future.cancel()
 
@@ -213,7 +217,7 @@ class Owner:
         """Takes what was asked, and keeps a checkpoint going while nobody asks. Whether there is more to do."""
         while not self.ends:
             try:
-                one = self.asked.get(block=not self.ready and not self.make_room_if_low())
+                one = self.asked.get(block=not self.ready and not self.make_room())
             except queue.Empty:
                 if self.ready:
                     break
@@ -232,31 +236,29 @@ class Owner:
         except BaseException as fault:
             give(called.future, fault)
 
-    def make_room_if_low(self) -> bool:
-        """Makes room, where less than half of it is left. Whether there was anything to do."""
-        with contextlib.suppress(OSError, Refused):
-            room = self.image.room
-            self.most_room = max(self.most_room, room)
-            return 2 * room < self.most_room and self.image.make_room()
-        return False
+    def make_room(self) -> bool:
+        """Makes room in the journal while nobody asks. Whether there was anything to do."""
+        try:
+            return self.image.make_room()
+        except (OSError, Refused):
+            self.tell_lost()
+            return False
 
     def serve(self) -> None:
         """Serves a group: the first request of up to sixteen elements."""
         group = [it for it in map(self.take, list(self.ready)[:MOST]) if it]
-        self.make_room_if_low()
         try:
-            replies = self.image.ask_all(it.request for it in group) if group else []
+            replies = self.image.ask_all(it.request for it in group)
         except BaseException as fault:
             for asked in group:
                 give(asked.future, fault)
-            if isinstance(fault, (OSError, Device)):
-                self.tell_lost()
+            self.tell_lost()
             return
+        woken = self.image.woken()
         for asked, reply in zip(group, replies):
             self.tell(asked, reply)
-        if any(isinstance(it, Device) for it in replies):
-            self.tell_lost()
-        self.tell_resumed({it.request.address for it, reply in zip(group, replies) if reply == Reply(Answer.STORED)})
+        for of in woken:
+            self.tell_resumed(of)
 
     def take(self, element: int) -> Optional[Asked]:
         """The element's first request, under its number; None where there is no such element."""
@@ -274,14 +276,13 @@ class Owner:
         return asked._replace(request=asked.request._replace(number=number))
 
     def tell(self, asked: Asked, reply: Union[Reply, Refused]) -> None:
-        """Tells what a request came to; one for which there was no room is served again, once there is."""
-        element, number, address = asked.request.element, asked.request.number, asked.request.address
-        full = isinstance(reply, WindowFull) and not asked.is_numbered
-        if isinstance(reply, JournalFull) or (full and self.confirms(element)):
+        """Tells what a request came to, or, where it waits, keeps who is told."""
+        element, number = asked.request.element, asked.request.number
+        if isinstance(reply, WindowFull) and not asked.is_numbered and self.confirms(element):
             self.ready.setdefault(element, collections.deque()).appendleft(asked)
         elif isinstance(reply, Reply) and reply.answer == Answer.WAITING and asked.waits:
-            _, futures = self.waiting.setdefault((element, number), (address, []))
-            futures.append(asked.future)
+            self.waiting.setdefault((element, number), []).append(asked.future)
+            self.tell_resumed((element, number))  # It may have been answered with its group.
         else:
             give(asked.future, reply)
 
@@ -297,15 +298,14 @@ class Owner:
 
     def tell_lost(self) -> None:
         """Tells all who wait that a step was lost: no answer comes any more."""
-        for _, futures in self.waiting.values():
+        for futures in self.waiting.values():
             for future in futures:
                 give(future, Device())
         self.waiting.clear()
 
-    def tell_resumed(self, stored: set[int]) -> None:
-        """Tells those who waited for one of these addresses, and no longer do."""
-        for key in [key for key, (address, _) in self.waiting.items() if address in stored]:
-            reply = self.image.collect(*key)
-            if reply.answer != Answer.WAITING:
-                for future in self.waiting.pop(key)[1]:
-                    give(future, reply)
+    def tell_resumed(self, of: tuple[int, int]) -> None:
+        """Tells those who waited for an entry that is answered now."""
+        reply = self.image.collect(*of)
+        if reply.answer != Answer.WAITING:
+            for future in self.waiting.pop(of, []):
+                give(future, reply)

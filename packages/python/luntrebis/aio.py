@@ -38,9 +38,10 @@ class Image:
     async def __aexit__(self, *fault: object) -> None:
         await self.close()
 
-    async def ask(self, request: Request) -> Reply:
-        """A request under its own number, once it is answered. The same one again is answered as before."""
-        return await asyncio.wrap_future(self.shared.submit(request))
+    def ask(self, request: Request) -> Awaitable[Reply]:
+        """A request under its own number, sent at this call, and awaited until it is answered. The same one again is
+        answered as before."""
+        return asyncio.wrap_future(self.shared.submit(request))
 
     def element(self, number: int) -> Element:
         """An element whose requests are numbered here."""
@@ -54,6 +55,11 @@ class Image:
 async def create(path: Path, cells: int = 4096, elements: int = 16, slots: int = 256) -> Image:
     """Makes the image of an empty memory, where nothing is at the path."""
     return Image(await asyncio.to_thread(Shared.create, path, cells, elements, slots))
+
+
+async def open_or_create(path: Path, cells: int = 4096, elements: int = 16, slots: int = 256) -> Image:
+    """Opens the image that is there, or makes it where nothing is at the path."""
+    return Image(await asyncio.to_thread(Shared.open_or_create, path, cells, elements, slots))
 
 
 async def open(path: Path) -> Image:  # noqa: A001

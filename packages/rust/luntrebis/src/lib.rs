@@ -14,7 +14,7 @@
 //! # }
 //! ```
 //!
-//! [`Image`] is for one thread, with requests that the caller numbers. [`Shared`] is `Send + Sync`: one thread of its
+//! [`Image`] is for one thread at a time, with requests that the caller numbers. [`Shared`] is `Send + Sync`: one thread of its
 //! own makes the calls, requests of several elements that are there at once are put on the disk together, and each
 //! answer is a future. [`Memory`] has no disk.
 //!
@@ -22,7 +22,6 @@
 //! doesn't know how far it came asks again.
 #![warn(missing_docs, unsafe_op_in_unsafe_fn)]
 
-mod file;
 mod memories;
 mod owner;
 mod shared;

@@ -1,14 +1,14 @@
-//! A memory without a disk, and an image in a file, for one thread.
+//! A memory without a disk, and an image in its file.
 
-use crate::file;
-use crate::words::{confirmation, passed, spelled, told, Error, Refusal, Reply, Request, Result};
+use crate::words::{answered, confirmation, passed, spelled, told, Error, Reply, Request, Result};
 use luntrebis_sys as sys;
-use std::ffi::OsString;
-use std::fs::{hard_link, remove_file, File, OpenOptions};
+use std::ffi::{c_int, CString};
+use std::fs::File;
 use std::io::{self, Read};
 use std::ops::Range;
-use std::os::unix::fs::FileExt;
-use std::path::{Path, PathBuf};
+use std::os::fd::AsRawFd;
+use std::os::unix::ffi::OsStrExt;
+use std::path::Path;
 use std::ptr;
 
 /// The sizes of an image: 1 to 1,048,576 cells, 1 to 64 elements, 16 to 4,096 slots of the journal.
@@ -29,11 +29,15 @@ impl Default for Limits {
     }
 }
 
-/// A memory with no disk: what it holds ends with it. It stays on its thread.
+/// A memory with no disk: what it holds ends with it.
 #[derive(Debug)]
 pub struct Memory {
     handle: sys::lt_memory,
 }
+
+// SAFETY: a handle may go to another thread, which is proved of what it holds; a borrow of it makes no call at the same
+// time as another thread, since it isn't `Sync`.
+unsafe impl Send for Memory {}
 
 impl Memory {
     /// A memory of 1 to 1,048,576 cells and 1 to 64 elements.
@@ -55,16 +59,16 @@ impl Memory {
     }
 
     /// What is kept under an element's number.
-    pub fn collect(&mut self, element: u16, number: u64) -> Result<Reply> {
-        let (mut outcome, handle) = (sys::lt_outcome::default(), self.handle);
-        // SAFETY: the handle is handed over once, and held again as it comes back.
-        unsafe { sys::lt_memory_collect(handle, element, number, &mut self.handle, &mut outcome) };
+    pub fn collect(&self, element: u16, number: u64) -> Result<Reply> {
+        let mut outcome = sys::lt_outcome::default();
+        // SAFETY: the handle is held.
+        unsafe { sys::lt_memory_collect(&self.handle, element, number, &mut outcome) };
         told(&outcome)
     }
 
     fn step(&mut self, command: &sys::lt_command) -> sys::lt_outcome {
         let (mut outcome, handle) = (sys::lt_outcome::default(), self.handle);
-        // SAFETY: as above.
+        // SAFETY: the handle is handed over once, and held again as it comes back.
         unsafe { sys::lt_memory_step(handle, command, &mut self.handle, &mut outcome) };
         outcome
     }
@@ -79,34 +83,15 @@ impl Drop for Memory {
 
 /// A memory in an image file, which is this program's alone. What is answered is on the disk.
 ///
-/// It stays on its thread; [`Shared`](crate::Shared) is for several.
+/// One thread at a time makes its calls; [`Shared`](crate::Shared) is for several. After a step that couldn't be carried
+/// out each call tells why: drop it, open it again, and ask again under the same numbers.
 #[derive(Debug)]
 pub struct Image {
-    held: Held,
-    file: File,
-    bytes: Vec<u8>,
+    file: *mut sys::ltf,
 }
 
-/// A handle, or none.
-#[derive(Debug)]
-struct Held {
-    image: sys::lt_image,
-}
-
-impl Held {
-    fn nothing() -> Held {
-        Held { image: sys::lt_image { block: ptr::null_mut() } }
-    }
-}
-
-impl Drop for Held {
-    fn drop(&mut self) {
-        if !self.image.block.is_null() {
-            // SAFETY: the handle is held, and handed over for the last time.
-            unsafe { sys::lt_close(self.image) }
-        }
-    }
-}
+// SAFETY: the library's handle may be used from any thread, one call at a time.
+unsafe impl Send for Image {}
 
 impl Image {
     /// Makes the image of an empty memory, where nothing is at the path.
@@ -114,32 +99,29 @@ impl Image {
     /// It is formed as `PATH.new`, and named once it is whole: a run that is stopped leaves no half of one.
     pub fn create(path: impl AsRef<Path>, limits: Limits) -> Result<Image> {
         let Limits { cells, elements, slots } = limits;
-        let (path, forming) = (path.as_ref(), forming(path.as_ref()));
-        let mut held = Held::nothing();
-        // SAFETY: `held` holds nothing, and is written for this call alone.
-        passed(unsafe { sys::lt_format(cells, elements, slots, &mut held.image) })?;
-        let mut image = Image { held, file: file::make_alone(&forming)?, bytes: Vec::new() };
-        // SAFETY: the call takes numbers.
-        image.file.set_len(unsafe { sys::lt_image_length(cells, elements, slots) })?;
-        image.carry_out_all()?;
-        let named = hard_link(&forming, path); // Where nothing has that name.
-        remove_file(&forming)?;
-        named?;
-        file::sync_folder(path)?;
-        Ok(image)
+        // SAFETY: the path is ended by a zero, and the place is written for this call alone.
+        Image::made(path.as_ref(), |path, made| unsafe { sys::ltf_create(path, cells, elements, slots, made) })
     }
 
-    /// Opens the image of a file, and never forms one in it: one that is refused [`Refusal::NoHeader`] may be damaged.
-    /// Where another program has it the error's kind is `WouldBlock`.
+    /// Opens the image of a file, and never forms one in it: one that is refused [`NoHeader`](crate::Refusal::NoHeader)
+    /// may be damaged. Where another program has it the error's kind is `WouldBlock`.
     pub fn open(path: impl AsRef<Path>) -> Result<Image> {
-        let mut file = file::open_alone(&mut OpenOptions::new(), path.as_ref())?;
-        let (mut bytes, mut held) = (Vec::new(), Held::nothing());
-        file.read_to_end(&mut bytes)?;
-        // SAFETY: `bytes` are as many as told; `held` holds nothing, and is written for this call alone.
-        passed(unsafe { sys::lt_open(bytes.as_ptr(), bytes.len(), &mut held.image) })?;
-        let mut image = Image { held, file, bytes: Vec::new() };
-        image.carry_out_all()?;
-        Ok(image)
+        // SAFETY: as above.
+        Image::made(path.as_ref(), |path, made| unsafe { sys::ltf_open(path, made) })
+    }
+
+    /// Opens the image that is there, or makes it where nothing is at the path.
+    pub fn open_or_create(path: impl AsRef<Path>, limits: Limits) -> Result<Image> {
+        let Limits { cells, elements, slots } = limits;
+        // SAFETY: as above.
+        Image::made(path.as_ref(), |path, made| unsafe { sys::ltf_open_or_create(path, cells, elements, slots, made) })
+    }
+
+    fn made(path: &Path, make: impl FnOnce(*const std::ffi::c_char, *mut *mut sys::ltf) -> c_int) -> Result<Image> {
+        let path = CString::new(path.as_os_str().as_bytes()).map_err(io::Error::from)?;
+        let mut file = ptr::null_mut();
+        answered(make(path.as_ptr(), &mut file))?;
+        Ok(Image { file })
     }
 
     /// One request, as the file has it. The same one again is answered as before, and acts no second time.
@@ -147,21 +129,24 @@ impl Image {
         told(&self.serve(&spelled(request))?)
     }
 
-    /// 1 to 16 requests, each of another element, put on the disk together: what each came to.
+    /// Any requests, in their order: what each came to. Neighbours of up to sixteen elements are put on the disk together.
     pub fn ask_all(&mut self, requests: &[Request]) -> Result<Vec<Result<Reply>>> {
-        if requests.is_empty() {
-            return Err(Error::Refused(Refusal::NoCall));
-        }
-        while (self.room() as usize) < requests.len() && self.make_room()? {}
         let commands: Vec<_> = requests.iter().map(spelled).collect();
         let mut outcomes = vec![sys::lt_outcome::default(); commands.len()];
-        let (handle, count) = (self.held.image, commands.len());
-        let (from, to) = (commands.as_ptr(), outcomes.as_mut_ptr());
-        // SAFETY: there are `count` commands and as many outcomes; the handle is handed over once.
-        let refusal = unsafe { sys::lt_serve_group(handle, from, count, &mut self.held.image, to, count) };
-        self.carry_out_all()?;
-        passed(refusal)?;
+        // SAFETY: the handle is held, and there are as many outcomes as commands.
+        let answer = unsafe { sys::ltf_serve_all(self.file, commands.as_ptr(), commands.len(), outcomes.as_mut_ptr()) };
+        self.check(answer)?;
         Ok(outcomes.iter().map(told).collect())
+    }
+
+    /// Whom the last `ask` or `ask_all` resumed: the element and the number of each request that waited and is answered
+    /// now, those of one cell in the order in which they came.
+    pub fn woken(&self) -> Vec<(u16, u64)> {
+        let mut count = 0;
+        // SAFETY: the handle is held; what is pointed to stays until the next request.
+        let woken = unsafe { sys::ltf_woken(self.file, &mut count) };
+        // SAFETY: there are `count` of them from there on.
+        (0..count).map(|at| unsafe { *woken.add(at) }).map(|it| (it.element, it.number)).collect()
     }
 
     /// Drops the entries of the element below the number: their answers aren't asked for again.
@@ -170,109 +155,99 @@ impl Image {
     }
 
     /// What is kept under an element's number.
-    pub fn collect(&mut self, element: u16, number: u64) -> Result<Reply> {
-        let (mut outcome, handle) = (sys::lt_outcome::default(), self.held.image);
-        // SAFETY: the handle is handed over once, and held again as it comes back. So it is below.
-        unsafe { sys::lt_collect(handle, element, number, &mut self.held.image, &mut outcome) };
+    pub fn collect(&self, element: u16, number: u64) -> Result<Reply> {
+        let mut outcome = sys::lt_outcome::default();
+        // SAFETY: the handle is held. So it is below.
+        unsafe { sys::ltf_collect(self.file, element, number, &mut outcome) };
         told(&outcome)
     }
 
     /// The numbers of an element that are kept; its next new request has the range's end.
-    pub fn window(&mut self, element: u16) -> Result<Range<u64>> {
-        let (mut window, handle) = (sys::lt_bounds::default(), self.held.image);
+    pub fn window(&self, element: u16) -> Result<Range<u64>> {
         // SAFETY: as above.
-        unsafe { sys::lt_window(handle, element, &mut self.held.image, &mut window) };
+        let window = unsafe { sys::ltf_window(self.file, element) };
         passed(window.refusal)?;
         Ok(window.base..window.next)
     }
 
     /// How many more commands there is room for in the journal.
-    pub fn room(&mut self) -> u32 {
-        let handle = self.held.image;
+    pub fn room(&self) -> u32 {
         // SAFETY: as above.
-        unsafe { sys::lt_room(handle, &mut self.held.image) }
+        unsafe { sys::ltf_room(self.file) }
     }
 
     /// How many commands have been accepted since the image was made.
-    pub fn count(&mut self) -> u64 {
-        let handle = self.held.image;
+    pub fn count(&self) -> u64 {
         // SAFETY: as above.
-        unsafe { sys::lt_count(handle, &mut self.held.image) }
+        unsafe { sys::ltf_count(self.file) }
     }
 
-    /// One turn of a checkpoint, which makes room in the journal. Whether there was anything to do.
-    pub fn turn(&mut self) -> Result<bool> {
-        let (mut outcome, handle) = (sys::lt_outcome::default(), self.held.image);
+    /// The sizes of the image.
+    pub fn limits(&self) -> Limits {
         // SAFETY: as above.
-        let steps = unsafe { sys::lt_turn(handle, &mut self.held.image, &mut outcome) };
-        self.carry_out(steps)?;
-        passed(outcome.refusal)?;
-        Ok(outcome.tag != sys::LT_IDLE)
+        let sys::lt_sizes { cells, elements, slots } = unsafe { sys::ltf_limits(self.file) };
+        Limits { cells, elements, slots }
     }
 
-    /// Goes on with a checkpoint, which makes room in the journal. Whether there was anything to do.
+    /// Makes room in the journal, by a sweep or a turn of a checkpoint, where less than half of it is free. Whether there
+    /// was anything to do. Each request does it, too; this is for a program that is idle.
     pub fn make_room(&mut self) -> Result<bool> {
-        self.turn()
+        // SAFETY: as above.
+        match unsafe { sys::ltf_tidy(self.file) } {
+            1 => Ok(true),
+            answer => self.check(answer).map(|()| false),
+        }
     }
 
-    /// One command, with turns of a checkpoint where the journal is full.
     fn serve(&mut self, command: &sys::lt_command) -> Result<sys::lt_outcome> {
-        loop {
-            let (mut outcome, handle) = (sys::lt_outcome::default(), self.held.image);
-            // SAFETY: as above.
-            let steps = unsafe { sys::lt_serve(handle, command, &mut self.held.image, &mut outcome) };
-            self.carry_out(steps)?;
-            if outcome.refusal != sys::LT_JOURNAL_FULL || !self.make_room()? {
-                return Ok(outcome);
-            }
-        }
-    }
-
-    fn carry_out_all(&mut self) -> Result<()> {
-        let handle = self.held.image;
+        let mut outcome = sys::lt_outcome::default();
         // SAFETY: as above.
-        let steps = unsafe { sys::lt_steps(handle, &mut self.held.image) };
-        self.carry_out(steps)
-    }
-
-    /// Carries out the steps of the last call, all of them, before its answer is told.
-    fn carry_out(&mut self, steps: usize) -> Result<()> {
-        for index in 0..steps {
-            if let Err(error) = self.carry_out_step(index) {
-                let handle = self.held.image;
-                // SAFETY: as above.
-                unsafe { sys::lt_failed(handle, &mut self.held.image) };
-                return Err(error.into());
-            }
+        let answer = unsafe { sys::ltf_serve(self.file, command, &mut outcome) };
+        if answer == c_int::from(sys::LT_DEVICE) {
+            self.check(answer)?;
         }
-        Ok(())
+        Ok(outcome)
     }
 
-    fn carry_out_step(&mut self, index: usize) -> io::Result<()> {
-        let (mut step, handle) = (sys::lt_step::default(), self.held.image);
+    /// Why a step couldn't be carried out, or another refusal.
+    fn check(&self, answer: c_int) -> Result<()> {
         // SAFETY: as above.
-        unsafe { sys::lt_step_at(handle, index, &mut self.held.image, &mut step) };
-        if step.kind == sys::LT_SYNC {
-            return file::sync(&self.file);
+        let fault = unsafe { sys::ltf_failure(self.file) };
+        let error = io::Error::from_raw_os_error(fault.error);
+        match (fault.error, fault.sync) {
+            (0, _) => answered(answer),
+            (_, 0) => Err(Error::Io(error)),
+            _ => Err(Error::SyncFailed(error)),
         }
-        self.bytes.resize(step.length as usize, 0);
-        let (handle, buffer, length) = (self.held.image, self.bytes.as_mut_ptr(), self.bytes.len());
-        // SAFETY: as above; the buffer has `length` bytes, which are initialized.
-        unsafe { sys::lt_step_bytes(handle, index, &mut self.held.image, buffer, length) };
-        self.file.write_all_at(&self.bytes, step.place)
     }
 }
 
-fn forming(path: &Path) -> PathBuf {
-    let mut name = OsString::from(path);
-    name.push(".new");
-    name.into()
+impl Drop for Image {
+    fn drop(&mut self) {
+        // SAFETY: the handle is held, and handed over for the last time.
+        unsafe { sys::ltf_close(self.file) }
+    }
+}
+
+extern "C" {
+    fn flock(file: c_int, how: c_int) -> c_int;
+}
+
+/// The file, which nobody works on while it is open.
+fn open_to_read(path: &Path) -> io::Result<File> {
+    const SHARED_AT_ONCE: c_int = 5;
+    let file = File::open(path)?;
+    // SAFETY: the descriptor is open, and no memory is handed over.
+    match unsafe { flock(file.as_raw_fd(), SHARED_AT_ONCE) } {
+        0 => Ok(file),
+        _ => Err(io::Error::last_os_error()),
+    }
 }
 
 /// What `imem inspect` prints of a file.
 pub fn inspect(path: impl AsRef<Path>) -> Result<String> {
     let mut bytes = Vec::new();
-    file::open_to_read(path.as_ref())?.read_to_end(&mut bytes)?;
+    open_to_read(path.as_ref())?.read_to_end(&mut bytes)?;
     let (mut text, mut length) = (vec![0u8; 1], 0);
     loop {
         let (room, buffer) = (text.len(), text.as_mut_ptr().cast());

@@ -2,7 +2,7 @@
 
 use crate::memories::Image;
 use crate::shared::{Asked, Teller};
-use crate::words::{Error, Op, Refusal, Reply, Request, Result};
+use crate::words::{Error, Refusal, Reply, Request, Result};
 use std::collections::{HashMap, VecDeque};
 use std::fmt;
 use std::sync::mpsc::{Receiver, TryRecvError};
@@ -33,23 +33,14 @@ pub(crate) struct Owner {
     /// The elements that ask, in the order in which they are served, and what each asks; none of the lists is empty.
     order: VecDeque<u16>,
     ready: HashMap<u16, VecDeque<Asked>>,
-    /// Who waits, by element and number: for which address, and who is told.
-    waiting: HashMap<(u16, u64), (u32, Vec<Teller>)>,
-    most_room: u32,
+    /// Who is told, by the element and the number of what waits.
+    waiting: HashMap<(u16, u64), Vec<Teller>>,
     ends: bool,
 }
 
 impl Owner {
     pub(crate) fn new(image: Image, asked: Receiver<Message>) -> Owner {
-        Owner {
-            image,
-            asked,
-            order: VecDeque::new(),
-            ready: HashMap::new(),
-            waiting: HashMap::new(),
-            most_room: 0,
-            ends: false,
-        }
+        Owner { image, asked, order: VecDeque::new(), ready: HashMap::new(), waiting: HashMap::new(), ends: false }
     }
 
     /// Serves until the end is asked for, and what was asked before it is served.
@@ -62,7 +53,7 @@ impl Owner {
     /// Takes what was asked, and keeps a checkpoint going while nobody asks. Whether there is more to do.
     fn take_in(&mut self) -> bool {
         while !self.ends {
-            let rests = self.order.is_empty() && !self.make_room_if_low();
+            let rests = self.order.is_empty() && !self.make_room();
             let message =
                 if rests { self.asked.recv().map_err(|_| TryRecvError::Disconnected) } else { self.asked.try_recv() };
             match message {
@@ -74,6 +65,14 @@ impl Owner {
             }
         }
         !self.order.is_empty() || !self.ends
+    }
+
+    /// Makes room in the journal while nobody asks. Whether there was anything to do.
+    fn make_room(&mut self) -> bool {
+        self.image.make_room().unwrap_or_else(|_| {
+            self.tell_lost();
+            false
+        })
     }
 
     fn line_up(&mut self, asked: Asked, is_first: bool) {
@@ -89,14 +88,6 @@ impl Owner {
         }
     }
 
-    /// Makes room, where less than half of it is left. Whether there was anything to do. What failed is told by the
-    /// next request.
-    fn make_room_if_low(&mut self) -> bool {
-        let room = self.image.room();
-        self.most_room = self.most_room.max(room);
-        2 * room < self.most_room && self.image.make_room().unwrap_or(false)
-    }
-
     /// Serves a group: the first request of up to sixteen elements.
     fn serve(&mut self) {
         let elements = self.order.len().min(MOST);
@@ -104,33 +95,23 @@ impl Owner {
         if group.is_empty() {
             return;
         }
-        self.make_room_if_low();
         let requests: Vec<Request> = group.iter().map(|it| it.request).collect();
-        let replies = match self.image.ask_all(&requests) {
-            Ok(replies) => replies,
+        match self.image.ask_all(&requests) {
+            Ok(replies) => {
+                let woken = self.image.woken();
+                group.into_iter().zip(replies).for_each(|(asked, reply)| self.tell(asked, reply));
+                woken.into_iter().for_each(|of| self.tell_resumed(of));
+            }
             Err(error) => {
                 group.iter().for_each(|it| it.teller.tell(Err(error.again())));
-                if matches!(error, Error::Io(_) | Error::Refused(Refusal::Device)) {
-                    self.tell_lost();
-                }
-                return;
+                self.tell_lost();
             }
-        };
-        let is_lost = replies.iter().any(|it| matches!(it, Err(Error::Refused(Refusal::Device))));
-        let stored = replies.iter().zip(&requests).filter(|(reply, _)| matches!(reply, Ok(Reply::Stored)));
-        let stored: Vec<u32> = stored.map(|(_, request)| address(request.op)).collect();
-        for (asked, reply) in group.into_iter().zip(replies) {
-            self.tell(asked, reply);
-        }
-        self.tell_resumed(&stored);
-        if is_lost {
-            self.tell_lost();
         }
     }
 
     /// Tells all who wait that a step was lost: no answer comes any more.
     fn tell_lost(&mut self) {
-        for (_, tellers) in self.waiting.drain().map(|(_, waits)| waits) {
+        for (_, tellers) in self.waiting.drain() {
             tellers.iter().for_each(|it| it.tell(Err(Error::Refused(Refusal::Device))));
         }
     }
@@ -157,19 +138,19 @@ impl Owner {
         Some(asked)
     }
 
-    /// Tells what a request came to; one for which there was no room is served again, once there is.
+    /// Tells what a request came to, or, where it waits, keeps who is told. One that was answered while its group was
+    /// served is told at once.
     fn tell(&mut self, asked: Asked, reply: Result<Reply>) {
-        let Request { element, number, op } = asked.request;
+        let Request { element, number, .. } = asked.request;
         match reply {
-            Err(Error::Refused(Refusal::JournalFull)) => self.line_up(asked, true),
             Err(Error::Refused(Refusal::WindowFull)) if !asked.is_numbered => match self.confirm(element) {
                 Ok(true) => self.line_up(asked, true),
                 Ok(false) => asked.teller.tell(Err(Error::Refused(Refusal::WindowFull))),
                 Err(error) => asked.teller.tell(Err(error)),
             },
             Ok(Reply::Waiting) if asked.waits => {
-                let (_, tellers) = self.waiting.entry((element, number)).or_insert((address(op), Vec::new()));
-                tellers.push(asked.teller);
+                self.waiting.entry((element, number)).or_default().push(asked.teller);
+                self.tell_resumed((element, number));
             }
             reply => asked.teller.tell(reply),
         }
@@ -188,31 +169,15 @@ impl Owner {
         Ok(upto > window.start)
     }
 
-    /// Tells those who waited for one of these addresses, and no longer do.
-    fn tell_resumed(&mut self, stored: &[u32]) {
-        let image = &mut self.image;
-        self.waiting.retain(|&(element, number), (address, tellers)| {
-            if !stored.contains(address) {
-                return true;
-            }
-            match image.collect(element, number) {
-                Ok(Reply::Waiting) => true,
-                Ok(reply) => {
-                    tellers.iter().for_each(|it| it.tell(Ok(reply)));
-                    false
-                }
-                Err(error) => {
-                    tellers.iter().for_each(|it| it.tell(Err(error.again())));
-                    false
+    /// Tells those who waited for an entry that is answered now.
+    fn tell_resumed(&mut self, of: (u16, u64)) {
+        match self.image.collect(of.0, of.1) {
+            Ok(Reply::Waiting) => {}
+            reply => {
+                for teller in self.waiting.remove(&of).unwrap_or_default() {
+                    teller.tell(reply.as_ref().map(|it| *it).map_err(Error::again));
                 }
             }
-        });
-    }
-}
-
-fn address(op: Op) -> u32 {
-    match op {
-        Op::AllocI(at) | Op::AllocM(at) | Op::Release(at) | Op::Reset(at) => at,
-        Op::Fetch(at) | Op::Take(at) | Op::Store(at, _) | Op::Put(at, _) => at,
+        }
     }
 }

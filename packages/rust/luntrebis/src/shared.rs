@@ -50,6 +50,12 @@ impl Shared {
         Shared::begin(move || Image::open(path))
     }
 
+    /// Opens the image that is there, or makes it where nothing is at the path.
+    pub fn open_or_create(path: impl AsRef<Path>, limits: Limits) -> Result<Shared> {
+        let path = path.as_ref().to_owned();
+        Shared::begin(move || Image::open_or_create(path, limits))
+    }
+
     fn begin(make: impl FnOnce() -> Result<Image> + Send + 'static) -> Result<Shared> {
         let ((sender, asked), (began, begins)) = (channel(), channel());
         let thread = thread::Builder::new().name("luntrebis".into()).spawn(move || match make() {

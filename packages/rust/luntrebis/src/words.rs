@@ -1,6 +1,7 @@
 //! What is asked, what it comes to, and what is refused.
 
 use luntrebis_sys as sys;
+use std::ffi::c_int;
 use std::{error, fmt, io, result};
 
 /// What is asked of the memory. A number of cells is a block's length; an address is that of a cell.
@@ -96,7 +97,7 @@ pub enum Refusal {
     NoElement = sys::LT_NO_ELEMENT,
     /// A confirmation of an entry that waits.
     NotAnswered = sys::LT_NOT_ANSWERED,
-    /// The journal has no room. [`Image`](crate::Image) makes turns of a checkpoint then.
+    /// The journal has no room, and none is to be made.
     JournalFull = sys::LT_JOURNAL_FULL,
     /// A step was lost: the image has to be opened again, after a failed sync not before its file system is mounted
     /// anew, or the machine restarted.
@@ -159,6 +160,10 @@ pub enum Error {
     Answered(Reply),
     /// The file.
     Io(io::Error),
+    /// A sync of the file failed, now or before, in this run of the machine: what was written may not be on the disk,
+    /// whatever is read now. The image isn't to be opened before its file system is mounted anew, or the machine
+    /// restarted; a note beside it, `PATH.unsynced`, keeps `imem` and each program here from doing so.
+    SyncFailed(io::Error),
     /// The image was closed before the answer came. The request isn't lost: it is answered under its number after the
     /// next opening.
     Closed,
@@ -173,6 +178,12 @@ impl fmt::Display for Error {
             Error::Refused(it) => write!(f, "refused {} {it:?}", *it as u8),
             Error::Answered(it) => write!(f, "answered {it:?}"),
             Error::Io(it) => it.fmt(f),
+            Error::SyncFailed(it) => {
+                write!(
+                    f,
+                    "a sync failed: {it}: mount the file system anew, or restart, before the image is opened again"
+                )
+            }
             Error::Closed => write!(f, "the image is closed"),
         }
     }
@@ -192,9 +203,25 @@ impl Error {
         match self {
             Error::Refused(it) => Error::Refused(*it),
             Error::Answered(it) => Error::Answered(*it),
-            Error::Io(it) => Error::Io(io::Error::new(it.kind(), it.to_string())),
+            Error::Io(it) => Error::Io(copied(it)),
+            Error::SyncFailed(it) => Error::SyncFailed(copied(it)),
             Error::Closed => Error::Closed,
         }
+    }
+}
+
+fn copied(error: &io::Error) -> io::Error {
+    error.raw_os_error().map_or_else(|| io::Error::new(error.kind(), error.to_string()), io::Error::from_raw_os_error)
+}
+
+/// An error where the answer of a call of `luntrebis_file.h` is none.
+pub(crate) fn answered(answer: c_int) -> Result<()> {
+    if answer < 0 {
+        return Err(Error::Io(io::Error::from_raw_os_error(-answer)));
+    }
+    match u8::try_from(answer) {
+        Ok(number) => passed(number),
+        Err(_) => Err(Error::SyncFailed(io::Error::new(io::ErrorKind::Other, "there is a note beside the file"))),
     }
 }
 

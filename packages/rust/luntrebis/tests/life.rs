@@ -47,6 +47,34 @@ fn what_was_answered_is_there_after_an_opening() {
 }
 
 #[test]
+fn it_tells_whom_a_request_resumed() {
+    let path = place("woken");
+    let mut image = Image::open_or_create(&path, SMALL).unwrap();
+    image.ask(&asked(0, 1, Op::AllocI(8))).unwrap();
+    image.ask_all(&[asked(1, 1, Op::Fetch(3)), asked(2, 1, Op::Fetch(3)), asked(3, 1, Op::Fetch(4))]).unwrap();
+    assert!(image.woken().is_empty());
+    image.ask(&asked(0, 2, Op::Store(3, 5))).unwrap();
+    assert_eq!(image.woken(), [(1, 1), (2, 1)]);
+    image.ask(&asked(0, 2, Op::Store(3, 5))).unwrap();
+    assert!(image.woken().is_empty(), "asked again, it acts no second time");
+    assert_eq!(image.limits(), SMALL);
+    std::fs::remove_file(path).unwrap();
+}
+
+#[test]
+fn a_note_of_a_failed_sync_keeps_an_image_closed() {
+    let path = place("noted");
+    drop(Image::create(&path, SMALL).unwrap());
+    let note = PathBuf::from(format!("{}.unsynced", path.display()));
+    std::fs::write(&note, std::fs::read("/proc/sys/kernel/random/boot_id").unwrap()).unwrap();
+    assert!(matches!(Image::open(&path), Err(Error::SyncFailed(_))));
+    assert!(matches!(Shared::open(&path), Err(Error::SyncFailed(_))));
+    std::fs::remove_file(note).unwrap();
+    assert_eq!(Image::open(&path).unwrap().count(), 0);
+    std::fs::remove_file(path).unwrap();
+}
+
+#[test]
 fn a_memory_has_no_disk() {
     assert!(matches!(Memory::new(0, 2), Err(Error::Refused(Refusal::BadLimits))));
     let mut memory = Memory::new(16, 2).unwrap();
@@ -118,4 +146,7 @@ fn a_shared_image_goes_from_thread_to_thread() {
     goes::<Shared>();
     goes::<luntrebis::Element>();
     goes::<luntrebis::Value>();
+    fn moves<T: Send>() {}
+    moves::<Image>();
+    moves::<Memory>();
 }

@@ -1,0 +1,66 @@
+//! Who waits at a cell, told to C.
+ghost use Rattle.std.specs.Prelude.{◌≡◌, length, map, min, IsSome};
+ghost use Rattle.im_types.specs.Contents.{waiters_at};
+ghost use Rattle.im_c.specs.Handing.{Shows};
+ghost use Rattle.im_c.specs.Waiting.{TellsWaiters, first_of, waiter_of};
+
+use crate::image::LtImage;
+use crate::plain::LtWaiter;
+use im_listed::Image;
+use im_types::Waiter;
+
+// One that waits, as C spells it.
+fn waiter_of(who: Waiter) -> LtWaiter
+    ensures { result ≡ waiter_of who }
+{
+    LtWaiter {
+        element: who.element,
+        number: who.number,
+    }
+}
+
+// Tells who waits at a cell, as many as there are places: how many.
+fn tell_waiters(image: &Image, address: u32, places: &mut [LtWaiter]) -> usize
+    ensures count { let who = waiters_at image.now.engine.memory.cells address in
+        result ≡ min (length who) (length places.old) }
+    ensures first { let who = waiters_at image.now.engine.memory.cells address in
+        places.new ≡ first_of (map waiter_of who) places.old }
+{
+    let mut count = 0;
+    for who in image.waiters(address) {
+        if count == places.len() {
+            return count;
+        }
+        places[count] = waiter_of(who);
+        count += 1;
+    }
+    count
+}
+
+// Tells who waits at a cell; nobody after a lost step.
+fn told_waiters(image: &Image, address: u32, places: &mut [LtWaiter]) -> usize
+    ensures { TellsWaiters image.now address places.old result places.new }
+{
+    match image.is_lost() {
+        true => 0,
+        false => tell_waiters(image, address, places),
+    }
+}
+
+/// The requests that wait at a cell, in their order of arrival, at `waiters`, as many as there are places: how many.
+/// None where the address lies in no block, and after a lost step. Nothing changes.
+#[unsafe(no_mangle)]
+pub extern "C" fn lt_held_waiters(
+    image: LtImage,
+    address: u32,
+    next: &mut LtImage,
+    waiters: &mut [LtWaiter],
+) -> usize
+    requires some { IsSome image.value }
+    ensures told { Shows image.value next.new.value (λ i. TellsWaiters i address waiters.old result waiters.new) }
+{
+    let held = image.into_box();
+    let count = told_waiters(&held, address, waiters);
+    *next = LtImage::of_box(held);
+    count
+}
