@@ -254,7 +254,7 @@ inline make_room() {
   did = false
 }
 /* of im_controller::lend_group 9604e848a54d
-   of im_engine::Engine::serve_group 5a0bc42558a0: the fault may fall before each member, which begins a group then. */
+   of im_engine::Engine::serve_group f5b8499eb94a: the fault may fall before each member, which begins a group then. */
 inline serve_member(m) {
   may_fail();
   if :: failed -> unclaimed[m] = Failed

@@ -2,16 +2,14 @@
 use Rattle.std.proofs.Common.{◌≡◌, ℕ, ◌+◌, ◌<◌, ◌≤◌, Bool, true, false, List, [], ◌∷◌, ◌++◌, length, drop, get_or}
 use Rattle.std.proofs.Common.{suc, true≢false, refl, sym, ◌∙◌, ap, arith, if◌then◌else◌}
 use Rattle.std.proofs.Math.Seq.{drop-cons}
-use Rattle.im_types.specs.declared.commands.Request.{Request}
-use Rattle.im_types.specs.declared.commands.Command.TheVariants.{Request as Asks}
+use Rattle.im_types.specs.declared.commands.Command.{Command}
 use Rattle.im_types.specs.Contents.{Contents}
-use Rattle.im_types.specs.Meaning.{Reached}
-use Rattle.im_types.specs.Groups.{is_put, reached_by_one, puts_of}
 use Rattle.im_pages.specs.PageSets.{size_of, IsWithin}
 use Rattle.im_memory.specs.Covering.{most_pages}
 use Rattle.im_checkpoint.specs.Step.{Changed}
 use Rattle.im_checkpoint.specs.Turns.{AddsAtMost}
-use Rattle.im_engine.specs.Groups.{contents_with, left_with, most_pages_in, most_pages_at, most_pages_with}
+use Rattle.im_groups.specs.Commands.{takes_place, contents_with, places_behind, commands_at, most_pages_at}
+use Rattle.im_groups.specs.Commands.{most_pages_with}
 
 -- ---- nothing is added
 
@@ -45,13 +43,17 @@ unchanged old new it =
     (λ i. record { recent = recent i; older = it.older i })
 
 -- where no command is put, no page is named
-pub none_named : (s : Reached) (rs : List Request) → puts_of s rs ≡ [] → most_pages_in s rs ≡ 0
-none_named s [] none = refl
-none_named s (r ∷ rs) none = by_test (is_put s r) none (none_named (reached_by_one s r) rs)
+pub none_named : (m : Contents) (left : ℕ) (cs : List Command) → commands_at m left cs ≡ []
+    → most_pages_with m left cs ≡ 0
+none_named m left [] none = refl
+none_named m left (c ∷ cs) none = by_test (takes_place m left c) none
+    (none_named (contents_with m left c) (places_behind m left c) cs)
   where
-    by_test : (b : Bool) → (if b then Asks r ∷ [] else []) ++ puts_of (reached_by_one s r) rs ≡ []
-        → (puts_of (reached_by_one s r) rs ≡ [] → most_pages_in (reached_by_one s r) rs ≡ 0)
-        → (if b then most_pages s.contents (Asks r) else 0) + most_pages_in (reached_by_one s r) rs ≡ 0
+    by_test : (b : Bool)
+        → (if b then c ∷ [] else []) ++ commands_at (contents_with m left c) (places_behind m left c) cs ≡ []
+        → (commands_at (contents_with m left c) (places_behind m left c) cs ≡ []
+        → most_pages_with (contents_with m left c) (places_behind m left c) cs ≡ 0)
+        → (if b then most_pages m c else 0) + most_pages_with (contents_with m left c) (places_behind m left c) cs ≡ 0
     by_test true some rest = absurd (cc)
     by_test false none rest = omega (arith, rest none)
 
@@ -64,9 +66,9 @@ pub record AddsSoFar (left all : ℕ) (old new : Changed) : Type 0 where
   pub few : size_of new.recent + left ≤ size_of old.recent + all
 
 -- one member more
-pub adds_next : (m : Contents) (left : ℕ) (rs : List Request) (i : ℕ) (d : Request) (m2 : Contents) (left2 all : ℕ)
+pub adds_next : (m : Contents) (left : ℕ) (rs : List Command) (i : ℕ) (d : Command) (m2 : Contents) (left2 all : ℕ)
     (old mid new : Changed) → i < length rs
-    → m2 ≡ contents_with m left (get_or rs i d) → left2 ≡ left_with m left (get_or rs i d)
+    → m2 ≡ contents_with m left (get_or rs i d) → left2 ≡ places_behind m left (get_or rs i d)
     → AddsSoFar (most_pages_with m left (drop i rs)) all old mid
     → AddsAtMost (most_pages_at m left (get_or rs i d)) mid new
     → AddsSoFar (most_pages_with m2 left2 (drop (i + 1) rs)) all old new
@@ -81,8 +83,8 @@ adds_next m left rs i d m2 left2 all old mid new within contents less it more = 
         ≡ most_pages_at m left (get_or rs i d) + most_pages_with m2 left2 (drop (i + 1) rs)
     parts =
         let next : suc i ≡ i + 1 = omega arith in
-        ap (λ (l : List Request). most_pages_with m left l) (drop-cons rs i d within)
+        ap (λ (l : List Command). most_pages_with m left l) (drop-cons rs i d within)
         ∙ ap (λ (n : ℕ). most_pages_with m left (get_or rs i d ∷ drop n rs)) next
         ∙ ap (λ (n : Contents). most_pages_at m left (get_or rs i d)
-        + most_pages_with n (left_with m left (get_or rs i d)) (drop (i + 1) rs)) (sym contents)
+        + most_pages_with n (places_behind m left (get_or rs i d)) (drop (i + 1) rs)) (sym contents)
         ∙ ap (λ (n : ℕ). most_pages_at m left (get_or rs i d) + most_pages_with m2 n (drop (i + 1) rs)) (sym less)

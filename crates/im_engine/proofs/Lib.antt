@@ -11,3 +11,4 @@ mod Counterexamples
 pub mod Members
 pub mod Adding
 pub mod Together
+pub mod Requests

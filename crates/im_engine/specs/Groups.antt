@@ -1,17 +1,16 @@
 -- A group of requests that an engine serves together. (Own.)
-use Rattle.std.specs.Prelude.{◌≡◌, ◌⊎◌, ℕ, ◌+◌, ◌-◌, ◌<◌, ◌≤◌, ◌==◌, Bool, true, false, ◌&&◌, nat_lt, min, List, []}
-use Rattle.std.specs.Prelude.{◌∷◌, ◌++◌, length, map, Result, Ok, Err, if◌then◌else◌}
+use Rattle.std.specs.Prelude.{◌≡◌, ◌⊎◌, ℕ, ◌+◌, ◌-◌, ◌<◌, ◌≤◌, ◌==◌, Bool, true, false, ◌&&◌, nat_lt, List, []}
+use Rattle.std.specs.Prelude.{◌∷◌, length, map, Result, Ok, if◌then◌else◌}
 use Rattle.im_types.specs.declared.TheConstants.{LAST, MAX_GROUP}
 use Rattle.im_types.specs.declared.commands.Request.{Request}
 use Rattle.im_types.specs.declared.commands.Command.{Command}
 use Rattle.im_types.specs.declared.commands.Command.TheVariants.{Request as Asks}
-use Rattle.im_types.specs.declared.commands.Outcome.{Outcome}
 use Rattle.im_types.specs.declared.groups.Served.{Served}
 use Rattle.im_types.specs.declared.groups.Served.TheVariants.{Refused}
 use Rattle.im_types.specs.declared.refusals.Refusal.{Refusal}
-use Rattle.im_types.specs.declared.refusals.Refusal.TheVariants.{JournalFull, Device, Failed}
+use Rattle.im_types.specs.declared.refusals.Refusal.TheVariants.{Device, Failed}
 use Rattle.im_types.specs.Contents.{Contents}
-use Rattle.im_types.specs.Step.{step, is_accepted}
+use Rattle.im_types.specs.Step.{is_accepted}
 use Rattle.im_types.specs.Meaning.{Reached}
 use Rattle.im_types.specs.Groups.{as_served, is_put, answers_of, reached_by_one, reached_by_all, puts_of}
 use Rattle.im_disk.specs.Moment.{Moment, Rises}
@@ -96,53 +95,12 @@ pub record GroupFaults (before after : Bool) (old new : ℕ) : Type 0 where
   pub failed : before ≡ false → after ≡ true → Rises old new × (old ≤ new)
   pub steady : after ≡ before → new ≡ old
 
--- ---- the same with a count of the commands that there is room for
-
--- how many more commands there may be
-abbrev pub places : Reached → ℕ
-places s = min s.room (LAST - s.count)
+-- ---- requests by the places that are left
 
 -- the request is accepted at this memory, and there is a place for it
 abbrev pub takes : Contents → ℕ → Request → Bool
 takes m left r = is_accepted m (Asks r) && nat_lt 0 left
 
--- a member's answer with so many places left
-abbrev pub answer_with : Contents → ℕ → Request → Result Outcome Refusal
-answer_with m left r = if is_accepted m (Asks r) && (left == 0) then Err JournalFull else (step m (Asks r)).answer
-
--- the memory after it
-abbrev pub contents_with : Contents → ℕ → Request → Contents
-contents_with m left r = if takes m left r then (step m (Asks r)).contents else m
-
 -- the places that are left after it
 abbrev pub left_with : Contents → ℕ → Request → ℕ
 left_with m left r = if takes m left r then left - 1 else left
-
--- the most pages on which a member may change a record
-abbrev pub most_pages_at : Contents → ℕ → Request → ℕ
-most_pages_at m left r = if takes m left r then most_pages m (Asks r) else 0
-
--- the most on which the members may, one after another
-abbrev pub most_pages_with : Contents → ℕ → List Request → ℕ
-most_pages_with m left [] = 0
-most_pages_with m left (r ∷ rs) =
-    most_pages_at m left r + most_pages_with (contents_with m left r) (left_with m left r) rs
-
--- the members' answers, one after another
-abbrev pub answers_with : Contents → ℕ → List Request → List (Result Outcome Refusal)
-answers_with m left [] = []
-answers_with m left (r ∷ rs) = answer_with m left r ∷ answers_with (contents_with m left r) (left_with m left r) rs
-
--- the memory after all of them
-abbrev pub contents_after : Contents → ℕ → List Request → Contents
-contents_after m left [] = m
-contents_after m left (r ∷ rs) = contents_after (contents_with m left r) (left_with m left r) rs
-
--- the command of a member that is accepted and has a place
-abbrev pub command_at : Contents → ℕ → Request → List Command
-command_at m left r = if takes m left r then Asks r ∷ [] else []
-
--- the commands of all such members, each of them judged by one memory
-abbrev pub commands_at : Contents → ℕ → List Request → List Command
-commands_at m left [] = []
-commands_at m left (r ∷ rs) = command_at m left r ++ commands_at m (left_with m left r) rs

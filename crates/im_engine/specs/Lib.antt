@@ -1,3 +1,4 @@
 pub mod State
 pub mod Run
 pub mod Groups
+pub mod Commands

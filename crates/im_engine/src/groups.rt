@@ -1,11 +1,10 @@
 //! The members of a group: what is put on the disk for them, how they act, and what they are answered.
-ghost use Rattle.std.specs.Prelude.{◌≡◌, ◌↔◌, ◌⊎◌, ◌+◌, ◌-◌, ◌<◌, ◌≤◌, ℕ, [], ◌++◌, length, map, nat_lt, min, ◌&&◌};
+ghost use Rattle.std.specs.Prelude.{◌≡◌, ◌↔◌, ◌⊎◌, ◌+◌, ◌≤◌, ℕ, [], length, map};
 ghost use Rattle.std.specs.Prelude.{Some, Ok, OnOk, IsTrue};
 ghost use Rattle.std.specs.Prelude.{MatchResult};
-ghost use Rattle.im_types.specs.declared.TheConstants.{LAST};
 ghost use Rattle.im_types.specs.declared.commands.Command.TheVariants.{Request as Asks};
 ghost use Rattle.im_types.specs.Contents.{Contents};
-ghost use Rattle.im_types.specs.Step.{step, is_accepted};
+ghost use Rattle.im_types.specs.Step.{step};
 ghost use Rattle.im_types.specs.Meaning.{accept_each};
 ghost use Rattle.im_types.specs.Groups.{AreOthers, AreApart, as_served};
 ghost use Rattle.im_disk.specs.Moment.{Moment, Faults};
@@ -15,9 +14,10 @@ ghost use Rattle.im_image.specs.Reading.{HasSizes};
 ghost use Rattle.im_memory.specs.Covering.{most_pages};
 ghost use Rattle.im_checkpoint.specs.Step.{CheckpointState};
 ghost use Rattle.im_checkpoint.specs.Keeping.{Paged, paged, MeansWith, IsKept};
-ghost use Rattle.im_engine.specs.Groups.{all_refused, FitsGroup, GroupPut, StaysBut};
-ghost use Rattle.im_engine.specs.Groups.{answer_with, contents_with, left_with, most_pages_at};
-ghost use Rattle.im_engine.specs.Groups.{answers_with, contents_after, command_at, commands_at, most_pages_with};
+ghost use Rattle.im_groups.specs.Commands.{places, answer_with, contents_with, places_behind, answers_with, contents_after};
+ghost use Rattle.im_groups.specs.Commands.{most_pages_at, most_pages_with};
+ghost use Rattle.im_engine.specs.Groups.{FitsGroup, GroupPut, StaysBut};
+ghost use Rattle.im_engine.specs.Commands.{each_refused};
 
 use arrayvec::ArrayVec;
 use im_checkpoint::Checkpoint;
@@ -54,10 +54,10 @@ pub fn are_apart(members: &[Request]) -> bool
 }
 
 /// Refuses each member alike.
-pub(crate) fn refuse_all(members: &[Request], refusal: Refusal, served: &mut ArrayVec<Served, 16>)
+pub(crate) fn refuse_all(members: &[Command], refusal: Refusal, served: &mut ArrayVec<Served, 16>)
     requires fits { length members.now ≤ 16 }
     requires empty { served.old.items ≡ [] }
-    ensures { served.new.items ≡ all_refused refusal members.now }
+    ensures { served.new.items ≡ each_refused refusal members.now }
 {
     for _member in members {
         served.push(Served::Refused(refusal));
@@ -66,57 +66,20 @@ pub(crate) fn refuse_all(members: &[Request], refusal: Refusal, served: &mut Arr
 
 /// How many more commands a journal takes: no more than there is room for, and none past the last count.
 pub(crate) fn places_in(journal: &Journal) -> u64
-    ensures places { result ≡ min journal.now.room (LAST - journal.now.count) }
+    ensures places { result ≡ places journal.now.count journal.now.room }
     ensures known { IsJournal journal.now }
 {
     min(journal.room() as u64, LAST - journal.count())
 }
 
-// Adds the command of a member that is accepted and has a place.
-fn add_command(
-    memory: &Memory,
-    left: &mut u64,
-    member: &Request,
-    commands: &mut ArrayVec<Command, 16>,
-)
-    requires room { length commands.old.items < 16 }
-    ensures commands { commands.new.items
-        ≡ commands.old.items ++ command_at memory.now.contents left.old member.now }
-    ensures left { left.new ≡ left_with memory.now.contents left.old member.now }
-{
-    let command = Command::Request(*member);
-    if !takes(memory, *left, &command) {
-        return;
-    }
-    commands.push(command);
-    *left -= 1;
-}
-
-// Whether a command is accepted, and there is a place for it.
-fn takes(memory: &Memory, left: u64, command: &Command) -> bool
-    ensures { result ≡ (is_accepted memory.now.contents command.now && nat_lt 0 left) }
-{
-    match memory.judge(command) {
-        Ok(accepted) => accepted && left > 0,
-        Err(_) => false,
-    }
-}
-
-/// The commands of those members that are accepted and have a place. Each is judged by the memory before the group:
-/// the requests of other elements leave whether it is accepted.
-pub(crate) fn commands_of(
-    memory: &Memory,
-    places: u64,
-    members: &[Request],
-    commands: &mut ArrayVec<Command, 16>,
-)
+/// The requests of a group as commands.
+pub(crate) fn commands_of(members: &[Request], commands: &mut ArrayVec<Command, 16>)
     requires fits { length members.now ≤ 16 }
     requires empty { commands.old.items ≡ [] }
-    ensures { commands.new.items ≡ commands_at memory.now.contents places members.now }
+    ensures { commands.new.items ≡ map Asks members.now }
 {
-    let mut left = places;
     for member in members {
-        add_command(memory, &mut left, member, commands);
+        commands.push(Command::Request(*member));
     }
 }
 
@@ -148,7 +111,7 @@ pub(crate) fn put_on<D: Disk>(
     journal.append_group(disk, commands)
 }
 
-// A new request acts, once the disk has it.
+// An accepted command acts, once the disk has it.
 fn act(
     checkpoint: &mut Checkpoint,
     memory: &mut Memory,
@@ -173,28 +136,27 @@ fn act_one(
     checkpoint: &mut Checkpoint,
     memory: &mut Memory,
     left: &mut u64,
-    member: &Request,
+    command: &Command,
 ) -> Result<Outcome, Refusal>
     requires sizes { HasSizes checkpoint.old.state.header.sizes memory.old.contents }
-    ensures answer { result ≡ answer_with memory.old.contents left.old member.now }
-    ensures contents { memory.new.contents ≡ contents_with memory.old.contents left.old member.now }
-    ensures left { left.new ≡ left_with memory.old.contents left.old member.now }
+    ensures answer { result ≡ answer_with memory.old.contents left.old command.now }
+    ensures contents { memory.new.contents ≡ contents_with memory.old.contents left.old command.now }
+    ensures left { left.new ≡ places_behind memory.old.contents left.old command.now }
     ensures sizes { HasSizes checkpoint.new.state.header.sizes memory.new.contents }
-    ensures stays { StaysBut (most_pages_at memory.old.contents left.old member.now) checkpoint.old checkpoint.new }
+    ensures stays { StaysBut (most_pages_at memory.old.contents left.old command.now) checkpoint.old checkpoint.new }
     ensures kept { (m : Contents) (j : JournalState) (now : Moment)
         → IsKept checkpoint.old.state (paged checkpoint.old memory.old) m j now
         → IsKept checkpoint.new.state (paged checkpoint.new memory.new) m j now }
 {
-    let command = Command::Request(*member);
-    match memory.judge(&command) {
+    match memory.judge(command) {
         Ok(true) => {
             if *left == 0 {
                 return Err(Refusal::JournalFull);
             }
             *left -= 1;
-            act(checkpoint, memory, &command)
+            act(checkpoint, memory, command)
         }
-        Ok(false) => memory.step(&command),
+        Ok(false) => memory.step(command),
         Err(refusal) => Err(refusal),
     }
 }
@@ -213,7 +175,7 @@ pub(crate) fn act_all(
     checkpoint: &mut Checkpoint,
     memory: &mut Memory,
     places: u64,
-    members: &[Request],
+    members: &[Command],
     served: &mut ArrayVec<Served, 16>,
 )
     requires fits { length members.now ≤ 16 }

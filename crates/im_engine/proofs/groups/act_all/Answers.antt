@@ -2,7 +2,7 @@ use Rattle.std.proofs.Common.{◌++◌, ◌∷◌, [], List, map, rules, ◌+◌
 use Rattle.im_types.specs.declared.groups.Served.{Served}
 use Rattle.im_types.specs.Groups.{as_served}
 use Rattle.im_checkpoint.specs.Step.{changed_in}
-use Rattle.im_engine.specs.Groups.{answers_with, most_pages_with}
+use Rattle.im_groups.specs.Commands.{answers_with, most_pages_with}
 use Rattle.im_engine.proofs.Adding.{adds_next}
 use Rattle.im_engine.proofs.Members.{answers_next, contents_next}
 use Rattle.im_engine.proofs.groups.act_all.Goals as goal

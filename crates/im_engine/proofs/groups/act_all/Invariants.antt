@@ -6,7 +6,7 @@ use Rattle.im_journal.specs.Holding.{JournalState}
 use Rattle.im_image.specs.Reading.{HasSizes}
 use Rattle.im_checkpoint.specs.Keeping.{paged, IsKept}
 use Rattle.im_checkpoint.specs.Step.{changed_in}
-use Rattle.im_engine.specs.Groups.{answers_with, contents_after, most_pages_with}
+use Rattle.im_groups.specs.Commands.{answers_with, contents_after, most_pages_with}
 use Rattle.im_engine.proofs.Adding.{AddsSoFar}
 use Rattle.im_engine.proofs.groups.act_all.Given as goal
 

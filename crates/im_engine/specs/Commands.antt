@@ -1,0 +1,66 @@
+-- A group of commands that an engine serves together: requests, of one element or of several, and confirmations. (Own.)
+use Rattle.std.specs.Prelude.{◌≡◌, ◌⊎◌, ℕ, ◌+◌, ◌<◌, true, false, List, [], length, map}
+use Rattle.im_types.specs.declared.commands.Command.{Command}
+use Rattle.im_types.specs.declared.groups.Served.{Served}
+use Rattle.im_types.specs.declared.groups.Served.TheVariants.{Refused}
+use Rattle.im_types.specs.declared.refusals.Refusal.{Refusal}
+use Rattle.im_types.specs.declared.refusals.Refusal.TheVariants.{Device, Failed}
+use Rattle.im_types.specs.Groups.{as_served}
+use Rattle.im_disk.specs.declared.disk.Disk.{Ghosts}
+use Rattle.im_disk.specs.Since.{LeavesWithin, LeavesNow}
+use Rattle.im_journal.specs.Holding.{room_after}
+use Rattle.im_checkpoint.specs.Turns.{AddsAtMost}
+use Rattle.im_groups.specs.Commands.{places, answers_with, contents_after, commands_at, most_pages_with}
+use Rattle.im_engine.specs.State.{EngineState, MeansState}
+use Rattle.im_engine.specs.Groups.{GroupCalls, GroupFaults, calls_for_group}
+
+-- those of the commands that are put on the disk, each judged behind those before it
+abbrev pub commands_put : {D : Type 0} → EngineState D → List Command → List Command
+commands_put s members = commands_at s.memory (places s.count s.room) members
+
+-- the engine after these commands, one after another
+abbrev pub after_commands : {D : Type 0} → EngineState D → List Command → EngineState D
+after_commands s members = let n = length (commands_put s members) in record s {
+  memory = contents_after s.memory
+      (places s.count s.room) members;
+  count = s.count + n;
+  room = room_after s.count n s.room;
+}
+
+-- the file means what the engine is before the group, or after all of it
+abbrev pub MeansCommands : {D : Type 0} → EngineState D → List Command → List ℕ → Type 0
+MeansCommands s members file = MeansState s file ⊎ MeansState (after_commands s members) file
+
+-- each command is refused alike
+abbrev pub each_refused : Refusal → List Command → List Served
+each_refused refusal members = map (λ _. Refused refusal) members
+
+-- what the commands would be answered one after another
+abbrev pub answers_in_turn : {D : Type 0} → EngineState D → List Command → List Served
+answers_in_turn s members = map as_served (answers_with s.memory (places s.count s.room) members)
+
+-- an engine's answers to a group of commands, and what it comes to, on any disk
+pub record CommandsAnswered {D : Type 0} (old : EngineState D) (members : List Command) (answers : List Served) (new
+    : EngineState D) : Type 0 where
+  pub dead : old.failed ≡ true → (answers ≡ each_refused Failed members) × (new ≡ old)
+  pub none : old.failed ≡ false → commands_put old members ≡ [] → (answers ≡ answers_in_turn old members) × (new ≡ old)
+  pub put : old.failed ≡ false → 0 < length (commands_put old members) →
+      ((answers ≡ answers_in_turn old members)
+      × (new ≡ record (after_commands old members) { disk = new.disk; pages = new.pages }))
+      ⊎ ((answers ≡ each_refused Device members) × (new ≡ record old { disk = new.disk; failed = true }))
+  -- the pages that those may change which are put on the disk are added to those that changed
+  pub pages : old.failed ≡ false → new.failed ≡ false
+      → AddsAtMost (most_pages_with old.memory (places old.count old.room) members) old.pages new.pages
+
+module _ {D : Type 0} (disk : Ghosts D) (old new : EngineState D) where
+  -- What a group of commands does to the disk: a call for each command that is put there, and three more; none where
+  -- there is none. Each file that a crash may leave, from the start on, and now, is as before the group or as after it.
+  pub record ServesCommands (members : List Command) : Type 0 where
+    pub honest : disk.honest new.disk → disk.honest old.disk
+    pub calls : disk.honest new.disk → GroupCalls disk.past old.disk new.disk new.failed
+        (calls_for_group (length (commands_put old members)))
+    pub faults : GroupFaults old.failed new.failed (disk.failures old.disk) (disk.failures new.disk)
+    pub leaves : disk.honest new.disk → old.failed ≡ false
+        → LeavesWithin disk.now disk.past old.disk new.disk (MeansCommands old members)
+    pub doubt : disk.honest new.disk → old.failed ≡ false → LeavesNow (disk.now new.disk) (MeansCommands old members)
+    pub means : disk.honest new.disk → new.failed ≡ false → LeavesNow (disk.now new.disk) (MeansState new)

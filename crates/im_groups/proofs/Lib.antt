@@ -1,0 +1,4 @@
+pub mod CommandLemmas
+pub mod RequestLemmas
+pub mod AheadLemmas
+pub mod JudgedLemmas

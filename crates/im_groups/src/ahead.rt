@@ -1,0 +1,205 @@
+//! A command, judged by the memory that the commands ahead of it will leave, before any of them acts.
+ghost use Rattle.std.specs.Prelude.{◌≡◌, ◌+◌, ◌≤◌, ◌<◌, ℕ, length, true, false, IfOk, IfSome, IsNone};
+ghost use Rattle.std.specs.List.{list_any};
+ghost use Rattle.im_types.specs.declared.TheConstants.{LAST};
+ghost use Rattle.im_types.specs.declared.commands.Command.TheVariants.{Confirm};
+ghost use Rattle.im_types.specs.Memory.{IsMemory};
+ghost use Rattle.im_types.specs.Window.{bounds};
+ghost use Rattle.im_types.specs.Step.{is_accepted};
+ghost use Rattle.im_types.specs.Run.{after};
+ghost use Rattle.im_groups.specs.Ahead.{AreAccepted, bounds_behind, moved_by, is_next, is_at_once, asks_at_once};
+ghost use Rattle.im_groups.specs.Ahead.{is_sure, IsUnsure};
+
+use im_memory::Memory;
+use im_types::{Command, Entry, LAST, Op, Refusal, Request, WINDOW};
+
+// ---- bounds
+
+// The bounds of an element's window behind a command that is accepted.
+fn bounds_behind(bounds: (u64, u64), element: u16, command: &Command) -> (u64, u64)
+    requires low { bounds.1 ≤ LAST + 17 }
+    ensures { result ≡ bounds_behind element command.now bounds }
+{
+    match command {
+        Command::Request(request) => {
+            if request.element == element {
+                (bounds.0, bounds.1 + 1)
+            } else {
+                bounds
+            }
+        }
+        Command::Confirm {
+            element: other,
+            upto,
+        } => {
+            if *other == element {
+                (*upto, bounds.1)
+            } else {
+                bounds
+            }
+        }
+    }
+}
+
+// The bounds of an element's window as the memory has them: none is past the last number by more than one.
+fn bounds_now(memory: &Memory, element: u16) -> Result<(u64, u64), Refusal>
+    ensures bounds { result ≡ bounds memory.now.contents.windows element }
+    ensures low { IfOk result (λ b. b.1 ≤ LAST + 1) }
+    ensures memory { let m = memory.now.contents in IsMemory (length m.cells) (length m.windows) m }
+{
+    let _cells = memory.cells(); // So that it is known that each window is within its bounds.
+    memory.window(element)
+}
+
+// The bounds of an element's window behind these commands.
+fn bounds_behind_all(
+    memory: &Memory,
+    ahead: &[Command],
+    element: u16,
+) -> Result<(u64, u64), Refusal>
+    requires few { length ahead.now ≤ 16 }
+    ensures bounds { result ≡ moved_by element ahead.now (bounds memory.now.contents.windows element) }
+    ensures memory { let m = memory.now.contents in IsMemory (length m.cells) (length m.windows) m }
+{
+    let mut bounds = match bounds_now(memory, element) {
+        Ok(bounds) => bounds,
+        Err(refusal) => return Err(refusal),
+    };
+    for command in ahead {
+        bounds = bounds_behind(bounds, element, command);
+    }
+    Ok(bounds)
+}
+
+// Whether a request is the next one within these bounds, none past the last, and the window has room.
+fn is_next(bounds: (u64, u64), request: &Request) -> bool
+    requires low { bounds.0 ≤ LAST + 1 }
+    ensures { result ≡ is_next bounds request.now }
+{
+    request.number == bounds.1 && request.number < bounds.0 + WINDOW && request.number < LAST + 1
+}
+
+// ---- what is known to be answered
+
+// Whether an operation is answered at once, whatever the cells are.
+fn is_at_once(op: Op) -> bool
+    ensures { result ≡ is_at_once op }
+{
+    !matches!(op, Op::Fetch(_) | Op::Take(_))
+}
+
+// Whether a command is the request under an element's number, and is answered at once.
+fn asks_at_once(element: u16, number: u64, command: &Command) -> bool
+    ensures { result ≡ asks_at_once (record { element = element; number = number }) command.now }
+{
+    match command {
+        Command::Request(request) => {
+            request.element == element && request.number == number && is_at_once(request.op)
+        }
+        Command::Confirm { .. } => false,
+    }
+}
+
+// Whether one of these commands is the request under an element's number, and is answered at once.
+fn is_asked_at_once(ahead: &[Command], element: u16, number: u64) -> bool
+    ensures { result ≡ list_any (asks_at_once (record { element = element; number = number })) ahead.now }
+{
+    for command in ahead {
+        if asks_at_once(element, number, command) {
+            return true;
+        }
+    }
+    false
+}
+
+// Whether the entry under an element's number is answered already, or will be at once by one of these commands.
+fn is_sure(memory: &Memory, ahead: &[Command], element: u16, number: u64) -> bool
+    ensures { result ≡ is_sure memory.now.contents ahead.now (record { element = element; number = number }) }
+{
+    match memory.kept(element, number) {
+        Some(kept) => !matches!(kept.entry, Entry::Waiting),
+        None => is_asked_at_once(ahead, element, number),
+    }
+}
+
+// Whether that is so of all numbers from one on, below another.
+fn are_sure(memory: &Memory, ahead: &[Command], element: u16, from: u64, upto: u64) -> bool
+    ensures all { result ≡ true → (number : ℕ) → from ≤ number → number < upto
+        → is_sure memory.now.contents ahead.now (record { element = element; number = number }) ≡ true }
+    ensures some { result ≡ false → (number : ℕ) × (from ≤ number) × (number < upto)
+        × (is_sure memory.now.contents ahead.now (record { element = element; number = number }) ≡ false) }
+{
+    for number in from..upto {
+        if !is_sure(memory, ahead, element, number) {
+            return false;
+        }
+    }
+    true
+}
+
+// ---- the judgement
+
+// Whether the memory accepts a command as it is.
+fn accepts(memory: &Memory, command: &Command) -> bool
+    ensures { result ≡ is_accepted memory.now.contents command.now }
+{
+    match memory.judge(command) {
+        Ok(accepted) => accepted,
+        Err(_) => false,
+    }
+}
+
+// A request, judged behind these commands.
+fn judge_request(memory: &Memory, ahead: &[Command], request: &Request) -> bool
+    requires few { length ahead.now ≤ 16 }
+    requires accepted { AreAccepted memory.now.contents ahead.now }
+    ensures { result ≡ is_accepted (after memory.now.contents ahead.now) (Command.Request request.now) }
+{
+    match bounds_behind_all(memory, ahead, request.element) {
+        Ok(bounds) => is_next(bounds, request),
+        Err(_) => false,
+    }
+}
+
+// A confirmation, judged behind these commands; `None` where it would drop an entry of which it isn't known that it is
+// answered.
+fn judge_confirm(memory: &Memory, ahead: &[Command], element: u16, upto: u64) -> Option<bool>
+    requires few { length ahead.now ≤ 16 }
+    requires some { 0 < length ahead.now }
+    requires accepted { AreAccepted memory.now.contents ahead.now }
+    ensures found { IfSome result
+        (λ b. b ≡ is_accepted (after memory.now.contents ahead.now) (Confirm element upto)) }
+    ensures unsure { IsNone result → IsUnsure memory.now.contents ahead.now (Confirm element upto) }
+{
+    let (base, next) = match bounds_behind_all(memory, ahead, element) {
+        Ok(bounds) => bounds,
+        Err(_) => return Some(false),
+    };
+    if upto <= base || upto > next {
+        return Some(false);
+    }
+    if are_sure(memory, ahead, element, base, upto) {
+        Some(true)
+    } else {
+        None
+    }
+}
+
+/// Whether a command is accepted behind others that haven't acted yet, 16 at most, each of them accepted in its turn.
+///
+/// `None` where that can't be told before they act: the command is a confirmation, and would drop an entry that waits
+/// now, or that a fetch or a take among them makes. With none ahead all is known. (Own.)
+pub fn judge_behind(memory: &Memory, ahead: &[Command], command: &Command) -> Option<bool>
+    requires few { length ahead.now ≤ 16 }
+    requires accepted { AreAccepted memory.now.contents ahead.now }
+    ensures found { IfSome result (λ b. b ≡ is_accepted (after memory.now.contents ahead.now) command.now) }
+    ensures unsure { IsNone result → IsUnsure memory.now.contents ahead.now command.now }
+{
+    if ahead.is_empty() {
+        return Some(accepts(memory, command));
+    }
+    match command {
+        Command::Request(request) => Some(judge_request(memory, ahead, request)),
+        Command::Confirm { element, upto } => judge_confirm(memory, ahead, *element, *upto),
+    }
+}

@@ -1,0 +1,52 @@
+//! The members of a group, judged one after another before any of them acts.
+ghost use Rattle.std.specs.Prelude.{◌≡◌, ◌+◌, ◌-◌, ◌<◌, ◌≤◌, ◌&&◌, ◌++◌, ◌∷◌, [], length, take, nat_lt, if◌then◌else◌};
+ghost use Rattle.im_groups.specs.Commands.{commands_at};
+ghost use Rattle.im_groups.specs.Ahead.{ServesPrefix};
+
+use crate::ahead::judge_behind;
+use arrayvec::ArrayVec;
+use im_memory::Memory;
+use im_types::Command;
+
+// Adds a member that is accepted and has a place.
+fn add_member(
+    accepted: bool,
+    left: &mut u64,
+    member: &Command,
+    commands: &mut ArrayVec<Command, 16>,
+)
+    requires room { length commands.old.items < 16 }
+    ensures commands { commands.new.items
+        ≡ commands.old.items ++ (if accepted && nat_lt 0 left.old then member.now ∷ [] else []) }
+    ensures left { left.new ≡ (if accepted && nat_lt 0 left.old then left.old - 1 else left.old) }
+{
+    if accepted && *left > 0 {
+        commands.push(*member);
+        *left -= 1;
+    }
+}
+
+/// Judges the members of a group, each behind those before it, with places for so many commands: the commands of those
+/// that are accepted and have a place, and how many members were judged. These are all up to the first of which it
+/// can't be told before the others act (`judge_behind`), at least one where there are any, and all where they are
+/// requests. It takes no memory. (Own.)
+pub fn judge_members(
+    memory: &Memory,
+    places: u64,
+    members: &[Command],
+    commands: &mut ArrayVec<Command, 16>,
+) -> usize
+    requires fits { length members.now ≤ 16 }
+    requires empty { commands.old.items ≡ [] }
+    ensures commands { commands.new.items ≡ commands_at memory.now.contents places (take result members.now) }
+    ensures begins { ServesPrefix memory.now.contents commands.new.items members.now result }
+{
+    let mut left = places;
+    for i in 0..members.len() {
+        match judge_behind(memory, commands.as_slice(), &members[i]) {
+            Some(accepted) => add_member(accepted, &mut left, &members[i], commands),
+            None => return i,
+        }
+    }
+    members.len()
+}
