@@ -605,8 +605,8 @@ fn of_slot(
     }
 }
 
-/// A slot of the journal that stands open outside the run, with a command that so many slots can't hold any more: a count
-/// that was lost or changed explains it, and nothing else does.
+/// A slot of the journal that stands open outside the run, with a command that so many slots can't hold any more: a
+/// count that was lost or changed explains it, and nothing else does.
 #[derive(Clone, Copy, Debug, PartialEq, Eq)]
 pub struct Older {
     /// The slot.
@@ -626,8 +626,9 @@ impl Display for Older {
         } = *self;
         write!(
             f,
-            "slot {slot} of the journal has command {sequence}, where none below {least} is left: the header in force was changed, or a later one was lost"
-        )
+            "slot {slot} of the journal has command {sequence}, where none below {least} is left"
+        )?;
+        f.write_str(": the header in force was changed, or a later one was lost")
     }
 }
 
@@ -646,8 +647,8 @@ fn run_in(ring: &[u8], slots: usize, first: u64) -> usize {
     slots
 }
 
-/// The first slot outside the run that stands open with a command which the ring can't hold any more, by the slots and the
-/// sequence number of the run's first command. A slot that follows in a group counts none, and isn't one.
+/// The first slot outside the run that stands open with a command which the ring can't hold any more, by the slots and
+/// the sequence number of the run's first command. A slot that follows in a group counts none, and isn't one.
 pub fn older_slot(ring: &[u8], slots: u32, first: u64) -> Option<Older> {
     let slots = slots as usize;
     let run = run_in(ring, slots, first);

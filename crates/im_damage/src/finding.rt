@@ -1,5 +1,5 @@
 //! The place of an image's damage, which is looked for on the disk once the image is refused, by reads alone.
-ghost use Rattle.im_disk.specs.Since.{OnlyReads};
+ghost use Rattle.im_disk.specs.Runs.{ReadsAlone};
 
 use crate::damage::{
     Damage, Older, RecordOf, are_unmade, bad_block, bad_cell, bad_list, bad_node, bad_padding,
@@ -14,8 +14,7 @@ use std::alloc::Global;
 
 // Reads a part of a file, if it lies in it and can be read.
 fn read_part<D: Disk>(alloc: Global, disk: &mut D, at: usize, len: usize) -> Option<Vec<u8>>
-    ensures reads { D.honest disk.new → OnlyReads D.now D.past disk.old disk.new }
-    ensures honest { D.honest disk.new → D.honest disk.old }
+    ensures reads { ReadsAlone D.Disk disk.old disk.new }
 {
     let Ok(length) = disk.len() else {
         return None;
@@ -42,8 +41,7 @@ struct Places {
 
 // Reads the places of the two headers, where the file has them.
 fn read_headers<D: Disk>(alloc: Global, disk: &mut D) -> Option<Places>
-    ensures reads { D.honest disk.new → OnlyReads D.now D.past disk.old disk.new }
-    ensures honest { D.honest disk.new → D.honest disk.old }
+    ensures reads { ReadsAlone D.Disk disk.old disk.new }
 {
     let Some(zero) = read_part(alloc, disk, 0, 64) else {
         return None;
@@ -59,8 +57,7 @@ fn read_headers<D: Disk>(alloc: Global, disk: &mut D) -> Option<Places>
 
 // What is wrong with the length of a file.
 fn of_length<D: Disk>(alloc: Global, disk: &mut D) -> Damage
-    ensures reads { D.honest disk.new → OnlyReads D.now D.past disk.old disk.new }
-    ensures honest { D.honest disk.new → D.honest disk.old }
+    ensures reads { ReadsAlone D.Disk disk.old disk.new }
 {
     let Ok(found) = disk.len() else {
         return Damage::Unknown;
@@ -86,8 +83,7 @@ fn length_by(places: &Places, found: usize) -> Damage {
 
 // What is wrong with the headers of a file.
 fn of_places<D: Disk>(alloc: Global, disk: &mut D) -> Damage
-    ensures reads { D.honest disk.new → OnlyReads D.now D.past disk.old disk.new }
-    ensures honest { D.honest disk.new → D.honest disk.old }
+    ensures reads { ReadsAlone D.Disk disk.old disk.new }
 {
     match read_headers(alloc, disk) {
         Some(places) => of_headers(&places.zero, &places.one),
@@ -97,8 +93,7 @@ fn of_places<D: Disk>(alloc: Global, disk: &mut D) -> Damage
 
 // The last bytes of a file, as many as the longest journal has, behind the places of the headers.
 fn read_tail<D: Disk>(alloc: Global, disk: &mut D) -> Option<Vec<u8>>
-    ensures reads { D.honest disk.new → OnlyReads D.now D.past disk.old disk.new }
-    ensures honest { D.honest disk.new → D.honest disk.old }
+    ensures reads { ReadsAlone D.Disk disk.old disk.new }
 {
     let Ok(length) = disk.len() else {
         return None;
@@ -108,10 +103,10 @@ fn read_tail<D: Disk>(alloc: Global, disk: &mut D) -> Option<Vec<u8>>
     read_part(alloc, disk, length.saturating_sub(size), size)
 }
 
-// What a file is of which neither header is open. Its slots are looked for at its end, as no header tells how many it has.
+// What a file is of which neither header is open. Its slots are looked for at its end, as no header tells how many it
+// has.
 fn of_closed<D: Disk>(alloc: Global, disk: &mut D) -> Damage
-    ensures reads { D.honest disk.new → OnlyReads D.now D.past disk.old disk.new }
-    ensures honest { D.honest disk.new → D.honest disk.old }
+    ensures reads { ReadsAlone D.Disk disk.old disk.new }
 {
     let Some(places) = read_headers(alloc, disk) else {
         return Damage::Unknown;
@@ -130,8 +125,7 @@ fn of_closed<D: Disk>(alloc: Global, disk: &mut D) -> Damage
 
 // The area of a header.
 fn read_pages<D: Disk>(alloc: Global, disk: &mut D, header: &Header) -> Option<Vec<u8>>
-    ensures reads { D.honest disk.new → OnlyReads D.now D.past disk.old disk.new }
-    ensures honest { D.honest disk.new → D.honest disk.old }
+    ensures reads { ReadsAlone D.Disk disk.old disk.new }
 {
     let (version, limits) = (header.layout(), header.limits);
     let at = if header.area == 1 {
@@ -144,8 +138,7 @@ fn read_pages<D: Disk>(alloc: Global, disk: &mut D, header: &Header) -> Option<V
 
 // What is wrong with the pages of the area in force.
 fn of_pages<D: Disk>(alloc: Global, disk: &mut D) -> Damage
-    ensures reads { D.honest disk.new → OnlyReads D.now D.past disk.old disk.new }
-    ensures honest { D.honest disk.new → D.honest disk.old }
+    ensures reads { ReadsAlone D.Disk disk.old disk.new }
 {
     let Ok(header) = read_header(disk) else {
         return Damage::Unknown;
@@ -158,8 +151,7 @@ fn of_pages<D: Disk>(alloc: Global, disk: &mut D) -> Damage
 
 // What is wrong with the journal behind the area in force.
 fn of_slots<D: Disk>(alloc: Global, disk: &mut D) -> Damage
-    ensures reads { D.honest disk.new → OnlyReads D.now D.past disk.old disk.new }
-    ensures honest { D.honest disk.new → D.honest disk.old }
+    ensures reads { ReadsAlone D.Disk disk.old disk.new }
 {
     let Ok(header) = read_header(disk) else {
         return Damage::Unknown;
@@ -181,8 +173,7 @@ fn of_slots<D: Disk>(alloc: Global, disk: &mut D) -> Damage
 
 // The slots of a journal.
 fn read_ring<D: Disk>(alloc: Global, disk: &mut D, header: &Header) -> Option<Vec<u8>>
-    ensures reads { D.honest disk.new → OnlyReads D.now D.past disk.old disk.new }
-    ensures honest { D.honest disk.new → D.honest disk.old }
+    ensures reads { ReadsAlone D.Disk disk.old disk.new }
 {
     let limits = header.limits;
     read_part(
@@ -193,11 +184,10 @@ fn read_ring<D: Disk>(alloc: Global, disk: &mut D, header: &Header) -> Option<Ve
     )
 }
 
-/// A slot of an image that was opened or told, which stands open outside the run with a command that the ring can't hold
-/// any more, if there is one. `None` too where a call of the disk fails or `alloc` refuses the room for it.
+/// A slot of an image that was opened or told, which stands open outside the run with a command that the ring can't
+/// hold any more, if there is one. `None` too where a call of the disk fails or `alloc` refuses the room for it.
 pub fn find_older<D: Disk>(alloc: Global, disk: &mut D) -> Option<Older>
-    ensures reads { D.honest disk.new → OnlyReads D.now D.past disk.old disk.new }
-    ensures honest { D.honest disk.new → D.honest disk.old }
+    ensures reads { ReadsAlone D.Disk disk.old disk.new }
 {
     let Ok(header) = read_header(disk) else {
         return None;
@@ -300,8 +290,7 @@ fn of_area(alloc: Global, version: Version, area: &[u8], limits: Limits) -> Dama
 /// Where an image is damaged that was refused so: its place is looked for by reading it again. `Unknown` where a call
 /// of the disk fails, where `alloc` refuses the room for it, or where no place is to be found.
 pub fn find_damage<D: Disk>(alloc: Global, disk: &mut D, refusal: Refusal) -> Damage
-    ensures reads { D.honest disk.new → OnlyReads D.now D.past disk.old disk.new }
-    ensures honest { D.honest disk.new → D.honest disk.old }
+    ensures reads { ReadsAlone D.Disk disk.old disk.new }
 {
     match refusal {
         Refusal::WrongLength => of_length(alloc, disk),

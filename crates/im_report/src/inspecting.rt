@@ -1,6 +1,7 @@
 //! What an image means, told line by line.
 ghost use Rattle.std.specs.Prelude.{◌≡◌, ◌≤◌, IfOk, OnOk, string_bytes};
 ghost use Rattle.im_image.specs.Headers.{seen};
+ghost use Rattle.im_disk.specs.Runs.{ReadsAlone};
 ghost use Rattle.im_disk.specs.Since.{ReadsOnly};
 ghost use Rattle.im_report.specs.Inspecting.{Tells};
 ghost use Rattle.im_report.specs.Report.{report_text};
@@ -29,9 +30,7 @@ fn text_of(alloc: Global, report: &Report) -> Result<String, AllocError>
 fn tell<D: Disk, W: Write>(alloc: Global, disk: &mut D, out: &mut W) -> Result<(), Reason>
     ensures told { OnOk result (D.honest disk.new →
         Tells (D.now disk.old).bytes (W.contents out.old) (W.contents out.new)) }
-    ensures reads { D.honest disk.new →
-        ReadsOnly (D.now disk.old) (D.now disk.new) (D.past disk.old) (D.past disk.new) }
-    ensures honest { D.honest disk.new → D.honest disk.old }
+    ensures reads { ReadsAlone D.Disk disk.old disk.new }
 {
     let report = match inspect(alloc, disk) {
         Ok(report) => report,
@@ -59,9 +58,7 @@ fn tell_all<D: Disk, W: Write, N: Observer>(
 ) -> Result<(), Reason>
     ensures told { OnOk result (D.honest disk.new →
         Tells (D.now disk.old).bytes (W.contents out.old) (W.contents out.new)) }
-    ensures reads { D.honest disk.new →
-        ReadsOnly (D.now disk.old) (D.now disk.new) (D.past disk.old) (D.past disk.new) }
-    ensures honest { D.honest disk.new → D.honest disk.old }
+    ensures reads { ReadsAlone D.Disk disk.old disk.new }
 {
     match tell(alloc, disk, out) {
         Ok(()) => {

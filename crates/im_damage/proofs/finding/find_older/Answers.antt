@@ -1,8 +1,14 @@
-use Rattle.im_damage.proofs.ReadingLemmas.{reads_both}
+use Rattle.im_disk.proofs.RunLemmas.{reads-both, reads-so}
 use Rattle.im_damage.proofs.finding.find_older.Goals as goal
 
-pub returns-in-Some-clause-reads : goal.returns-in-Some-clause-reads
-returns-in-Some-clause-reads g c = reads_both g.D.Disk.now g.D.Disk.past g.D.Disk.honest _ _ _ c.read_header.ensures.reads c.read_ring.ensures.honest c.read_ring.ensures.reads
+pub returns-in-Some : goal.returns-in-Some
+returns-in-Some g c = record {
+  reads = reads-both g.D.Disk _ _ _
+      (reads-so g.D.Disk _ _ _ _ c.read_header.ensures.reads) c.read_ring.ensures.reads;
+}
 
-pub returns-in-None-clause-reads : goal.returns-in-None-clause-reads
-returns-in-None-clause-reads g c = reads_both g.D.Disk.now g.D.Disk.past g.D.Disk.honest _ _ _ c.read_header.ensures.reads c.read_ring.ensures.honest c.read_ring.ensures.reads
+pub returns-in-None : goal.returns-in-None
+returns-in-None g c = record {
+  reads = reads-both g.D.Disk _ _ _
+      (reads-so g.D.Disk _ _ _ _ c.read_header.ensures.reads) c.read_ring.ensures.reads;
+}
