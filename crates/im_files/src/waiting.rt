@@ -1,4 +1,6 @@
 //! Openings that wait for the lock of a file.
+ghost use Rattle.std.specs.Prelude.{◌≡◌, ◌*◌, None};
+ghost use Rattle.im_files.specs.Lasting.{counted_from, longest};
 
 use im_disk::Start;
 use std::thread::sleep;
@@ -19,7 +21,10 @@ pub struct Waiting<R> {
 impl<R: Drop> Waiting<R> {
     /// An opening that waits for so many seconds at most, from the moment on at which the file is found in use. Where
     /// the clock can't be read it doesn't wait.
-    pub fn new(rt: R, seconds: u32) -> Waiting<R> {
+    pub fn new(rt: R, seconds: u32) -> Waiting<R>
+        ensures longest { longest result ≡ seconds * 1_000_000_000 }
+        ensures begins { counted_from result ≡ None }
+    {
         Waiting {
             rt,
             began: None,
@@ -29,13 +34,18 @@ impl<R: Drop> Waiting<R> {
 }
 
 impl<R: Clock + Drop> Start for Waiting<R> {
-    ghost use Rattle.std.specs.Prelude.{[]};
+    ghost use Rattle.std.specs.Prelude.{◌≡◌, [], false, IfSome, Some};
+    ghost use Rattle.im_files.specs.Lasting.{counted_from, longest};
 
     ghost first = { record { bytes = []; ranges = [] } };
 
     ghost outcomes = { [] };
 
-    fn tries_again(&mut self) -> bool {
+    fn tries_again(&mut self) -> bool
+        ensures none { longest self.old ≡ 0 → result ≡ false }
+        ensures same { longest self.new ≡ longest self.old }
+        ensures begins { IfSome (counted_from self.old) (λ moment. counted_from self.new ≡ Some moment) }
+    {
         let Ok(now) = Instant::now(&self.rt) else {
             return false;
         };

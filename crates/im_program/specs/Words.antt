@@ -1,8 +1,10 @@
 -- What the words of the command line ask for. (Own.)
-use Rattle.std.specs.Prelude.{ℕ, Bool, List, [], Option, Some, None, if◌then◌else◌, codes, true, false, unwrap_or}
+use Rattle.std.specs.Prelude.{ℕ, Bool, List, [], ◌∷◌, Option, Some, None}
+use Rattle.std.specs.Prelude.{◌==◌, if◌then◌else◌, codes, true, false, unwrap_or}
 use Rattle.std.specs.Option.{option_map, option_and_then, option_map_or}
 use Rattle.std.specs.Str.{bytes_eq}
 use Rattle.clap.specs.declared.builder.action.ArgAction.TheVariants.{SetTrue}
+use Rattle.clap.specs.declared.builder.value_parser.ValueParser.TheVariants.{Unsigned}
 use Rattle.clap.specs.Words.{App, Row, Rule, Text, first_of, new_app, new_rule, subcommand_of, with_rule, with_subcommand}
 use Rattle.im_program.specs.declared.words.Work.{Work}
 use Rattle.im_program.specs.declared.words.Work.TheVariants.{Alone, Run, Migrate}
@@ -24,31 +26,35 @@ flag_rule id = record (new_rule id) { long = Some id; action = Some SetTrue }
 abbrev pub path_rule : Text → Rule
 path_rule id = record (new_rule id) { required = true }
 
--- a subcommand that takes a path, with [--statuses]
-abbrev pub file_app : Text → Text → App
-file_app name path = with_rule (with_rule (new_app name) (flag_rule (codes "statuses"))) (path_rule path)
+-- the option by which an opening waits: whole seconds, up to a day
+abbrev pub wait_rule : Rule
+wait_rule = record (option_rule (codes "wait")) { parser = Some (Unsigned 0 86400) }
 
--- format IMAGE [--cells N] [--elements N] [--slots N] [--new] [--statuses]
+-- a subcommand that takes a path, with [--statuses] and [--wait SECONDS]
+abbrev pub file_app : Text → Text → App
+file_app name path = with_rule (with_rule (with_rule (new_app name) (flag_rule (codes "statuses"))) wait_rule) (path_rule path)
+
+-- format IMAGE [--cells N] [--elements N] [--slots N] [--new] [--statuses] [--wait SECONDS]
 abbrev pub format_app : App
 format_app = with_rule (with_rule (with_rule (with_rule (file_app (codes "format") (codes "IMAGE")) (option_rule (codes "cells"))) (option_rule (codes "elements"))) (option_rule (codes "slots"))) (flag_rule (codes "new"))
 
--- NAME IMAGE SCRIPT [--statuses]
+-- NAME IMAGE SCRIPT [--statuses] [--wait SECONDS]
 abbrev pub script_app : Text → App
 script_app name = with_rule (file_app name (codes "IMAGE")) (path_rule (codes "SCRIPT"))
 
--- run IMAGE SCRIPT [--planned] [--statuses]
+-- run IMAGE SCRIPT [--planned] [--statuses] [--wait SECONDS]
 abbrev pub run_app : App
 run_app = with_rule (script_app (codes "run")) (flag_rule (codes "planned"))
 
--- serve IMAGE [--watch] [--statuses]
+-- serve IMAGE [--watch] [--statuses] [--wait SECONDS]
 abbrev pub serve_app : App
 serve_app = with_rule (file_app (codes "serve") (codes "IMAGE")) (flag_rule (codes "watch"))
 
--- inspect IMAGE [--statuses]
+-- inspect IMAGE [--statuses] [--wait SECONDS]
 abbrev pub inspect_app : App
 inspect_app = file_app (codes "inspect") (codes "IMAGE")
 
--- migrate OLD NEW [--statuses]
+-- migrate OLD NEW [--statuses] [--wait SECONDS]
 abbrev pub migrate_app : App
 migrate_app = with_rule (file_app (codes "migrate") (codes "OLD")) (path_rule (codes "NEW"))
 
@@ -137,6 +143,24 @@ task_in (Some met) = if bytes_eq met.0 (codes "format") then format_task met.1 e
 abbrev pub has_statuses : Option (Text × List Row) → Bool
 has_statuses None = false
 has_statuses (Some met) = is_given met.1 (codes "statuses")
+
+-- what stands behind a plus, where the text begins with one; else the text
+abbrev pub behind_plus : Text → Text
+behind_plus [] = []
+behind_plus (byte ∷ rest) = if byte == 43 then rest else byte ∷ rest
+
+-- the seconds that a text says in decimal digits, before which a plus may stand; none where it says none
+abbrev pub seconds_of : Text → ℕ
+seconds_of text = unwrap_or (number_up_to 4294967295 (behind_plus text)) 0
+
+-- for how many seconds an opening of the subcommand that was met waits
+abbrev pub wait_in : Option (Text × List Row) → ℕ
+wait_in None = 0
+wait_in (Some met) = seconds_of (path_in met.1 (codes "wait"))
+
+-- the same of the words, as clap walks them
+abbrev pub asks_wait : List Text → ℕ
+asks_wait words = wait_in (subcommand_of imem_app words)
 
 -- the same of the words, as clap walks them
 abbrev pub asks_statuses : List Text → Bool

@@ -155,7 +155,7 @@ impl<'a, R: Eprint + AllocGlobal> Console<'a, R> {
             Reason::Output(_) if self.held.stands_for(1) => {
                 eprintln!(self.rt; "imem: standard output is closed")
             }
-            Reason::Output(_) | Reason::Memory | Reason::NoInput => {
+            Reason::Output(_) | Reason::Input(_) | Reason::NoInput | Reason::Memory => {
                 eprintln!(self.rt; "imem: {reason}")
             }
             _ => eprintln!(self.rt; "imem: {path}: {reason}"),

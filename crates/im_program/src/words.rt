@@ -7,7 +7,9 @@ ghost use Rattle.im_script.specs.Grammar.{texts};
 ghost use Rattle.im_program.specs.Words.{asked, asks_statuses, file_app, flag_rule, format_app, format_task, has_statuses, imem_app, inspect_app, inspect_task};
 ghost use Rattle.im_program.specs.Words.{is_given, migrate_app, migrate_task, number_in, option_rule, path_in, path_rule, run_app, run_task, script_app};
 ghost use Rattle.im_program.specs.Words.{serial_task, serve_app, serve_task, task_in, task_of, top_app};
+ghost use Rattle.im_program.specs.Words.{asks_wait, behind_plus, seconds_of, wait_in, wait_rule};
 
+use clap::builder::ValueParser;
 use clap::error::ErrorKind;
 use clap::{Arg, ArgAction, ArgMatches, Command, Error};
 use im_script::read_u32;
@@ -21,6 +23,9 @@ pub const DEFAULT_ELEMENTS: u32 = 16;
 
 /// How many journal slots, where they don't.
 pub const DEFAULT_SLOTS: u32 = 256;
+
+/// The most seconds that an opening waits for the lock of a file: a day.
+const MAX_WAIT: u64 = 86_400;
 
 /// What the program is asked to do.
 #[derive(Clone, Copy, Debug, PartialEq, Eq)]
@@ -91,6 +96,8 @@ pub struct Order<'a> {
     pub work: Work<'a>,
     /// Whether the status tells refusals apart.
     pub statuses: bool,
+    /// For how many seconds an opening of a file waits for its lock.
+    pub wait: u32,
 }
 
 /// Why the words say no work.
@@ -102,8 +109,9 @@ pub enum WordFault {
     Bad(Error),
 }
 
-/// What `--version` prints behind the program's name: its version, and that of the layout which it writes.
-const VERSION: &str = "0.1.0, image layout 2";
+/// What `--version` prints behind the program's name: its version, that of the layout which it writes, of which commit
+/// it was built, and whether all of it was proved. `scripts/build-imem` writes the last two over as many letters.
+const VERSION: &str = "0.1.0, image layout 2, commit ------------, not proved";
 
 const ABOUT: &str = "A durable memory of I-structure and M-structure cells, kept in an image file.";
 
@@ -118,8 +126,9 @@ Example:
 An image of layout version 1 is inspected, and refused 21 OldVersion elsewhere: imem migrate moves it on.
 
 While imem works on an image it holds the file's lock: another imem is refused 8 Device, and a line on
-standard error says that the image is in use. Any number may inspect it at the same time. The lock is
-advisory: it keeps no other program from writing the file, nor one that makes another file of its name.
+standard error says that the image is in use. With --wait SECONDS, which each subcommand takes, it tries
+again until so many seconds are over. Any number may inspect it at the same time. The lock is advisory: it
+keeps no other program from writing the file, nor one that makes another file of its name.
 
 Exit status: 0 done; 1 refused, with 'refused N NAME' as the last line; 2 a bad command line; 3 the
 elements of a run wait for each other. With --statuses, which each subcommand takes, what was refused with 1
@@ -292,6 +301,18 @@ fn statuses_option<'a>(alloc: Global) -> Arg<'a>
     )
 }
 
+/// The option by which an opening waits for the lock of a file.
+fn wait_option<'a>(alloc: Global) -> Arg<'a>
+    ensures rule { rule_of result ≡ wait_rule }
+    ensures local { result.global ≡ false }
+{
+    Arg::new(alloc, "wait")
+        .long("wait")
+        .value_name("SECONDS")
+        .value_parser(ValueParser::unsigned(0, MAX_WAIT))
+        .help("Try again so long where a file is in use, 0 to 86400 seconds [default: 0]")
+}
+
 /// A subcommand that takes a path.
 fn file_command<'a>(
     alloc: Global,
@@ -306,10 +327,12 @@ fn file_command<'a>(
 {
     let empty = Command::new(alloc, name).about(about).after_help(examples);
     let statuses = statuses_option(alloc);
+    let wait = wait_option(alloc);
     let file = path_argument(alloc, path, path_help);
     let one = empty.arg(statuses)?;
-    let two = one.arg(file)?;
-    Ok(two)
+    let two = one.arg(wait)?;
+    let three = two.arg(file)?;
+    Ok(three)
 }
 
 /// The subcommand `format`.
@@ -609,16 +632,49 @@ fn statuses_of(matches: &ArgMatches<'_>) -> bool
     }
 }
 
-/// The work, and how the program is to end. `None` where a number is no decimal number of a u32.
+/// What stands behind a plus, where the text begins with one; else the text.
+fn behind_plus(text: &[u8]) -> &[u8]
+    ensures { result.now ≡ behind_plus text.now }
+{
+    if text.is_empty() {
+        return text;
+    }
+    if text[0] == b'+' { &text[1..] } else { text }
+}
+
+/// The seconds that a text says in decimal digits, before which a plus may stand. clap has refused any other text.
+fn read_seconds(text: &[u8]) -> u32
+    ensures { result ≡ seconds_of text.now }
+{
+    match read_u32(behind_plus(text)) {
+        Some(seconds) => seconds,
+        None => 0,
+    }
+}
+
+/// For how many seconds an opening of the subcommand waits.
+fn wait_of(matches: &ArgMatches<'_>) -> u32
+    ensures { result ≡ wait_in (subcommand_rows_of matches.now) }
+{
+    match matches.subcommand() {
+        None => 0,
+        Some((_, found)) => read_seconds(path_of(found, "wait").as_bytes()),
+    }
+}
+
+/// The work, how the program is to end, and how long its openings wait. `None` where a number is no decimal number of
+/// a u32.
 fn order_of<'a>(matches: &ArgMatches<'a>) -> Option<Order<'a>>
     ensures work { option_map (λ (order : Order). task_of order.work) result
         ≡ task_in (subcommand_rows_of matches.now) }
     ensures statuses { IfSome result (λ order. order.statuses ≡ has_statuses (subcommand_rows_of matches.now)) }
+    ensures wait { IfSome result (λ order. order.wait ≡ wait_in (subcommand_rows_of matches.now)) }
 {
     match work_of(matches) {
         Some(work) => Some(Order {
             work,
             statuses: statuses_of(matches),
+            wait: wait_of(matches),
         }),
         None => None,
     }
@@ -674,6 +730,7 @@ fn number_fault(alloc: Global, matches: &ArgMatches<'_>) -> WordFault {
 pub fn read_words<'a>(alloc: Global, words: &'a [&'a str]) -> Result<Order<'a>, WordFault>
     ensures work { IfOk result (λ order. asked (texts words.entry.now) ≡ Some (task_of order.work)) }
     ensures statuses { IfOk result (λ order. order.statuses ≡ asks_statuses (texts words.entry.now)) }
+    ensures wait { IfOk result (λ order. order.wait ≡ asks_wait (texts words.entry.now)) }
     ensures sound { IsOk result → fault_of imem_app (texts words.entry.now) ≡ [] }
     ensures taken { IfErr result (λ fault. takes imem_app (texts words.entry.now) ≡ true →
         IsSome (asked (texts words.entry.now)) → fault ≡ WordFault.NoMemory) }

@@ -39,7 +39,7 @@ use im_text::{Observer, PathFault, Reason, Warning, put_refusal};
 use im_types::{Limits, MAX_CELLS, MAX_ELEMENTS, Refusal};
 use std::alloc::Global;
 use std::fs::File;
-use std::io::{BufRead, Eprint, ErrorKind, Input, Write};
+use std::io::{BufRead, Eprint, ErrorKind, Read, Write};
 use std::rt::Files;
 use std::sync::Wait;
 use std::thread::Threads;
@@ -151,13 +151,14 @@ fn told<N: Observer>(refusal: Refusal, observer: &mut N) -> Refusal
     refusal
 }
 
-// The text of a script: that of a file, or of standard input where the path is `-`.
-fn text_of<R: Files<File = File> + AllocGlobal + Input>(
+// The text of a script: that of a file, or of the input where the path is `-`.
+fn text_of<R: Files<File = File> + AllocGlobal, I: Read>(
     rt: &R,
     script: &str,
+    input: &mut I,
 ) -> Result<Vec<u8>, TextFault> {
     if script == "-" {
-        return read_text(rt.alloc(), &mut rt.reader());
+        return read_text(rt.alloc(), input);
     }
     match File::open(rt, script) {
         Ok(mut file) => read_text(rt.alloc(), &mut file),
@@ -178,11 +179,12 @@ fn refuse_script<N: Observer>(reason: Reason, observer: &mut N) -> Refusal
     }
 }
 
-// The text of a script's file. `BadScript` where the file can't be read.
-fn read_file<R: Files<File = File> + AllocGlobal + Input, N: Observer>(
+// The text of a script. `BadScript` where it can't be read.
+fn read_file<R: Files<File = File> + AllocGlobal, I: Read, N: Observer>(
     rt: &R,
     held: &Descriptors,
     script: &str,
+    input: &mut I,
     observer: &mut N,
 ) -> Result<Vec<u8>, Refusal>
     ensures { IfErr result (λ refusal. (refusal ≡ BadScript) ⊎ (refusal ≡ NoMemory)) }
@@ -190,7 +192,7 @@ fn read_file<R: Files<File = File> + AllocGlobal + Input, N: Observer>(
     if script == "-" && held.stands_for(0) {
         return Err(refuse_script(Reason::NoInput, observer));
     }
-    match text_of(rt, script) {
+    match text_of(rt, script, input) {
         Ok(text) => Ok(text),
         Err(TextFault::Bad(fault)) => Err(refuse_script(Reason::Script(fault), observer)),
         Err(TextFault::Unread(kind)) => Err(refuse_script(Reason::ScriptFile(kind), observer)),
@@ -218,7 +220,7 @@ fn script_in<'a, N: Observer>(
 }
 
 /// Serves the script of a file on the image of another, and gives the image's disk back, with the status and the lines
-/// of [`serial_on`]. The script is read first; the path `-` is standard input.
+/// of [`serial_on`]. The script is read first; the path `-` is `input`, which is read to its end.
 ///
 /// Whatever the image held when it was opened (`S`): as long as the file was honest, a crash at any moment since then
 /// leaves what [`serial_on`] says.
@@ -229,11 +231,12 @@ fn script_in<'a, N: Observer>(
 /// [`serial_on`] refuses is its status and its last line.
 ///
 /// That an image is ever opened is no clause: none knows what a folder holds.
-pub fn serve_file<R: Files<File = File> + AllocGlobal + Input, S: Start, W: Write, N: Observer>(
+pub fn serve_file<R: Files<File = File> + AllocGlobal, S: Start, I: Read, W: Write, N: Observer>(
     rt: &R,
     held: &Descriptors,
     image: &str,
     script: &str,
+    input: &mut I,
     out: &mut W,
     observer: &mut N,
     start: S,
@@ -245,7 +248,7 @@ pub fn serve_file<R: Files<File = File> + AllocGlobal + Input, S: Start, W: Writ
     ensures refused { IfErr result (λ refusal. (refusal ≡ BadScript) ⊎ (refusal ≡ NoMemory) ⊎ (refusal ≡ Device)) }
     ensures same { OnErr result (Keeps (W.contents out.old) (W.contents out.new)) }
 {
-    let text = match read_file(rt, held, script, observer) {
+    let text = match read_file(rt, held, script, input, observer) {
         Ok(text) => text,
         Err(refusal) => return Err(refusal),
     };
@@ -261,7 +264,7 @@ pub fn serve_file<R: Files<File = File> + AllocGlobal + Input, S: Start, W: Writ
 
 /// Runs the script of a file, which may have glances, on the image of another, each element's requests by threads of
 /// its own, and gives the image's disk back, with the status and the lines of [`run_on`]. Its requests are a plan where
-/// it is planned. The script is read first; the path `-` is standard input.
+/// it is planned. The script is read first; the path `-` is `input`, which is read to its end.
 ///
 /// Whatever the image held when it was opened (`S`): as long as the file was honest, a crash at any moment since then
 /// leaves what [`run_on`] says.
@@ -273,9 +276,10 @@ pub fn serve_file<R: Files<File = File> + AllocGlobal + Input, S: Start, W: Writ
 ///
 /// That an image is ever opened is no clause: none knows what a folder holds.
 pub fn run_file<
-    R: Files<File = File> + AllocGlobal + Input + Threads + Wait + Sync,
+    R: Files<File = File> + AllocGlobal + Threads + Wait + Sync,
     S: Start + Send,
     V: Watcher + Sync,
+    I: Read,
     W: Write,
     N: Observer,
 >(
@@ -285,6 +289,7 @@ pub fn run_file<
     script: &str,
     planned: bool,
     watcher: &V,
+    input: &mut I,
     out: &mut W,
     observer: &mut N,
     start: S,
@@ -296,7 +301,7 @@ pub fn run_file<
     ensures refused { IfErr result (λ refusal. (refusal ≡ BadScript) ⊎ (refusal ≡ NoMemory) ⊎ (refusal ≡ Device)) }
     ensures same { OnErr result (Keeps (W.contents out.old) (W.contents out.new)) }
 {
-    let text = match read_file(rt, held, script, observer) {
+    let text = match read_file(rt, held, script, input, observer) {
         Ok(text) => text,
         Err(refusal) => return Err(refusal),
     };
@@ -464,13 +469,7 @@ fn format_image<R: Files<File = File> + AllocGlobal, S: Start, N: Observer>(
 }
 
 /// Does the job. The status, and the disk of the file that was opened for it, if one was.
-fn do_job<
-    R: Files<File = File> + AllocGlobal + Input,
-    S: Start,
-    I: BufRead + Ear,
-    W: Write,
-    N: Observer,
->(
+fn do_job<R: Files<File = File> + AllocGlobal, S: Start, I: BufRead + Ear, W: Write, N: Observer>(
     rt: &R,
     held: &Descriptors,
     job: &Job,
@@ -503,7 +502,7 @@ fn do_job<
             Err(refusal) => Err(refusal),
         },
         Job::Serial { image, script } => match serve_file(
-            rt, held, image, script, out, observer, start,
+            rt, held, image, script, input, out, observer, start,
         ) {
             Ok((status, disk)) => Ok((status, Some(disk))),
             Err(refusal) => Err(refusal),
@@ -562,7 +561,7 @@ fn settle<R: Files<File = File> + AllocGlobal + Eprint, S: Start>(
 
 // Does the job, and prints the line of a refusal.
 fn work_alone<
-    R: Files<File = File> + AllocGlobal + Input,
+    R: Files<File = File> + AllocGlobal,
     S: Start,
     I: BufRead + Ear,
     W: Write,
@@ -590,11 +589,12 @@ fn work_alone<
 
 /// Does the job of one thread, and answers the status that the program ends with: 0, or 1 where something was refused
 /// or a write of the output failed; and the disk of the image, where its file was made or opened. A dialogue reads
-/// `input`. What it prints goes to `out`, a refusal as its last line `refused N NAME`. Standard error has one line of
-/// reason for a refusal, and a line `K.N now REPLY` for a request that waited when the image was opened and whose entry
-/// is confirmed; and, where somebody watches, how far a long script has come. Where a call of the disk failed the reason
-/// says which, and where it was a sync, that the file system is to be mounted anew: a note is left beside the image then.
-/// Where standard input is a terminal, a file that isn't empty is asked for before an image is made of it.
+/// `input`, and so does a script whose path is `-`. What it prints goes to `out`, a refusal as its last line `refused N
+/// NAME`. Standard error has one line of reason for a refusal, and a line `K.N now REPLY` for a request that waited
+/// when the image was opened and whose entry is confirmed; and, where somebody watches, how far a long script has come.
+/// Where a call of the disk failed the reason says which, and where it was a sync, that the file system is to be
+/// mounted anew: a note is left beside the image then. Where standard input is a terminal, a file that isn't empty is
+/// asked for before an image is made of it.
 ///
 /// Refused are: `Device` for a file that isn't to be made anew; `BadLimits` for an image with a number out of its range, and then no file is made; and what
 /// [`format_file`], [`serve_file`], [`talk_file`] and [`inspect_file`] refuse. Where there is a disk, its status and
@@ -603,7 +603,7 @@ fn work_alone<
 ///
 /// `start` stands for what the image holds when it is opened. It is used up, and no code reads it.
 pub fn act_alone<
-    R: Files<File = File> + AllocGlobal + Input + Eprint,
+    R: Files<File = File> + AllocGlobal + Eprint,
     S: Start,
     I: BufRead + Ear,
     W: Write,
@@ -633,9 +633,10 @@ pub fn act_alone<
 
 // Runs the script, and prints the line of a refusal.
 fn run_at_once<
-    R: Files<File = File> + AllocGlobal + Input + Threads + Wait + Sync,
+    R: Files<File = File> + AllocGlobal + Threads + Wait + Sync,
     S: Start + Send,
     V: Watcher + Sync,
+    I: Read,
     W: Write,
     N: Observer,
 >(
@@ -645,6 +646,7 @@ fn run_at_once<
     script: &str,
     planned: bool,
     watcher: &V,
+    input: &mut I,
     out: &mut W,
     observer: &mut N,
     start: S,
@@ -656,7 +658,7 @@ fn run_at_once<
     ensures none { IfNone result.1 (result.0 ≡ 1) }
 {
     match run_file(
-        rt, held, image, script, planned, watcher, out, observer, start,
+        rt, held, image, script, planned, watcher, input, out, observer, start,
     ) {
         Ok((status, disk)) => (status, Some(disk)),
         Err(refusal) => (refuse(rt.alloc(), refusal, out), None),
@@ -665,8 +667,9 @@ fn run_at_once<
 
 /// Runs a script by the threads of its elements. The status, and the disk of the image, where it was opened.
 fn act_at_once<
-    R: Files<File = File> + AllocGlobal + Input + Eprint + Threads + Wait + Sync,
+    R: Files<File = File> + AllocGlobal + Eprint + Threads + Wait + Sync,
     S: Start + Send,
+    I: Read,
     W: Write,
 >(
     rt: &R,
@@ -674,6 +677,7 @@ fn act_at_once<
     image: &str,
     script: &str,
     planned: bool,
+    input: &mut I,
     out: &mut W,
     console: &mut Console<'_, R>,
     start: S,
@@ -686,7 +690,7 @@ fn act_at_once<
 {
     let watch = Watch::new(rt, console.is_watched());
     let (status, disk) = run_at_once(
-        rt, held, image, script, planned, &watch, out, console, start,
+        rt, held, image, script, planned, &watch, input, out, console, start,
     );
     settle(rt, image, &disk, console);
     (status, disk)
@@ -731,7 +735,7 @@ fn act_on_two<R: Files<File = File> + AllocGlobal + Eprint, S: Start, T: Start, 
 /// `start` stands for what the image holds when it is opened, of a migration what the new file holds, and `other` for what
 /// the old one does. They are used up, and no code reads them.
 pub fn act<
-    R: Files<File = File> + AllocGlobal + Input + Eprint + Threads + Wait + Sync,
+    R: Files<File = File> + AllocGlobal + Eprint + Threads + Wait + Sync,
     S: Start + Send,
     T: Start,
     I: BufRead + Ear,
@@ -768,7 +772,7 @@ pub fn act<
             planned,
         } => {
             let (status, disk) = act_at_once(
-                rt, held, image, script, *planned, out, console, start,
+                rt, held, image, script, *planned, input, out, console, start,
             );
             (status, disk, None)
         }

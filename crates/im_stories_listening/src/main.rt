@@ -1,10 +1,11 @@
 //! Stories of a reader that listens by a thread: what it tells and gives, whatever the schedule.
 #![tactic(auto)]
 
-use anyhow::Result;
+use anyhow::{Result, anyhow};
 use crossbeam_channel::{Receiver, bounded};
 use im_listening::{Ear, Listener, Patient};
-use std::io::{self, ErrorKind, Print, Read};
+use im_script::read_text;
+use std::io::{self, BufReader, ErrorKind, Print, Read};
 use std::sync::Wait;
 use std::thread::{Threads, yield_now};
 
@@ -182,6 +183,28 @@ fn tell_waiting<R: AllocGlobal + Print + Threads + Wait + Copy + Drop + Send + '
     tell_reads(rt, &mut listener, 6)
 }
 
+// Reads a text to its end, and tells it.
+fn tell_whole<R: AllocGlobal + Print, I: Read>(rt: &R, input: &mut I) -> Result<()> {
+    let Ok(text) = read_text(rt.alloc(), input) else {
+        return Err(anyhow!("the text can't be read"));
+    };
+    match str::from_utf8(text.as_slice()) {
+        Ok(text) => Ok(println!(rt; "a text: {text}")?),
+        Err(_) => Err(anyhow!("it is no text")),
+    }
+}
+
+// A script's text is read to its end from a reader that doesn't wait, as the program reads it from standard input.
+fn tell_text<R: AllocGlobal + Print + Threads + Wait + Copy + Drop + Send + 'static>(
+    rt: &R,
+) -> Result<()> {
+    let mut patient = Patient::new(*rt, Hasty { steps: STEPS });
+    tell_whole(rt, &mut patient)?;
+    let listener = Listener::new(*rt, Hasty { steps: STEPS });
+    let mut input = BufReader::new(rt.alloc(), listener)?;
+    tell_whole(rt, &mut input)
+}
+
 // The end is given again where a thread heard it, and nothing is quiet then: no read would wait.
 fn tell_end<R: AllocGlobal + Print + Threads + Wait + Copy + Drop + Send + 'static>(
     rt: &R,
@@ -206,6 +229,8 @@ fn main(rt: HostRuntime) -> Result<()> {
     tell_fault(&rt)?;
     println!(rt; "# a reader that does not wait")?;
     tell_waiting(&rt)?;
+    println!(rt; "# a text of a reader that does not wait")?;
+    tell_text(&rt)?;
     println!(rt; "# an end that is heard")?;
     tell_end(&rt)
 }

@@ -25,6 +25,13 @@ imem serve a.img --watch = talk on a.img, watched
 imem serve --watch a.img = talk on a.img, watched
 imem inspect a.img = tell of a.img
 imem migrate a.img b.img = move a.img on to b.img
+-- Each subcommand may wait, for whole seconds up to a day.
+imem format --wait 1 a.img --cells 5 = make a.img of 5 cells, 16 elements, 256 slots, waiting 1 s
+imem serial a.img s --wait=86400 --statuses = serve s on a.img, by statuses, waiting 86400 s
+imem run --wait 007 a.img s --planned = run s on a.img, planned, waiting 7 s
+imem serve a.img --wait +5 --watch = talk on a.img, watched, waiting 5 s
+imem inspect a.img --wait 0 = tell of a.img
+imem migrate a.img b.img --wait 60 = move a.img on to b.img, waiting 60 s
 
 # Bad words are refused with status 2, and what is said names them
 imem mend = status 2
@@ -71,6 +78,19 @@ imem migrate a.img b.img c.img = status 2
 says 'c.img' = yes
 imem migrate a.img b.img --cells 5 = status 2
 says --cells = yes
+
+# A time to wait is a number of whole seconds, at most a day
+imem serve a.img --wait 86401 = status 2
+says 86401 = yes
+says --wait <SECONDS> = yes
+imem serial a.img s --wait 1.5 = status 2
+says '1.5' = yes
+imem inspect a.img --wait 18446744073709551616 = status 2
+imem format a.img --wait 5s = status 2
+imem run a.img s --wait -1 = status 2
+imem migrate a.img b.img --wait = status 2
+imem inspect a.img --wait 1 --wait 2 = status 2
+imem --wait 5 = status 2
 
 # An option takes decimal digits alone, of a number below 2^32
 imem format a.img --cells 4294967296 = status 2
@@ -128,5 +148,7 @@ says Exit status: 0 the image is moved on = yes
 # The version is told with the layout that is written
 imem --version = status 0
 says imem 0.1.0, image layout 2 = yes
+-- Of which commit it is, and that it was proved, is written into the program that was.
+says commit ------------, not proved = yes
 imem -V = status 0
 imem inspect --version = status 2

@@ -53,7 +53,12 @@ fn add_work(said: &mut String, work: &Work) -> Result<(), AllocError> {
 
 fn add_order(said: &mut String, order: &Order) -> Result<(), AllocError> {
     add_work(said, &order.work)?;
-    said.push_str(if order.statuses { ", by statuses" } else { "" })
+    said.push_str(if order.statuses { ", by statuses" } else { "" })?;
+    let wait = order.wait;
+    if wait > 0 {
+        write!(said, ", waiting {wait} s")?;
+    }
+    Ok(())
 }
 
 /// The words of a command line, one a line.

@@ -19,8 +19,8 @@ const NOBODY: Terminals = Terminals {
     errors: false,
 };
 
-// Does what a command line asks one thread for, and tells the status.
-fn run(desk: &mut Desk, words: &[&str], said: &mut String) -> Result<()> {
+// Does what a command line asks one thread for, with these bytes as standard input, and tells the status.
+fn run(desk: &mut Desk, input: &[u8], words: &[&str], said: &mut String) -> Result<()> {
     let alloc = desk.rt.alloc();
     let spelled = spelled(alloc, words)?;
     let texts = texts(alloc, spelled.as_slice())?;
@@ -28,6 +28,7 @@ fn run(desk: &mut Desk, words: &[&str], said: &mut String) -> Result<()> {
         Order {
             work: Work::Alone(job),
             statuses,
+            ..
         },
     ) = read_words(alloc, texts.as_slice())
     else {
@@ -35,12 +36,12 @@ fn run(desk: &mut Desk, words: &[&str], said: &mut String) -> Result<()> {
     };
     let mut console = Console::new(desk.rt, desk.held, &Work::Alone(job), NOBODY);
     let mut out = Paper::new(alloc, usize::MAX);
-    let mut nothing = b"".as_slice();
+    let mut input = input;
     let (status, _disk) = act_alone(
         desk.rt,
         desk.held,
         &job,
-        &mut nothing,
+        &mut input,
         &mut out,
         &mut console,
         Unknown,
@@ -62,9 +63,20 @@ fn attempt(desk: &mut Desk, words: &[&str], said: &mut String) -> Result<bool> {
     let held = desk.held;
     let mut out = Paper::new(rt.alloc(), usize::MAX);
     let mut notes = Notes::new(rt.alloc());
+    let mut nothing = b"".as_slice();
     let is_ok = match words {
         ["serial", image, script] => {
-            serve_file(rt, held, image, script, &mut out, &mut notes, Unknown).is_ok()
+            serve_file(
+                rt,
+                held,
+                image,
+                script,
+                &mut nothing,
+                &mut out,
+                &mut notes,
+                Unknown,
+            )
+            .is_ok()
         }
         ["inspect", image] => inspect_file(rt, held, image, &mut out, &mut notes, Unknown).is_ok(),
         ["format", image] => match Limits::new(1, 1, 16) {
@@ -77,6 +89,12 @@ fn attempt(desk: &mut Desk, words: &[&str], said: &mut String) -> Result<bool> {
     };
     set_told(desk, is_ok, notes, said)?;
     Ok(true)
+}
+
+// Does the same, with the script that was put together as standard input.
+fn feed(desk: &mut Desk, words: &[&str], said: &mut String) -> Result<()> {
+    let text = desk.scripts.take_text(desk.rt.alloc());
+    run(desk, text.as_slice(), words, said)
 }
 
 // Makes a file of the script that was put together.
@@ -118,7 +136,8 @@ fn file(desk: &Desk, file: &str, said: &mut String) -> Result<()> {
 /// Makes a call on files. Whether the words are one.
 pub fn tell(desk: &mut Desk, words: &[&str], said: &mut String) -> Result<bool> {
     match words {
-        ["run", command @ ..] => run(desk, command, said)?,
+        ["run", command @ ..] => run(desk, b"".as_slice(), command, said)?,
+        ["feed", command @ ..] => feed(desk, command, said)?,
         ["try", call @ ..] => return attempt(desk, call, said),
         ["save", name] => save(desk, name, said)?,
         ["keep", name] => keep(desk, name, said)?,

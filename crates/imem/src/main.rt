@@ -3,7 +3,7 @@
 
 ghost use Rattle.std.specs.Prelude.{◌≡◌, ◌≤◌};
 
-use im_disk::Unknown;
+use im_files::Waiting;
 use im_listening::Listener;
 use im_program::{
     Console, Descriptors, Job, Order, Terminals, WordFault, Work, act, read_words, refuse,
@@ -18,6 +18,7 @@ use std::process::ExitCode;
 use std::rt::Files;
 use std::sync::Wait;
 use std::thread::Threads;
+use std::time::Clock;
 
 /// The status that the program ends with, once its text is printed.
 fn status_after(printed: io::Result<()>, status: u8) -> u8
@@ -31,15 +32,15 @@ fn status_after(printed: io::Result<()>, status: u8) -> u8
 }
 
 /// Does the work. Standard input is read as much at once as there is, so that lines of a dialogue which stand together
-/// are served together, and a thread listens to it where a dialogue is held.
+/// are served together, and a thread listens to it where a dialogue is held. Where it doesn't block it is waited for.
 fn work_on<
     R: Files<File = File>
         + AllocGlobal
         + Input<Reader = I>
-        + Print
         + Eprint
         + Threads
         + Wait
+        + Clock
         + Copy
         + Drop
         + Send
@@ -64,8 +65,8 @@ fn work_on<
                 &mut input,
                 out,
                 &mut console,
-                Unknown,
-                Unknown,
+                Waiting::new(*rt, order.wait),
+                Waiting::new(*rt, order.wait),
             );
             status_for(status, order.statuses, console.reason())
         }
@@ -82,6 +83,7 @@ fn run<
         + Eprint
         + Threads
         + Wait
+        + Clock
         + Copy
         + Drop
         + Send
@@ -132,6 +134,7 @@ fn start<
         + Eprint
         + Threads
         + Wait
+        + Clock
         + Copy
         + Drop
         + Send

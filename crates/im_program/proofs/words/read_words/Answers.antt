@@ -3,7 +3,7 @@ use Rattle.std.specs.Prelude.{IsSome}
 use Rattle.clap.specs.Simple.{is_simple, subcommand_of}
 use Rattle.clap.specs.Words.{App, app_of, fault_of, is_simple_and_free, takes}
 use Rattle.im_script.specs.Grammar.{texts}
-use Rattle.im_program.specs.Words.{Task, asked, has_statuses, imem_app, task_in}
+use Rattle.im_program.specs.Words.{Task, asked, has_statuses, imem_app, task_in, wait_in}
 use Rattle.im_program.proofs.words.read_words.Goals as goal
 
 free : is_simple_and_free imem_app ≡ true
@@ -36,6 +36,13 @@ returns-in-Some-clause-statuses c =
     let met = c.in-Ok-try_get_matches_from.ensures.matches (ap is_simple app ∙ simple) in
     let same = met.1 ∙ ap (λ (a : App). subcommand_of a (texts c.args.words.now)) app in
     c.in-Some.ensures.statuses ∙ ap has_statuses same
+
+pub returns-in-Some-clause-wait : goal.returns-in-Some-clause-wait
+returns-in-Some-clause-wait c =
+    let app : app_of c.in-Ok.command ≡ imem_app = c.in-Ok.ensures.app in
+    let met = c.in-Ok-try_get_matches_from.ensures.matches (ap is_simple app ∙ simple) in
+    let same = met.1 ∙ ap (λ (a : App). subcommand_of a (texts c.args.words.now)) app in
+    c.in-Some.ensures.wait ∙ ap wait_in same
 
 pub returns-clause-taken : goal.returns-clause-taken
 returns-clause-taken c = λ taken some.
