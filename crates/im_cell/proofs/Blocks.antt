@@ -1,9 +1,10 @@
 -- Blocks stay whole.
-use Rattle.std.proofs.Common.{◌≡◌, inl, inr, ⊎_elim, ℕ, zero, suc, ◌+◌, ◌<◌, ◌≤◌, List, [], ◌∷◌, ◌++◌, map, take}
-use Rattle.std.proofs.Common.{length, get_or, set, Some, None, refl, sym, ap, ◌∙◌, subst, arith, length-set}
+use Rattle.std.proofs.Common.{◌≡◌, inl, inr, ⊎_elim, ℕ, zero, suc, ◌+◌, ◌<◌, ◌≤◌, List, [], ◌∷◌, ◌++◌, take}
+use Rattle.std.proofs.Common.{replicate, length, get_or, set, Some, None, refl, sym, ap, ◌∙◌, subst, arith, length-set}
 use Rattle.std.specs.Prelude.{Option}
 use Rattle.std.proofs.lemmas.Bool.{cases_lt, cases_eq}
-use Rattle.std.proofs.lemmas.List.{get_or-set_same, get_or-set_other, get_or_past, take_more}
+use Rattle.std.proofs.lemmas.List.{get_or-set_same, get_or-set_other, get_or_past, take_more, get_or-replicate}
+use Rattle.std.proofs.lemmas.List.{length-replicate}
 use Rattle.im_types.specs.declared.operations.Block.{Block}
 use Rattle.im_types.specs.declared.operations.Kind.{Kind}
 use Rattle.im_types.specs.Place.{place, fill, change_each}
@@ -13,11 +14,7 @@ use Rattle.im_types.specs.declared.cells.Cell.{Cell}
 use Rattle.im_types.specs.declared.cells.Cell.TheVariants.{Empty}
 use Rattle.im_types.specs.declared.records.CellRecord.{CellRecord}
 use Rattle.im_cell.specs.declared.slots.Slot.{Slot}
-use Rattle.im_cell.specs.declared.records.Record.{Record}
-use Rattle.im_cell.specs.declared.records.Record.TheVariants.{Empty as IsEmpty, Waiting as IsWaiting, Full as IsFull}
-use Rattle.im_cell.specs.declared.records.Record.TheVariants.{Clashed as IsClashed, Free}
-use Rattle.im_cell.specs.Records.{slot_of, slots_of, record_shown}
-use Rattle.im_cell.specs.Slots.{slot_at, block_in, block_at, with_cell, new_slot, empty_slot, shown_slot, HasBlocks}
+use Rattle.im_cell.specs.Slots.{slot_at, block_in, block_at, with_cell, new_slot, empty_slot, HasBlocks}
 
 -- something is not nothing
 some_none : {X : Type 0} (x : X) → Some x ≡ None → ⊥
@@ -164,41 +161,6 @@ pub record IsBlock (slots : List (Option Slot)) (block : Block) : Type 0 where
   pub some : 0 < block.length
   pub inside : block.base + block.length ≤ length slots
 
--- a slot that stands at the base of its own block
-pub IsBlock-base : (slots : List (Option Slot)) (a : ℕ) (slot : Slot) → slot_at slots a ≡ Some slot → slot.block.base
-    ≡ a → HasBlocks slots → IsBlock slots slot.block
-IsBlock-base slots a slot at base blocks =
-    let here : block_at slots slot.block.base ≡ Some slot.block = ap (block_at slots) base ∙ ap block_in at in
-    let w = blocks.within slot.block.base slot.block here in
-    record {
-      here = here;
-      some = omega (arith, w.1);
-      inside = w.2;
-    }
-
--- the same, where a look-up at an address of the table found it
-pub IsBlock-found : (slots value : List (Option Slot)) (a : ℕ) (found : Option Slot) (slot : Slot) → slots ≡ value
-    → found ≡ slot_at value a → found ≡ Some slot → slot.block.base ≡ a → HasBlocks slots → IsBlock slots slot.block
-IsBlock-found slots value a found slot same look is base blocks = IsBlock-base slots a slot
-    (ap (λ s. slot_at s a) same ∙ sym look ∙ is) base blocks
-
--- the slots of records are those that they show
-slot-shown : (kept : Record) → slot_of kept ≡ shown_slot (record_shown kept)
-slot-shown (IsEmpty block) = refl
-slot-shown (IsWaiting block first last) = refl
-slot-shown (IsFull block v) = refl
-slot-shown (IsClashed block v) = refl
-slot-shown (Free hole next) = refl
-
-pub slots-shown : (records : List Record) (row : List CellRecord) → map record_shown records ≡ row → slots_of records
-    ≡ map shown_slot row
-slots-shown records row view = each records ∙ ap (map shown_slot) view
-  where
-    each : (records : List Record) → slots_of records ≡ map shown_slot (map record_shown records)
-    each [] = refl
-    each (kept ∷ records) = ap (λ slot. slot ∷ slots_of records) (slot-shown kept)
-        ∙ ap (λ slots. shown_slot (record_shown kept) ∷ slots) (each records)
-
 -- one more of the cells that are put into a row
 pub row-more : (cells row new : List CellRecord) (i : ℕ) (d : CellRecord) → row ≡ take i cells → i < length cells
     → new ≡ row ++ get_or cells i d ∷ [] → new ≡ take (i + 1) cells
@@ -212,3 +174,19 @@ IsBlock-at slots value a block same base at blocks =
     let here : block_at slots block.base ≡ Some block = ap (block_at slots) base ∙ ap (λ s. block_at s a) same ∙ at in
     let w = blocks.within block.base block here in
     record { here = here; some = omega (arith, w.1); inside = w.2 }
+
+past-free : (n a : ℕ) (x : Option Slot) → n ≤ a → get_or (replicate n x) a None ≡ None
+past-free n a x past = get_or_past (replicate n x) a None (omega (arith, length-replicate n x))
+
+-- where all cells are free there is no block
+pub HasBlocks-free : (slots : List (Option Slot)) (n : ℕ) → slots ≡ replicate n None → HasBlocks slots
+HasBlocks-free slots n free = record {
+  within = λ a block is. absurd (no-block a block is);
+  whole = λ a block is b lo hi. absurd (no-block a block is);
+}
+  where
+    no-block : (a : ℕ) (block : Block) → block_at slots a ≡ Some block → ⊥
+    no-block a block is = some_none block (sym is ∙ ap (λ s. block_at s a) free ∙ ap block_in (elim (cases_lt a n) [
+      | inl less ↦ get_or-replicate n a None None less
+      | inr past ↦ past-free n a None past
+    ]))

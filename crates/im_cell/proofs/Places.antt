@@ -1,7 +1,7 @@
 -- The place as the least base.
 use Rattle.std.proofs.Common.{◌≡◌, ℕ, zero, suc, ◌<◌, List, [], ◌∷◌, Some, None, Bool, true, false, cond, refl, ap}
-use Rattle.std.proofs.Common.{◌∙◌, arith}
-use Rattle.std.specs.Prelude.{Option, option_map}
+use Rattle.std.proofs.Common.{rules, ◌∙◌, sym, arith}
+use Rattle.std.specs.Prelude.{Option, option_map, IfSome}
 use Rattle.im_types.specs.Place.{begins_free, is_free, place, IsLeastFree}
 
 module _ {X : Type 0} where
@@ -26,3 +26,9 @@ module _ {X : Type 0} where
   place-is_least [] n base e = absurd (cc)
   place-is_least (x ∷ cells) n base e = least_step n x cells (place-is_least cells n)
       (begins_free n (x ∷ cells)) refl (place n cells) refl base e
+
+-- the same of what was looked for
+pub least-if : {X : Type 0} (cells : List (Option X)) (n : ℕ) (o : Option ℕ) → o ≡ place n cells
+    → IfSome o (IsLeastFree cells n)
+least-if cells n None e = search rules
+least-if cells n (Some base) e = place-is_least cells n base (sym e)

@@ -1,476 +1,275 @@
--- Leaves whose first cell may stand for all of them.
-use Rattle.std.proofs.Common.{◌≡◌, ◌≢◌, ℕ, zero, suc, ◌+◌, ◌-◌, ◌*◌, ◌/◌, ◌<◌, ◌≤◌, List, [], ◌∷◌, length, map, take}
-use Rattle.std.proofs.Common.{drop, set, get_or, replicate, Bool, true, false, cond, Option, None, inl, inr, refl}
-use Rattle.std.proofs.Common.{sym, ap, ◌∙◌, arith, length-set}
-use Rattle.std.specs.Prelude.{min, ◌||◌}
-use Rattle.std.specs.List.{list_any}
+-- Cells in units, in which one record may stand for all.
+use Rattle.std.proofs.Common.{◌≡◌, ◌≢◌, ℕ, zero, suc, ◌+◌, ◌-◌, ◌*◌, ◌/◌, ◌%◌, ◌<◌, ◌≤◌, List, [], ◌∷◌, length, set}
+use Rattle.std.proofs.Common.{Bool, true, false, Option, None, inl, inr, refl, sym, ap, ◌∙◌, arith}
+use Rattle.std.proofs.Common.{length-set, replicate}
+use Rattle.std.specs.Prelude.{min, max}
 use Rattle.std.proofs.lemmas.Bool.{cases_lt, cases_eq}
-use Rattle.std.proofs.Math.Seq.{take-add}
-use Rattle.std.proofs.lemmas.List.Folds.{list_any-append}
-use Rattle.std.proofs.lemmas.List.{drop-drop, get_or-set_same, get_or-set_other, get_or_past, get_or-drop}
-use Rattle.std.proofs.lemmas.List.{get_or-take, get_or-map, length-take, length-drop, length-map, length-replicate}
-use Rattle.std.proofs.lemmas.List.{get_or-replicate, ext_get_or}
+use Rattle.std.proofs.lemmas.List.{get_or-set_same, get_or-set_other, get_or_past, ext_get_or, get_or-replicate}
+use Rattle.std.proofs.lemmas.List.{length-replicate}
 use Rattle.im_types.specs.Place.{fill}
-use Rattle.im_laws.proofs.PlaceLemmas.{get_or-fill}
 use Rattle.im_laws.proofs.BlockLemmas.{length-fill, get_or-fill_in}
-use Rattle.im_cell.specs.declared.tree.TheConstants.{PART}
-use Rattle.im_cell.specs.declared.records.Record.{Record}
 use Rattle.im_cell.specs.declared.slots.Slot.{Slot}
+use Rattle.im_cell.specs.declared.unit.TheConstants.{UNIT}
+use Rattle.im_cell.specs.declared.unit.Unit.{Unit}
+use Rattle.im_cell.specs.declared.unit.Unit.TheVariants.{Each, Free, Block}
 use Rattle.im_cell.specs.Slots.{slot_at}
-use Rattle.im_cell.specs.Records.{slot_of, slots_of}
-use Rattle.im_cell.specs.Summaries.{mark, part_at}
-use Rattle.im_cell.specs.Chunks.{same_at, stand_in, seen_from, seen}
+use Rattle.im_cell.specs.Cells.{IsFilled}
+use Rattle.im_cell.specs.Units.{unit_at, is_own, common_slot, slot_by, shown_from, shown}
+use Rattle.im_cell.proofs.Kept.{beside-fill}
 
-length-seen_from : (n i : ℕ) (same : List Bool) (slots : List (Option Slot)) → length (seen_from n i same slots) ≡ n
-length-seen_from zero i same slots = refl
-length-seen_from (suc n) i same slots = ap suc (length-seen_from n (suc i) same slots)
+length-shown_from : (i : ℕ) (units : List Unit) (slots : List (Option Slot)) → length (shown_from i units slots)
+    ≡ length slots
+length-shown_from i units [] = refl
+length-shown_from i units (slot ∷ slots) = ap suc (length-shown_from (suc i) units slots)
 
-at-seen_from : (n i : ℕ) (same : List Bool) (slots : List (Option Slot)) (k : ℕ) → k < n
-    → slot_at (seen_from n i same slots) k ≡ slot_at slots (stand_in same (i + k))
-at-seen_from zero i same slots k less = absurd (omega arith)
-at-seen_from (suc n) i same slots zero less = ap (λ j. slot_at slots (stand_in same j))
+pub length-shown : (units : List Unit) (slots : List (Option Slot)) → length (shown units slots) ≡ length slots
+unfolding shown
+length-shown units slots = length-shown_from 0 units slots
+
+at-shown_from : (i : ℕ) (units : List Unit) (slots : List (Option Slot)) (k : ℕ) → k < length slots
+    → slot_at (shown_from i units slots) k ≡ slot_by (unit_at units ((i + k) / UNIT)) (slot_at slots k)
+at-shown_from i units [] k less = absurd (omega arith)
+at-shown_from i units (slot ∷ slots) zero less = ap (λ j. slot_by (unit_at units (j / UNIT)) slot)
     (let e : i ≡ i + 0 = omega arith in e)
-at-seen_from (suc n) i same slots (suc k) less =
-    at-seen_from n (suc i) same slots k (omega arith)
-    ∙ ap (λ j. slot_at slots (stand_in same j)) (let e : suc i + k ≡ i + suc k = omega arith in e)
+at-shown_from i units (slot ∷ slots) (suc k) less =
+    at-shown_from (suc i) units slots k (omega arith)
+    ∙ ap (λ j. slot_by (unit_at units (j / UNIT)) (slot_at slots k)) (let e : suc i + k ≡ i + suc k = omega arith in e)
 
--- there is a slot for each cell, that of the cell that stands for it
-pub length-seen : (same : List Bool) (slots : List (Option Slot)) → length (seen same slots) ≡ length slots
-unfolding seen
-length-seen same slots = length-seen_from (length slots) 0 same slots
+-- the slot of a cell is its own, or that of its unit
+pub at-shown : (units : List Unit) (slots : List (Option Slot)) (k : ℕ) → k < length slots
+    → slot_at (shown units slots) k ≡ slot_by (unit_at units (k / UNIT)) (slot_at slots k)
+unfolding shown
+at-shown units slots k less = at-shown_from 0 units slots k less
+    ∙ ap (λ j. slot_by (unit_at units (j / UNIT)) (slot_at slots k)) (let e : 0 + k ≡ k = omega arith in e)
 
-pub at-seen : (same : List Bool) (slots : List (Option Slot)) (i : ℕ) → i < length slots
-    → slot_at (seen same slots) i ≡ slot_at slots (stand_in same i)
-unfolding seen
-at-seen same slots i less = at-seen_from (length slots) 0 same slots i less
-    ∙ ap (λ j. slot_at slots (stand_in same j)) (let e : 0 + i ≡ i = omega arith in e)
+-- past the last cell there is none
+pub past-shown : (units : List Unit) (slots : List (Option Slot)) (k : ℕ) → length slots ≤ k
+    → slot_at (shown units slots) k ≡ None
+past-shown units slots k past = get_or_past (shown units slots) k None (omega (arith, length-shown units slots))
 
--- a cell stands for itself, or the first one of its leaf does
-pub for-itself : (same : List Bool) (i : ℕ) → same_at same (i / PART) ≡ false → stand_in same i ≡ i
-for-itself same i e = ap (λ b. cond b (i / PART * PART) i) e
+-- where one record stands for all cells of a unit, it is the slot of each
+pub by-common : (unit : Unit) (own : Option Slot) → is_own unit ≡ false → slot_by unit own ≡ common_slot unit
+by-common Each own e = absurd (cc)
+by-common Free own e = refl
+by-common (Block block) own e = refl
 
-pub by-first : (same : List Bool) (i : ℕ) → same_at same (i / PART) ≡ true → stand_in same i ≡ i / PART * PART
-by-first same i e = ap (λ b. cond b (i / PART * PART) i) e
+pub own-each : (unit : Unit) → is_own unit ≡ true → unit ≡ Each
+own-each Each e = refl
+own-each Free e = absurd (cc)
+own-each (Block block) e = absurd (cc)
 
--- where nothing stands for the leaf of a cell, its slot is its own
-pub at-own : (same : List Bool) (slots : List (Option Slot)) (i : ℕ) → same_at same (i / PART) ≡ false
-    → slot_at (seen same slots) i ≡ slot_at slots i
-at-own same slots i e = elim (cases_lt i (length slots)) [
-  | inl inside ↦ at-seen same slots i inside ∙ ap (slot_at slots) (for-itself same i e)
-  | inr past ↦ get_or_past (seen same slots) i None (omega (arith, length-seen same slots))
-      ∙ sym (get_or_past slots i None past)
+-- where none does, a cell has its own
+pub at-own : (units : List Unit) (slots : List (Option Slot)) (k : ℕ) → unit_at units (k / UNIT) ≡ Each → k
+    < length slots → slot_at (shown units slots) k ≡ slot_at slots k
+at-own units slots k e less = at-shown units slots k less ∙ ap (λ u. slot_by u (slot_at slots k)) e
+
+pub at-common : (units : List Unit) (slots : List (Option Slot)) (k : ℕ) → is_own (unit_at units (k / UNIT)) ≡ false
+    → k < length slots → slot_at (shown units slots) k ≡ common_slot (unit_at units (k / UNIT))
+at-common units slots k e less = at-shown units slots k less ∙ by-common (unit_at units (k / UNIT)) (slot_at slots k) e
+
+-- each cell has its own
+pub shown-plain : (units : List Unit) (slots : List (Option Slot)) → ((j : ℕ) → unit_at units j ≡ Each)
+    → shown units slots ≡ slots
+shown-plain units slots none = ext_get_or None (shown units slots) slots (length-shown units slots)
+    (λ k less. at-own units slots k (none (k / UNIT)) (omega (arith, length-shown units slots)))
+
+pub all-each : (n j : ℕ) → unit_at (replicate n Each) j ≡ Each
+all-each n j = elim (cases_lt j n) [
+  | inl less ↦ get_or-replicate n j Each Each less
+  | inr past ↦ get_or_past (replicate n Each) j Each (omega (arith, length-replicate n Each))
 ]
 
--- where nothing stands for any leaf, each slot is its own
-pub seen-plain : (same : List Bool) (slots : List (Option Slot)) → ((j : ℕ) → same_at same j ≡ false)
-    → seen same slots ≡ slots
-seen-plain same slots none = ext_get_or None (seen same slots) slots (length-seen same slots)
-    (λ i less. at-own same slots i (none (i / PART)))
-
--- a flag that is set lies among the flags
-flag-there : (same : List Bool) (j : ℕ) → same_at same j ≡ true → j < length same
-flag-there same j e = elim (cases_lt j (length same)) [
-  | inl inside ↦ inside
-  | inr past ↦ let f : false ≡ true = sym (get_or_past same j false past) ∙ e in absurd (cc)
-]
-
--- the cell that stands for one lies in its leaf
-stand_in-near : (same : List Bool) (i : ℕ) → stand_in same i / PART ≡ i / PART
-stand_in-near same i = by_flag (same_at same (i / PART)) refl
+-- the record that stood for the cells of a unit is written out
+pub shown-written : (units units2 : List Unit) (slots slots2 : List (Option Slot)) (at from to : ℕ)
+    → is_own (unit_at units at) ≡ false → unit_at units2 at ≡ Each
+    → ((j : ℕ) → j ≢ at → unit_at units2 j ≡ unit_at units j)
+    → slots2 ≡ fill slots from (to - from) (common_slot (unit_at units at)) → from ≤ to
+    → ((k : ℕ) → k / UNIT ≡ at → k < length slots → (from ≤ k) × (k < to))
+    → ((k : ℕ) → from ≤ k → k < to → k / UNIT ≡ at) → shown units2 slots2 ≡ shown units slots
+shown-written units units2 slots slots2 at from to common own others filled order in_it out =
+    ext_get_or None (shown units2 slots2) (shown units slots)
+    (omega (arith, length-shown units2 slots2, length-shown units slots, long))
+    (λ k less. each k (omega (arith, length-shown units2 slots2, long)))
   where
-    by_flag : (b : Bool) → same_at same (i / PART) ≡ b → stand_in same i / PART ≡ i / PART
-    by_flag true e = let s = by-first same i e in omega arith
-    by_flag false e = let s = for-itself same i e in omega arith
+    long : length slots2 ≡ length slots
+    long = ap length filled ∙ length-fill slots from (to - from) (common_slot (unit_at units at))
 
-stand_in-low : (same : List Bool) (i : ℕ) → stand_in same i ≤ i
-stand_in-low same i = by_flag (same_at same (i / PART)) refl
-  where
-    by_flag : (b : Bool) → same_at same (i / PART) ≡ b → stand_in same i ≤ i
-    by_flag true e = let s = by-first same i e in omega arith
-    by_flag false e = let s = for-itself same i e in omega arith
-
--- other flags, but none of the leaf of a cell
-stand_in-same : (same new : List Bool) (i : ℕ) → same_at new (i / PART) ≡ same_at same (i / PART) → stand_in new i
-    ≡ stand_in same i
-stand_in-same same new i e = ap (λ b. cond b (i / PART * PART) i) e
-
--- beside a fill nothing changes
-beside-fill : (slots : List (Option Slot)) (base n : ℕ) (x : Option Slot) (i : ℕ) → (base ≤ i → i < base + n → ⊥)
-    → slot_at (fill slots base n x) i ≡ slot_at slots i
-beside-fill slots base n x i out = elim (get_or-fill slots base n x i) [
-  | inl e ↦ e
-  | inr h ↦ absurd (out h.0 h.1)
-]
-
--- the cells of a leaf get what its first one has, which stands for them no longer
-pub seen-written : (same : List Bool) (slots : List (Option Slot)) (j count : ℕ) (x : Option Slot) → same_at same j
-    ≡ true → x ≡ slot_at slots (j * PART) → count ≡ min PART (length slots - j * PART)
-    → seen (set same j false) (fill slots (j * PART) count x) ≡ seen same slots
-seen-written same slots j count x e is few =
-    ext_get_or None (seen (set same j false) written) (seen same slots)
-    (omega (arith, length-seen (set same j false) written, length-seen same slots, long))
-    (λ i less. at i (omega (arith, length-seen (set same j false) written, long)))
-  where
-    written : List (Option Slot)
-    written = fill slots (j * PART) count x
-
-    long : length written ≡ length slots
-    long = length-fill slots (j * PART) count x
-
-    at : (i : ℕ) → i < length slots → slot_at (seen (set same j false) written) i ≡ slot_at (seen same slots) i
-    at i inside = elim (cases_eq (i / PART) j) [
+    each : (k : ℕ) → k < length slots → slot_at (shown units2 slots2) k ≡ slot_at (shown units slots) k
+    each k less = elim (cases_eq (k / UNIT) at) [
       | inl here ↦
-          at-own (set same j false) written i
-          (ap (same_at (set same j false)) here ∙ get_or-set_same same j false false (flag-there same j e))
-          ∙ get_or-fill_in slots (j * PART) count x i (omega arith) (omega arith) inside
-          ∙ is ∙ ap (slot_at slots)
-          (let k : j * PART ≡ i / PART * PART = omega arith in k
-          ∙ sym (by-first same i (ap (same_at same) here ∙ e))) ∙ sym (at-seen same slots i inside)
+          let b = in_it k here less in
+          at-own units2 slots2 k (ap (unit_at units2) here ∙ own) (omega (arith, long))
+          ∙ ap (λ s. slot_at s k) filled
+          ∙ get_or-fill_in slots from (to - from) (common_slot (unit_at units at)) k b.0
+          (let u = b.1 in omega arith) less
+          ∙ ap (λ j. common_slot (unit_at units j)) (sym here)
+          ∙ sym (at-common units slots k (ap (λ j. is_own (unit_at units j)) here ∙ common) less)
       | inr other ↦
-          let near = stand_in-near same i in
-          at-seen (set same j false) written i (omega (arith, long))
-          ∙ ap (slot_at written)
-          (stand_in-same same (set same j false) i (get_or-set_other same j (i / PART) false false other))
-          ∙ beside-fill slots (j * PART) count x (stand_in same i) (λ low high. other (omega arith))
-          ∙ sym (at-seen same slots i inside)
+          at-shown units2 slots2 k (omega (arith, long))
+          ∙ ap (λ u. slot_by u (slot_at slots2 k)) (others (k / UNIT) other)
+          ∙ ap (slot_by (unit_at units (k / UNIT))) (ap (λ s. slot_at s k) filled
+          ∙ beside-fill slots from (to - from) (common_slot (unit_at units at)) k
+          (λ a b. other (out k a (omega arith))))
+          ∙ sym (at-shown units slots k less)
     ]
 
--- a flag of a leaf without any cell says nothing
-pub seen-past : (same : List Bool) (slots : List (Option Slot)) (j : ℕ) (b : Bool) → length slots ≤ j * PART
-    → seen (set same j b) slots ≡ seen same slots
-seen-past same slots j b past = ext_get_or None (seen (set same j b) slots) (seen same slots)
-    (omega (arith, length-seen (set same j b) slots, length-seen same slots))
-    (λ i less. at i (omega (arith, length-seen (set same j b) slots)))
-  where
-    at : (i : ℕ) → i < length slots → slot_at (seen (set same j b) slots) i ≡ slot_at (seen same slots) i
-    at i inside =
-        at-seen (set same j b) slots i inside
-        ∙ ap (slot_at slots)
-        (stand_in-same same (set same j b) i (get_or-set_other same j (i / PART) b false (λ e. omega arith)))
-        ∙ sym (at-seen same slots i inside)
-
--- the first cell of a leaf comes to stand for all of it
-pub seen-marked : (same : List Bool) (slots : List (Option Slot)) (j : ℕ) (x : Option Slot)
-    → j * PART + PART ≤ length slots → j < length same
-    → seen (set same j true) (set slots (j * PART) x) ≡ fill (seen same slots) (j * PART) PART x
-seen-marked same slots j x inside there =
-    ext_get_or None (seen (set same j true) marked) filled
-    (omega (arith, length-seen (set same j true) marked, long, long-filled))
-    (λ i less. at i (omega (arith, length-seen (set same j true) marked, long)))
-  where
-    marked : List (Option Slot)
-    marked = set slots (j * PART) x
-
-    filled : List (Option Slot)
-    filled = fill (seen same slots) (j * PART) PART x
-
-    long : length marked ≡ length slots
-    long = length-set slots (j * PART) x
-
-    long-filled : length filled ≡ length slots
-    long-filled = length-fill (seen same slots) (j * PART) PART x ∙ length-seen same slots
-
-    at : (i : ℕ) → i < length slots → slot_at (seen (set same j true) marked) i ≡ slot_at filled i
-    at i less = elim (cases_eq (i / PART) j) [
-      | inl here ↦
-          at-seen (set same j true) marked i (omega (arith, long))
-          ∙ ap (slot_at marked)
-          (by-first (set same j true) i
-          (ap (same_at (set same j true)) here ∙ get_or-set_same same j true false there)
-          ∙ (let k : i / PART * PART ≡ j * PART = omega arith in k))
-          ∙ get_or-set_same slots (j * PART) x None (omega arith)
-          ∙ sym (get_or-fill_in (seen same slots) (j * PART) PART x i (omega arith) (omega arith)
-          (omega (arith, length-seen same slots)))
-      | inr other ↦
-          let near = stand_in-near same i in
-          at-seen (set same j true) marked i (omega (arith, long))
-          ∙ ap (slot_at marked)
-          (stand_in-same same (set same j true) i (get_or-set_other same j (i / PART) true false other))
-          ∙ get_or-set_other slots (j * PART) (stand_in same i) x None (λ k. other (omega arith))
-          ∙ sym (at-seen same slots i less)
-          ∙ sym (beside-fill (seen same slots) (j * PART) PART x i (λ low high. other (omega arith)))
-    ]
-
--- cells of leaves for which nothing stands are made the same
-pub seen-filled : (same : List Bool) (slots : List (Option Slot)) (base n : ℕ) (x : Option Slot)
-    → base + n ≤ length slots → ((i : ℕ) → base ≤ i → i < base + n → same_at same (i / PART) ≡ false)
-    → seen same (fill slots base n x) ≡ fill (seen same slots) base n x
-seen-filled same slots base n x inside own =
-    ext_get_or None (seen same filled) (fill (seen same slots) base n x)
+-- a cell of a unit in which each has its own is set
+pub shown-set : (units : List Unit) (slots : List (Option Slot)) (a : ℕ) (slot : Option Slot)
+    → unit_at units (a / UNIT) ≡ Each → shown units (set slots a slot) ≡ set (shown units slots) a slot
+shown-set units slots a slot own =
+    ext_get_or None (shown units (set slots a slot)) (set (shown units slots) a slot)
     (omega (
       arith,
-      length-seen same filled,
-      long,
-      length-fill
-          (seen same slots) base n x,
-      length-seen same slots,
+      length-shown units (set slots a slot),
+      length-set slots a slot,
+      length-set (shown units slots) a slot,
+      length-shown units slots,
     ))
-    (λ i less. at i (omega (arith, length-seen same filled, long)))
+    (λ k less. each k (omega (arith, length-shown units (set slots a slot), length-set slots a slot)))
   where
-    filled : List (Option Slot)
-    filled = fill slots base n x
-
-    long : length filled ≡ length slots
-    long = length-fill slots base n x
-
-    outside : (i : ℕ) → i < length slots → (base ≤ stand_in same i → stand_in same i < base + n → ⊥)
-        → (base ≤ i → i < base + n → ⊥) → slot_at (seen same filled) i ≡ slot_at (fill (seen same slots) base n x) i
-    outside i less out beside =
-        at-seen same filled i (omega (arith, long)) ∙ beside-fill slots base n x (stand_in same i) out
-        ∙ sym (at-seen same slots i less) ∙ sym (beside-fill (seen same slots) base n x i beside)
-
-    by_flag : (i : ℕ) → i < length slots → (b : Bool) → same_at same (i / PART) ≡ b → (base ≤ i → i < base + n → ⊥)
-        → slot_at (seen same filled) i ≡ slot_at (fill (seen same slots) base n x) i
-    by_flag i less false e beside = let s = for-itself same i e in outside i less
-        (λ low high. beside (omega arith) (omega arith)) beside
-    by_flag i less true e beside =
-        outside i less (λ low high. let f = sym (own (stand_in same i) low high)
-        ∙ ap (same_at same) (stand_in-near same i) ∙ e in absurd (cc)) beside
-
-    at : (i : ℕ) → i < length slots → slot_at (seen same filled) i ≡ slot_at (fill (seen same slots) base n x) i
-    at i less = elim (cases_lt i base) [
-      | inl before ↦ by_flag i less (same_at same (i / PART)) refl (λ low high. omega arith)
-      | inr from ↦ elim (cases_lt i (base + n)) [
-        | inl upto ↦
-            at-own same filled i (own i from upto) ∙ get_or-fill_in slots base n x i from upto less
-            ∙ sym (get_or-fill_in (seen same slots) base n x i from upto (omega (arith, length-seen same slots)))
-        | inr behind ↦ by_flag i less (same_at same (i / PART)) refl (λ low high. omega arith)
-      ]
-    ]
-
--- one cell of such a leaf is set
-pub seen-set : (same : List Bool) (slots : List (Option Slot)) (a : ℕ) (x : Option Slot) → same_at same (a / PART)
-    ≡ false → seen same (set slots a x) ≡ set (seen same slots) a x
-seen-set same slots a x own =
-    ext_get_or None (seen same now) (set (seen same slots) a x)
-    (omega (arith, length-seen same now, long, length-set (seen same slots) a x, length-seen same slots))
-    (λ i less. at i (omega (arith, length-seen same now, long)))
-  where
-    now : List (Option Slot)
-    now = set slots a x
-
-    long : length now ≡ length slots
-    long = length-set slots a x
-
-    at : (i : ℕ) → i < length slots → slot_at (seen same now) i ≡ slot_at (set (seen same slots) a x) i
-    at i less = elim (cases_eq i a) [
+    each : (k : ℕ) → k < length slots → slot_at (shown units (set slots a slot)) k
+        ≡ slot_at (set (shown units slots) a slot) k
+    each k less = elim (cases_eq k a) [
       | inl here ↦
-          at-own same now i (ap (λ k. same_at same (k / PART)) here ∙ own) ∙ ap (slot_at now) here
-          ∙ get_or-set_same slots a x None (omega arith)
-          ∙ sym (ap (slot_at (set (seen same slots) a x)) here
-          ∙ get_or-set_same (seen same slots) a x None (omega (arith, length-seen same slots)))
-      | inr other ↦ by_flag (same_at same (i / PART)) refl other
-    ]
-      where
-        by_flag : (b : Bool) → same_at same (i / PART) ≡ b → i ≢ a → slot_at (seen same now) i
-            ≡ slot_at (set (seen same slots) a x) i
-        by_flag b e other =
-            at-seen same now i (omega (arith, long))
-            ∙ get_or-set_other slots a (stand_in same i) x None (apart b e other)
-            ∙ sym (at-seen same slots i less) ∙ sym (get_or-set_other (seen same slots) a i x None other)
-          where
-            apart : (b : Bool) → same_at same (i / PART) ≡ b → i ≢ a → stand_in same i ≢ a
-            apart false e other k = other (sym (for-itself same i e) ∙ k)
-            apart true e other k =
-                let f = sym own ∙ ap (λ m. same_at same (m / PART)) (sym k)
-                ∙ ap (same_at same) (stand_in-near same i) ∙ e in
-                absurd (cc)
-
--- one fill behind another one
-pub fill-further : {X : Type 0} (xs : List (Option X)) (base n m : ℕ) (x : Option X) → base + n + m ≤ length xs
-    → fill (fill xs base n x) (base + n) m x ≡ fill xs base (n + m) x
-fill-further {X = X} xs base n m x inside =
-    ext_get_or None (fill (fill xs base n x) (base + n) m x) (fill xs base (n + m) x)
-    (omega (
-      arith,
-      length-fill (fill xs base n x) (base + n) m x,
-      length-fill xs base n x,
-      length-fill xs base
-          (n + m) x,
-    ))
-    (λ i less. at i (omega (arith, length-fill (fill xs base n x) (base + n) m x, length-fill xs base n x)))
-  where
-    out-of : (ys : List (Option X)) (b k : ℕ) (i : ℕ) → (b ≤ i → i < b + k → ⊥) → get_or (fill ys b k x) i None
-        ≡ get_or ys i None
-    out-of ys b k i out = elim (get_or-fill ys b k x i) [
-      | inl e ↦ e
-      | inr h ↦ absurd (out h.0 h.1)
+          at-own units (set slots a slot) k (ap (λ i. unit_at units (i / UNIT)) here ∙ own)
+          (omega (arith, length-set slots a slot))
+          ∙ ap (slot_at (set slots a slot)) here ∙ get_or-set_same slots a slot None (omega arith)
+          ∙ sym (ap (slot_at (set (shown units slots) a slot)) here
+          ∙ get_or-set_same (shown units slots) a slot None (omega (arith, length-shown units slots)))
+      | inr other ↦
+          at-shown units (set slots a slot) k (omega (arith, length-set slots a slot))
+          ∙ ap (slot_by (unit_at units (k / UNIT))) (get_or-set_other slots a k slot None other)
+          ∙ sym (at-shown units slots k less)
+          ∙ sym (get_or-set_other (shown units slots) a k slot None other)
     ]
 
-    at : (i : ℕ) → i < length xs → get_or (fill (fill xs base n x) (base + n) m x) i None
-        ≡ get_or (fill xs base (n + m) x) i None
-    at i less = elim (cases_lt i base) [
-      | inl before ↦ out-of (fill xs base n x) (base + n) m i (λ a b. omega arith)
-          ∙ out-of xs base n i (λ a b. omega arith) ∙ sym (out-of xs base (n + m) i (λ a b. omega arith))
-      | inr from ↦ elim (cases_lt i (base + n)) [
-        | inl first ↦
-            out-of (fill xs base n x) (base + n) m i (λ a b. omega arith)
-            ∙ get_or-fill_in xs base n x i from first less
-            ∙ sym (get_or-fill_in xs base (n + m) x i from (omega arith) less)
-        | inr second ↦ elim (cases_lt i (base + n + m)) [
-          | inl upto ↦ get_or-fill_in (fill xs base n x) (base + n) m x i second upto
-              (omega (arith, length-fill xs base n x))
-              ∙ sym (get_or-fill_in xs base (n + m) x i from (omega arith) less)
-          | inr behind ↦ out-of (fill xs base n x) (base + n) m i (λ a b. omega arith)
-              ∙ out-of xs base n i (λ a b. omega arith) ∙ sym (out-of xs base (n + m) i (λ a b. omega arith))
+-- cells are filled: whole units, and what is left at either end
+module _ (units units2 : List Unit) (slots slots1 slots2 : List (Option Slot)) (base low high end : ℕ) (unit : Unit)
+    (common : is_own unit ≡ false) (order : base ≤ end) (inside : end ≤ length slots)
+    (first : base % UNIT ≢ 0 → unit_at units (base / UNIT) ≡ Each)
+    (last : end % UNIT ≢ 0 → unit_at units (end / UNIT) ≡ Each)
+    (low_is : low ≡ min ((base + (UNIT - 1)) / UNIT * UNIT) end) (high_is : high ≡ max (end / UNIT * UNIT) low)
+    (filled1 : slots1 ≡ fill slots base (low - base) (common_slot unit))
+    (filled2 : slots2 ≡ fill slots1 high (end - high) (common_slot unit))
+    (owned : IsFilled Each units units2 (low / UNIT) (high / UNIT) unit) where
+  long1 : length slots1 ≡ length slots
+  long1 = ap length filled1 ∙ length-fill slots base (low - base) (common_slot unit)
+
+  long2 : length slots2 ≡ length slots
+  long2 = ap length filled2 ∙ length-fill slots1 high (end - high) (common_slot unit) ∙ long1
+
+  bounds : (base ≤ low) × (low ≤ high) × (high ≤ end)
+  bounds = (omega arith, omega arith, omega arith)
+
+  -- a cell beside them
+  beside : (k : ℕ) → k < length slots → (base ≤ k → k < end → ⊥) → slot_at (shown units2 slots2) k
+      ≡ slot_at (fill (shown units slots) base (end - base) (common_slot unit)) k
+  beside k less out =
+      at-shown units2 slots2 k (omega (arith, long2))
+      ∙ ap (λ u. slot_by u (slot_at slots2 k)) (owned.others (k / UNIT) (λ a b. out (omega arith) (omega arith)))
+      ∙ ap (slot_by (unit_at units (k / UNIT)))
+      (ap (λ s. slot_at s k) filled2
+      ∙ beside-fill slots1 high (end - high) (common_slot unit) k (λ a b. out (omega arith) (omega arith))
+      ∙ ap (λ s. slot_at s k) filled1
+      ∙ beside-fill slots base (low - base) (common_slot unit) k (λ a b. out (omega arith) (omega arith)))
+      ∙ sym (at-shown units slots k less)
+      ∙ sym (beside-fill (shown units slots) base (end - base) (common_slot unit) k (λ a b. out a (omega arith)))
+
+  -- one of them, with its slot
+  filled-slot : (k : ℕ) → base ≤ k → k < end
+      → slot_at (fill (shown units slots) base (end - base) (common_slot unit)) k ≡ common_slot unit
+  filled-slot k a b = get_or-fill_in (shown units slots) base (end - base) (common_slot unit) k a (omega arith)
+      (omega (arith, length-shown units slots))
+
+  -- one whose unit is cut
+  cut : (k : ℕ) → base ≤ k → k < end → unit_at units (k / UNIT) ≡ Each
+      → (low / UNIT ≤ k / UNIT → k / UNIT < high / UNIT → ⊥) → slot_at slots2 k ≡ common_slot unit
+      → slot_at (shown units2 slots2) k ≡ common_slot unit
+  cut k a b own out is = at-own units2 slots2 k (owned.others (k / UNIT) out ∙ own) (omega (arith, long2)) ∙ is
+
+  among : (k : ℕ) → base ≤ k → k < end → slot_at (shown units2 slots2) k ≡ common_slot unit
+  among k a b = elim (cases_lt k low) [
+    | inl before ↦
+        cut k a b (ap (unit_at units) (let e : k / UNIT ≡ base / UNIT = omega arith in e) ∙ first (omega arith))
+        (λ c d. omega arith)
+        (ap (λ s. slot_at s k) filled2
+        ∙ beside-fill slots1 high (end - high) (common_slot unit) k (λ c d. omega arith)
+        ∙ ap (λ s. slot_at s k) filled1
+        ∙ get_or-fill_in slots base (low - base) (common_slot unit) k a (omega arith) (omega arith))
+    | inr from ↦ elim (cases_lt k high) [
+      | inl whole ↦
+          at-shown units2 slots2 k (omega (arith, long2))
+          ∙ ap (λ u. slot_by u (slot_at slots2 k)) (owned.each (k / UNIT) (omega arith) (omega arith))
+          ∙ by-common unit (slot_at slots2 k) common
+      | inr behind ↦
+          cut k a b (ap (unit_at units) (let e : k / UNIT ≡ end / UNIT = omega arith in e) ∙ last (omega arith))
+          (λ c d. omega arith)
+          (ap (λ s. slot_at s k) filled2
+          ∙ get_or-fill_in slots1 high (end - high) (common_slot unit) k behind (omega arith)
+          (omega (arith, long1)))
+    ]
+  ]
+
+  pub shown-filled : shown units2 slots2 ≡ fill (shown units slots) base (end - base) (common_slot unit)
+  shown-filled = ext_get_or None (shown units2 slots2)
+      (fill (shown units slots) base (end - base) (common_slot unit))
+      (omega (
+        arith,
+        length-shown units2 slots2,
+        long2,
+        length-fill (shown units slots) base (end - base) (common_slot unit),
+        length-shown units slots,
+      ))
+      (λ k less. each k (omega (arith, length-shown units2 slots2, long2)))
+    where
+      each : (k : ℕ) → k < length slots → slot_at (shown units2 slots2) k
+          ≡ slot_at (fill (shown units slots) base (end - base) (common_slot unit)) k
+      each k less = elim (cases_lt k base) [
+        | inl before ↦ beside k less (λ a b. omega arith)
+        | inr from ↦ elim (cases_lt k end) [
+          | inl upto ↦ among k from upto ∙ sym (filled-slot k from upto)
+          | inr behind ↦ beside k less (λ a b. omega arith)
         ]
       ]
-    ]
 
--- the slot of a record
-pub slot-there : (records : List Record) (k : ℕ) (d : Record) → k < length records → slot_of (get_or records k d)
-    ≡ slot_at (slots_of records) k
-slot-there records k d less = sym (get_or-map slot_of records k d None less)
+-- the bounds of a unit's cells
+pub unit-bounds : (n at from to : ℕ) → from ≡ min (at * UNIT) n → to ≡ min (at * UNIT + UNIT) n → (k : ℕ)
+    → k / UNIT ≡ at → k < n → (from ≤ k) × (k < to)
+unit-bounds n at from to f t k e less = (omega arith, omega arith)
 
--- what is seen of a cell is in the record that stands for it
-pub record-seen : (same : List Bool) (records : List Record) (i k : ℕ) (d : Record) → i < length records → k
-    ≡ stand_in same i → slot_of (get_or records k d) ≡ slot_at (seen same (slots_of records)) i
-record-seen same records i k d less is =
-    let low = stand_in-low same i in
-    slot-there records k d (omega arith) ∙ ap (slot_at (slots_of records)) is
-    ∙ sym (at-seen same (slots_of records) i (omega (arith, length-map records slot_of)))
+pub unit-beside : (n at from to : ℕ) → from ≡ min (at * UNIT) n → to ≡ min (at * UNIT + UNIT) n → (k : ℕ)
+    → from ≤ k → k < to → k / UNIT ≡ at
+unit-beside n at from to f t k lo hi = omega arith
 
--- a cell of a leaf
-part-there : (xs : List (Option Slot)) (j i : ℕ) → i < PART → j * PART + i < length xs
-    → get_or (part_at PART (map mark xs) j) i None ≡ mark (slot_at xs (j * PART + i))
-unfolding part_at
-part-there xs j i few inside = get_or-take PART (drop (j * PART) (map mark xs)) i None few
-    ∙ get_or-drop (j * PART) (map mark xs) i None ∙ get_or-map mark xs (j * PART + i) None None inside
+-- cells that show the same are as many
+pub same-long : (units units2 : List Unit) (slots slots2 : List (Option Slot)) → shown units2 slots2
+    ≡ shown units slots → length slots2 ≡ length slots
+same-long units units2 slots slots2 same =
+    sym (length-shown units2 slots2) ∙ ap length same ∙ length-shown units slots
 
-length-part : (xs : List (Option Slot)) (j : ℕ) → length (part_at PART (map mark xs) j)
-    ≡ min PART (length xs - j * PART)
-unfolding part_at
-length-part xs j = omega (
-  arith,
-  length-take PART (drop (j * PART) (map mark xs)),
-  length-drop (j * PART)
-      (map mark xs),
-  length-map xs mark,
-)
+-- what a cell of its own shows, where the same was shown before
+pub own-there : (units units2 : List Unit) (slots slots2 : List (Option Slot)) (at : ℕ)
+    → shown units2 slots2 ≡ shown units slots → unit_at units2 (at / UNIT) ≡ Each → at < length slots
+    → slot_at slots2 at ≡ slot_at (shown units slots) at
+own-there units units2 slots slots2 at same own less =
+    sym (at-own units2 slots2 at own (omega (arith, same-long units units2 slots slots2 same)))
+    ∙ ap (λ s. slot_at s at) same
 
--- the cells of a leaf for which nothing stands are their own
-pub part-own : (same : List Bool) (slots : List (Option Slot)) (j : ℕ) → same_at same j ≡ false
-    → part_at PART (map mark slots) j ≡ part_at PART (map mark (seen same slots)) j
-part-own same slots j own =
-    ext_get_or None (part_at PART (map mark slots) j) (part_at PART (map mark (seen same slots)) j)
-    (omega (arith, length-part slots j, length-part (seen same slots) j, length-seen same slots))
-    (λ i less. at i (omega (arith, length-part slots j)) (omega (arith, length-part slots j)))
-  where
-    at : (i : ℕ) → i < PART → j * PART + i < length slots → get_or (part_at PART (map mark slots) j) i None
-        ≡ get_or (part_at PART (map mark (seen same slots)) j) i None
-    at i few inside =
-        part-there slots j i few inside
-        ∙ ap mark (sym
-        (at-own same slots (j * PART + i)
-        (ap (same_at same) (let e : (j * PART + i) / PART ≡ j = omega arith in e) ∙ own)))
-        ∙ sym (part-there (seen same slots) j i few (omega (arith, length-seen same slots)))
+-- what was read of a unit
+pub own-read : (units items : List Unit) (j : ℕ) (unit : Unit) (b : Bool) → items ≡ units → unit ≡ unit_at items j
+    → b ≡ is_own unit → b ≡ true → unit_at units j ≡ Each
+own-read units items j unit b same read is yes_so =
+    own-each (unit_at units j) (ap (λ us. is_own (unit_at us j)) (sym same) ∙ ap is_own (sym read) ∙ sym is ∙ yes_so)
 
--- those of another leaf are all as the first one
-pub part-alike : (same : List Bool) (slots : List (Option Slot)) (j : ℕ) → same_at same j ≡ true
-    → part_at PART (map mark (seen same slots)) j
-    ≡ map mark (replicate (min PART (length slots - j * PART)) (slot_at slots (j * PART)))
-part-alike same slots j e =
-    ext_get_or None (part_at PART (map mark (seen same slots)) j) (map mark all)
-    (omega (arith, length-part (seen same slots) j, length-seen same slots, long))
-    (λ i less. at i (omega (arith, length-part (seen same slots) j, length-seen same slots)))
-  where
-    all : List (Option Slot)
-    all = replicate (min PART (length slots - j * PART)) (slot_at slots (j * PART))
+-- cells after a fill are as many
+pub filled-long : (units units2 : List Unit) (slots slots2 : List (Option Slot)) (base n : ℕ) (slot : Option Slot)
+    → shown units2 slots2 ≡ fill (shown units slots) base n slot → length slots2 ≡ length slots
+filled-long units units2 slots slots2 base n slot same =
+    sym (length-shown units2 slots2) ∙ ap length same ∙ length-fill (shown units slots) base n slot
+    ∙ length-shown units slots
 
-    long : length (map mark all) ≡ min PART (length slots - j * PART)
-    long = length-map all mark ∙ length-replicate (min PART (length slots - j * PART)) (slot_at slots (j * PART))
-
-    at : (i : ℕ) → i < min PART (length slots - j * PART)
-        → get_or (part_at PART (map mark (seen same slots)) j) i None ≡ get_or (map mark all) i None
-    at i less =
-        part-there (seen same slots) j i (omega arith) (omega (arith, length-seen same slots))
-        ∙ ap mark (at-seen same slots (j * PART + i) (omega arith)
-        ∙ ap (slot_at slots)
-        (by-first same (j * PART + i)
-        (ap (same_at same) (let f : (j * PART + i) / PART ≡ j = omega arith in f) ∙ e)
-        ∙ (let f : (j * PART + i) / PART * PART ≡ j * PART = omega arith in f))
-        ∙ sym (get_or-replicate (min PART (length slots - j * PART)) i (slot_at slots (j * PART)) None less))
-        ∙ sym (get_or-map mark all i None None (omega (arith, long, length-map all mark)))
-
-module _ {X : Type 0} (p : Option X → Bool) where
-  -- none of the first cells passes a test
-  any-none : (n : ℕ) (xs : List (Option X)) → ((k : ℕ) → k < n → k < length xs → p (get_or xs k None) ≡ false)
-      → list_any p (take n xs) ≡ false
-  any-none zero xs none = refl
-  any-none (suc n) [] none = refl
-  any-none (suc n) (x ∷ xs) none = ap (λ b. b || list_any p (take n xs)) (none 0 (omega arith) (omega arith))
-      ∙ any-none n xs (λ k less inside. none (suc k) (omega arith) (omega arith))
-
-  -- one of them does
-  any-some : (n : ℕ) (xs : List (Option X)) (k : ℕ) → k < n → k < length xs → p (get_or xs k None) ≡ true
-      → list_any p (take n xs) ≡ true
-  any-some zero xs k less inside e = absurd (omega arith)
-  any-some (suc n) [] k less inside e = absurd (omega arith)
-  any-some (suc n) (x ∷ xs) zero less inside e = ap (λ b. b || list_any p (take n xs)) e
-  any-some (suc n) (x ∷ xs) (suc k) less inside e = ap (λ b. p x || b)
-      (any-some n xs k (omega arith) (omega arith) e) ∙ either (p x)
-    where
-      either : (b : Bool) → b || true ≡ true
-      either true = refl
-      either false = refl
-
-  -- the same of so many cells from one on
-  pub none-within : (base n : ℕ) (xs : List (Option X))
-      → ((k : ℕ) → base ≤ k → k < base + n → p (get_or xs k None) ≡ false) → list_any p (take n (drop base xs)) ≡ false
-  none-within base n xs none = any-none n (drop base xs)
-      (λ k less inside. ap p (get_or-drop base xs k None) ∙ none (base + k) (omega arith) (omega arith))
-
-  pub some-within : (base n : ℕ) (xs : List (Option X)) (k : ℕ) → base ≤ k → k < base + n → k < length xs
-      → p (get_or xs k None) ≡ true → list_any p (take n (drop base xs)) ≡ true
-  some-within base n xs k from upto inside e =
-      any-some n (drop base xs) (k - base) (omega arith) (omega (arith, length-drop base xs))
-      (ap p (get_or-drop base xs (k - base) None
-      ∙ ap (λ i. get_or xs i None) (let f : base + (k - base) ≡ k = omega arith in f)) ∙ e)
-
-  -- where all of them are the same, one passes a test if each does
-  pub any-alike : (base n : ℕ) (xs : List (Option X)) (x : Option X) → 0 < n → base + n ≤ length xs
-      → ((k : ℕ) → base ≤ k → k < base + n → get_or xs k None ≡ x)
-      → p x ≡ list_any p (take n (drop base xs))
-  any-alike base n xs x some inside alike = by_test (p x) refl
-    where
-      by_test : (b : Bool) → p x ≡ b → p x ≡ list_any p (take n (drop base xs))
-      by_test true e = e ∙ sym
-          (some-within base n xs base (omega arith) (omega arith) (omega arith)
-          (ap p (alike base (omega arith) (omega arith)) ∙ e))
-      by_test false e = e ∙ sym (none-within base n xs (λ k low high. ap p (alike k low high) ∙ e))
-
-  -- whether one of some cells passes, and of more of them
-  pub any-further : (base at next : ℕ) (xs : List (Option X)) → base ≤ at → at ≤ next
-      → list_any p (take (next - base) (drop base xs))
-      ≡ (list_any p (take (at - base) (drop base xs)) || list_any p (take (next - at) (drop at xs)))
-  any-further base at next xs low high =
-      ap (λ k. list_any p (take k (drop base xs))) (let e : next - base ≡ at - base + (next - at) = omega arith in e)
-      ∙ ap (list_any p) (take-add (at - base) (next - at) (drop base xs))
-      ∙ list_any-append p (take (at - base) (drop base xs)) (take (next - at) (drop (at - base) (drop base xs)))
-      ∙ ap (λ ys. list_any p (take (at - base) (drop base xs)) || list_any p (take (next - at) ys))
-      (drop-drop (at - base) base xs ∙ ap (λ k. drop k xs) (let e : base + (at - base) ≡ at = omega arith in e))
-
--- cells of a leaf for which nothing stands
-pub within-own : (same : List Bool) (slots : List (Option Slot)) (base n : ℕ) → base + n ≤ length slots
-    → ((k : ℕ) → base ≤ k → k < base + n → same_at same (k / PART) ≡ false)
-    → take n (drop base slots) ≡ take n (drop base (seen same slots))
-within-own same slots base n inside own =
-    ext_get_or None (take n (drop base slots)) (take n (drop base (seen same slots)))
-    (omega (
-      arith,
-      length-take n (drop base slots),
-      length-take n
-          (drop base (seen same slots)),
-      length-drop base slots,
-      length-drop base
-          (seen same slots),
-      length-seen same slots,
-    ))
-    (λ i less. at i (omega (arith, length-take n (drop base slots))))
-  where
-    at : (i : ℕ) → i < n → get_or (take n (drop base slots)) i None
-        ≡ get_or (take n (drop base (seen same slots))) i None
-    at i few =
-        get_or-take n (drop base slots) i None few ∙ get_or-drop base slots i None
-        ∙ sym (at-own same slots (base + i) (own (base + i) (omega arith) (omega arith)))
-        ∙ sym (get_or-drop base (seen same slots) i None) ∙ sym (get_or-take n (drop base (seen same slots)) i None few)
+pub set-long : (units units2 : List Unit) (slots slots2 : List (Option Slot)) (a : ℕ) (slot : Option Slot)
+    → shown units2 slots2 ≡ set (shown units slots) a slot → length slots2 ≡ length slots
+set-long units units2 slots slots2 a slot same =
+    sym (length-shown units2 slots2) ∙ ap length same ∙ length-set (shown units slots) a slot
+    ∙ length-shown units slots

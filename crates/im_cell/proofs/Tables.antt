@@ -1,88 +1,251 @@
 -- What a table keeps, as its cells change.
-use Rattle.std.proofs.Common.{◌≡◌, ℕ, ◌+◌, ◌≤◌, ◌-◌, ◌*◌, ◌/◌, List, length, map, take, set, Option, None, Some, refl}
-use Rattle.std.proofs.Common.{sym, ap, ◌∙◌, subst, arith, length-set}
-use Rattle.im_types.specs.Place.{fill}
+use Rattle.std.proofs.Common.{◌≡◌, ◌≢◌, ℕ, suc, ◌+◌, ◌-◌, ◌<◌, ◌≤◌, List, length, set}
+use Rattle.std.proofs.Common.{Bool, true, false, Option, None, Some, inl, inr, refl, sym, ap, ◌∙◌}
+use Rattle.std.proofs.Common.{rules, subst, arith, length-set}
+use Rattle.std.specs.Prelude.{is_none, IsSome}
+use Rattle.std.proofs.lemmas.Bool.{cases_lt, cases_eq}
+use Rattle.std.proofs.lemmas.List.{get_or_past, get_or-set_same, get_or-set_other}
+use Rattle.im_types.specs.declared.operations.Block.{Block}
 use Rattle.im_types.specs.declared.cells.Cell.{Cell}
-use Rattle.im_laws.proofs.BlockLemmas.{length-fill}
-use Rattle.im_cell.specs.declared.chunk.TheConstants.{CHUNK}
-use Rattle.std.proofs.lemmas.List.{length-map, length-take}
-use Rattle.im_cell.specs.declared.records.Record.{Record}
-use Rattle.im_cell.specs.Records.{slot_of, slots_of}
+use Rattle.im_laws.proofs.Tests.{true_false, some_none, some_same}
+use Rattle.im_holes.specs.Holes.{holder_at}
 use Rattle.im_cell.specs.declared.slots.Slot.{Slot}
-use Rattle.im_cell.specs.declared.summaries.Summary.{Summary}
-use Rattle.std.specs.Prelude.{IsSome}
-use Rattle.im_cell.specs.Slots.{slot_at, new_slot, with_cell, HasBlocks}
-use Rattle.im_cell.specs.Summaries.{mark, IsTree}
-use Rattle.im_cell.specs.Chunks.{cells_in, marks_in, AreChunksOf, IsTable}
-use Rattle.im_cell.proofs.InChunks.{length-cells, chunks-inside, AreChunksOf-map, AreChunksOf-take, cells-map}
-use Rattle.im_cell.proofs.InChunks.{cells-take}
-use Rattle.im_cell.proofs.Leaves.{marks-set}
+use Rattle.im_cell.specs.Slots.{slot_at, block_at, block_in, new_slot, with_cell, is_waiting, HasBlocks}
+use Rattle.im_cell.specs.Slots.{is_waiting_cell}
+use Rattle.im_cell.specs.Table.{count_from, waits_at, HasCounts, base_in, moved, CanMove, IsTable}
 use Rattle.im_cell.proofs.Blocks.{HasBlocks-set}
+use Rattle.im_cell.proofs.Counted.{count-same, count-few, count-more}
 
--- cells are made the same
-pub IsTable-filled : (old new : List (List (Option Slot))) (room nodes : List Summary) (cells base n : ℕ)
-    (x : Option Slot) → IsTable old room cells → AreChunksOf new (length (cells_in old))
-    → IsTree CHUNK nodes (marks_in new) → cells_in new ≡ fill (cells_in old) base n x
-    → HasBlocks (fill (cells_in old) base n x) → IsTable new nodes cells
-IsTable-filled old new room nodes cells base n x t sizes tree same blocks =
-    let long : length (cells_in new) ≡ length (cells_in old) = ap length same ∙ length-fill (cells_in old) base n x in
-    record {
-      count = long ∙ t.count;
-      sizes = subst (AreChunksOf new) (sym long) sizes;
-      tree = tree;
-      blocks = subst HasBlocks (sym same) blocks;
-    }
+-- of a cell that is free in the one and not in the other
+pub none-some : {X : Type 0} (o : Option X) → is_none o ≡ false → IsSome o
+none-some None e = absurd (true_false e)
+none-some (Some x) e = search rules
 
--- another cell in the same block
-pub IsTable-set : (old new : List (List (Option Slot))) (nodes : List Summary) (cells a : ℕ) (slot : Slot)
-    (cell : Cell) → IsTable old nodes cells → AreChunksOf new (length (cells_in old))
-    → slot_at (cells_in old) a ≡ Some slot → cells_in new ≡ set (cells_in old) a (new_slot slot.block cell)
-    → IsTable new nodes cells
-IsTable-set old new nodes cells a slot cell t sizes at same =
-    let long : length (cells_in new) ≡ length (cells_in old) = ap length same
-    ∙ length-set (cells_in old) a (new_slot slot.block cell) in
-    record {
-      count = long ∙ t.count;
-      sizes = subst (AreChunksOf new) (sym long) sizes;
-      tree = subst (λ ms. IsTree CHUNK nodes ms)
-          (sym (ap (map mark) same ∙ marks-set (cells_in old) a slot _ at)) t.tree;
-      blocks = subst HasBlocks (sym same) (HasBlocks-set (cells_in old) a slot cell at t.blocks);
-    }
+pub some-held : {X : Type 0} (o : Option X) → IsSome o → is_none o ≡ false
+some-held None s = absurd (cc)
+some-held (Some x) s = refl
 
--- the same, where it is only known that there is a block
-pub IsTable-set-cell : (old new : List (List (Option Slot))) (nodes : List Summary) (cells a : ℕ) (cell : Cell)
-    → IsTable old nodes cells → AreChunksOf new (length (cells_in old))
-    → IsSome (slot_at (cells_in old) a) → cells_in new
-    ≡ set (cells_in old) a (with_cell cell (slot_at (cells_in old) a)) → IsTable new nodes cells
-IsTable-set-cell old new nodes cells a cell t sizes held same = go (slot_at (cells_in old) a) refl held
-  where
-    go : (was : Option Slot) → slot_at (cells_in old) a ≡ was → IsSome was → IsTable new nodes cells
-    go None is some = absurd (cc)
-    go (Some slot) is some = IsTable-set old new nodes cells a slot cell t sizes is
-        (same ∙ ap (λ o. set (cells_in old) a (with_cell cell o)) is)
+-- a block's first cell is its own, and so is each of its cells
+module _ (slots : List (Option Slot)) (blocks : HasBlocks slots) where
+  pub at-base : (k : ℕ) (b : Block) → block_at slots k ≡ Some b → block_at slots b.base ≡ Some b
+  at-base k b is = let w = blocks.within k b is in
+      blocks.whole k b is b.base (omega arith) (omega arith)
 
--- these are the chunks of so many cells with these slots
-pub record IsOver (chunks : List (List (Option Slot))) (cells count : ℕ) (slots : List (Option Slot)) : Type 0 where
-  pub sizes : AreChunksOf chunks (length (cells_in chunks))
-  pub long : length (cells_in chunks) ≡ cells
-  pub count_is : length chunks ≡ count
-  pub same : cells_in chunks ≡ slots
+  -- two blocks that share a cell are the same
+  pub one-block : (a c x : ℕ) (b d : Block) → block_at slots a ≡ Some b → block_at slots c ≡ Some d → b.base ≤ x → x
+      < b.base + b.length → d.base ≤ x → x < d.base + d.length → b ≡ d
+  one-block a c x b d isb isd lb hb ld hd = some_same b d
+      (sym (blocks.whole a b isb x lb hb) ∙ blocks.whole c d isd x ld hd)
 
--- the chunks of cells that were read
-pub over-pieces : (pieces : List (List Record)) (n cells : ℕ) (chunks : List (List (Option Slot)))
-    → AreChunksOf pieces n → n ≡ cells
-    → chunks ≡ map slots_of (take ((cells + (CHUNK - 1)) / CHUNK) pieces)
-    → IsOver chunks cells ((cells + (CHUNK - 1)) / CHUNK) (slots_of (cells_in pieces))
-over-pieces pieces n cells chunks sizes all is =
-    let k : ℕ = (cells + (CHUNK - 1)) / CHUNK in
-    let within = chunks-inside pieces n sizes in
-    let fits : n ≤ k * CHUNK = omega arith in
-    let own : AreChunksOf chunks n = subst (λ cs. AreChunksOf cs n) (sym is)
-    (AreChunksOf-map slot_of (take k pieces) n (AreChunksOf-take pieces n k sizes fits)) in
-    let long : length (cells_in chunks) ≡ n = length-cells chunks n own in
-    record {
-      sizes = subst (AreChunksOf chunks) (sym long) own;
-      long = long ∙ all;
-      count_is = ap length is ∙ length-map (take k pieces) slots_of ∙ length-take k pieces ∙ (omega arith);
-      same = ap cells_in is ∙ cells-map slot_of (take k pieces) ∙ ap slots_of (cells-take pieces n k sizes fits);
-    }
+  -- the same of two with one base
+  pub same-base : (a c : ℕ) (b d : Block) → block_at slots a ≡ Some b → block_at slots c ≡ Some d → b.base ≡ d.base
+      → b ≡ d
+  same-base a c b d isb isd e = some_same b d
+      (sym (at-base a b isb) ∙ ap (block_at slots) e ∙ at-base c d isd)
+
+-- the counts, where neither the blocks nor who waits changed
+pub counts-same : (slots new : List (Option Slot)) (f g : ℕ → Bool) (holes : List (Option ℕ))
+    → ((k : ℕ) → block_at new k ≡ block_at slots k) → ((k : ℕ) → f k ≡ g k) → HasCounts slots f holes
+    → HasCounts new g holes
+counts-same slots new f g holes same alike c = λ k block is.
+    c k block (sym (same k) ∙ is) ∙ ap Some (count-same f g block.length block.base (λ i lo hi. alike i))
+
+-- the counts, where one cell began to be waited for, or no longer is
+pub counts-moved : (slots : List (Option Slot)) (f g : ℕ → Bool) (holes : List (Option ℕ)) (a : ℕ) (b : Block) (m : ℕ)
+    → HasBlocks slots → block_at slots a ≡ Some b → length slots ≤ length holes
+    → ((k : ℕ) → k ≢ a → f k ≡ g k) → m ≡ count_from g b.length b.base → HasCounts slots f holes
+    → HasCounts slots g (set holes b.base (Some m))
+counts-moved slots f g holes a b m blocks here long others is c = λ k block at. elim (cases_eq block.base b.base) [
+  | inl same ↦
+      let w = blocks.within a b here in
+      let mine : b ≡ block = same-base slots blocks a k b block here at (sym same) in
+      ap (holder_at (set holes b.base (Some m))) same ∙ get_or-set_same holes b.base (Some m) None (omega arith)
+      ∙ ap Some is ∙ ap (λ (d : Block). Some (count_from g d.length d.base)) mine
+  | inr other ↦
+      get_or-set_other holes b.base block.base (Some m) None other ∙ c k block at
+      ∙ ap Some (count-same f g block.length block.base (λ i lo hi. others i (λ e.
+      let w = blocks.within a b here in
+      other (ap (λ (d : Block). d.base) (one-block slots blocks k a i block b at here lo hi (omega arith)
+      (omega arith))))))
+]
+
+module _ (slots : List (Option Slot)) (a : ℕ) (slot : Slot) (cell : Cell) (at : slot_at slots a ≡ Some slot) where
+  within : a < length slots
+  within = elim (cases_lt a (length slots)) [
+    | inl less ↦ less
+    | inr past ↦ absurd (some_none slot (sym at ∙ get_or_past slots a None past))
+  ]
+
+  abbrev new : List (Option Slot)
+  new = set slots a (new_slot slot.block cell)
+
+  at-new : slot_at new a ≡ new_slot slot.block cell
+  at-new = get_or-set_same slots a (new_slot slot.block cell) None within
+
+  beside-new : (k : ℕ) → k ≢ a → slot_at new k ≡ slot_at slots k
+  beside-new k ne = get_or-set_other slots a k (new_slot slot.block cell) None ne
+
+  blocks-new : (k : ℕ) → block_at new k ≡ block_at slots k
+  blocks-new k = elim (cases_eq k a) [
+    | inl e ↦ ap (block_at new) e ∙ ap block_in at-new ∙ sym (ap block_in at) ∙ sym (ap (block_at slots) e)
+    | inr ne ↦ ap block_in (beside-new k ne)
+  ]
+
+  -- what of a table stays, whoever waits
+  pub IsTable-by : (holes new_holes : List (Option ℕ)) → IsTable slots holes → length new_holes ≡ length holes
+      → ((k : ℕ) → is_none (holder_at new_holes k) ≡ is_none (holder_at holes k))
+      → HasCounts new (waits_at new) new_holes → IsTable new new_holes
+  IsTable-by holes new_holes t long free waits = record {
+    count = omega (arith, length-set slots a (new_slot slot.block cell), t.count);
+    few = omega (arith, length-set slots a (new_slot slot.block cell), t.few);
+    blocks = HasBlocks-set slots a slot cell at t.blocks;
+    free = λ k. free k ∙ t.free k ∙ elim (cases_eq k a) [
+      | inl e ↦ ap (λ i. is_none (slot_at slots i)) e ∙ ap is_none at ∙ sym (ap is_none at-new)
+          ∙ sym (ap (λ i. is_none (slot_at new i)) e)
+      | inr ne ↦ ap is_none (sym (beside-new k ne))
+    ];
+    waits = waits;
+  }
+
+  -- it is waited for if it was
+  pub IsTable-kept : (holes : List (Option ℕ)) → IsTable slots holes
+      → is_waiting_cell cell ≡ is_waiting_cell slot.cell → IsTable new holes
+  IsTable-kept holes t same = IsTable-by holes holes t refl (λ k. refl)
+      (counts-same slots new (waits_at slots) (waits_at new) holes blocks-new (λ k. elim (cases_eq k a) [
+        | inl e ↦ ap (waits_at slots) e ∙ ap is_waiting at ∙ sym same ∙ sym (ap is_waiting at-new)
+            ∙ sym (ap (waits_at new) e)
+        | inr ne ↦ ap is_waiting (sym (beside-new k ne))
+      ]) t.waits)
+
+  -- it is waited for where it wasn't, or the other way round
+  module _ (holes : List (Option ℕ)) (t : IsTable slots holes) (more : Bool) (now : is_waiting_cell cell ≡ more)
+      (apart : is_waiting_cell slot.cell ≡ more → ⊥) where
+    here : block_at slots a ≡ Some slot.block
+    here = ap block_in at
+
+    abbrev before_count : ℕ
+    before_count = count_from (waits_at slots) slot.block.length slot.block.base
+
+    abbrev after_count : ℕ
+    after_count = count_from (waits_at new) slot.block.length slot.block.base
+
+    was_on : waits_at slots a ≡ is_waiting_cell slot.cell
+    was_on = ap is_waiting at
+
+    is_on : waits_at new a ≡ more
+    is_on = ap is_waiting at-new ∙ now
+
+    others : (k : ℕ) → k ≢ a → waits_at slots k ≡ waits_at new k
+    others k ne = ap is_waiting (sym (beside-new k ne))
+
+    pub number-was : holder_at holes slot.block.base ≡ Some before_count
+    number-was = t.waits a slot.block here
+
+    numbers : (b : Bool) → is_waiting_cell slot.cell ≡ b → (c : Bool) → more ≡ c
+        → (after_count ≡ moved more before_count) × CanMove more before_count
+    numbers true e true f = absurd (apart (e ∙ sym f))
+    numbers false e false f = absurd (apart (e ∙ sym f))
+    numbers false e true f =
+        let w = t.blocks.within a slot.block here in
+        let one : after_count ≡ suc before_count = count-more (waits_at slots) (waits_at new) slot.block.length
+        slot.block.base a (omega arith)
+        (omega arith) (was_on ∙ e) (is_on ∙ f) others in
+        let few = count-few (waits_at new) slot.block.length slot.block.base in (
+          (let g : after_count ≡ before_count + 1 = omega arith in g) ∙ sym (ap (λ b. moved b before_count) f),
+          ((λ e. omega (arith, t.few)), (λ e. absurd (true_false (sym f ∙ e)))),
+        )
+    numbers true e false f =
+        let w = t.blocks.within a slot.block here in
+        let one : before_count ≡ suc after_count = count-more (waits_at new) (waits_at slots) slot.block.length
+        slot.block.base a (omega arith)
+        (omega arith) (is_on ∙ f) (was_on ∙ e) (λ k ne. sym (others k ne)) in (
+          (let g : after_count ≡ before_count - 1 = omega arith in g) ∙ sym (ap (λ b. moved b before_count) f),
+          ((λ e. absurd (true_false (sym e ∙ f))), (λ e. omega arith)),
+        )
+
+    pub can-move : CanMove more before_count
+    can-move = (numbers (is_waiting_cell slot.cell) refl more refl).1
+
+    pub IsTable-moved : IsTable new (set holes slot.block.base (Some (moved more before_count)))
+    IsTable-moved = IsTable-by holes (set holes slot.block.base (Some (moved more before_count))) t
+        (length-set holes slot.block.base (Some (moved more before_count)))
+        (λ k. elim (cases_eq k slot.block.base) [
+          | inl e ↦
+              ap (λ i. is_none (holder_at (set holes slot.block.base (Some (moved more before_count))) i)) e
+              ∙ ap is_none (get_or-set_same holes slot.block.base (Some (moved more before_count)) None
+              (let w = t.blocks.within a slot.block here in omega (arith, t.count)))
+              ∙ sym (ap is_none number-was) ∙ sym (ap (λ i. is_none (holder_at holes i)) e)
+          | inr ne ↦ ap is_none (get_or-set_other holes slot.block.base k (Some (moved more before_count)) None ne)
+        ])
+        (counts-same slots new (waits_at new) (waits_at new)
+        (set holes slot.block.base (Some (moved more before_count)))
+        blocks-new (λ k. refl)
+        (counts-moved slots (waits_at slots) (waits_at new) holes a slot.block (moved more before_count) t.blocks here
+        (omega (arith, t.count)) others (sym (numbers (is_waiting_cell slot.cell) refl more refl).0) t.waits))
+
+-- a slot that is there
+pub found-slot : (o : Option Slot) → IsSome o → (s : Slot) × (o ≡ Some s)
+found-slot None e = absurd (cc)
+found-slot (Some s) e = (s, refl)
+
+module _ (slots : List (Option Slot)) (holes : List (Option ℕ)) (a : ℕ) (cell : Cell) (t : IsTable slots holes)
+    (some : IsSome (slot_at slots a)) (waited : Bool) (was_waited : waited ≡ is_waiting (slot_at slots a)) where
+  abbrev set_one : List (Option Slot)
+  set_one = set slots a (with_cell cell (slot_at slots a))
+
+  -- it is waited for if it was
+  pub set-kept : is_waiting_cell cell ≡ waited → IsTable set_one holes
+  set-kept same =
+      let f = found-slot (slot_at slots a) some in
+      subst (λ o. IsTable (set slots a (with_cell cell o)) holes) (sym f.1)
+      (IsTable-kept slots a f.0 cell f.1 holes t (same ∙ was_waited ∙ ap is_waiting f.1))
+
+  -- the base of its block
+  base-set : (s : Slot) → slot_at slots a ≡ Some s → base_in (slot_at set_one a) ≡ s.block.base
+  base-set s e = ap base_in (ap (λ o. slot_at (set slots a (with_cell cell o)) a) e
+      ∙ get_or-set_same slots a (new_slot s.block cell) None
+      (elim (cases_lt a (length slots)) [
+        | inl less ↦ less
+        | inr past ↦ absurd (some_none s (sym e ∙ get_or_past slots a None past))
+      ]))
+
+  module _ (more : Bool) (now_waits : more ≡ is_waiting_cell cell) (differs : waited ≡ more → ⊥) where
+    pub held-set : IsSome (slot_at set_one a)
+    held-set =
+        let f = found-slot (slot_at slots a) some in
+        subst IsSome (sym (ap (λ o. slot_at (set slots a (with_cell cell o)) a) f.1
+        ∙ get_or-set_same slots a (new_slot (f.0).block cell) None
+        (elim (cases_lt a (length slots)) [
+          | inl less ↦ less
+          | inr past ↦ absurd (some_none f.0 (sym f.1 ∙ get_or_past slots a None past))
+        ]))) (some-slot (record { block = (f.0).block; cell = cell }))
+      where
+        some-slot : (s : Slot) → IsSome (Some s)
+        some-slot s = search rules
+
+    -- its block's number can move
+    pub number-set : (n : ℕ) × (holder_at holes (base_in (slot_at set_one a)) ≡ Some n) × CanMove more n
+    number-set =
+        let f = found-slot (slot_at slots a) some in
+        let apart : is_waiting_cell (f.0).cell ≡ more → ⊥ = λ e. differs (was_waited ∙ ap is_waiting f.1 ∙ e) in (
+          count_from (waits_at slots) (f.0).block.length (f.0).block.base,
+          ap (holder_at holes) (base-set f.0 f.1)
+              ∙ number-was slots a f.0 cell f.1 holes t more (sym now_waits) apart,
+          can-move slots a f.0 cell f.1 holes t more (sym now_waits) apart,
+        )
+
+    -- and does
+    pub set-moved : (moved_holes : List (Option ℕ))
+        → ((n : ℕ) → holder_at holes (base_in (slot_at set_one a)) ≡ Some n
+        → moved_holes ≡ set holes (base_in (slot_at set_one a)) (Some (moved more n)))
+        → IsTable set_one moved_holes
+    unfolding number-set found-slot
+    set-moved moved_holes is_moved =
+        let f = found-slot (slot_at slots a) some in
+        let apart : is_waiting_cell (f.0).cell ≡ more → ⊥ = λ e. differs (was_waited ∙ ap is_waiting f.1 ∙ e) in
+        subst (λ h. IsTable set_one h)
+        (sym (is_moved number-set.0 number-set.1
+        ∙ ap (λ b. set holes b (Some (moved more number-set.0))) (base-set f.0 f.1)))
+        (subst (λ o. IsTable (set slots a (with_cell cell o)) (set holes (f.0).block.base
+        (Some (moved more number-set.0)))) (sym f.1)
+        (IsTable-moved slots a f.0 cell f.1 holes t more (sym now_waits) apart))

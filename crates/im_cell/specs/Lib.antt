@@ -1,4 +1,4 @@
 pub mod Slots
-pub mod Summaries
-pub mod Records
-pub mod Chunks
+pub mod Cells
+pub mod Units
+pub mod Table

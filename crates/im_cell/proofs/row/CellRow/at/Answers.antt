@@ -1,43 +1,50 @@
-use Rattle.std.proofs.Common.{◌∙◌, ◌/◌, [], length, get_or, ap, arith}
-use Rattle.std.proofs.lemmas.List.{length-map, get_or_default}
+use Rattle.std.proofs.Common.{◌∙◌, get_or, ap, arith}
 use Rattle.im_types.specs.declared.TheConstants.{NONE}
 use Rattle.im_types.specs.declared.records.CellRecord.TheVariants.{Free as FreeCell}
-use Rattle.im_cell.specs.declared.chunk.TheConstants.{CHUNK}
-use Rattle.im_cell.specs.Records.{record_shown}
-use Rattle.im_cell.specs.Chunks.{cells_in}
-use Rattle.im_cell.proofs.InChunks.{length-cells, chunk-there, shown-in-chunk}
+use Rattle.im_cell.proofs.Rows.{long-rows, row-read}
 use Rattle.im_cell.proofs.row.CellRow.at.Goals as goal
 
 pub index-requires : goal.index-requires
-index-requires c =
-    let long = length-cells c.self.inside.pieces.items c.self.inside.cells c.self.invariant in
-    let shown = length-map (cells_in c.self.inside.pieces.items) record_shown ∙ long in
-    let view = ap length c.self.view_is in
-    let there = chunk-there c.self.inside.pieces.items c.self.inside.cells c.self.invariant (c.args.a / CHUNK)
-    (omega (arith, c.requires)) in
-    omega (arith, there)
+index-requires c = let v = c.self.invariant in omega (
+  arith,
+  c.requires,
+  long-rows c.self.inside.states.items c.self.inside.values.items c.self.inside.extents.items c.self.inside.lasts.items c.args.self.now
+      c.self.invariant.values_are c.self.invariant.extents_are c.self.invariant.lasts_are c.self.view_is,
+)
 
-pub at-requires : goal.at-requires
-at-requires c =
-    let long = length-cells c.self.inside.pieces.items c.self.inside.cells c.self.invariant in
-    let shown = length-map (cells_in c.self.inside.pieces.items) record_shown ∙ long in
-    let view = ap length c.self.view_is in
-    let there = chunk-there c.self.inside.pieces.items c.self.inside.cells c.self.invariant (c.args.a / CHUNK)
-    (omega (arith, c.requires)) in
-    let read = ap length (c.index.ensures
-    ∙ get_or_default c.self.inside.pieces.items (c.args.a / CHUNK) c.index.result.now [] there) in
-    let size = c.self.invariant (c.args.a / CHUNK) in
-    omega (arith, c.requires)
+pub index-requires-2 : goal.index-requires-2
+index-requires-2 c = let v = c.self.invariant in omega (
+  arith,
+  c.requires,
+  long-rows c.self.inside.states.items c.self.inside.values.items c.self.inside.extents.items c.self.inside.lasts.items c.args.self.now
+      c.self.invariant.values_are c.self.invariant.extents_are c.self.invariant.lasts_are c.self.view_is,
+)
+
+pub index-requires-3 : goal.index-requires-3
+index-requires-3 c = let v = c.self.invariant in omega (
+  arith,
+  c.requires,
+  long-rows c.self.inside.states.items c.self.inside.values.items c.self.inside.extents.items c.self.inside.lasts.items c.args.self.now
+      c.self.invariant.values_are c.self.invariant.extents_are c.self.invariant.lasts_are c.self.view_is,
+)
+
+pub index-requires-4 : goal.index-requires-4
+index-requires-4 c = let v = c.self.invariant in omega (
+  arith,
+  c.requires,
+  long-rows c.self.inside.states.items c.self.inside.values.items c.self.inside.extents.items c.self.inside.lasts.items c.args.self.now
+      c.self.invariant.values_are c.self.invariant.extents_are c.self.invariant.lasts_are c.self.view_is,
+)
 
 pub returns : goal.returns
-returns c =
-    let long = length-cells c.self.inside.pieces.items c.self.inside.cells c.self.invariant in
-    let shown = length-map (cells_in c.self.inside.pieces.items) record_shown ∙ long in
-    let view = ap length c.self.view_is in
-    let there = chunk-there c.self.inside.pieces.items c.self.inside.cells c.self.invariant (c.args.a / CHUNK)
-    (omega (arith, c.requires)) in
-    let read = c.index.ensures
-    ∙ get_or_default c.self.inside.pieces.items (c.args.a / CHUNK) c.index.result.now [] there in
-    c.at.ensures ∙ shown-in-chunk c.self.inside.pieces.items c.self.inside.cells c.self.invariant c.args.a _ read
-    (omega (arith, c.requires))
+returns c = c.record_of.ensures
+    ∙ row-read c.self.inside.states.items c.self.inside.values.items c.self.inside.extents.items c.self.inside.lasts.items c.args.a _ _ _ _ (FreeCell 0 NONE)
+    c.self.invariant.values_are c.self.invariant.extents_are c.self.invariant.lasts_are
+    (omega (
+      arith,
+      c.requires,
+      long-rows c.self.inside.states.items c.self.inside.values.items c.self.inside.extents.items c.self.inside.lasts.items c.args.self.now
+          c.self.invariant.values_are c.self.invariant.extents_are c.self.invariant.lasts_are c.self.view_is,
+    ))
+    c.index.ensures c.index-2.ensures c.index-3.ensures c.index-4.ensures
     ∙ ap (λ row. get_or row c.args.a (FreeCell 0 NONE)) c.self.view_is

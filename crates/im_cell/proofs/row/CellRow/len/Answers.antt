@@ -1,11 +1,8 @@
-use Rattle.std.proofs.Common.{◌∙◌, sym, ap, length}
-use Rattle.std.proofs.lemmas.List.{length-map}
-use Rattle.im_cell.specs.Records.{record_shown}
-use Rattle.im_cell.specs.Chunks.{cells_in}
-use Rattle.im_cell.proofs.InChunks.{length-cells}
+use Rattle.std.proofs.Common.{◌∙◌}
+use Rattle.im_cell.proofs.Rows.{long-rows}
 use Rattle.im_cell.proofs.row.CellRow.len.Goals as goal
 
 pub returns : goal.returns
-returns c =
-    sym (length-cells c.self.inside.pieces.items c.self.inside.cells c.self.invariant)
-    ∙ sym (length-map (cells_in c.self.inside.pieces.items) record_shown) ∙ ap length c.self.view_is
+returns c = c.len.ensures ∙ c.self.inside.states.ok.0
+    ∙ long-rows c.self.inside.states.items c.self.inside.values.items c.self.inside.extents.items c.self.inside.lasts.items c.args.self.now
+    c.self.invariant.values_are c.self.invariant.extents_are c.self.invariant.lasts_are c.self.view_is

@@ -1,85 +1,73 @@
-use Rattle.std.proofs.Common.{◌∙◌, length, map, take, ap, sym, subst, arith}
-use Rattle.std.proofs.lemmas.List.{with_items_is, length-map}
-use Rattle.im_cell.specs.declared.chunk.TheConstants.{CHUNK}
-use Rattle.im_cell.specs.Slots.{HasBlocks}
-use Rattle.im_cell.specs.Records.{slots_of, record_shown}
-use Rattle.im_cell.specs.Summaries.{IsGrown, IsTree}
-use Rattle.im_cell.specs.Chunks.{cells_in, marks_in, AreChunksOf}
-use Rattle.im_cell.proofs.InChunks.{length-cells}
-use Rattle.im_cell.proofs.Blocks.{slots-shown}
-use Rattle.im_cell.proofs.Tables.{over-pieces}
+use Rattle.std.proofs.Common.{◌≡◌, ◌∙◌, ◌+◌, ◌-◌, ◌/◌, length, map, replicate, Some, ap, sym, subst, arith}
+use Rattle.im_cell.specs.declared.unit.TheConstants.{UNIT}
+use Rattle.im_cell.specs.declared.unit.Unit.TheVariants.{Each}
+use Rattle.im_cell.specs.Slots.{shown_slot, HasBlocks}
+use Rattle.im_cell.proofs.Kept.{length-slots}
+use Rattle.im_cell.proofs.Rows.{long-rows, slots-shown}
 use Rattle.im_cell.proofs.table.CellTable.in_room.Goals as goal
 
-pub raise-requires-clause-sizes : goal.raise-requires-clause-sizes
-raise-requires-clause-sizes c =
-    let records = cells_in c.row.inside.pieces.items in
-    let n_is = sym (length-cells c.row.inside.pieces.items c.row.inside.cells c.row.invariant)
-    ∙ sym (length-map records record_shown) ∙ ap length c.row.view_is ∙ c.requires.count ∙ sym c.room.view_is in
-    let o = over-pieces c.row.inside.pieces.items c.row.inside.cells c.room.inside.cells c.chunks_over-chunks.result.items c.row.invariant n_is
-    (c.chunks_over-chunks.ensures
-    ∙ ap (map slots_of)
-    (c.truncate.ensures.items ∙ ap (λ k. take k c.row.inside.pieces.items) c.chunks_of.ensures)) in
-    subst (λ cs. AreChunksOf cs (length (cells_in cs))) (sym c.as_slice.ensures.value) o.sizes
+pub over-slots-requires-clause-few : goal.over-slots-requires-clause-few
+over-slots-requires-clause-few c =
+    let n : length c.over-cells.result ≡ c.room.inside.cells = ap length c.over-cells.ensures
+    ∙ length-slots c.row.inside.states.items c.row.inside.values.items c.row.inside.extents.items
+    c.row.invariant.values_are c.row.invariant.extents_are
+    ∙ long-rows c.row.inside.states.items c.row.inside.values.items c.row.inside.extents.items c.row.inside.lasts.items c.args.row
+    c.row.invariant.values_are c.row.invariant.extents_are c.row.invariant.lasts_are c.row.view_is ∙ c.requires.count ∙ sym c.room.view_is in
+    omega arith
 
-pub raise-requires-clause-few : goal.raise-requires-clause-few
-raise-requires-clause-few c =
-    let records = cells_in c.row.inside.pieces.items in
-    let n_is = sym (length-cells c.row.inside.pieces.items c.row.inside.cells c.row.invariant)
-    ∙ sym (length-map records record_shown) ∙ ap length c.row.view_is ∙ c.requires.count ∙ sym c.room.view_is in
-    let o = over-pieces c.row.inside.pieces.items c.row.inside.cells c.room.inside.cells c.chunks_over-chunks.result.items c.row.invariant n_is
-    (c.chunks_over-chunks.ensures
-    ∙ ap (map slots_of)
-    (c.truncate.ensures.items ∙ ap (λ k. take k c.row.inside.pieces.items) c.chunks_of.ensures)) in
-    omega (arith, o.long, ap (λ cs. length (cells_in cs)) c.as_slice.ensures.value)
+pub over-slots-requires-clause-units : goal.over-slots-requires-clause-units
+over-slots-requires-clause-units c =
+    let n : length c.over-cells.result ≡ c.room.inside.cells = ap length c.over-cells.ensures
+    ∙ length-slots c.row.inside.states.items c.row.inside.values.items c.row.inside.extents.items
+    c.row.invariant.values_are c.row.invariant.extents_are
+    ∙ long-rows c.row.inside.states.items c.row.inside.values.items c.row.inside.extents.items c.row.inside.lasts.items c.args.row
+    c.row.invariant.values_are c.row.invariant.extents_are c.row.invariant.lasts_are c.row.view_is ∙ c.requires.count ∙ sym c.room.view_is in
+    c.room.invariant.0 ∙ ap (λ k. replicate ((k + (UNIT - 1)) / UNIT) Each) (sym n)
 
-pub raise-requires-clause-grown : goal.raise-requires-clause-grown
-raise-requires-clause-grown c =
-    let records = cells_in c.row.inside.pieces.items in
-    let n_is = sym (length-cells c.row.inside.pieces.items c.row.inside.cells c.row.invariant)
-    ∙ sym (length-map records record_shown) ∙ ap length c.row.view_is ∙ c.requires.count ∙ sym c.room.view_is in
-    let o = over-pieces c.row.inside.pieces.items c.row.inside.cells c.room.inside.cells c.chunks_over-chunks.result.items c.row.invariant n_is
-    (c.chunks_over-chunks.ensures
-    ∙ ap (map slots_of)
-    (c.truncate.ensures.items ∙ ap (λ k. take k c.row.inside.pieces.items) c.chunks_of.ensures)) in
-    subst (λ nodes. IsGrown nodes (length c.as_slice.result.now)) (sym c.as_mut_slice.ensures.value)
-    (subst (λ k. IsGrown c.room.inside.nodes.items k)
-    (sym (ap length c.as_slice.ensures.value ∙ o.count_is)) c.room.invariant.2)
+pub count_waiting-requires-clause-few : goal.count_waiting-requires-clause-few
+count_waiting-requires-clause-few c =
+    let n : length c.over-cells.result ≡ c.room.inside.cells = ap length c.over-cells.ensures
+    ∙ length-slots c.row.inside.states.items c.row.inside.values.items c.row.inside.extents.items
+    c.row.invariant.values_are c.row.invariant.extents_are
+    ∙ long-rows c.row.inside.states.items c.row.inside.values.items c.row.inside.extents.items c.row.inside.lasts.items c.args.row
+    c.row.invariant.values_are c.row.invariant.extents_are c.row.invariant.lasts_are c.row.view_is ∙ c.requires.count ∙ sym c.room.view_is in
+    omega (arith, ap length c.over-slots.ensures)
 
-pub raise-requires-clause-small : goal.raise-requires-clause-small
-raise-requires-clause-small c =
-    let records = cells_in c.row.inside.pieces.items in
-    let n_is = sym (length-cells c.row.inside.pieces.items c.row.inside.cells c.row.invariant)
-    ∙ sym (length-map records record_shown) ∙ ap length c.row.view_is ∙ c.requires.count ∙ sym c.room.view_is in
-    let o = over-pieces c.row.inside.pieces.items c.row.inside.cells c.room.inside.cells c.chunks_over-chunks.result.items c.row.invariant n_is
-    (c.chunks_over-chunks.ensures
-    ∙ ap (map slots_of)
-    (c.truncate.ensures.items ∙ ap (λ k. take k c.row.inside.pieces.items) c.chunks_of.ensures)) in
-    omega (arith, o.count_is, ap length c.as_slice.ensures.value)
+pub count_waiting-requires-clause-blocks : goal.count_waiting-requires-clause-blocks
+count_waiting-requires-clause-blocks c =
+    let e : c.over-slots.result ≡ map shown_slot c.args.row = c.over-slots.ensures ∙ c.over-cells.ensures
+    ∙ slots-shown c.row.inside.states.items c.row.inside.values.items c.row.inside.extents.items c.row.inside.lasts.items
+    c.row.invariant.values_are c.row.invariant.extents_are c.row.invariant.lasts_are ∙ ap (map shown_slot) c.row.view_is in
+    subst HasBlocks (sym e) c.requires.blocks
 
-pub invariant_of-result : goal.invariant_of-result
-invariant_of-result c =
-    let records = cells_in c.row.inside.pieces.items in
-    let n_is = sym (length-cells c.row.inside.pieces.items c.row.inside.cells c.row.invariant)
-    ∙ sym (length-map records record_shown) ∙ ap length c.row.view_is ∙ c.requires.count ∙ sym c.room.view_is in
-    let o = over-pieces c.row.inside.pieces.items c.row.inside.cells c.room.inside.cells c.chunks_over-chunks.result.items c.row.invariant n_is
-    (c.chunks_over-chunks.ensures
-    ∙ ap (map slots_of)
-    (c.truncate.ensures.items ∙ ap (λ k. take k c.row.inside.pieces.items) c.chunks_of.ensures)) in
-    rw (with_items_is c.room.inside.nodes c.raise.new.nodes
-    (omega (arith, c.raise.auto.nodes, c.as_mut_slice.ensures.len))) (record {
-      count = o.long;
-      sizes = o.sizes;
-      tree = subst (λ cs. IsTree CHUNK c.raise.new.nodes (marks_in cs)) c.as_slice.ensures.value c.raise.ensures;
-      blocks = subst HasBlocks (sym (o.same ∙ slots-shown records c.args.row c.row.view_is)) c.requires.blocks;
-    })
+pub count_waiting-requires-clause-none : goal.count_waiting-requires-clause-none
+count_waiting-requires-clause-none c =
+    let n : length c.over-cells.result ≡ c.room.inside.cells = ap length c.over-cells.ensures
+    ∙ length-slots c.row.inside.states.items c.row.inside.values.items c.row.inside.extents.items
+    c.row.invariant.values_are c.row.invariant.extents_are
+    ∙ long-rows c.row.inside.states.items c.row.inside.values.items c.row.inside.extents.items c.row.inside.lasts.items c.args.row
+    c.row.invariant.values_are c.row.invariant.extents_are c.row.invariant.lasts_are c.row.view_is ∙ c.requires.count ∙ sym c.room.view_is in
+    c.room.invariant.1 ∙ ap (λ k. replicate k (Some 0)) (sym (ap length c.over-slots.ensures ∙ n))
+
+pub give_free-requires-clause-few : goal.give_free-requires-clause-few
+give_free-requires-clause-few c =
+    let n : length c.over-cells.result ≡ c.room.inside.cells = ap length c.over-cells.ensures
+    ∙ length-slots c.row.inside.states.items c.row.inside.values.items c.row.inside.extents.items
+    c.row.invariant.values_are c.row.invariant.extents_are
+    ∙ long-rows c.row.inside.states.items c.row.inside.values.items c.row.inside.extents.items c.row.inside.lasts.items c.args.row
+    c.row.invariant.values_are c.row.invariant.extents_are c.row.invariant.lasts_are c.row.view_is ∙ c.requires.count ∙ sym c.room.view_is in
+    omega (arith, ap length c.over-slots.ensures)
+
+pub give_free-requires-clause-blocks : goal.give_free-requires-clause-blocks
+give_free-requires-clause-blocks c =
+    let e : c.over-slots.result ≡ map shown_slot c.args.row = c.over-slots.ensures ∙ c.over-cells.ensures
+    ∙ slots-shown c.row.inside.states.items c.row.inside.values.items c.row.inside.extents.items c.row.inside.lasts.items
+    c.row.invariant.values_are c.row.invariant.extents_are c.row.invariant.lasts_are ∙ ap (map shown_slot) c.row.view_is in
+    subst HasBlocks (sym e) c.requires.blocks
 
 pub returns : goal.returns
 returns c =
-    let records = cells_in c.row.inside.pieces.items in
-    let n_is = sym (length-cells c.row.inside.pieces.items c.row.inside.cells c.row.invariant)
-    ∙ sym (length-map records record_shown) ∙ ap length c.row.view_is ∙ c.requires.count ∙ sym c.room.view_is in
-    let o = over-pieces c.row.inside.pieces.items c.row.inside.cells c.room.inside.cells c.chunks_over-chunks.result.items c.row.invariant n_is
-    (c.chunks_over-chunks.ensures
-    ∙ ap (map slots_of)
-    (c.truncate.ensures.items ∙ ap (λ k. take k c.row.inside.pieces.items) c.chunks_of.ensures)) in
-    o.same ∙ slots-shown records c.args.row c.row.view_is
+    let e : c.over-slots.result ≡ map shown_slot c.args.row = c.over-slots.ensures ∙ c.over-cells.ensures
+    ∙ slots-shown c.row.inside.states.items c.row.inside.values.items c.row.inside.extents.items c.row.inside.lasts.items
+    c.row.invariant.values_are c.row.invariant.extents_are c.row.invariant.lasts_are ∙ ap (map shown_slot) c.row.view_is in
+    e

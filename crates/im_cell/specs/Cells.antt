@@ -1,0 +1,108 @@
+-- What is kept for a cell, and what it stands for. (Own.)
+use Rattle.std.specs.Prelude.{◌≡◌, ℕ, ◌%◌, ◌^◌, ◌<◌, ◌≤◌, slice_index_or, List, [], ◌∷◌, Option, None}
+use Rattle.im_types.specs.declared.operations.Block.{Block}
+use Rattle.im_types.specs.declared.operations.Kind.{Kind}
+use Rattle.im_types.specs.declared.operations.Kind.TheVariants.{I, M}
+use Rattle.im_types.specs.declared.cells.Cell.{Cell}
+use Rattle.im_types.specs.declared.cells.Cell.TheVariants.{Empty, Waiting, Full, Clashed}
+use Rattle.im_types.specs.declared.records.PresenceTag.TheVariants.{Empty as TagEmpty, Waiting as TagWaiting}
+use Rattle.im_types.specs.declared.records.PresenceTag.TheVariants.{Full as TagFull, Clashed as TagClashed}
+use Rattle.im_types.specs.declared.records.CellRecord.{CellRecord}
+use Rattle.im_types.specs.declared.records.CellRecord.TheVariants.{Free as FreeCell, Held as BlockCell}
+use Rattle.im_cell.specs.declared.slots.Slot.{Slot}
+use Rattle.im_cell.specs.declared.state.Extent.{Extent}
+use Rattle.im_cell.specs.declared.state.State.{State}
+use Rattle.im_cell.specs.declared.state.State.TheVariants.{Free, EmptyI, WaitingI, FullI, ClashedI, EmptyM, WaitingM}
+use Rattle.im_cell.specs.declared.state.State.TheVariants.{FullM, ClashedM}
+use Rattle.im_cell.specs.Slots.{new_slot}
+
+-- the block that lies there
+abbrev pub block_of : Extent → Kind → Block
+block_of extent kind = record { base = extent.base; length = extent.length; kind = kind }
+
+-- the slot of a cell in this state, with this value, in a block that lies there
+abbrev pub state_slot : State → ℕ → Extent → Option Slot
+state_slot Free v extent = None
+state_slot EmptyI v extent = new_slot (block_of extent I) Empty
+state_slot WaitingI v extent = new_slot (block_of extent I) Waiting
+state_slot FullI v extent = new_slot (block_of extent I) (Full v)
+state_slot ClashedI v extent = new_slot (block_of extent I) (Clashed v)
+state_slot EmptyM v extent = new_slot (block_of extent M) Empty
+state_slot WaitingM v extent = new_slot (block_of extent M) Waiting
+state_slot FullM v extent = new_slot (block_of extent M) (Full v)
+state_slot ClashedM v extent = new_slot (block_of extent M) (Clashed v)
+
+-- the state of a cell in a block of a kind
+abbrev pub state_for : Kind → Cell → State
+state_for I Empty = EmptyI
+state_for I Waiting = WaitingI
+state_for I (Full v) = FullI
+state_for I (Clashed v) = ClashedI
+state_for M Empty = EmptyM
+state_for M Waiting = WaitingM
+state_for M (Full v) = FullM
+state_for M (Clashed v) = ClashedM
+
+-- the value in a cell; 0 of one that has none
+abbrev pub value_of : Cell → ℕ
+value_of Empty = 0
+value_of Waiting = 0
+value_of (Full v) = v
+value_of (Clashed v) = v
+
+-- the kind of a cell's block; I of a free cell
+abbrev pub kind_of : State → Kind
+kind_of Free = I
+kind_of EmptyI = I
+kind_of WaitingI = I
+kind_of FullI = I
+kind_of ClashedI = I
+kind_of EmptyM = M
+kind_of WaitingM = M
+kind_of FullM = M
+kind_of ClashedM = M
+
+-- the slots of cells, by what is kept for each
+unfoldable pub slots_in : List State → List ℕ → List Extent → List (Option Slot)
+slots_in [] values extents = []
+slots_in (state ∷ states) [] extents = []
+slots_in (state ∷ states) (value ∷ values) [] = []
+slots_in (state ∷ states) (value ∷ values) (extent ∷ extents) =
+    state_slot state value extent ∷ slots_in states values extents
+
+-- what a page shows of a cell that is kept so: a free one names a hole by its extent, and the list of one that is waited
+-- for begins at its value
+abbrev pub record_shown : State → ℕ → Extent → ℕ → CellRecord
+record_shown Free v extent last = FreeCell extent.base extent.length
+record_shown EmptyI v extent last = BlockCell (block_of extent I) TagEmpty
+record_shown WaitingI v extent last = BlockCell (block_of extent I) (TagWaiting (v % 2 ^ 32) last)
+record_shown FullI v extent last = BlockCell (block_of extent I) (TagFull v)
+record_shown ClashedI v extent last = BlockCell (block_of extent I) (TagClashed v)
+record_shown EmptyM v extent last = BlockCell (block_of extent M) TagEmpty
+record_shown WaitingM v extent last = BlockCell (block_of extent M) (TagWaiting (v % 2 ^ 32) last)
+record_shown FullM v extent last = BlockCell (block_of extent M) (TagFull v)
+record_shown ClashedM v extent last = BlockCell (block_of extent M) (TagClashed v)
+
+-- the records of cells, by what is kept for each
+unfoldable pub rows_in : List State → List ℕ → List Extent → List ℕ → List CellRecord
+rows_in [] values extents lasts = []
+rows_in (state ∷ states) [] extents lasts = []
+rows_in (state ∷ states) (value ∷ values) [] lasts = []
+rows_in (state ∷ states) (value ∷ values) (extent ∷ extents) [] = []
+rows_in (state ∷ states) (value ∷ values) (extent ∷ extents) (last ∷ lasts) =
+    record_shown state value extent last ∷ rows_in states values extents lasts
+
+-- the elements from one on, up to another one, are this one, and the others are as they were
+pub record IsFilled {X : Type 0} (d : X) (old new : List X) (from to : ℕ) (x : X) : Type 0 where
+  pub each : (k : ℕ) → from ≤ k → k < to → slice_index_or new k d ≡ x
+  pub others : (k : ℕ) → (from ≤ k → k < to → ⊥) → slice_index_or new k d ≡ slice_index_or old k d
+
+-- as much is kept of each kind for the cells of a row, and so many fit in all
+pub record IsRow (states values extents lasts room fit_states fit_values fit_extents fit_lasts : ℕ) : Type 0 where
+  pub values_are : values ≡ states
+  pub extents_are : extents ≡ states
+  pub lasts_are : lasts ≡ states
+  pub states_fit : room ≤ fit_states
+  pub values_fit : room ≤ fit_values
+  pub extents_fit : room ≤ fit_extents
+  pub lasts_fit : room ≤ fit_lasts

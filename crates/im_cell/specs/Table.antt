@@ -1,0 +1,66 @@
+-- A table: the slots of its cells, and the holes among them. (Own.)
+use Rattle.std.specs.Prelude.{◌≡◌, ℕ, zero, suc, ◌+◌, ◌-◌, ◌<◌, ◌≤◌, ◌^◌, List, length, Bool, true, false, Option, None}
+use Rattle.std.specs.Prelude.{Some, IsSome, is_none, nat_lt, if◌then◌else◌}
+use Rattle.im_types.specs.declared.operations.Block.{Block}
+use Rattle.im_holes.specs.Holes.{holder_at}
+use Rattle.im_cell.specs.declared.slots.Slot.{Slot}
+use Rattle.im_cell.specs.Slots.{slot_at, block_at, is_waiting, HasBlocks}
+
+-- one where a test is passed, and none where it isn't
+abbrev pub one_if : Bool → ℕ
+one_if true = 1
+one_if false = 0
+
+-- of n cells from one on, how many pass a test
+abbrev pub count_from : (ℕ → Bool) → ℕ → ℕ → ℕ
+count_from test zero base = 0
+count_from test (suc n) base = one_if (test base) + count_from test n (suc base)
+
+-- whether a cell is waited for
+abbrev pub waits_at : List (Option Slot) → ℕ → Bool
+waits_at slots k = is_waiting (slot_at slots k)
+
+-- the same of the cells before one; false of the others
+abbrev pub waits_before : List (Option Slot) → ℕ → ℕ → Bool
+waits_before slots at k = if nat_lt k at then waits_at slots k else false
+
+-- the number of a block's first cell says how many of its cells pass a test
+abbrev pub HasCounts : List (Option Slot) → (ℕ → Bool) → List (Option ℕ) → Type 0
+HasCounts slots test holes = (k : ℕ) (block : Block) → block_at slots k ≡ Some block
+    → holder_at holes block.base ≡ Some (count_from test block.length block.base)
+
+-- the base of a slot's block; 0 of none
+abbrev pub base_in : Option Slot → ℕ
+base_in None = 0
+base_in (Some slot) = slot.block.base
+
+-- one more, or one less
+abbrev pub moved : Bool → ℕ → ℕ
+moved true n = n + 1
+moved false n = n - 1
+
+-- there is one more to come, or one less
+abbrev pub CanMove : Bool → ℕ → Type 0
+CanMove more n = (more ≡ true → n + 1 < 2 ^ 32) × (more ≡ false → 0 < n)
+
+-- what every table keeps
+pub record IsTable (slots : List (Option Slot)) (holes : List (Option ℕ)) : Type 0 where
+  pub count : length holes ≡ length slots
+  pub few : length slots < 2 ^ 32
+  -- each block lies in the table, and all its cells are its own
+  pub blocks : HasBlocks slots
+  -- a cell is free in the one where it is in the other
+  pub free : (k : ℕ) → is_none (holder_at holes k) ≡ is_none (slot_at slots k)
+  pub waits : HasCounts slots (waits_at slots) holes
+
+-- so many cells, each of them held
+pub record IsHeldBy (holes : List (Option ℕ)) (n : ℕ) : Type 0 where
+  pub count : length holes ≡ n
+  pub held : (k : ℕ) → k < n → IsSome (holder_at holes k)
+
+-- the cells from one on, up to another one, are free, and that one isn't, or is past the last cell
+pub record IsFreeTo (slots : List (Option Slot)) (from to : ℕ) : Type 0 where
+  pub order : from ≤ to
+  pub inside : to ≤ length slots
+  pub free : (k : ℕ) → from ≤ k → k < to → slot_at slots k ≡ None
+  pub end : to < length slots → IsSome (slot_at slots to)

@@ -1,0 +1,39 @@
+-- Units of cells, in which one record may stand for all. (Own.)
+use Rattle.std.specs.Prelude.{ℕ, suc, ◌/◌, List, [], ◌∷◌, Bool, true, false, Option, None, slice_index_or}
+use Rattle.im_types.specs.declared.cells.Cell.TheVariants.{Empty}
+use Rattle.im_cell.specs.declared.slots.Slot.{Slot}
+use Rattle.im_cell.specs.declared.unit.Unit.{Unit}
+use Rattle.im_cell.specs.declared.unit.Unit.TheVariants.{Each, Free, Block}
+use Rattle.im_cell.specs.declared.unit.TheConstants.{UNIT}
+use Rattle.im_cell.specs.Slots.{new_slot}
+
+-- a unit; past the last one each cell has its own record
+abbrev pub unit_at : List Unit → ℕ → Unit
+unit_at units j = slice_index_or units j Each
+
+-- each of its cells has its own record
+abbrev pub is_own : Unit → Bool
+is_own Each = true
+is_own Free = false
+is_own (Block block) = false
+
+-- the slot of each cell of a unit for which one record stands
+abbrev pub common_slot : Unit → Option Slot
+common_slot Each = None
+common_slot Free = None
+common_slot (Block block) = new_slot block Empty
+
+-- the slot of a cell with this record of its own, in a unit
+abbrev pub slot_by : Unit → Option Slot → Option Slot
+slot_by Each own = own
+slot_by Free own = None
+slot_by (Block block) own = new_slot block Empty
+
+-- the slots of cells from one on
+abbrev pub shown_from : ℕ → List Unit → List (Option Slot) → List (Option Slot)
+shown_from i units [] = []
+shown_from i units (slot ∷ slots) = slot_by (unit_at units (i / UNIT)) slot ∷ shown_from (suc i) units slots
+
+-- the slots of cells with these records of their own, in these units
+unfoldable pub shown : List Unit → List (Option Slot) → List (Option Slot)
+shown units slots = shown_from 0 units slots

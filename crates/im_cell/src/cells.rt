@@ -1,0 +1,109 @@
+//! The records of cells, one for each.
+ghost use Rattle.std.specs.Prelude.{◌≡◌, ◌-◌, ◌<◌, ◌≤◌, length, slice_set, IsSome};
+ghost use Rattle.im_types.specs.Place.{fill};
+ghost use Rattle.im_cell.specs.Slots.{slot_at, with_cell, is_waiting};
+ghost use Rattle.im_cell.specs.Cells.{slots_in, IsFilled};
+ghost use Rattle.im_cell.specs.Units.{common_slot};
+
+use crate::slots::Slot;
+use crate::state::{Extent, NOWHERE, State, state_of, value_in};
+use crate::unit::Unit;
+use im_types::Cell;
+use std::marker::Model;
+
+/// Three numbers for each cell, in lists of their own: 17 bytes. Contracts see the slots.
+#[derive(Drop)]
+pub(crate) struct Cells {
+    states: Vec<State>,
+    values: Vec<u64>,
+    extents: Vec<Extent>,
+}
+
+impl Model for Cells {
+    ghost use Rattle.std.specs.Prelude.{List, Option, ◌≡◌, length};
+    ghost use Rattle.im_cell.specs.declared.slots.Slot.{Slot};
+    ghost use Rattle.im_cell.specs.Cells.{slots_in};
+
+    ghost Value = { List (Option Slot) };
+
+    ghost view = { λ c. slots_in c.states.items c.values.items c.extents.items };
+
+    ghost invariant = { λ c. (length c.values.items ≡ length c.states.items)
+        × (length c.extents.items ≡ length c.states.items) };
+}
+
+// Makes the states from one on, up to another one, the same.
+fn fill_states(states: &mut [State], from: usize, to: usize, state: State)
+    requires { to ≤ length states.old }
+    ensures { IsFilled State.Free states.old states.new from to state }
+{
+    for k in from..to {
+        states[k] = state;
+    }
+}
+
+// The same of extents.
+fn fill_extents(extents: &mut [Extent], from: usize, to: usize, extent: Extent)
+    requires { to ≤ length extents.old }
+    ensures { IsFilled NOWHERE extents.old extents.new from to extent }
+{
+    for k in from..to {
+        extents[k] = extent;
+    }
+}
+
+impl Cells {
+    /// The cells of these lists, which are of one length.
+    pub(crate) fn over(states: Vec<State>, values: Vec<u64>, extents: Vec<Extent>) -> Cells
+        requires values { length values.items ≡ length states.items }
+        requires extents { length extents.items ≡ length states.items }
+        ensures { result ≡ slots_in states.items values.items extents.items }
+    {
+        Cells {
+            states,
+            values,
+            extents,
+        }
+    }
+
+    /// How many cells there are.
+    #[inline(always)]
+    pub(crate) fn len(&self) -> usize
+        ensures { result ≡ length self.now }
+    {
+        self.states.len()
+    }
+
+    /// The slot of a cell.
+    #[inline(always)]
+    pub(crate) fn slot(&self, at: usize) -> Option<Slot>
+        requires { at < length self.now }
+        ensures { result ≡ slot_at self.now at }
+    {
+        self.states[at].slot(self.values[at], self.extents[at])
+    }
+
+    /// Puts another state into a cell in a block; whether it was waited for before.
+    #[inline(always)]
+    pub(crate) fn set(&mut self, at: usize, cell: Cell) -> bool
+        requires { IsSome (slot_at self.old at) }
+        ensures set { self.new ≡ slice_set self.old at (with_cell cell (slot_at self.old at)) }
+        ensures waited { result ≡ is_waiting (slot_at self.old at) }
+    {
+        let state = self.states[at];
+        self.states[at] = state_of(state.kind(), cell);
+        self.values[at] = value_in(cell);
+        state.is_waiting()
+    }
+
+    /// Makes the cells from one on, up to another one, the same.
+    pub(crate) fn fill(&mut self, from: usize, to: usize, unit: Unit)
+        requires order { from ≤ to }
+        requires inside { to ≤ length self.old }
+        ensures { self.new ≡ fill self.old from (to - from) (common_slot unit) }
+    {
+        let (state, extent) = unit.parts();
+        fill_states(self.states.as_mut_slice(), from, to, state);
+        fill_extents(self.extents.as_mut_slice(), from, to, extent);
+    }
+}

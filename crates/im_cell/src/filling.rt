@@ -1,0 +1,109 @@
+//! Cells that are made the same: unit by unit, and by their own records where a unit is cut.
+ghost use Rattle.std.specs.Prelude.{◌≡◌, ◌≢◌, ℕ, ◌-◌, ◌*◌, ◌/◌, ◌%◌, ◌<◌, ◌≤◌, ◌^◌, false, length, slice_set, IsSome};
+ghost use Rattle.im_types.specs.Place.{fill};
+ghost use Rattle.im_cell.specs.Slots.{slot_at, with_cell, is_waiting};
+ghost use Rattle.im_cell.specs.Cells.{IsFilled};
+ghost use Rattle.im_cell.specs.Units.{common_slot, is_own, unit_at, shown};
+
+use crate::cells::Cells;
+use crate::unit::{UNIT, Unit};
+use im_types::Cell;
+
+/// What stands for the cells of a unit.
+#[inline(always)]
+pub(crate) fn unit_of(units: &[Unit], j: usize) -> Unit
+    requires { j < length units.now }
+    ensures { result ≡ unit_at units.now j }
+{
+    units[j]
+}
+
+// Gives each cell of a unit the record that stands for it.
+#[inline(never)]
+fn write_out(units: &mut [Unit], cells: &mut Cells, at: usize)
+    requires inside { at < length units.old }
+    requires few { length units.old < 2 ^ 32 }
+    ensures own { unit_at units.new at ≡ Unit.Each }
+    ensures others { (j : ℕ) → j ≢ at → unit_at units.new j ≡ unit_at units.old j }
+    ensures same { shown units.new cells.new ≡ shown units.old cells.old }
+{
+    let unit = unit_of(units, at);
+    if unit.is_own() {
+        return;
+    }
+    let from = (at * UNIT).min(cells.len());
+    let to = (at * UNIT + UNIT).min(cells.len());
+    cells.fill(from, to, unit);
+    units[at] = Unit::Each;
+}
+
+// The same of the unit that a bound cuts, if it cuts one.
+fn write_out_cut(units: &mut [Unit], cells: &mut Cells, bound: usize)
+    requires inside { bound ≤ length cells.old }
+    requires room { length cells.old ≤ UNIT * length units.old }
+    requires few { length units.old < 2 ^ 32 }
+    ensures own { bound % UNIT ≢ 0 → unit_at units.new (bound / UNIT) ≡ Unit.Each }
+    ensures others { (j : ℕ) → unit_at units.old j ≡ Unit.Each → unit_at units.new j ≡ Unit.Each }
+    ensures same { shown units.new cells.new ≡ shown units.old cells.old }
+{
+    if bound % UNIT != 0 {
+        write_out(units, cells, bound / UNIT);
+    }
+}
+
+// Makes the units from one on, up to another one, the same.
+fn fill_units(units: &mut [Unit], from: usize, to: usize, unit: Unit)
+    requires { to ≤ length units.old }
+    ensures { IsFilled Unit.Each units.old units.new from to unit }
+{
+    for k in from..to {
+        units[k] = unit;
+    }
+}
+
+// Makes the cells from one on, up to another one, the same, where no unit that a bound cuts has one record for all.
+fn fill_uncut(units: &mut [Unit], cells: &mut Cells, base: usize, end: usize, unit: Unit)
+    requires order { base ≤ end }
+    requires inside { end ≤ length cells.old }
+    requires room { length cells.old ≤ UNIT * length units.old }
+    requires few { length units.old < 2 ^ 32 }
+    requires unit { is_own unit ≡ false }
+    requires first { base % UNIT ≢ 0 → unit_at units.old (base / UNIT) ≡ Unit.Each }
+    requires last { end % UNIT ≢ 0 → unit_at units.old (end / UNIT) ≡ Unit.Each }
+    ensures { shown units.new cells.new ≡ fill (shown units.old cells.old) base (end - base) (common_slot unit) }
+{
+    let low = ((base + (UNIT - 1)) / UNIT * UNIT).min(end);
+    let high = (end / UNIT * UNIT).max(low);
+    cells.fill(base, low, unit);
+    cells.fill(high, end, unit);
+    fill_units(units, low / UNIT, high / UNIT, unit);
+}
+
+/// Makes the cells from one on, up to another one, the same.
+pub(crate) fn fill_shown(units: &mut [Unit], cells: &mut Cells, base: usize, end: usize, unit: Unit)
+    requires order { base ≤ end }
+    requires inside { end ≤ length cells.old }
+    requires room { length cells.old ≤ UNIT * length units.old }
+    requires few { length units.old < 2 ^ 32 }
+    requires unit { is_own unit ≡ false }
+    ensures { shown units.new cells.new ≡ fill (shown units.old cells.old) base (end - base) (common_slot unit) }
+{
+    write_out_cut(units, cells, base);
+    write_out_cut(units, cells, end);
+    fill_uncut(units, cells, base, end, unit);
+}
+
+/// Puts another state into a cell of a unit with one record for all; whether it was waited for before.
+#[inline(never)]
+pub(crate) fn set_among_same(units: &mut [Unit], cells: &mut Cells, at: usize, cell: Cell) -> bool
+    requires inside { at < length cells.old }
+    requires room { length cells.old ≤ UNIT * length units.old }
+    requires few { length units.old < 2 ^ 32 }
+    requires held { IsSome (slot_at (shown units.old cells.old) at) }
+    ensures set { shown units.new cells.new
+        ≡ slice_set (shown units.old cells.old) at (with_cell cell (slot_at (shown units.old cells.old) at)) }
+    ensures waited { result ≡ is_waiting (slot_at (shown units.old cells.old) at) }
+{
+    write_out(units, cells, at / UNIT);
+    cells.set(at, cell)
+}

@@ -1,0 +1,134 @@
+//! What is kept of a cell in one byte, and where its block lies.
+ghost use Rattle.std.specs.Prelude.{◌≡◌, ℕ, Some};
+ghost use Rattle.im_cell.specs.Slots.{new_slot, is_waiting, is_waiting_cell, with_cell};
+ghost use Rattle.im_cell.specs.Cells.{block_of, state_slot, state_for, value_of, kind_of};
+
+use crate::slots::Slot;
+use im_types::{Block, Cell, Kind};
+
+/// That a cell is free, or what is in a cell of a block of either kind.
+#[derive(Clone, Copy, Debug, PartialEq, Eq)]
+pub(crate) enum State {
+    /// A free cell.
+    Free,
+    /// A cell of an I block, with no value.
+    EmptyI,
+    /// The same, and somebody waits for one.
+    WaitingI,
+    /// A cell of an I block, with a value.
+    FullI,
+    /// The same, which was written again.
+    ClashedI,
+    /// A cell of an M block, with no value.
+    EmptyM,
+    /// The same, and somebody waits for one.
+    WaitingM,
+    /// A cell of an M block, with a value.
+    FullM,
+    /// The same, which was written again.
+    ClashedM,
+}
+
+/// Where a block lies.
+#[derive(Clone, Copy, Debug, PartialEq, Eq)]
+pub(crate) struct Extent {
+    pub(crate) base: u32,
+    pub(crate) length: u32,
+}
+
+impl Extent {
+    /// The block of a kind that lies there.
+    #[inline(always)]
+    pub(crate) fn block(self, kind: Kind) -> Block
+        ensures { result ≡ block_of self kind }
+    {
+        let Extent { base, length } = self;
+        Block { base, length, kind }
+    }
+}
+
+/// That of no block.
+pub(crate) const NOWHERE: Extent = Extent { base: 0, length: 0 };
+
+const _: () = prove!(size_of::<State>() <= 1);
+
+/// The state of a cell in a block of a kind.
+#[inline(always)]
+pub(crate) fn state_of(kind: Kind, cell: Cell) -> State
+    ensures { result ≡ state_for kind cell }
+{
+    match kind {
+        Kind::I => match cell {
+            Cell::Empty => State::EmptyI,
+            Cell::Waiting => State::WaitingI,
+            Cell::Full(_) => State::FullI,
+            Cell::Clashed(_) => State::ClashedI,
+        },
+        Kind::M => match cell {
+            Cell::Empty => State::EmptyM,
+            Cell::Waiting => State::WaitingM,
+            Cell::Full(_) => State::FullM,
+            Cell::Clashed(_) => State::ClashedM,
+        },
+    }
+}
+
+/// The value in a cell; 0 of one that has none.
+#[inline(always)]
+pub(crate) fn value_in(cell: Cell) -> u64
+    ensures { result ≡ value_of cell }
+{
+    match cell {
+        Cell::Full(value) | Cell::Clashed(value) => value,
+        _ => 0,
+    }
+}
+
+/// Whether somebody waits for a cell.
+#[inline(always)]
+pub(crate) fn is_waited_for(cell: Cell) -> bool
+    ensures { result ≡ is_waiting_cell cell }
+{
+    matches!(cell, Cell::Waiting)
+}
+
+impl State {
+    /// The kind of the cell's block; I of a free cell.
+    #[inline(always)]
+    pub(crate) fn kind(self) -> Kind
+        ensures { result ≡ kind_of self }
+    {
+        match self {
+            State::EmptyM | State::WaitingM | State::FullM | State::ClashedM => Kind::M,
+            _ => Kind::I,
+        }
+    }
+
+    /// Whether somebody waits for the cell.
+    #[inline(always)]
+    pub(crate) fn is_waiting(self) -> bool
+        ensures { (value : ℕ) (extent : Extent) → result ≡ is_waiting (state_slot self value extent) }
+    {
+        matches!(self, State::WaitingI | State::WaitingM)
+    }
+
+    /// The cell with this value, in a block that lies there.
+    #[inline(always)]
+    pub(crate) fn slot(self, value: u64, extent: Extent) -> Option<Slot>
+        ensures { result ≡ state_slot self value extent }
+    {
+        let (kind, cell) = match self {
+            State::Free => return None,
+            State::EmptyI => (Kind::I, Cell::Empty),
+            State::WaitingI => (Kind::I, Cell::Waiting),
+            State::FullI => (Kind::I, Cell::Full(value)),
+            State::ClashedI => (Kind::I, Cell::Clashed(value)),
+            State::EmptyM => (Kind::M, Cell::Empty),
+            State::WaitingM => (Kind::M, Cell::Waiting),
+            State::FullM => (Kind::M, Cell::Full(value)),
+            State::ClashedM => (Kind::M, Cell::Clashed(value)),
+        };
+        let block = extent.block(kind);
+        Some(Slot { block, cell })
+    }
+}

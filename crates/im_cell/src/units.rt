@@ -1,0 +1,93 @@
+//! The slots of all cells.
+ghost use Rattle.std.specs.Prelude.{◌≡◌, ◌+◌, ◌-◌, ◌*◌, ◌/◌, ◌<◌, ◌≤◌, ◌^◌, false, length, replicate, slice_set, IsSome};
+ghost use Rattle.im_types.specs.Place.{fill};
+ghost use Rattle.im_cell.specs.Slots.{slot_at, with_cell, is_waiting};
+ghost use Rattle.im_cell.specs.Units.{common_slot, is_own};
+
+use crate::cells::Cells;
+use crate::filling::{fill_shown, set_among_same, unit_of};
+use crate::slots::Slot;
+use crate::unit::{UNIT, Unit};
+use im_types::Cell;
+use std::marker::Model;
+
+/// The records of cells, and what stands for the cells of each unit. Contracts see the slots.
+#[derive(Drop)]
+pub(crate) struct CellUnits {
+    cells: Cells,
+    units: Vec<Unit>,
+}
+
+impl Model for CellUnits {
+    ghost use Rattle.std.specs.Prelude.{List, Option, ◌≤◌, ◌<◌, ◌*◌, ◌^◌, length};
+    ghost use Rattle.im_cell.specs.declared.slots.Slot.{Slot};
+    ghost use Rattle.im_cell.specs.declared.unit.TheConstants.{UNIT};
+    ghost use Rattle.im_cell.specs.Units.{shown};
+
+    ghost Value = { List (Option Slot) };
+
+    ghost view = { λ u. shown u.units.items u.cells };
+
+    ghost invariant = { λ u. (length u.cells ≤ UNIT * length u.units.items) × (length u.cells < 2 ^ 32)
+        × (length u.units.items < 2 ^ 32) };
+}
+
+impl CellUnits {
+    /// These cells, each with its own record.
+    pub(crate) fn over(cells: Cells, units: Vec<Unit>) -> CellUnits
+        requires few { length cells < 2 ^ 32 }
+        requires units { units.items ≡ replicate ((length cells + (UNIT - 1)) / UNIT) Unit.Each }
+        ensures { result ≡ cells }
+    {
+        CellUnits { cells, units }
+    }
+
+    /// How many cells there are.
+    #[inline(always)]
+    pub(crate) fn len(&self) -> u32
+        ensures { result ≡ length self.now }
+    {
+        self.cells.len() as u32
+    }
+
+    /// The slot of the cell at an address; `None` in no block, and past the last cell.
+    #[inline(always)]
+    pub(crate) fn slot(&self, a: u32) -> Option<Slot>
+        ensures { result ≡ slot_at self.now a }
+    {
+        let at = a as usize;
+        if at >= self.cells.len() {
+            return None;
+        }
+        let unit = unit_of(self.units.as_slice(), at / UNIT);
+        if unit.is_own() {
+            return self.cells.slot(at);
+        }
+        unit.slot()
+    }
+
+    /// Puts another state into the cell at an address in a block; whether it was waited for before.
+    #[inline(always)]
+    pub(crate) fn set(&mut self, a: u32, cell: Cell) -> bool
+        requires { IsSome (slot_at self.old a) }
+        ensures set { self.new ≡ slice_set self.old a (with_cell cell (slot_at self.old a)) }
+        ensures waited { result ≡ is_waiting (slot_at self.old a) }
+    {
+        let at = a as usize;
+        if unit_of(self.units.as_slice(), at / UNIT).is_own() {
+            return self.cells.set(at, cell);
+        }
+        set_among_same(self.units.as_mut_slice(), &mut self.cells, at, cell)
+    }
+
+    /// Makes `n` cells from one on the same.
+    pub(crate) fn fill(&mut self, base: u32, n: u32, unit: Unit)
+        requires inside { base + n ≤ length self.old }
+        requires unit { is_own unit ≡ false }
+        ensures { self.new ≡ fill self.old base n (common_slot unit) }
+    {
+        let base = base as usize;
+        let end = base + n as usize;
+        fill_shown(self.units.as_mut_slice(), &mut self.cells, base, end, unit);
+    }
+}
