@@ -32,13 +32,25 @@ use std::marker::Model;
 /// Contracts see its disk, the header in force, how far the next checkpoint has come, the pages that changed, the
 /// memory, the count of all accepted commands, the room for more, and whether the disk has failed it. While it hasn't
 /// failed, each file that a crash may leave means this memory and this count.
-#[derive(Drop)]
 pub struct Engine<D: Disk> {
     disk: D,
     checkpoint: Checkpoint,
     journal: Journal,
     memory: Memory,
     failed: bool,
+}
+
+// By one call, so that whoever owns an engine isn't proved to let go each of its fields wherever it may end.
+impl<D: Disk + Drop> Drop for Engine<D> {
+    fn drop(self) {
+        let Engine {
+            disk: _,
+            checkpoint: _,
+            journal: _,
+            memory: _,
+            failed: _,
+        } = self;
+    }
 }
 
 impl<D: Disk> Model for Engine<D> {
@@ -403,7 +415,14 @@ impl<D: Disk> Engine<D> {
         ensures disk { result ≡ self.disk }
         ensures means { D.honest result → self.failed ≡ false → LeavesNow (D.now result) (MeansState self) }
     {
-        self.disk
+        let Engine {
+            disk,
+            checkpoint: _,
+            journal: _,
+            memory: _,
+            failed: _,
+        } = self;
+        disk
     }
 }
 
