@@ -6,7 +6,7 @@ ghost use Rattle.im_serial.specs.Serving.{GoesOn, Halts};
 use im_checkpoint::TurnDone;
 use im_disk::Disk;
 use im_engine::Engine;
-use im_text::Progress;
+use im_text::{Progress, Reason};
 use im_types::layout::MOST_AREA_PAGES;
 use im_types::{Command, Entry, Refusal};
 
@@ -92,6 +92,32 @@ pub fn first_waiting<D: Disk>(engine: &Engine<D>, element: u16, base: u64, next:
         }
     }
     next
+}
+
+// How many of these numbers' entries wait.
+fn count_waiting<D: Disk>(engine: &Engine<D>, element: u16, base: u64, next: u64) -> u64 {
+    let mut waiting = 0_u64;
+    for number in base..next {
+        if engine.collect(element, number) == Ok(Entry::Waiting) {
+            waiting = waiting.saturating_add(1);
+        }
+    }
+    waiting
+}
+
+/// Why an element's request is refused. Of a window that is full it says how many of its requests wait.
+pub fn reason_of<D: Disk>(engine: &Engine<D>, element: u16, refusal: Refusal) -> Reason {
+    match (refusal, engine.window(element)) {
+        (Refusal::WindowFull, Ok((base, next))) => {
+            let waiting = count_waiting(engine, element, base, next);
+            Reason::Window {
+                element,
+                waiting,
+                answered: next.saturating_sub(base).saturating_sub(waiting),
+            }
+        }
+        _ => Reason::Request(element, refusal),
+    }
 }
 
 /// The number of an element's next request.

@@ -6,7 +6,7 @@ ghost use Rattle.im_text.specs.Printing.{PrintsMore, PrintsNows, PrintsOn, now_l
 ghost use Rattle.im_text.specs.Printing.{who_of};
 ghost use Rattle.im_serial.specs.Serving.{Ends, GoesOn, Halts, Serves, at};
 
-use crate::room::{confirm, first_waiting, make_room, next_number};
+use crate::room::{confirm, first_waiting, make_room, next_number, reason_of};
 use crate::waits::{Places, learn, learn_all, note, tell_earlier, waited_at};
 use im_disk::Disk;
 use im_engine::Engine;
@@ -206,7 +206,7 @@ impl<D: Disk> Server<D> {
                 Err(reason) => Err(reason),
             },
             Ok(Outcome::Confirmed) => Err(Reason::Request(who.0, Refusal::Failed)), // No request is answered so.
-            Err(refusal) => Err(Reason::Request(who.0, refusal)),
+            Err(refusal) => Err(reason_of(&self.engine, who.0, refusal)),
         }
     }
 

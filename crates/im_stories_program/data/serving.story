@@ -312,7 +312,7 @@ read = 1 blocks, 1 parts, 65 requests
 serve = 1
 printed = 130 lines
 printed 129 = refused 3 WindowFull
-told 0 = a request of element 1: all 64 places of its window are taken, and none is given back before its oldest request, which waits, is answered
+told 0 = a request of element 1: its window is full: 64 requests wait; no place is given back before the oldest of them is answered
 -- One fetch that waits is enough, with 63 requests behind it that are answered.
 disk 43008 = 43008 bytes
 format 1 2 32 = formatted
@@ -322,7 +322,7 @@ read = 1 blocks, 1 parts, 65 requests
 serve = 1
 printed = 67 lines
 printed 66 = refused 3 WindowFull
-told 0 = a request of element 1: all 64 places of its window are taken, and none is given back before its oldest request, which waits, is answered
+told 0 = a request of element 1: its window is full: one request waits, and 63 answered ones stand behind it; no place is given back before it is answered
 -- An image whose count of commands is the last that there is: no checkpoint makes room.
 disk 33792 = 33792 bytes
 format 1 1 16 = formatted

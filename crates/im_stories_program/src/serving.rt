@@ -131,7 +131,11 @@ fn reason_in(words: &[&str]) -> Result<Reason> {
         ["sync", "failed"] => Reason::Call(CallFault::Sync(ErrorKind::Uncategorized)),
         ["write", "failed"] => Reason::Call(FULL),
         ["read", "failed"] => Reason::NewCall(CallFault::Read(ErrorKind::Uncategorized)),
-        ["window", "full"] => Reason::Request(1, Refusal::WindowFull),
+        ["window", "full", waiting, answered] => Reason::Window {
+            element: 1,
+            waiting: number(waiting)?,
+            answered: number(answered)?,
+        },
         ["image", "closed"] => Reason::Image(Refusal::NoHeader, Damage::Closed),
         ["image", "old"] => Reason::Image(Refusal::OldVersion, Damage::Unknown),
         ["image", "current"] => Reason::Current,

@@ -51,6 +51,15 @@ pub enum Reason {
     Place(u16),
     /// A request of this element, or what comes before it, is refused.
     Request(u16, Refusal),
+    /// A request is refused as the window of its element is full, whose oldest request waits.
+    Window {
+        /// The element.
+        element: u16,
+        /// How many of the requests that are kept wait.
+        waiting: u64,
+        /// How many of them are answered, and are kept as they stand behind one that waits.
+        answered: u64,
+    },
 }
 
 // What a refusal says of an image or a request.
@@ -58,8 +67,7 @@ fn words(refusal: Refusal) -> &'static str {
     match refusal {
         Refusal::Gap => "its numbers have reached the last that there is",
         Refusal::NoElement => "the image has no such element",
-        Refusal::WindowFull =>
-            "all 64 places of its window are taken, and none is given back before its oldest request, which waits, is answered",
+        Refusal::WindowFull => "its window is full",
         Refusal::JournalFull => "the journal is full, and no checkpoint makes room",
         Refusal::Device =>
             "a call of the system failed on the image's file, and the last command is there or not",
@@ -113,6 +121,7 @@ impl Reason {
             Reason::New(refusal) => Some(refusal),
             Reason::Cells(_) | Reason::Elements(_) | Reason::Slots(_) => Some(Refusal::BadLimits),
             Reason::Image(refusal, _) | Reason::Request(_, refusal) => Some(refusal),
+            Reason::Window { .. } => Some(Refusal::WindowFull),
         }
     }
 
@@ -157,6 +166,23 @@ fn add_call<W: fmt::Write>(f: &mut Formatter<W>, fault: CallFault) -> fmt::Resul
             "; what is read of it from now on may not be on the disk: mount its file system anew, or restart the machine, before it is opened again",
         _ => "; the last command is there or not",
     })
+}
+
+// Adds what keeps a window full.
+fn add_full<W: fmt::Write>(f: &mut Formatter<W>, waiting: u64, answered: u64) -> fmt::Result {
+    let oldest = if waiting == 1 {
+        f.write_str("one request waits")?;
+        "it"
+    } else {
+        write!(f, "{waiting} requests wait")?;
+        "the oldest of them"
+    };
+    match answered {
+        0 => {}
+        1 => write!(f, ", and 1 answered one stands behind {oldest}")?,
+        _ => write!(f, ", and {answered} answered ones stand behind {oldest}")?,
+    }
+    write!(f, "; no place is given back before {oldest} is answered")
 }
 
 impl Display for Reason {
@@ -205,6 +231,14 @@ impl Display for Reason {
             Reason::Request(element, refusal) => {
                 let words = words(refusal);
                 write!(f, "a request of element {element}: {words}")
+            }
+            Reason::Window {
+                element,
+                waiting,
+                answered,
+            } => {
+                write!(f, "a request of element {element}: its window is full: ")?;
+                add_full(f, waiting, answered)
             }
         }
     }
