@@ -378,4 +378,4 @@ status of output unknown = 1
 status of input closed = 1
 status of no memory = 1
 status of slots 15 = 1
-status of window full = 1
+status of window full 1 63 = 1
