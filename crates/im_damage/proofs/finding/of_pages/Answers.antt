@@ -1,4 +1,4 @@
-use Rattle.im_disk.proofs.RunLemmas.{reads-both, reads-so}
+use Rattle.im_damage.proofs.ReadingLemmas.{reads-both, reads-so}
 use Rattle.im_damage.proofs.finding.of_pages.Goals as goal
 
 pub returns-in-Some : goal.returns-in-Some

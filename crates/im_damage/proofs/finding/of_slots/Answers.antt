@@ -1,4 +1,4 @@
-use Rattle.im_disk.proofs.RunLemmas.{reads-both, reads-so}
+use Rattle.im_damage.proofs.ReadingLemmas.{reads-both, reads-so}
 use Rattle.im_damage.proofs.finding.of_slots.Goals as goal
 
 pub returns-in_default-read_pages : goal.returns-in_default-read_pages

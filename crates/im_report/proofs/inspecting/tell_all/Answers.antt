@@ -1,4 +1,4 @@
-use Rattle.im_disk.proofs.RunLemmas.{reads-both}
+use Rattle.im_damage.proofs.ReadingLemmas.{reads-both}
 use Rattle.im_report.proofs.inspecting.tell_all.Goals as goal
 
 pub returns-in-Ok-clause-reads : goal.returns-in-Ok-clause-reads
