@@ -1,5 +1,5 @@
 use Rattle.std.proofs.Common.{◌-◌, ap, subst, arith}
-use Rattle.std.proofs.lemmas.Bool.{eqb-true}
+use Rattle.std.proofs.lemmas.Bool.{eqb-true, eq-eqb}
 use Rattle.im_controller.specs.Lines.{Counts}
 use Rattle.im_controller.specs.Log.{AreFree}
 use Rattle.im_controller.proofs.LogLemmas.{log-claimed}
@@ -27,6 +27,12 @@ returns-clause-marked g c = λ came claimed.
     let free = subst AreFree c.as_slice.ensures.value (c.are_free-claimed.ensures claimed) in
     let all = log-claimed g.K.Name.memory g.K.Name.marks _ _ c.log.invariant.0 free in
     omega (arith, amount, book, all.1, m.marked_amount, r.3)
+
+pub returns-clause-whole : goal.returns-clause-whole
+returns-clause-whole g c = λ all.
+    let m = c.merge_all.ensures in let r = c.reserve.invariant in
+    eq-eqb c.len-came.result (c.reserve.inside.ports - c.reserve.inside.left)
+    (omega (arith, all, m.lines, m.bound, c.len-came.ensures, c.args.ports.ok, r.0, r.4, r.5))
 
 pub returns-clause-planned : goal.returns-clause-planned
 returns-clause-planned g c = ends-by g.K.Name.memory g.K.Name.plan c.engine.inside.log.trace c.engine.inside.engine.memory c.engine.invariant.8 c.engine.invariant.0
