@@ -63,8 +63,13 @@ def as_it_stands(lines):
 
 
 def heading(name, section, about):
-    words = [f'"{it}"' for it in (name.upper(), section, "", f"luntrebis {packaging.VERSION}", "Luntrebis")]
+    words = [f'"{it}"' for it in (name.upper(), section, packaging.date(), f"luntrebis {packaging.VERSION}", "Luntrebis")]
     return ["'\\\" t", f".TH {' '.join(words)}", ".SH NAME", f"{name} \\- {line(about)}"]
+
+
+def finished(lines):
+    """The text of a page: right behind a heading no paragraph is begun."""
+    return re.sub(r"^(\.S[HS] .*\n)\.PP\n", r"\1", "\n".join(lines) + "\n", flags=re.M)
 
 
 def runs(part):
@@ -105,7 +110,7 @@ def page_of_help(name, it, others):
     if it.subcommands:
         lines += [".SH COMMANDS", *listed([row for row in it.subcommands if row[0] != "help"])]
     lines += [".SH OPTIONS", *listed([(f"{option} {value}".strip(), text) for option, value, text in it.options])]
-    return "\n".join([*lines, *paragraphs[first:], *see_also(others)]) + "\n"
+    return finished([*lines, *paragraphs[first:], *see_also(others)])
 
 
 def pages_of_help(imem):
@@ -133,7 +138,7 @@ def page_of_headers():
         lines += [f".SH {title}", *paragraphs(head.comment)]
         for it in items:
             lines += item(it)
-    return "\n".join([*lines, *see_also([("imem", "1"), ("imem-image", "5")])]) + "\n"
+    return finished([*lines, *see_also([("imem", "1"), ("imem-image", "5")])])
 
 
 def item(it):
@@ -204,7 +209,7 @@ def page_of_format():
     title, text = (TOP / "docs" / "FORMAT.md").read_text().split("\n", 1)
     lines = heading("imem-image", "5", "the file in which imem and luntrebis keep a memory")
     others = [("imem", "1"), ("imem-inspect", "1"), ("luntrebis", "3")]
-    return "\n".join([*lines, ".SH DESCRIPTION", *of_markdown(text), *see_also(others)]) + "\n"
+    return finished([*lines, ".SH DESCRIPTION", *of_markdown(text), *see_also(others)])
 
 
 def pages(imem):
