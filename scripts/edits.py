@@ -1,4 +1,4 @@
-"""What the wrong bodies of this repository are, and what the prover says of one, for the scripts beside this file."""
+"""Reads the wrong bodies of this repository and the prover's words about one, for the scripts beside this file."""
 import re
 from dataclasses import dataclass, field
 from pathlib import Path

@@ -1,6 +1,7 @@
-"""What the headers of include/ declare, for the scripts beside this file: constants, records, calls; their comments.
+"""What the headers of include/ declare, for the scripts beside this file: constants, records, calls, and their
+comments.
 
-The headers are plain C: a declaration ends with a semicolon, and a comment stands before what it is about, or behind.
+The headers are plain C: a declaration ends with a semicolon, and a comment comes before or after what it is about.
 """
 import re
 from dataclasses import dataclass, field

@@ -1,6 +1,7 @@
-"""An image as docs/FORMAT.md has it, of either version, for the scripts beside this file: a plain memory, how its image is spelled, and what any bytes mean.
+"""Images of either version as docs/FORMAT.md describes them, for the scripts beside this file: a plain memory, the
+bytes of its image, and what any bytes mean.
 
-It is written from that page alone, shares nothing with the program, and prefers plain words to speed.
+It is written from that page alone and shares nothing with the program. It is plain rather than fast.
 """
 import random
 import struct

@@ -1,8 +1,8 @@
-"""Whether a run of threads, or a dialogue, was right: for the scripts beside this file.
+"""Judges whether a run of threads, or a dialogue, was right, for the scripts beside this file.
 
-The order in which its commands were accepted is read off the writes that its disk was given. The plain memory of images.py takes the same
-commands in that order. Then each printed line has to be what that memory keeps, or kept when it was confirmed, and the image that was
-left has to mean that memory.
+It reads the order in which the commands were accepted from the writes to the disk. The plain memory of images.py takes
+the same commands in that order. Then each printed line has to be what that memory keeps, or kept when it was confirmed,
+and the image that was left has to mean that memory.
 """
 import copy
 import struct

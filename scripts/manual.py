@@ -1,5 +1,5 @@
-"""The manual's pages and the completions of the shells, made of what imem says of itself, of the headers, and of
-docs/FORMAT.md. `pages(imem)` and `completions(imem)` give each file's path below share/ with its text."""
+"""Makes the manual's pages and the completions of the shells from imem's help, the headers, and docs/FORMAT.md.
+`pages(imem)` and `completions(imem)` give each file's path below share/ with its text."""
 import itertools
 import re
 import subprocess

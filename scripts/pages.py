@@ -1,4 +1,4 @@
-"""What a page of this repository has to be for its reader, for scripts/check: its width, its size, its sentences, no dates."""
+"""Checks the pages of this repository for scripts/check: their width, their size, their sentences, no dates."""
 import re
 
 from sources import TOP

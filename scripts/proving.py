@@ -1,7 +1,8 @@
-"""Proves crates side by side, each once those that it stands on are proved: for scripts/build-imem and scripts/library.
+"""Proves crates side by side, each once the crates that it stands on are proved, for scripts/build-imem and
+scripts/library.
 
-One `rt` at a time works in a checkout, so each lane has a room: a copy of the sources, to which the libraries that other lanes
-built are handed. What is proved at last lies in the checkout, as if it had been proved there.
+One `rt` at a time works in a checkout, so each lane has a room: a copy of the sources, to which the libraries of the
+other lanes are copied. At the end the proved libraries are in the checkout, as if they had been proved there.
 """
 import os
 import shutil

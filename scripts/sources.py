@@ -1,4 +1,5 @@
-"""What the sources of this repository hold, for the scripts beside this file: crates, functions with their clauses, lemmas."""
+"""What the sources of this repository contain, for the scripts beside this file: crates, functions with their clauses,
+lemmas."""
 import re
 from dataclasses import dataclass, field
 from pathlib import Path
