@@ -19,19 +19,19 @@ SAFE = "-Wl,-z,defs,-z,relro,-z,now,-z,noexecstack"
 
 
 def names():
-    """Each call that a program may make."""
+    """Returns each call that a program may make."""
     return sorted(name for calls in headers.calls().values() for name in calls)
 
 
 def take_apart(archive, folder):
-    """The objects of an archive."""
+    """Unpacks the objects of an archive."""
     folder.mkdir()
     subprocess.run(["ar", "x", archive], cwd=folder, check=True)
     return sorted(folder.iterdir())
 
 
 def compile_sources(folder):
-    """The objects of the C files that lie beside the headers."""
+    """Compiles the C files beside the headers, and yields their objects."""
     for source in sorted(headers.FOLDER.glob("*.c")):
         made = folder / f"{source.stem}.c.o"
         subprocess.run(["cc", *FLAGS, f"-I{headers.FOLDER}", "-c", source, "-o", made], check=True)
@@ -67,13 +67,13 @@ def link(one, room, shared):
 
 
 def filled(name, **values):
-    """A template of packages/install, with @NAME@ replaced."""
+    """Returns a template of packages/install, with @NAME@ replaced."""
     text = (PACKAGES / "install" / name).read_text()
     return re.sub(r"@(\w+)@", lambda it: values[it[1]], text)
 
 
 def versions():
-    """Each place that says the version: what it says."""
+    """Yields each place that has the version, and what it says."""
     looks = {
         "crates/im_program/src/words.rt": r'^const VERSION: &str = "([\d.]+),',
         "packages/python/pyproject.toml": r'^version = "(.*)"',
@@ -91,7 +91,7 @@ def versions():
 
 
 def faults():
-    """What doesn't agree: versions; bindings with the header; a call whose name another library may have."""
+    """Yields what doesn't agree: versions, bindings and headers, and a call whose name another library may have."""
     for file, version in versions():
         if version != VERSION:
             yield f"{file}: the version is {version}, and {VERSION} in VERSION"
@@ -106,7 +106,7 @@ MARK = b"commit ------------, not proved"
 
 
 def commit():
-    """The commit of the checkout, in twelve letters; the last is + where its crates have changed since."""
+    """Returns the commit of the checkout in twelve letters. The last one is + if its crates have changed since."""
     try:
         words = ["git", "-C", TOP, "rev-parse", "HEAD"]
         told = subprocess.run(words, capture_output=True, text=True, check=True).stdout.strip()

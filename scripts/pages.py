@@ -10,7 +10,7 @@ LARGE = ("docs/DECISIONS.md",)
 
 
 def paragraphs(text):
-    """The paragraphs, items of lists and cells of tables of a page, each in one line; what is code is left out."""
+    """Yields the paragraphs, list items and table cells of a page, each in one line. Code is left out."""
     text = re.sub(r"^```.*?^```", "", text, flags=re.M | re.S)
     for block in re.split(r"\n\s*\n|\n(?=[ ]*(?:[-*]|\d+\.) )|\n(?=\|)", text):
         if block.startswith("|"):
