@@ -10,7 +10,7 @@ from sources import TOP
 OUT = TOP / "out"
 PACKAGES = TOP / "packages"
 VERSION = (TOP / "VERSION").read_text().strip()
-SERIES = "1"  # Of the calls: another number where a program that was built before would not run as before.
+SERIES = "1"  # Of the calls: it changes if a program that was built before would not run as before.
 SONAME = f"libluntrebis.so.{SERIES}"
 ARCHIVE, SHARED, IMEM = OUT / "libluntrebis.a", OUT / SONAME, OUT / "imem"
 PROVED = OUT / "libluntrebis.proved"  # Of which commit the library is, and what the prover said of it.

@@ -16,7 +16,7 @@ LEMMA = re.compile(r"(|  )(?:(?:pub|abbrev|unfoldable) )*([^\s:(){},|]+) : ")
 
 class Clause(NamedTuple):
     kind: str  # requires or ensures
-    label: str  # "" where it has none
+    label: str  # "" if it has none
     fact: str  # what stands between its braces, in one line
 
 

@@ -736,7 +736,7 @@ fn number_fault(alloc: Global, matches: &ArgMatches<'_>) -> WordFault {
     }
 }
 
-/// Reads the words of a command line, of which the first is the program's own name. [`WordFault::Bad`] has the error
+/// Reads the words of a command line, with the program's own name first. [`WordFault::Bad`] has the error
 /// that clap found, or says that a number is not written in decimal digits below 2^32. `--help` and `--version` are
 /// such faults too, with status 0.
 pub fn read_words<'a>(alloc: Global, words: &'a [&'a str]) -> Result<Order<'a>, WordFault>

@@ -169,12 +169,12 @@ class Image(Held):
 
     @property
     def room(self) -> int:
-        """How many more commands there is room for in the journal."""
+        """The number of commands that the journal still has room for."""
         return int(self._call("ltf_room"))
 
     @property
     def count(self) -> int:
-        """How many commands have been accepted since the image was made."""
+        """The number of commands that have been accepted since the image was made."""
         return int(self._call("ltf_count"))
 
     @property
