@@ -89,8 +89,8 @@ impl<S: Start> FileDisk<S> {
 
     /// Opens the file at the path for reading and writing, and puts it on the disk. The file stays locked as long as
     /// the disk lives. This changes no byte of the file and reads none. Returns `InUse` if another opening holds the
-    /// lock for longer than the start waits, and `NotFile` if it is no regular file. Returns `Sync` if putting it on the
-    /// disk fails, and `System` if another call of the system fails.
+    /// lock for longer than the start waits, and `NotFile` if it is no regular file. Returns `Sync` if putting it on
+    /// the disk fails, and `System` if another call of the system fails.
     pub fn open<R: Files<File = File>>(
         rt: &R,
         path: &str,
