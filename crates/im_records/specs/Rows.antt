@@ -1,4 +1,4 @@
--- Records in a row, without what stands behind them. (Own.)
+-- Records in a row, without what is behind them. (Own.)
 use Rattle.std.specs.Prelude.{◌≡◌, ℕ, ◌+◌, ◌<◌, List, length, take, drop, slice_index_or}
 use Rattle.im_types.specs.declared.TheConstants.{NONE}
 use Rattle.im_types.specs.Contents.{Window, new_window}
@@ -55,17 +55,18 @@ AreSessions l elements bytes row =
 abbrev pub StandsAt : ℕ → List ℕ → List ℕ → Type 0
 StandsAt at piece area = piece ≡ take (length piece) (drop at area)
 
--- where a piece stands at a place of an area, behind the cells of the one row, the area begins with those of the other
+-- If a piece is at a place of an area that begins with the cells of `old`, the area begins with the cells of `new`.
 abbrev pub LeadsOn : ℕ → ℕ → ℕ → ℕ → List ℕ → List CellRecord → List CellRecord → Type 0
 LeadsOn cells nodes count at piece old new = (area : List ℕ) → StandsAt at piece area
     → BeginWithCells (length old) cells nodes area old → BeginWithCells (length old + count) cells nodes area new
 
--- where a part of so many bytes stands at a place of an area, behind the cells of the one row, the other has all cells
+-- If the area begins with the cells of `row`, and this last part of its cells is at this place, then `all` has all its
+-- cells.
 abbrev pub FillsUp : ℕ → ℕ → ℕ → ℕ → List ℕ → List CellRecord → List CellRecord → Type 0
 FillsUp cells nodes at size part row all = (n : ℕ) (area : List ℕ) → at + size ≡ n → StandsAt at part area
     → BeginWithCells (length row) cells nodes area row → AreCells cells nodes (take n area) all
 
--- where a part of so many bytes stands at a place of an area, no row has all cells
+-- If this last part of an area's cells is at this place, no row has all its cells.
 abbrev pub NoneFillsUp : ℕ → ℕ → ℕ → ℕ → List ℕ → Type 0
 NoneFillsUp cells nodes at size part = (n : ℕ) (area : List ℕ) (all : List CellRecord) → at + size ≡ n
     → StandsAt at part area → AreCells cells nodes (take n area) all → ⊥
@@ -74,7 +75,7 @@ NoneFillsUp cells nodes at size part = (n : ℕ) (area : List ℕ) (all : List C
 abbrev pub AreFirstCells : Layout → Sizes → List ℕ → List CellRecord → Type 0
 AreFirstCells l s area row = BeginWithCells (length row) s.cells (node_count l s) area row
 
--- where a piece stands at a place of an area, behind the cells of the one row, those of the other are its first ones
+-- If a piece is at a place of an area whose first cells are `old`, its first cells are `new` too.
 abbrev pub CarriesOn : Layout → Sizes → ℕ → List ℕ → List CellRecord → List CellRecord → Type 0
 CarriesOn l s at piece old new =
     (area : List ℕ) → StandsAt at piece area → AreFirstCells l s area old → AreFirstCells l s area new
