@@ -478,11 +478,10 @@ impl Checkpoint {
         Ok(TurnDone::Idle)
     }
 
-    /// Makes one turn. It continues from what was done before with one of these steps: it takes the changed pages,
-    /// writes one of them, puts them on the disk, puts the header of their area in force, or closes gates. It closes at
-    /// most three gates of slots whose commands the area in force holds. Returns `Idle` if nothing is to be done. It
-    /// makes at most four device calls and takes no memory. The memory and the journal must be those that the header's
-    /// image means.
+    /// Makes one turn, which continues from what was done before. It takes the changed pages, or writes one of them, or
+    /// puts them on the disk, or puts the header of their area in force, or closes gates. It closes at most three gates
+    /// of slots whose commands the area in force holds. Returns `Idle` if nothing is to be done. It makes at most four
+    /// device calls and takes no memory. The memory and the journal must be those that the header's image means.
     ///
     /// Returns `Device` if a call of the disk failed. The checkpoint and the journal are then as they were. The disk
     /// may be further along, so the image has to be opened again.

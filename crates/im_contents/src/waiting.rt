@@ -205,8 +205,9 @@ fn agree_by_marks(
     mark_all(cells, lists, windows, marks) && are_marked(windows, marks)
 }
 
-/// Returns whether the waiters at the cells and the waiting entries agree. They agree if each request in a list has an
-/// entry that waits for that cell, it stands once in all lists, and each waiting entry is of a request in a list.
+/// Returns whether the waiters at the cells and the waiting entries agree. They agree on three conditions. Each request
+/// in a list has an entry that waits for that cell. It stands once in all lists. Each waiting entry is of a request in
+/// a list.
 ///
 /// Returns `AllocError` if there is no room for a mark for each entry. It takes a step for each cell, each waiter and
 /// each entry.

@@ -51,7 +51,8 @@ pub enum SlotFault {
     /// The command of this number leads a group here. The slot counts this many commands, which isn't 1 to
     /// [`MAX_GROUP`].
     Counts(u64, u8),
-    /// The command of this number leads a group here. Its count goes more than once round the ring, or past [`LAST`].
+    /// The command of this number leads a group here. A group of this many commands goes more than once round the ring,
+    /// or past [`LAST`].
     TooLong(u64, u8),
     /// The command of the first number belongs here, within a group. The slot has the second number.
     NotNext(u64, u64),
@@ -317,7 +318,7 @@ fn is_link(count: usize, link: u32) -> bool {
     link == NONE || (link as usize) < count
 }
 
-// Returns whether the links of a cell's record lead to a place that exists.
+// Returns whether a cell's record is within its bounds: its hole or its block, and its links.
 fn leads(cell: CellRecord, cells: usize, nodes: usize) -> bool {
     match cell {
         CellRecord::Free { hole, next } => hole as usize <= cells && is_link(cells, next),
@@ -481,7 +482,7 @@ fn count_in(slot: &[u8]) -> u8 {
 // The command that a slot spells. Its gate and its group count don't matter.
 fn command_in(slot: &[u8]) -> Option<Command> {
     let mut bytes = *slot.as_array::<64>()?;
-    bytes[1] = 1; // The count of a group is looked at apart.
+    bytes[1] = 1; // The group count is checked elsewhere.
     im_journal::read(&bytes)
 }
 

@@ -159,9 +159,10 @@ fn read_behind<D: Disk>(alloc: Global, disk: &mut D, header: Header) -> Result<I
 
 /// Returns what an image means, or its first fault. It only reads.
 ///
-/// The faults, in their order: `WrongLength`, `NoHeader`, `BadHeader`; `BadPage` if the pages in force show no memory;
-/// `BadRecord` if the journal's run is at fault, or a command in it isn't accepted in its turn. Returns `NoMemory` if
-/// `alloc` refuses room for the memory or for what is read. Returns `Device` if a call of the disk failed.
+/// The faults come in this order: `WrongLength`, `NoHeader`, `BadHeader`, `BadPage`, `BadRecord`. `BadPage` says that
+/// the pages in force show no memory. `BadRecord` says that the journal's run is at fault, or that a command in it
+/// isn't accepted in its turn. Returns `NoMemory` if `alloc` refuses room for the memory or for what is read. Returns
+/// `Device` if a call of the disk failed.
 pub fn read_image<D: Disk>(alloc: Global, disk: &mut D) -> Result<Image, Refusal>
     ensures parts { IfOk result (λ i. AreParts i) }
     ensures header { IfOk result (λ i. D.honest disk.new → seen i.header ≡ header_of (D.now disk.old).bytes) }

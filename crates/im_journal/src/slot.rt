@@ -164,8 +164,8 @@ fn follower(slot: &[u8; 64], sequence: u64) -> Option<Command>
     }
 }
 
-/// Returns the command of a slot of the run, with `due` more members of its group still to come. Returns `None` if the
-/// slot isn't spelled as it should be.
+/// Returns the command of a slot of the run. `due` slots of a group are still to come from this one on; with 0, the
+/// slot leads a group. Returns `None` if the slot isn't spelled as it should be.
 pub(crate) fn member(due: u8, sequence: u64, slot: &[u8; 64]) -> Option<Command>
     requires low { sequence ≤ LAST }
     ensures { result ≡ member due sequence slot.now }
@@ -177,7 +177,8 @@ pub(crate) fn member(due: u8, sequence: u64, slot: &[u8; 64]) -> Option<Command>
     }
 }
 
-/// Returns how many members of the group are still to come after this slot, if `due` were to come at it.
+/// Returns how many slots of the group are still to come after this one. `due` is the number from this one on; with 0,
+/// the slot leads a group.
 pub(crate) fn due_after(due: u8, slot: &[u8; 64]) -> u8
     ensures { result ≡ due_after due slot.now }
 {

@@ -99,7 +99,7 @@ pub fn ask_over_a_crash(
     // So that it is known below that waiters and entries agree.
     let _cells = engine.memory().cells();
     let command = Command::Request(request);
-    // A stop leaves it on the disk or not: where it is answered, it is there.
+    // A stop leaves it on the disk or not. If it is answered, it is there.
     let first = engine.serve(&command);
     match recover(alloc, engine, events, crash) {
         Ok(recovered) => {

@@ -16,37 +16,37 @@ pub record Spells {X : Type 0} (spelled : X → List ℕ) (Fits : X → Type 0) 
   pub is : bytes ≡ spelled x
   pub fits : Fits x
 
--- bytes begin with so many records of a size, each spelled as it should be
+-- bytes begin with this many records of a size, each spelled as it should be
 pub record BeginWith {X : Type 0} (size : ℕ) (spelled : X → List ℕ) (Fits : X → Type 0) (none : X) (count : ℕ)
     (bytes : List ℕ) (row : List X) : Type 0 where
   pub many : length row ≡ count
   pub each : (i : ℕ) → i < count → Spells spelled Fits (record_at size bytes i) (slice_index_or row i none)
 
--- bytes begin with so many cells, of so many cells and nodes
+-- bytes begin with the records of this many cells, within the bounds of these numbers of cells and nodes
 abbrev pub BeginWithCells : ℕ → ℕ → ℕ → List ℕ → List CellRecord → Type 0
 BeginWithCells count cells nodes bytes row =
     BeginWith cell_record_bytes cell_bytes (FitsCell cells nodes) (FreeCell 0 NONE) count bytes row
 
--- bytes begin with so many waiter nodes, of so many nodes
+-- bytes begin with this many waiter nodes, within the bounds of this number of nodes
 abbrev pub BeginWithNodes : ℕ → ℕ → List ℕ → List NodeRecord → Type 0
 BeginWithNodes count nodes bytes row =
     BeginWith node_record_bytes node_bytes (FitsNode nodes) (FreeNode NONE) count bytes row
 
--- bytes begin with so many sessions
+-- bytes begin with this many sessions
 abbrev pub BeginWithSessions : Layout → ℕ → List ℕ → List Window → Type 0
 BeginWithSessions l count bytes row =
     BeginWith (session_record_bytes l) (session_bytes l) (FitsWindow l) new_window count bytes row
 
--- bytes are the records of so many cells, of so many nodes, and zeros
+-- bytes are the records of this many cells, within the bounds of this number of nodes, and zeros
 abbrev pub AreCells : ℕ → ℕ → List ℕ → List CellRecord → Type 0
 AreCells cells nodes bytes row =
     IsRow cell_record_bytes cell_bytes (FitsCell cells nodes) (FreeCell 0 NONE) cells bytes row
 
--- bytes are so many waiter nodes, and zeros
+-- bytes are this many waiter nodes, and zeros
 abbrev pub AreNodes : ℕ → List ℕ → List NodeRecord → Type 0
 AreNodes nodes bytes row = IsRow node_record_bytes node_bytes (FitsNode nodes) (FreeNode NONE) nodes bytes row
 
--- bytes are so many sessions, and zeros
+-- bytes are this many sessions, and zeros
 abbrev pub AreSessions : Layout → ℕ → List ℕ → List Window → Type 0
 AreSessions l elements bytes row =
     IsRow (session_record_bytes l) (session_bytes l) (FitsWindow l) new_window elements bytes row

@@ -145,9 +145,9 @@ fn windows_of(
 }
 
 /// Reads the records of an area of a version. The first cells, none or more, were read before ([`read_more_cells`]);
-/// `rest` is the bytes behind them. Returns `BadPage` if no area with these bytes at its end spells records: a record
-/// isn't spelled as it should be, a number isn't within its bounds, or a byte behind the last record of a kind isn't
-/// zero. Returns `NoMemory` if there is no room for the records.
+/// `rest` is the bytes behind them. Returns `BadPage` only if no area with these bytes at its end spells records: a
+/// record isn't spelled as it should be, a number isn't within its bounds, or a byte behind the last record of a kind
+/// isn't zero. Returns `NoMemory` if there is no room for the records.
 ///
 /// The time is proportional to the bytes. This doesn't check which memory the records show: links may lead anywhere
 /// within their range.

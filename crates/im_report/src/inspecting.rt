@@ -79,10 +79,10 @@ fn tell_all<D: Disk, W: Write, N: Observer>(
 /// - `element K base B kept N` is an element that has asked anything, by number. Behind it, `entry K.N OPERATION ->
 ///   REPLY` is a request that it keeps, by number.
 ///
-/// The status is 0, or 1 if something was refused. The reasons are: the image's first fault, as [`inspect`] returns it;
-/// `Device` if a call of the disk failed; `NoMemory` if `alloc` refused the room for the report, and then none of it is
-/// written; or a failed write. The observer gets the reason. For an image that was reported, the observer gets a
-/// warning if a slot of the journal stands open that is too old to be there.
+/// The status is 0, or 1 if something was refused. The reason is the image's first fault, as [`inspect`] returns it, or
+/// a failed write. It is `Device` if a call of the disk failed. It is `NoMemory` if `alloc` refused the room for the
+/// report, and then none of it is written. The observer gets the reason. For an image that was reported, the observer
+/// gets a warning if a slot of the journal stands open that is too old to be there.
 pub fn inspect_on<D: Disk, W: Write, N: Observer>(
     alloc: Global,
     mut disk: D,
