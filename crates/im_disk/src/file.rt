@@ -290,7 +290,7 @@ impl<S: Start> Disk for FileDisk<S> {
             }
             Err(error) => {
                 note(&mut self.ledger, &[SYNCED, 0, 0], &[]);
-                self.usable = false; // What was written may be lost, whatever the next sync returns.
+                self.usable = false; // What was written may be lost, whatever the next sync answers.
                 Err(self.failing.lose(error.kind()))
             }
         }

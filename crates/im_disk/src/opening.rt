@@ -51,7 +51,7 @@ impl From<OpenFault> for Refusal {
     ghost from_gives = { λ _ refusal. refusal ≡ Device };
 
     fn from(_: OpenFault) -> Self {
-        Refusal::Device // Also if it is in use.
+        Refusal::Device // Also where it is in use.
     }
 }
 

@@ -43,7 +43,7 @@ pub fn recover_group(
     files_mean_one_thing();
     groups_are_runs();
     engine.serve_group(members, served);
-    // The crash leaves a file that could be left. It means the memory without the group, or with all of it.
+    // Whatever the crash leaves could be left, and means the memory without the group, or with all of it.
     open_crashed(alloc, engine.close().into_inner(), crash)
 }
 
@@ -70,7 +70,7 @@ pub fn ask_group_again<D: Disk>(
     accepted_where_changed();
     waiting_agrees();
     runs_join();
-    // A stop in it leaves all of the new members on the disk, or none. The others make no call of it.
+    // A stop in it leaves all of the new members on the disk, or none; the others make no call of it.
     engine.serve_group(members, served)
 }
 
