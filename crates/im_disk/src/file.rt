@@ -48,7 +48,7 @@ impl<S: Start> FileDisk<S> {
     ///
     /// Returns `InUse` if another opening holds the lock for longer than the start waits, and `NotFile` if the path
     /// names something other than a regular file. Both change nothing. Returns `System` if a call of the system fails.
-    /// The path may then hold any file. The clauses about zero bytes without doubt describe an honest file.
+    /// The path may then hold any file. The clauses say what an honest file has: zero bytes, none of them in doubt.
     pub fn create<R: Files<File = File>>(
         rt: &R,
         path: &str,

@@ -10,8 +10,8 @@ use im_types::layout::OPEN;
 
 /// Syncs, opens the gate at `at` by writing its byte, and syncs again. The bytes behind the gate were written before.
 ///
-/// A crash during the run leaves one of two files, up to the byte of the gate: one that could be left before, or the
-/// one that a read gives. After `Ok` the gate is open for good, over all that was written.
+/// A crash during the run leaves a file that could be left before, or the one that a read gives with any byte in the
+/// place of the gate. After `Ok` the gate is open for good, over all that was written.
 pub fn open_gate<D: Disk>(disk: &mut D, at: usize) -> Result<(), DeviceFault>
     requires inside { D.honest disk.old → at + 1 ≤ length (D.now disk.old).bytes }
     ensures runs { Runs D.Disk disk.old disk.new result 3 (MayOpen at (D.now disk.old)) }

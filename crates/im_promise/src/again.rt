@@ -75,7 +75,7 @@ pub fn send_twice<D: Disk>(
 }
 
 /// Sends a request, runs events on a disk that may fail at any call, crashes the disk, opens what is left, and sends
-/// the request again. The first result is the request's first answer. The memory of the engine may be any.
+/// the request again. The first result is the request's first answer. Nothing is asked of the engine's memory.
 ///
 /// If the request was first told an entry, it is told it again, or the answer that has come since, or `Forgotten` if an
 /// event confirmed it. It has acted once: the memory is the one after it and after the acknowledged events. The second

@@ -75,8 +75,8 @@ pub fn ask_group_again<D: Disk>(
 }
 
 /// Serves a group of requests, runs events on a disk that may fail at any call, crashes the disk, opens what is left,
-/// and sends the group again. It puts the answers into `served` and `again`, in the members' order. The memory of the
-/// engine may be any.
+/// and sends the group again. It puts the answers into `served` and `again`, in the members' order. Nothing is asked of
+/// the engine's memory.
 ///
 /// If no member was answered `Device`, the group is there once. Each member that was told an entry is told it again, or
 /// the answer that has come since, or `Forgotten` if an event confirmed it. The refusal is then `NoMemory` or `Device`,
