@@ -104,7 +104,7 @@ impl Image {
 
     /// Opens the image of these bytes. They are the bytes of the caller's file, each of them in doubt.
     ///
-    /// Returns the bytes' first fault, as [`Engine::open`] does, `NoMemory`, or `Device` if the list couldn't grow.
+    /// Refuses with the bytes' first fault, as [`Engine::open`], `NoMemory`, or `Device` if the list couldn't grow.
     pub fn open(alloc: Global, bytes: Vec<u8>) -> Result<Image, Refusal>
         ensures carried { IfOk result (λ i. i.engine.disk.now ≡ carried (given bytes.items) (steps_of i)) }
         ensures found { IfOk result (λ i. LeavesNow i.engine.disk.now (IsFound i.engine)) }

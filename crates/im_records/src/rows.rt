@@ -128,7 +128,7 @@ fn first_nodes(alloc: Global, nodes: u32, bytes: &[u8]) -> Result<Vec<NodeRecord
 }
 
 /// Reads the waiter nodes of their part of an area. Returns `BadPage` if a node isn't spelled as it should be, its link
-/// leads nowhere, or a byte behind the nodes isn't zero. Returns `NoMemory` if there is no room for them.
+/// is out of range, or a byte behind the nodes isn't zero. Returns `NoMemory` if there is no room for them.
 pub(crate) fn read_nodes(alloc: Global, nodes: u32, part: &[u8]) -> Result<Vec<NodeRecord>, Refusal>
     requires { NODE_RECORD * nodes ≤ length part.now }
     ensures found { IfOk result (λ row. AreNodes nodes part.now row.items) }

@@ -76,8 +76,8 @@ fn tell_all<D: Disk, W: Write, N: Observer>(
 ///   force. `journal J room R` gives the number of commands behind it, and the room for more.
 /// - The other lines are from the memory after those commands. `block BASE KIND LENGTH` is a block, by base.
 /// - `cell A full V`, `cell A clashed V` or `cell A waiting K.N ..` is a cell that isn't empty, by address.
-/// - `element K base B kept N` is an element that has asked anything, by number. Behind it, `entry K.N OPERATION ->
-///   REPLY` is a request that it keeps, by number.
+/// - `element K base B kept N` is an element that has asked anything, by number. A request that it keeps follows as
+///   `entry K.N OPERATION -> REPLY`, by number.
 ///
 /// The status is 0, or 1 if something was refused. The reason is the image's first fault, as [`inspect`] returns it, or
 /// a failed write. It is `Device` if a call of the disk failed. It is `NoMemory` if `alloc` refused the room for the
