@@ -32,8 +32,8 @@ use im_types::{
 use std::alloc::Global;
 use std::marker::Model;
 
-/// A memory. Contracts see three parts: its contents, which are always those of a memory, the records that show it on
-/// the pages of an image, and the waiter node that the next waiting request takes.
+/// A memory. Contracts see three parts. The contents are always those of a memory, and the records show it on the pages
+/// of an image. The third part is the waiter node that the next waiting request takes.
 ///
 /// [`Memory::new`] takes the room for all requests that may wait. A waiting request is kept in its element's window, so
 /// there are never more of them than entries.
@@ -207,8 +207,8 @@ impl Memory {
         self.sessions.entry(element, number)
     }
 
-    /// Returns the base of an element's window, which is the number of its first kept entry, and the number of its next
-    /// new request. Returns `NoElement` if there is no such element.
+    /// Returns the base of an element's window, and the number of its next new request. The entries are numbered from
+    /// the base on. Returns `NoElement` if there is no such element.
     pub fn window(&self, element: u16) -> Result<(u64, u64), Refusal>
         ensures { result ≡ bounds self.now.contents.windows element }
     {

@@ -178,8 +178,8 @@ impl PlainMemory {
         ask(self.windows.as_slice(), Waiter { element, number })
     }
 
-    /// Returns the base of an element's window, which is the number of its first kept entry, and the number of its next
-    /// new request. Returns `NoElement` if there is no such element.
+    /// Returns the base of an element's window, and the number of its next new request. The entries are numbered from
+    /// the base on. Returns `NoElement` if there is no such element.
     pub fn window(&self, element: u16) -> Result<(u64, u64), Refusal>
         ensures { result ≡ bounds self.now.windows element }
     {

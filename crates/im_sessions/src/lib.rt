@@ -133,8 +133,8 @@ impl Sessions {
         self.ring(element).ok()?.kept(number)
     }
 
-    /// Returns the number of an element's first kept entry, and the number of its next new request. Returns `NoElement`
-    /// if there is no such element.
+    /// Returns the base of an element's window, and the number of its next new request. The entries are numbered from
+    /// the base on. Returns `NoElement` if there is no such element.
     pub fn window(&self, element: u16) -> Result<(u64, u64), Refusal>
         ensures { result ≡ bounds self.now element }
     {

@@ -60,7 +60,7 @@ pub enum Refusal {
     /// The script cannot be read.
     #[error("BadScript")]
     BadScript,
-    /// All clients wait, and none is left to answer.
+    /// Every active server waits, and none is left to answer.
     #[error("Stalled")]
     Stalled,
     /// The plan of this run has no such request.
