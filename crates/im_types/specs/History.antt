@@ -55,7 +55,8 @@ abbrev pub until_end : ℕ → List Event → List Event
 until_end base [] = []
 until_end base (event ∷ events) = if ends_life base event.request.op event.entry then [] else event ∷ until_end base events
 
--- a life of a block: its kind, its cells, and the requests from its allocation, or from its reset, to its release or its next reset
+-- a life of a block: its kind, its base, the number of its cells, and the requests from its allocation or a reset to
+-- its release or its next reset
 pub record Life : Type 0 where
   pub kind : Kind
   pub base : ℕ
