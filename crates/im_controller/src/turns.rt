@@ -16,10 +16,10 @@ const PATIENCE: u32 = 16;
 
 #[derive(Drop)]
 struct Queue {
-    within: usize, // How many are past it, and haven't gone on.
-    together: ArrayVec<usize, 65>, // Who was called past it last.
+    within: usize, // How many are past it, and have not left the lock yet.
+    together: ArrayVec<usize, 65>, // Those that were last called past it.
     waiting: ArrayVec<usize, 65>, // The places of 64 elements, and the keeper's.
-    bypassed: u32, // How many others went before the keeper in their turn, since it is first.
+    bypassed: u32, // How many others went before the keeper in their turn while it was first.
 }
 
 #[derive(Drop)]
