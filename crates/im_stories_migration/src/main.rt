@@ -59,7 +59,7 @@ impl<'a> Scene for Desk<'a> {
     }
 }
 
-// The numbers of the standard streams, where they can be held.
+// Holds the numbers of the standard streams, if that is possible.
 fn held(rt: &HostRuntime) -> Option<Descriptors> {
     Descriptors::hold(rt, &rt.stdin(), &rt.stdout(), &rt.stderr())
 }

@@ -27,7 +27,7 @@ fn say(said: &mut String, yes: bool) -> Result<()> {
     Ok(())
 }
 
-// Tells how many lists there are, or why there are none, and gives the lists.
+// Tells how many lists there are, or why there are none, and returns the lists.
 fn told(read: Result<Lists, Refusal>, said: &mut String) -> Result<Option<Lists>> {
     match read {
         Ok(lists) => {
@@ -42,7 +42,7 @@ fn told(read: Result<Lists, Refusal>, said: &mut String) -> Result<Option<Lists>
     }
 }
 
-// The lists of waiters of some cells.
+// Returns the lists of waiters of some cells.
 fn lists_of(alloc: Global, rows: &Rows, said: &mut String) -> Result<Option<Lists>> {
     if rows.nodes.len() > NONE as usize {
         return Err(anyhow!("too many nodes"));
@@ -51,7 +51,7 @@ fn lists_of(alloc: Global, rows: &Rows, said: &mut String) -> Result<Option<List
     told(read_lists(alloc, &rows.nodes, &cells), said)
 }
 
-// The lists of waiters of a memory.
+// Returns the lists of waiters of a memory.
 fn contents_of(
     alloc: Global,
     limits: Option<Limits>,
