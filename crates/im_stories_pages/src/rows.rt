@@ -6,7 +6,7 @@
 //! node 0 1.1 next none = set
 //! window 0 15 = set                        a window with no entry, whose first number is 15
 //! keep 0 fetch 1 -> waiting = 0.15         one more entry of the window, and which request's it is
-//! keep 0 64 stores = 0.15 to 78            so many more, of stores of 0, 1, .. in cell 0 that clashed
+//! keep 0 64 stores = 0.15 to 78            64 more, of stores of 0, 1, .. in cell 0 that clashed
 //! ```
 
 use crate::texts::{cell, kept, node};
