@@ -97,9 +97,10 @@ impl<D: Disk, K: Name> Model for Shared<D, K> {
 /// - `Failed` if the engine has failed.
 /// - `TraceFull` if the trace has no room left.
 /// - `OffPlan` if there is a plan that doesn't have the command's operation under its number.
+/// - A refusal of numbers or `JournalFull`, as [`Engine::serve`] returns it.
 /// - `NoMemory` if the pane has no room for what the command changes. Then all is as it was.
-/// - What [`Engine::serve`] returns: a refusal of numbers, `JournalFull` or `Device`. After `Device` no line is left,
-///   the engine has failed, and nothing more is shown.
+/// - `Device`, as [`Engine::serve`] returns it. After it no line is left, the engine has failed, and nothing more is
+///   shown.
 pub fn lend<D: Disk, K: Name, R: Wait>(
     rt: &R,
     shared: &mut Shared<D, K>,

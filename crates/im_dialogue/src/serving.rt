@@ -318,10 +318,10 @@ fn serve_rested<D: Disk, R: BufRead + Ear, W: Write>(
 /// buffer. Their answers are written together, and are those that the lines would have by themselves. No line waits for
 /// another. All other lines are answered before the next one is read.
 ///
-/// While nothing is there to be read, as the reader tells, turns of a checkpoint are taken if there is room for less
-/// than half as many commands as the journal has slots.
+/// The reader tells whether something is there to be read. While nothing is, turns of a checkpoint are taken if there
+/// is room for less than half as many commands as the journal has slots.
 ///
-/// If the dialogue is watched, the line of a request is followed by a line `E.N now REPLY` for each request that waited
+/// If the dialogue is watched, lines `E.N now REPLY` follow the answer to a request: one for each request that waited
 /// and is answered by it, in the order in which they came. A request that may bring such lines is then served by
 /// itself.
 ///

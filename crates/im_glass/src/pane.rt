@@ -31,8 +31,8 @@ const GROUPS: u32 = 32;
 
 type Both = Writer<Copy, Ahead, Known, Shows>;
 
-/// Shows the full cells, as a list of changes. Contracts see the changes that are shown, those that are put ahead, how
-/// many cells there are, and how many readers weren't given out. [`Pane::end`] ends it; it is never dropped.
+/// A pane shows the full cells, as a list of changes. Contracts see the changes that are shown, those that are put
+/// ahead, how many cells there are, and how many readers weren't given out. [`Pane::end`] ends it; it is never dropped.
 pub struct Pane<J: PaneName> {
     both: Both,
     book: Book<J>,

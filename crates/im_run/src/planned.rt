@@ -142,9 +142,9 @@ fn begin_free<D: Disk + Drop, R: Wait>(
 /// Makes room for what the elements ask for, before any thread starts. Returns `NoElement` if one of the elements
 /// doesn't exist.
 ///
-/// If the run is planned, it then returns `BadPlan` if the requests make no plan. That is so if a request is no fetch
-/// or store, two store to one address, a cell that one names isn't empty or has a waiter, or a number lies past the
-/// last one.
+/// If the run is planned, it then returns `BadPlan` if the requests make no plan. They make none if a request is no
+/// fetch or store, or two requests store to one address. They also make none if a cell that a request names isn't empty
+/// or has a waiter, or a number lies past the last one.
 pub fn begin<D: Disk + Drop, R: Wait>(
     rt: &R,
     alloc: Global,

@@ -278,8 +278,8 @@ fn run_engine<
 /// acknowledged commands. If a call of the disk failed, the commands that it left in doubt may be there too, all of
 /// them or none.
 ///
-/// What was written is at each return a prefix of the lines. Each line of the setup is of a command that every file has
-/// which a crash leaves. Each entry of an element's line is in a memory that every such file has, or was told to a
+/// What was written is at each return a prefix of the lines. Each line of the setup is of a command that is in every
+/// file that a crash leaves. Each entry of an element's line is in the memory of every such file, or was told to a
 /// server that confirmed it.
 ///
 /// If the status is 0 or 3, each file that a crash may leave at the return means one memory. If it is 0, all lines are

@@ -462,9 +462,9 @@ fn serve_to_end<D: Disk, K: Name, G: Gate, R: Wait>(
 /// and maybe after more.
 ///
 /// It is refused with what the port refuses. It returns `JournalFull` if no turn makes room, `PaneGone` if the pane has
-/// ended, and `NoMemory` if there is no room for one more answer. Then it serves nothing more, but it receives until
-/// the pipe ends, so that its sender returns. It also returns `NoMemory` if the pipe ends without an end mark, as it
-/// does if its sender is gone. What was done by then is a prefix of what was received.
+/// ended, and `NoMemory` if there is no room for one more answer. After a refusal it serves nothing more, but it
+/// receives until the pipe ends, so that its sender returns. It also returns `NoMemory` if the pipe ends without an end
+/// mark, as it does if its sender is gone. What was done by then is a prefix of what was received.
 pub fn serve_element<D: Disk, K: Name, G: Gate, R: Wait>(
     rt: &R,
     controller: &Controller<D, K>,

@@ -381,9 +381,9 @@ fn act_of<'a>(engines: &'a Engines, of: &str) -> Result<Option<Act<'a>>> {
     }
 }
 
-/// Makes the call if the words are `in each` with `serve`, `opening`, `reopening`, `group`, `turn` or `call`, then how
-/// the disk fails at each call of that, and what the crashes after it leave. All but `call` use an image that gets the
-/// commands of the story so far, one by one or as one group. `call` uses the closed file.
+/// Makes the call if the words are `in each` with `serve`, `opening`, `reopening`, `group`, `turn` or `call`. Then come
+/// how the disk fails at each call of that, and what the crashes after it leave. All but `call` use an image that gets
+/// the commands of the story so far, one by one or as one group. `call` uses the closed file.
 pub fn tell(engines: &Engines, alloc: Global, words: &[&str], said: &mut String) -> Result<bool> {
     let ["in", "each", of, how, crashes @ ..] = words else {
         return Ok(false);

@@ -31,8 +31,8 @@ impl<'a> Ear for Client<'a> {
     }
 }
 
-// The manner of a dialogue: how many bytes the buffer has, whether the client is silent whenever it is empty, whether
-// the dialogue is watched, and after how many calls the disk and how many bytes the writer fails.
+// The manner of a dialogue: how many bytes the buffer has, whether the client is silent whenever it is empty, and
+// whether the dialogue is watched. Also after how many calls the disk fails, and after how many bytes the writer does.
 #[derive(Clone, Copy)]
 struct Manner {
     buffer: usize,

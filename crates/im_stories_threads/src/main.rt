@@ -1,7 +1,7 @@
 //! Threads under one lock. The stories tell what ports are answered at the same time, that the thread that keeps
 //! checkpoints works, that servers wait and are woken, and that readers wait for nobody. They also tell that the plain
-//! memory answers a long trace alike, that each thread ends if the disk stops, with nothing lost that was answered, and
-//! that planned requests have the same results in every order.
+//! memory answers a long trace alike, and that planned requests have the same results in every order. If the disk
+//! stops, each thread ends, and nothing that was answered is lost.
 #![tactic(auto)]
 
 mod crews;
