@@ -100,8 +100,8 @@ impl<D: Disk, K: Name> Controller<D, K> {
     /// is nothing to do, and returns when the controller ends.
     ///
     /// It goes last in the queue, so it makes its turns while no port asks. If the journal has less room than there are
-    /// elements, whoever is about to lend the engine makes room in its place. If the keeper already has its place in
-    /// the queue then, it keeps that place.
+    /// elements, whoever is about to lend the engine makes room in its place. If the keeper has its turn in the queue
+    /// then, it keeps that turn.
     ///
     /// Returns `Device` if a call of the disk failed in its turn, and `Failed` if an earlier one did.
     pub fn keep_checkpoints<R: Wait>(&self, rt: &R) -> Result<(), Refusal>
@@ -111,7 +111,7 @@ impl<D: Disk, K: Name> Controller<D, K> {
     }
 
     /// Does what [`Controller::keep_checkpoints`] does, and also tells the teller how things stand. It tells after each
-    /// turn before which the teller listened, except after a turn that leaves the keeper in its place in the queue.
+    /// turn before which the teller listened, except after one after which the keeper keeps its turn in the queue.
     pub fn keep_checkpoints_and_tell<T: Teller, R: Wait>(
         &self,
         rt: &R,

@@ -27,7 +27,7 @@ pub(crate) enum Said {
 /// its own. Contracts see the [`Line`].
 #[derive(Drop)]
 pub struct Traced {
-    number: u64, // Up to which is confirmed, where nothing is asked for.
+    number: u64, // Of a confirmation, the number below which entries are confirmed.
     op: Op, // Of a request alone.
     reply: Reply, // Of an answer alone.
     element: u16,

@@ -58,8 +58,8 @@ impl<K: Name> Model for Part<K> {
     } };
 }
 
-/// An element at its end: its port, what its requests came to, and its refusal, if there is one. Contracts see what was
-/// done for the element, and the refusal.
+/// An element at its end: its port, the entries of its requests, and its refusal, if there is one. Contracts see what
+/// was done for the element, and the refusal.
 #[derive(Drop)]
 pub struct Done<K: Name> {
     /// The port, which is retired.

@@ -4,7 +4,7 @@
 //! blocks = yes                             whether the cells lie in blocks
 //! lists = 2                                the lists of waiters of the cells, or why there are none
 //! waiting 0 = 1.1 2.1                      who waits in a list that was read
-//! agree = no                               whether nobody waits, where there is no window
+//! agree = no                               whether nobody waits, given that there is no window
 //! contents = 2                             the lists of the memory that cells, nodes and windows show under the limits
 //! ```
 
