@@ -24,7 +24,6 @@ pub use walk::Waiters;
 
 /// Lists of waiters over one table of nodes. A waiter on a list takes one node, and no memory is taken once the arena
 /// is made. Lists are numbered from 0 up to [`Arena::list_count`], and nodes up to [`Arena::node_count`].
-#[derive(Drop)]
 pub struct Arena {
     nodes: Vec<Node>,
     // The row of each list, and then that of the free nodes.
@@ -32,6 +31,18 @@ pub struct Arena {
     lists: u32,
     // How many nodes are free: to count them would take a walk.
     free: u32,
+}
+
+// By one call, so that whoever owns an arena isn't proved to let go each of its fields wherever it may end.
+impl Drop for Arena {
+    fn drop(self) {
+        let Arena {
+            nodes: _,
+            rows: _,
+            lists: _,
+            free: _,
+        } = self;
+    }
 }
 
 impl Model for Arena {
