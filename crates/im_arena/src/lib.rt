@@ -24,7 +24,6 @@ pub use walk::Waiters;
 
 /// Lists of waiters over one table of nodes. Each waiter on a list takes one node. The arena takes no memory once it is
 /// made. Lists are numbered from 0 to [`Arena::list_count`] - 1, and nodes from 0 to [`Arena::node_count`] - 1.
-#[derive(Drop)]
 pub struct Arena {
     nodes: Vec<Node>,
     // The row of each list, and last the row of the free nodes.
@@ -32,6 +31,18 @@ pub struct Arena {
     lists: u32,
     // The number of free nodes. It is kept because a count would walk the whole row.
     free: u32,
+}
+
+// By one call, so that whoever owns an arena isn't proved to let go each of its fields wherever it may end.
+impl Drop for Arena {
+    fn drop(self) {
+        let Arena {
+            nodes: _,
+            rows: _,
+            lists: _,
+            free: _,
+        } = self;
+    }
 }
 
 impl Model for Arena {

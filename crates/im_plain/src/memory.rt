@@ -25,11 +25,21 @@ use std::alloc::{AllocError, Global};
 use std::marker::Model;
 
 /// A plain memory. Contracts see its contents, which are always those of a memory.
-#[derive(Drop)]
 pub struct PlainMemory {
     slots: Vec<Option<Slot>>,
     queue: Vec<Deferred>,
     windows: Vec<KeptWindow>,
+}
+
+// By one call, so that whoever owns a memory isn't proved to let go each of its fields wherever it may end.
+impl Drop for PlainMemory {
+    fn drop(self) {
+        let PlainMemory {
+            slots: _,
+            queue: _,
+            windows: _,
+        } = self;
+    }
 }
 
 impl Model for PlainMemory {
