@@ -1,4 +1,4 @@
-//! Cells that are made the same: unit by unit, and by their own records where a unit is cut.
+//! Cells that are made alike: whole units at once, and cell by cell in a unit that is cut.
 ghost use Rattle.std.specs.Prelude.{◌≡◌, ◌≢◌, ℕ, ◌-◌, ◌*◌, ◌/◌, ◌%◌, ◌<◌, ◌≤◌, ◌^◌, false, length, slice_set, IsSome};
 ghost use Rattle.im_types.specs.Place.{fill};
 ghost use Rattle.im_cell.specs.Slots.{slot_at, with_cell, is_waiting};
@@ -9,7 +9,7 @@ use crate::cells::Cells;
 use crate::unit::{UNIT, Unit};
 use im_types::Cell;
 
-/// What stands for the cells of a unit.
+/// Returns what stands for the cells of a unit.
 #[inline(always)]
 pub(crate) fn unit_of(units: &[Unit], j: usize) -> Unit
     requires { j < length units.now }
@@ -18,7 +18,7 @@ pub(crate) fn unit_of(units: &[Unit], j: usize) -> Unit
     units[j]
 }
 
-// Gives each cell of a unit the record that stands for it.
+// Gives each cell of a unit a record of its own, with what stood for the unit.
 #[inline(never)]
 fn write_out(units: &mut [Unit], cells: &mut Cells, at: usize)
     requires inside { at < length units.old }
@@ -37,7 +37,7 @@ fn write_out(units: &mut [Unit], cells: &mut Cells, at: usize)
     units[at] = Unit::Each;
 }
 
-// The same of the unit that a bound cuts, if it cuts one.
+// Does the same with the unit that a bound cuts, if it cuts one.
 fn write_out_cut(units: &mut [Unit], cells: &mut Cells, bound: usize)
     requires inside { bound ≤ length cells.old }
     requires room { length cells.old ≤ UNIT * length units.old }
@@ -51,7 +51,7 @@ fn write_out_cut(units: &mut [Unit], cells: &mut Cells, bound: usize)
     }
 }
 
-// Makes the units from one on, up to another one, the same.
+// Sets the units `from` to `to - 1` to one unit.
 fn fill_units(units: &mut [Unit], from: usize, to: usize, unit: Unit)
     requires { to ≤ length units.old }
     ensures { IsFilled Unit.Each units.old units.new from to unit }
@@ -61,7 +61,8 @@ fn fill_units(units: &mut [Unit], from: usize, to: usize, unit: Unit)
     }
 }
 
-// Makes the cells from one on, up to another one, the same, where no unit that a bound cuts has one record for all.
+// Makes the cells `base` to `end - 1` what `unit` stands for. A unit that a bound cuts must have a record for each
+// cell.
 fn fill_uncut(units: &mut [Unit], cells: &mut Cells, base: usize, end: usize, unit: Unit)
     requires order { base ≤ end }
     requires inside { end ≤ length cells.old }
@@ -79,7 +80,7 @@ fn fill_uncut(units: &mut [Unit], cells: &mut Cells, base: usize, end: usize, un
     fill_units(units, low / UNIT, high / UNIT, unit);
 }
 
-/// Makes the cells from one on, up to another one, the same.
+/// Makes the cells `base` to `end - 1` what `unit` stands for.
 pub(crate) fn fill_shown(units: &mut [Unit], cells: &mut Cells, base: usize, end: usize, unit: Unit)
     requires order { base ≤ end }
     requires inside { end ≤ length cells.old }
@@ -93,7 +94,7 @@ pub(crate) fn fill_shown(units: &mut [Unit], cells: &mut Cells, base: usize, end
     fill_uncut(units, cells, base, end, unit);
 }
 
-/// Puts another state into a cell of a unit with one record for all; whether it was waited for before.
+/// Puts another content into a cell of a unit with one record for all. Returns whether requests waited for it before.
 #[inline(never)]
 pub(crate) fn set_among_same(units: &mut [Unit], cells: &mut Cells, at: usize, cell: Cell) -> bool
     requires inside { at < length cells.old }

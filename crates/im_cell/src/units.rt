@@ -11,7 +11,7 @@ use crate::unit::{UNIT, Unit};
 use im_types::Cell;
 use std::marker::Model;
 
-/// The records of cells, and what stands for the cells of each unit. Contracts see the slots.
+/// The records of the cells, and what stands for the cells of each unit. Contracts see the slots.
 #[derive(Drop)]
 pub(crate) struct CellUnits {
     cells: Cells,
@@ -33,7 +33,7 @@ impl Model for CellUnits {
 }
 
 impl CellUnits {
-    /// These cells, each with its own record.
+    /// Makes units of these cells. Each cell has its own record.
     pub(crate) fn over(cells: Cells, units: Vec<Unit>) -> CellUnits
         requires few { length cells < 2 ^ 32 }
         requires units { units.items ≡ replicate ((length cells + (UNIT - 1)) / UNIT) Unit.Each }
@@ -42,7 +42,7 @@ impl CellUnits {
         CellUnits { cells, units }
     }
 
-    /// How many cells there are.
+    /// Returns the number of cells.
     #[inline(always)]
     pub(crate) fn len(&self) -> u32
         ensures { result ≡ length self.now }
@@ -50,7 +50,7 @@ impl CellUnits {
         self.cells.len() as u32
     }
 
-    /// The slot of the cell at an address; `None` in no block, and past the last cell.
+    /// Returns the slot of the cell at an address. Returns `None` if it is in no block, or past the last cell.
     #[inline(always)]
     pub(crate) fn slot(&self, a: u32) -> Option<Slot>
         ensures { result ≡ slot_at self.now a }
@@ -66,7 +66,7 @@ impl CellUnits {
         unit.slot()
     }
 
-    /// Puts another state into the cell at an address in a block; whether it was waited for before.
+    /// Puts another content into the cell at an address in a block. Returns whether requests waited for it before.
     #[inline(always)]
     pub(crate) fn set(&mut self, a: u32, cell: Cell) -> bool
         requires { IsSome (slot_at self.old a) }
@@ -80,7 +80,7 @@ impl CellUnits {
         set_among_same(self.units.as_mut_slice(), &mut self.cells, at, cell)
     }
 
-    /// Makes `n` cells from one on the same.
+    /// Makes `n` cells from `base` on what `unit` stands for.
     pub(crate) fn fill(&mut self, base: u32, n: u32, unit: Unit)
         requires inside { base + n ≤ length self.old }
         requires unit { is_own unit ≡ false }
