@@ -37,11 +37,21 @@ use std::marker::Model;
 ///
 /// The room for all requests that may wait is taken by [`Memory::new`]: a request that waits is kept in its element's
 /// window, so there are never more of them than entries.
-#[derive(Drop)]
 pub struct Memory {
     pub(crate) table: CellTable,
     pub(crate) arena: Arena,
     pub(crate) sessions: Sessions,
+}
+
+// By one call, so that whoever owns a memory isn't proved to let go each of its fields wherever it may end.
+impl Drop for Memory {
+    fn drop(self) {
+        let Memory {
+            table: _,
+            arena: _,
+            sessions: _,
+        } = self;
+    }
 }
 
 impl Model for Memory {
