@@ -37,11 +37,21 @@ use std::marker::Model;
 ///
 /// [`Memory::new`] takes the room for all requests that may wait. A waiting request is kept in its element's window, so
 /// there are never more of them than entries.
-#[derive(Drop)]
 pub struct Memory {
     pub(crate) table: CellTable,
     pub(crate) arena: Arena,
     pub(crate) sessions: Sessions,
+}
+
+// By one call, so that whoever owns a memory isn't proved to let go each of its fields wherever it may end.
+impl Drop for Memory {
+    fn drop(self) {
+        let Memory {
+            table: _,
+            arena: _,
+            sessions: _,
+        } = self;
+    }
 }
 
 impl Model for Memory {

@@ -18,12 +18,23 @@ use std::marker::Model;
 
 /// A memory while it is put together. Its parts are the records of its cells, the requests that wait at each cell, and
 /// each element's window. Contracts see these parts.
-#[derive(Drop)]
 pub struct Restoring {
     cells: CellRow,
     room: TableRoom,
     arena: Arena,
     sessions: Sessions,
+}
+
+// By one call, so that whoever owns the parts isn't proved to let go each of its fields wherever it may end.
+impl Drop for Restoring {
+    fn drop(self) {
+        let Restoring {
+            cells: _,
+            room: _,
+            arena: _,
+            sessions: _,
+        } = self;
+    }
 }
 
 impl Model for Restoring {
