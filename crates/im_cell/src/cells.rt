@@ -3,6 +3,7 @@ ghost use Rattle.std.specs.Prelude.{◌≡◌, ◌-◌, ◌<◌, ◌≤◌, leng
 ghost use Rattle.im_types.specs.Place.{fill};
 ghost use Rattle.im_cell.specs.Slots.{slot_at, with_cell, is_waiting};
 ghost use Rattle.im_cell.specs.Cells.{slots_in, IsFilled};
+ghost use Rattle.im_cell.specs.Table.{base_in};
 ghost use Rattle.im_cell.specs.Units.{common_slot};
 
 use crate::slots::Slot;
@@ -81,6 +82,15 @@ impl Cells {
         ensures { result ≡ slot_at self.now at }
     {
         self.states[at].slot(self.values[at], self.extents[at])
+    }
+
+    /// Returns the base of a cell's block.
+    #[inline(always)]
+    pub(crate) fn base(&self, at: usize) -> u32
+        requires { IsSome (slot_at self.now at) }
+        ensures { result ≡ base_in (slot_at self.now at) }
+    {
+        self.extents[at].base
     }
 
     /// Puts another content into a cell in a block. Returns whether requests waited for it before.

@@ -13,21 +13,19 @@ use im_holes::Holes;
 use im_types::{Block, Cell};
 
 // Adds 1 to the count of the block at an address, or takes 1 from it.
-#[inline(never)]
+#[inline(always)]
 fn recount(slots: &CellUnits, holes: &mut Holes, a: u32, more: bool)
     requires block { IsSome (slot_at slots.now a) }
     requires held { (n : ℕ) × (holder_at holes.old (base_in (slot_at slots.now a)) ≡ Some n) × CanMove more n }
     ensures { (n : ℕ) → holder_at holes.old (base_in (slot_at slots.now a)) ≡ Some n
         → holes.new ≡ slice_set holes.old (base_in (slot_at slots.now a)) (Some (moved more n)) }
 {
-    let Some(slot) = slots.slot(a) else {
-        return;
-    };
-    let base = slot.block.base;
+    let base = slots.base(a);
     let number = holes.number(base);
     holes.set_number(base, next_number(number, more));
 }
 
+#[inline(always)]
 fn next_number(number: u32, more: bool) -> u32
     requires { CanMove more number }
     ensures { result ≡ moved more number }

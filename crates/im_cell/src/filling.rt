@@ -6,6 +6,7 @@ ghost use Rattle.im_cell.specs.Cells.{IsFilled};
 ghost use Rattle.im_cell.specs.Units.{common_slot, is_own, unit_at, shown};
 
 use crate::cells::Cells;
+use crate::slots::Slot;
 use crate::unit::{UNIT, Unit};
 use im_types::Cell;
 
@@ -92,6 +93,34 @@ pub(crate) fn fill_shown(units: &mut [Unit], cells: &mut Cells, base: usize, end
     write_out_cut(units, cells, base);
     write_out_cut(units, cells, end);
     fill_uncut(units, cells, base, end, unit);
+}
+
+// Gives each cell of a unit its own record, unless it has one.
+#[inline(always)]
+fn give_records(units: &mut [Unit], cells: &mut Cells, at: usize)
+    requires inside { at < length units.old }
+    requires few { length units.old < 2 ^ 32 }
+    ensures own { unit_at units.new at ≡ Unit.Each }
+    ensures same { shown units.new cells.new ≡ shown units.old cells.old }
+{
+    let unit = unit_of(units, at);
+    if unit.is_own() {
+        return;
+    }
+    write_out(units, cells, at);
+}
+
+/// Returns the slot of a cell. The cell has its own record afterwards.
+#[inline(always)]
+pub(crate) fn own_slot(units: &mut [Unit], cells: &mut Cells, at: usize) -> Option<Slot>
+    requires inside { at < length cells.old }
+    requires room { length cells.old ≤ UNIT * length units.old }
+    requires few { length units.old < 2 ^ 32 }
+    ensures slot { result ≡ slot_at (shown units.old cells.old) at }
+    ensures same { shown units.new cells.new ≡ shown units.old cells.old }
+{
+    give_records(units, cells, at / UNIT);
+    cells.slot(at)
 }
 
 /// Puts another content into a cell of a unit with one record for all. Returns whether requests waited for it before.

@@ -2,10 +2,11 @@
 ghost use Rattle.std.specs.Prelude.{◌≡◌, ◌+◌, ◌-◌, ◌*◌, ◌/◌, ◌<◌, ◌≤◌, ◌^◌, false, length, replicate, slice_set, IsSome};
 ghost use Rattle.im_types.specs.Place.{fill};
 ghost use Rattle.im_cell.specs.Slots.{slot_at, with_cell, is_waiting};
+ghost use Rattle.im_cell.specs.Table.{base_in};
 ghost use Rattle.im_cell.specs.Units.{common_slot, is_own};
 
 use crate::cells::Cells;
-use crate::filling::{fill_shown, set_among_same, unit_of};
+use crate::filling::{fill_shown, own_slot, set_among_same, unit_of};
 use crate::slots::Slot;
 use crate::unit::{UNIT, Unit};
 use im_types::Cell;
@@ -64,6 +65,33 @@ impl CellUnits {
             return self.cells.slot(at);
         }
         unit.slot()
+    }
+
+    /// Returns the cell at an address, as `slot` does. The cell has its own record afterwards.
+    #[inline(always)]
+    pub(crate) fn slot_to_write(&mut self, a: u32) -> Option<Slot>
+        ensures slot { result ≡ slot_at self.old a }
+        ensures same { self.new ≡ self.old }
+    {
+        let at = a as usize;
+        if at >= self.cells.len() {
+            return None;
+        }
+        own_slot(self.units.as_mut_slice(), &mut self.cells, at)
+    }
+
+    /// Returns the base of the block at an address.
+    #[inline(always)]
+    pub(crate) fn base(&self, a: u32) -> u32
+        requires { IsSome (slot_at self.now a) }
+        ensures { result ≡ base_in (slot_at self.now a) }
+    {
+        let at = a as usize;
+        match unit_of(self.units.as_slice(), at / UNIT) {
+            Unit::Each => self.cells.base(at),
+            Unit::Free => 0,
+            Unit::Block(block) => block.base,
+        }
     }
 
     /// Puts another content into the cell at an address in a block. Returns whether requests waited for it before.

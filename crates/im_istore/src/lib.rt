@@ -23,8 +23,22 @@ ghost use Rattle.im_istore.specs.Access.{access_in, askers_of, replies_to};
 ghost use Rattle.im_istore.specs.Records.{LeavesCells, LeavesRest};
 
 use im_arena::Arena;
-use im_cell::CellTable;
+use im_cell::{CellTable, Slot};
 use im_types::{Cell, Entry, Kind, Reply, Waiter};
+
+// Returns the cell of a slot in a block of this kind.
+#[inline(always)]
+fn cell_for(found: Option<Slot>, kind: Kind) -> Result<Cell, Reply>
+    ensures { result ≡ access_in kind found }
+{
+    let Some(slot) = found else {
+        return Err(Reply::NoCell);
+    };
+    if slot.block.kind != kind {
+        return Err(Reply::WrongKind);
+    }
+    Ok(slot.cell)
+}
 
 /// Returns the cell at an address in a block of this kind. Returns `NoCell` if the address lies in no block, or past
 /// the last cell. Returns `WrongKind` if the block is of the other kind.
@@ -32,13 +46,16 @@ use im_types::{Cell, Entry, Kind, Reply, Waiter};
 pub fn look(table: &CellTable, a: u32, kind: Kind) -> Result<Cell, Reply>
     ensures { result ≡ access_in kind (slot_at table.now a) }
 {
-    let Some(slot) = table.slot(a) else {
-        return Err(Reply::NoCell);
-    };
-    if slot.block.kind != kind {
-        return Err(Reply::WrongKind);
-    }
-    Ok(slot.cell)
+    cell_for(table.slot(a), kind)
+}
+
+/// [`look`] at a cell that is written next: one look at the table does for both.
+#[inline(always)]
+pub fn look_to_write(table: &mut CellTable, a: u32, kind: Kind) -> Result<Cell, Reply>
+    ensures cell { result ≡ access_in kind (slot_at table.old a) }
+    ensures same { table.new ≡ table.old }
+{
+    cell_for(table.slot_to_write(a), kind)
 }
 
 /// Puts `who` behind the requests that wait for the cell at an address. The cell is in a block and has no value. The
@@ -73,7 +90,7 @@ pub fn fetch(table: &mut CellTable, arena: &mut Arena, a: u32, who: Waiter) -> E
     ensures kept { LeavesRest I a result table.old table.new arena.old arena.new }
     ensures same { result ≢ Waiting → table.new ≡ table.old }
 {
-    let cell = match look(table, a, Kind::I) {
+    let cell = match look_to_write(table, a, Kind::I) {
         Ok(cell) => cell,
         Err(reply) => return Entry::Answered(reply),
     };
@@ -115,7 +132,7 @@ pub fn store(table: &mut CellTable, arena: &Arena, a: u32, value: u64) -> Reply
 
     ensures kept { LeavesCells I a table.old table.new }
 {
-    let cell = match look(table, a, Kind::I) {
+    let cell = match look_to_write(table, a, Kind::I) {
         Ok(cell) => cell,
         Err(reply) => return reply,
     };

@@ -22,7 +22,7 @@ ghost use Rattle.im_mstore.specs.Access.{open_cell};
 
 use im_arena::Arena;
 use im_cell::CellTable;
-use im_istore::{look, wait};
+use im_istore::{look_to_write, wait};
 use im_types::{Cell, Entry, Kind, Reply, Waiter};
 
 // Returns the cell without a value whose waiters are on this list.
@@ -68,7 +68,7 @@ pub fn take(table: &mut CellTable, arena: &mut Arena, a: u32, who: Waiter) -> En
     ensures agree { Agree table.new arena.new }
     ensures kept { LeavesRest M a result table.old table.new arena.old arena.new }
 {
-    let cell = match look(table, a, Kind::M) {
+    let cell = match look_to_write(table, a, Kind::M) {
         Ok(cell) => cell,
         Err(reply) => return Entry::Answered(reply),
     };
@@ -107,7 +107,7 @@ pub fn put(table: &mut CellTable, arena: &mut Arena, a: u32, value: u64) -> (Rep
     ensures kept { LeavesCells M a table.old table.new }
     ensures links { MatchOption result.1 (arena.new ≡ arena.old) (λ _. IsPopped a arena.old arena.new) }
 {
-    let cell = match look(table, a, Kind::M) {
+    let cell = match look_to_write(table, a, Kind::M) {
         Ok(cell) => cell,
         Err(reply) => return (reply, None),
     };
